@@ -1,0 +1,173 @@
+-- Shapes, and which trees have them (a subset of JSON Schema 2020-12, Core and Validation).
+use Rattle.std.specs.Prelude.{ℕ, List, Bool, true, false, ◌&&◌, ◌||◌, not, IsTrue, IsUtf8, Option, Some, None, bytes_eq}
+use Rattle.asl_model.specs.Tree.{Tree, Null, Boolean, Integer, Text, Array, Object, Trees, NoTrees, AndTree, Fields, NoFields, AndField, field_named, comes_before}
+
+mutual
+  pub data Shape : Type 0 where
+    Any : Shape
+    Never : Shape
+    NullShape : Shape
+    BooleanShape : Shape
+    IntegerShape : Shape
+    StringShape : Shape
+    -- the shapes of the first elements, and the shape of each further one
+    ArrayShape : Shapes → Shape → Shape
+    -- the mentioned fields, and whether there may be others
+    ObjectShape : FieldShapes → Bool → Shape
+
+  pub data Shapes : Type 0 where
+    NoShapes : Shapes
+    AndShape : Shape → Shapes → Shapes
+
+  -- each mentioned field: its name, whether it is needed, its shape
+  pub data FieldShapes : Type 0 where
+    NoFieldShapes : FieldShapes
+    AndFieldShape : List ℕ → Bool → Shape → FieldShapes → FieldShapes
+
+-- the tree is an array whose elements pass the test
+abbrev pub array_where : (Trees → Bool) → Tree → Bool
+array_where test Null = false
+array_where test (Boolean b) = false
+array_where test (Integer n) = false
+array_where test (Text s) = false
+array_where test (Array ts) = test ts
+array_where test (Object fs) = false
+
+-- the tree is an object whose fields pass the test
+abbrev pub object_where : (Fields → Bool) → Tree → Bool
+object_where test Null = false
+object_where test (Boolean b) = false
+object_where test (Integer n) = false
+object_where test (Text s) = false
+object_where test (Array ts) = false
+object_where test (Object fs) = test fs
+
+abbrev pub is_null : Tree → Bool
+is_null Null = true
+is_null (Boolean b) = false
+is_null (Integer n) = false
+is_null (Text s) = false
+is_null (Array ts) = false
+is_null (Object fs) = false
+
+abbrev pub is_boolean : Tree → Bool
+is_boolean Null = false
+is_boolean (Boolean b) = true
+is_boolean (Integer n) = false
+is_boolean (Text s) = false
+is_boolean (Array ts) = false
+is_boolean (Object fs) = false
+
+abbrev pub is_integer : Tree → Bool
+is_integer Null = false
+is_integer (Boolean b) = false
+is_integer (Integer n) = true
+is_integer (Text s) = false
+is_integer (Array ts) = false
+is_integer (Object fs) = false
+
+abbrev pub is_text : Tree → Bool
+is_text Null = false
+is_text (Boolean b) = false
+is_text (Integer n) = false
+is_text (Text s) = true
+is_text (Array ts) = false
+is_text (Object fs) = false
+
+-- every element passes the test
+abbrev pub each_element : (Tree → Bool) → Trees → Bool
+each_element test NoTrees = true
+each_element test (AndTree t ts) = test t && each_element test ts
+
+-- some mention of a field has that name
+abbrev pub mentions : List ℕ → FieldShapes → Bool
+mentions n NoFieldShapes = false
+mentions n (AndFieldShape m needed s shapes) = bytes_eq m n || mentions n shapes
+
+-- every field is mentioned
+abbrev pub all_mentioned : FieldShapes → Fields → Bool
+all_mentioned shapes NoFields = true
+all_mentioned shapes (AndField n t fs) = mentions n shapes && all_mentioned shapes fs
+
+-- a field that is there passes the test, and one that is needed is there
+abbrev pub there_and : Bool → (Tree → Bool) → Option Tree → Bool
+there_and needed test None = not needed
+there_and needed test (Some t) = test t
+
+abbrev mutual
+  -- the tree has the shape
+  pub has : Shape → Tree → Bool
+  has Any t = true
+  has Never t = false
+  has NullShape t = is_null t
+  has BooleanShape t = is_boolean t
+  has IntegerShape t = is_integer t
+  has StringShape t = is_text t
+  has (ArrayShape first rest) t = array_where (elements_have first (has rest)) t
+  has (ObjectShape shapes extra) t = object_where (λ fs. fields_have shapes fs && (extra || all_mentioned shapes fs)) t
+
+  -- there are as many elements as first shapes, or more; each of those has its shape, each further one passes the test
+  pub elements_have : Shapes → (Tree → Bool) → Trees → Bool
+  elements_have NoShapes further ts = each_element further ts
+  elements_have (AndShape s others) further NoTrees = false
+  elements_have (AndShape s others) further (AndTree t ts) = has s t && elements_have others further ts
+
+  -- each mention of a field holds: its shape where the field is there, and that it is there where it is needed
+  pub fields_have : FieldShapes → Fields → Bool
+  fields_have NoFieldShapes fs = true
+  fields_have (AndFieldShape n needed s shapes) fs = there_and needed (has s) (field_named n fs) && fields_have shapes fs
+
+-- the tree has the shape, as a fact
+abbrev pub Has : Shape → Tree → Type 0
+Has s t = IsTrue (has s t)
+
+-- every tree of the first shape has the second
+abbrev pub Inside : Shape → Shape → Type 0
+Inside a b = (t : Tree) → Has a t → Has b t
+
+-- the name comes before that of the first mention
+abbrev pub before_mentions : List ℕ → FieldShapes → Bool
+before_mentions n NoFieldShapes = true
+before_mentions n (AndFieldShape m needed s shapes) = comes_before n m
+
+abbrev mutual
+  -- a shape that a JSON text can spell: each object mentions each name once, in byte order, and names are UTF-8
+  pub IsProperShape : Shape → Type 0
+  IsProperShape Any = Unit {0}
+  IsProperShape Never = Unit {0}
+  IsProperShape NullShape = Unit {0}
+  IsProperShape BooleanShape = Unit {0}
+  IsProperShape IntegerShape = Unit {0}
+  IsProperShape StringShape = Unit {0}
+  IsProperShape (ArrayShape first rest) = AreProperShapes first × IsProperShape rest
+  IsProperShape (ObjectShape shapes extra) = AreProperFields shapes
+
+  pub AreProperShapes : Shapes → Type 0
+  AreProperShapes NoShapes = Unit {0}
+  AreProperShapes (AndShape s others) = IsProperShape s × AreProperShapes others
+
+  pub AreProperFields : FieldShapes → Type 0
+  AreProperFields NoFieldShapes = Unit {0}
+  AreProperFields (AndFieldShape n needed s shapes) = IsUtf8 n × IsTrue (before_mentions n shapes) × IsProperShape s × AreProperFields shapes
+
+abbrev mutual
+  -- whether some tree has the shape
+  pub inhabited : Shape → Bool
+  inhabited Any = true
+  inhabited Never = false
+  inhabited NullShape = true
+  inhabited BooleanShape = true
+  inhabited IntegerShape = true
+  inhabited StringShape = true
+  inhabited (ArrayShape first rest) = all_inhabited first
+  inhabited (ObjectShape shapes extra) = needed_inhabited shapes
+
+  -- every one of the shapes is inhabited
+  pub all_inhabited : Shapes → Bool
+  all_inhabited NoShapes = true
+  all_inhabited (AndShape s others) = inhabited s && all_inhabited others
+
+  -- the shape of every needed field is inhabited
+  pub needed_inhabited : FieldShapes → Bool
+  needed_inhabited NoFieldShapes = true
+  needed_inhabited (AndFieldShape n needed s shapes) = (not needed || inhabited s) && needed_inhabited shapes
