@@ -1,0 +1,2 @@
+//! Reference paths: reading them, and finding what they name.
+#![tactic(auto)]

@@ -1,0 +1,2 @@
+//! Shapes of trees: reading them, membership, and comparing them.
+#![tactic(auto)]

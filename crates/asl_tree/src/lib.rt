@@ -1,0 +1,2 @@
+//! JSON trees with whole numbers, and their texts.
+#![tactic(auto)]
