@@ -1,3 +1,13 @@
-pub mod Tree
+pub mod Certificate
+pub mod Faults
+pub mod Intrinsic
+pub mod Json
+pub mod Machine
 pub mod Path
+pub mod PathSpelling
+pub mod Placing
 pub mod Shape
+pub mod ShapeOrder
+pub mod Template
+pub mod Test
+pub mod Tree

@@ -1,0 +1,114 @@
+-- A text spells at most one path, and is not refused beside it; the printed form of a path spells it.
+use Rattle.std.proofs.Common.{◌≡◌, ◌+◌, ◌-◌, ◌<◌, ◌≤◌, List, [], ◌∷◌, ◌++◌, ℕ, zero, suc, length, take, drop, Bool, true, false, ◌==◌, Option, Some, None, if◌then◌else◌, option_map, option_and_then, IsTrue, IsFalse, refl, ap, ap₂, sym, subst, ◌∙◌, arith, length-drop, lt_trans}
+use Rattle.std.specs.Char.{is_ascii_digit}
+use Rattle.std.proofs.lemmas.Bool.{eqb-true, true≢false}
+use Rattle.std.proofs.lemmas.Option.{none-some, same_Some}
+use Rattle.asl_model.specs.Path.{Segment, Name, Index}
+use Rattle.asl_model.specs.PathSpelling.{after, front_length, in_dot_name, in_quoted_name, is_index, cut_dot_name, cut_quoted_name, cut_index, cut_bracket, cut_segment, Begins, Spells, segments_of, path_of, StopsAt, IsRefusedPath, PathFault, NoDollar, BadSegment, LeftOut}
+use Rattle.asl_model.proofs.ReadingSteps.{taken_if, taken_unless, then_from, map_from, one_value}
+
+pub after_is : (b : ℕ) (text rest : List ℕ) → after b text ≡ Some rest → text ≡ b ∷ rest
+after_is b [] rest h = absurd (none-some rest h)
+after_is b (x ∷ t) rest h = let p = taken_if (x == b) (Some t) rest h in ap₂ ◌∷◌ (eqb-true x b p.0) (same_Some t rest p.1)
+
+after_shorter : (b : ℕ) (text rest : List ℕ) → after b text ≡ Some rest → length rest < length text
+after_shorter b text rest h = subst (λ t. length rest < length t) (sym (after_is b text rest h)) (omega arith)
+
+drop_shorter : (n : ℕ) (text : List ℕ) → length (drop n text) ≤ length text
+drop_shorter n text = omega (arith, length-drop n text)
+
+dot_name_rest : (text : List ℕ) (c : Segment × List ℕ) → cut_dot_name text ≡ Some c → length c.1 ≤ length text
+dot_name_rest text c h =
+    let n = front_length in_dot_name text in
+    let p = taken_unless (n == 0) (Some (Name (take n text), drop n text)) c h in
+    subst (λ d. length d.1 ≤ length text) (same_Some (Name (take n text), drop n text) c p.1) (drop_shorter n text)
+
+quoted_name_rest : (quote : ℕ) (text : List ℕ) (c : Segment × List ℕ) → cut_quoted_name quote text ≡ Some c → length c.1 ≤ length text
+quoted_name_rest quote text c h =
+    let n = front_length (in_quoted_name quote) text in
+    let p = map_from (λ rest. (Name (take n text), rest)) (option_and_then (after 93) (after quote (drop n text))) c h in
+    let q = then_from (after 93) (after quote (drop n text)) p.0 p.1 in
+    subst (λ d. length d.1 ≤ length text) p.2 (omega (arith, after_shorter 93 q.0 p.0 q.2, after_shorter quote (drop n text) q.0 q.1, drop_shorter n text))
+
+index_rest : (text : List ℕ) (c : Segment × List ℕ) → cut_index text ≡ Some c → length c.1 ≤ length text
+index_rest text c h =
+    let n = front_length is_ascii_digit text in
+    let t = taken_if (is_index (take n text)) _ c h in
+    let p = map_from _ (after 93 (drop n text)) c t.1 in
+    subst (λ d. length d.1 ≤ length text) p.2 (omega (arith, after_shorter 93 (drop n text) p.0 p.1, drop_shorter n text))
+
+bracket_rest : (text : List ℕ) (c : Segment × List ℕ) → cut_bracket text ≡ Some c → length c.1 ≤ length text
+bracket_rest [] c h = absurd (none-some c h)
+bracket_rest (x ∷ rest) c h = first (x == 39) h
+  where
+    second : (q : Bool) → (if q then cut_quoted_name 34 rest else cut_index (x ∷ rest)) ≡ Some c → length c.1 ≤ length (x ∷ rest)
+    second true k = omega (arith, quoted_name_rest 34 rest c k)
+    second false k = index_rest (x ∷ rest) c k
+
+    first : (q : Bool) → (if q then cut_quoted_name 39 rest else (if x == 34 then cut_quoted_name 34 rest else cut_index (x ∷ rest))) ≡ Some c → length c.1 ≤ length (x ∷ rest)
+    first true k = omega (arith, quoted_name_rest 39 rest c k)
+    first false k = second (x == 34) k
+
+-- a segment takes at least one byte
+pub segment_rest : (text : List ℕ) (c : Segment × List ℕ) → cut_segment text ≡ Some c → length c.1 < length text
+segment_rest [] c h = absurd (none-some c h)
+segment_rest (x ∷ rest) c h = first (x == 46) h
+  where
+    second : (q : Bool) → (if q then cut_bracket rest else None) ≡ Some c → length c.1 < length (x ∷ rest)
+    second true k = omega (arith, bracket_rest rest c k)
+    second false k = absurd (none-some c k)
+
+    first : (q : Bool) → (if q then cut_dot_name rest else (if x == 91 then cut_bracket rest else None)) ≡ Some c → length c.1 < length (x ∷ rest)
+    first true k = omega (arith, dot_name_rest rest c k)
+    first false k = second (x == 91) k
+
+-- ---- the path that is read is the one that is spelled
+
+segments_begin : (n : ℕ) (text : List ℕ) (p : List Segment) → segments_of n text ≡ Some p → Begins p text []
+segments_begin n [] p h = subst (λ q. Begins q [] []) (same_Some [] p h) refl
+segments_begin zero (x ∷ t) p h = absurd (none-some p h)
+segments_begin (suc n) (x ∷ t) p h =
+    let c = then_from (λ c. option_map (λ q. c.0 ∷ q) (segments_of n c.1)) (cut_segment (x ∷ t)) p h in
+    let q = map_from (λ q. c.0.0 ∷ q) (segments_of n c.0.1) p c.2 in
+    subst (λ r. Begins r (x ∷ t) []) q.2 (c.0.1, c.1, segments_begin n c.0.1 q.0 q.1)
+
+begun_read : (n : ℕ) (p : List Segment) (text : List ℕ) → Begins p text [] → length text ≤ n → segments_of n text ≡ Some p
+begun_read n [] text b l = subst (λ t. segments_of n t ≡ Some []) (sym b) refl
+begun_read n (s ∷ p) [] b l = absurd (none-some (s, b.0) b.1)
+begun_read zero (s ∷ p) (x ∷ t) b l = absurd (omega arith)
+begun_read (suc n) (s ∷ p) (x ∷ t) b l =
+    ap (option_and_then (λ c. option_map (λ q. c.0 ∷ q) (segments_of n c.1))) b.1
+    ∙ ap (option_map (λ q. s ∷ q)) (begun_read n p b.0 b.2 (omega (arith, segment_rest (x ∷ t) (s, b.0) b.1)))
+
+pub path_of-Spells : (text : List ℕ) (p : List Segment) → path_of text ≡ Some p → Spells text p
+path_of-Spells text p h =
+    let r = then_from (λ rest. segments_of (length rest) rest) (after 36 text) p h in
+    record { segments = r.0; dollar = after_is 36 text r.0 r.1; all = segments_begin (length r.0) r.0 p r.2 }
+
+pub Spells-path_of : (text : List ℕ) (p : List Segment) → Spells text p → path_of text ≡ Some p
+Spells-path_of text p s = subst (λ t. path_of t ≡ Some p) (sym s.dollar) (begun_read (length s.segments) p s.segments s.all (omega arith))
+
+pub one_path : (text : List ℕ) (p q : List Segment) → Spells text p → Spells text q → p ≡ q
+one_path text p q s t = one_value p q (Spells-path_of text p s) (Spells-path_of text q t)
+
+-- ---- a text that spells a path isn't refused
+
+tails : (xs ys : List ℕ) → ◌≡◌ {A = List ℕ} (36 ∷ xs) (36 ∷ ys) → xs ≡ ys
+tails xs ys h = ap (drop 1) h
+
+stops_unread : (before p : List Segment) (text rest : List ℕ) → Begins before text rest → IsFalse (length rest == 0) → cut_segment rest ≡ None → Begins p text [] → ⊥
+stops_unread [] [] text rest b some none r = true≢false (subst (λ t. (length t == 0) ≡ false) (sym b ∙ r) some)
+stops_unread [] (s ∷ p) text rest b some none r = none-some (s, r.0) (sym none ∙ ap cut_segment (sym b) ∙ r.1)
+stops_unread (s ∷ before) [] text rest b some none r = none-some (s, b.0) (ap cut_segment (sym r) ∙ b.1)
+stops_unread (s ∷ before) (q ∷ p) text rest b some none r =
+    let same = same_Some (s, b.0) (q, r.0) (sym b.1 ∙ r.1) in
+    stops_unread before p b.0 rest b.2 some none (subst (λ t. Begins p t []) (sym (ap (λ c. c.1) same)) r.2)
+
+spelled_never_stops : (text : List ℕ) (p : List Segment) (b : ℕ) (rest : List ℕ) → Spells text p → StopsAt text b rest → ⊥
+spelled_never_stops text p b rest s t =
+    stops_unread t.before p t.segments rest t.front t.some t.none (subst (λ u. Begins p u []) (tails s.segments t.segments (sym s.dollar ∙ t.dollar)) s.all)
+
+pub spelled_not_refused : (text : List ℕ) (p : List Segment) (f : PathFault) → Spells text p → IsRefusedPath text f → ⊥
+spelled_not_refused text p NoDollar s r = none-some s.segments (sym r ∙ ap (after 36) s.dollar)
+spelled_not_refused text p (BadSegment b) s r = spelled_never_stops text p b r.0 s r.1
+spelled_not_refused text p (LeftOut b) s r = spelled_never_stops text p b r.0 s r.1

@@ -1,0 +1,126 @@
+-- Machines: nested scopes of states (States Language, "Structure of a State Machine" and "State Types").
+-- A machine holds what a run or a finding looks at, defaults filled in. What is read and looked at nowhere is left
+-- out: comments, `Version`, `QueryLanguage`, `ProcessorConfig`, `MaxConcurrency` (the order of events is free), and all that is
+-- time alone (`TimeoutSeconds`, `HeartbeatSeconds`, `IntervalSeconds`, `BackoffRate`, `MaxDelaySeconds`, `JitterStrategy`).
+use Rattle.std.specs.Prelude.{ℕ, zero, suc, List, [], Option, Some, None, bytes_eq, if◌then◌else◌}
+use Rattle.asl_model.specs.Tree.{Tree}
+use Rattle.asl_model.specs.Path.{Segment}
+use Rattle.asl_model.specs.Template.{Template}
+use Rattle.asl_model.specs.Test.{Rule}
+
+-- an element of `Retry`: the error names that it takes, and how often it retries within one execution of the state
+pub record Retrier : Type 0 where
+  pub error_equals : List (List ℕ)
+  pub max_attempts : ℕ
+
+-- an element of `Catch`: the error names that it takes, where the error output is placed (None: `null`), and the state that follows
+pub record Catcher : Type 0 where
+  pub error_equals : List (List ℕ)
+  pub result_path : Option (List Segment)
+  pub next : List ℕ
+
+-- what states of several types have; a state whose type lacks a field has here the value of one that is absent
+pub record Settings : Type 0 where
+  -- None: `null`
+  pub input_path : Option (List Segment)
+  -- None: not given
+  pub parameters : Option Template
+  -- None: not given
+  pub result_selector : Option Template
+  -- None: `null`
+  pub result_path : Option (List Segment)
+  -- None: `null`
+  pub output_path : Option (List Segment)
+  -- None: `"End": true`, and so for types that have no `Next`
+  pub next : Option (List ℕ)
+  pub retriers : List Retrier
+  pub catchers : List Catcher
+
+-- what a Wait waits for
+pub data Delay : Type 0 where
+  Seconds : ℕ → Delay
+  SecondsPath : List Segment → Delay
+  Timestamp : List ℕ → Delay
+  TimestampPath : List Segment → Delay
+
+mutual
+  -- the machine, a branch of a Parallel, or the processor of a Map: the name of the start state, and the states
+  pub data Scope : Type 0 where
+    ScopeOf : List ℕ → States → Scope
+
+  -- the states of a scope, each with its name
+  pub data States : Type 0 where
+    NoStates : States
+    AndState : List ℕ → State → States → States
+
+  pub data State : Type 0 where
+    StateOf : Settings → Kind → State
+
+  -- the eight types, each with the fields that it alone has
+  pub data Kind : Type 0 where
+    -- `Result`, where it is given
+    Pass : Option Tree → Kind
+    -- `Resource`
+    Task : List ℕ → Kind
+    -- `Choices`, and `Default` where it is given
+    Choice : List Rule → Option (List ℕ) → Kind
+    Wait : Delay → Kind
+    Succeed : Kind
+    -- `Error` and `Cause`
+    Fail : List ℕ → List ℕ → Kind
+    -- `Branches`
+    Parallel : Scopes → Kind
+    -- `ItemsPath`, `ItemSelector` where it is given, and the scope of `ItemProcessor`
+    Map : List Segment → Option Template → Scope → Kind
+
+  pub data Scopes : Type 0 where
+    NoScopes : Scopes
+    AndScope : Scope → Scopes → Scopes
+
+abbrev pub settings_of : State → Settings
+settings_of (StateOf settings kind) = settings
+
+abbrev pub kind_of : State → Kind
+kind_of (StateOf settings kind) = kind
+
+-- the name of the scope's start state
+abbrev pub start_of : Scope → List ℕ
+start_of (ScopeOf start held) = start
+
+abbrev pub states_of : Scope → States
+states_of (ScopeOf start held) = held
+
+-- the first of the states that has the name
+abbrev pub state_among : List ℕ → States → Option State
+state_among n NoStates = None
+state_among n (AndState m state others) = if bytes_eq m n then Some state else state_among n others
+
+-- the scope's state of that name
+abbrev pub state_named : List ℕ → Scope → Option State
+state_named n scope = state_among n (states_of scope)
+
+-- the scope without a state, which stands where a child is asked for that isn't there
+abbrev pub empty_scope : Scope
+empty_scope = ScopeOf [] NoStates
+
+-- the scope at a position, counted from 0
+abbrev pub scope_at : ℕ → Scopes → Scope
+scope_at i NoScopes = empty_scope
+scope_at zero (AndScope scope others) = scope
+scope_at (suc i) (AndScope scope others) = scope_at i others
+
+-- the scope in which a state's child of that number stands: a branch of a Parallel, or the processor of a Map
+abbrev pub child_scope : Kind → ℕ → Scope
+child_scope (Pass result) i = empty_scope
+child_scope (Task resource) i = empty_scope
+child_scope (Choice rules default) i = empty_scope
+child_scope (Wait delay) i = empty_scope
+child_scope Succeed i = empty_scope
+child_scope (Fail error cause) i = empty_scope
+child_scope (Parallel branches) i = scope_at i branches
+child_scope (Map items selector processor) i = processor
+
+-- how many scopes there are
+abbrev pub how_many : Scopes → ℕ
+how_many NoScopes = 0
+how_many (AndScope scope others) = suc (how_many others)

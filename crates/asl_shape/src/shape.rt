@@ -1,0 +1,43 @@
+// The type of shapes.
+
+use std::collections::BTreeMap;
+
+/// What trees look like (a subset of JSON Schema 2020-12, Core and Validation).
+#[derive(Debug, Drop)]
+#[cycle(shape)]
+pub enum Shape {
+    /// Every tree.
+    Any,
+    /// No tree.
+    Never,
+    /// `null` alone.
+    Null,
+    /// `true` and `false`.
+    Bool,
+    /// Every whole number.
+    Int,
+    /// Every text.
+    Text,
+    /// The lists that are at least as long as `first`: each of its places has the shape that stands there, and each
+    /// further element has the shape `rest`.
+    List {
+        first: Vec<Shape>,
+        rest: Box<Shape>,
+    },
+    /// The objects in which each needed field is there, and each mentioned field that is there has its shape. Fields
+    /// that aren't mentioned may be there where `extra` is true.
+    Object {
+        fields: BTreeMap<String, Field>,
+        extra: bool,
+    },
+}
+
+/// What a shape says of a field that it mentions.
+#[derive(Debug, Drop)]
+#[cycle(shape)]
+pub struct Field {
+    /// Whether the field has to be there.
+    pub needed: bool,
+    /// The shape of its value, where it is there.
+    pub shape: Shape,
+}
