@@ -1,7 +1,10 @@
 pub mod ExamplesPaths
+pub mod ExamplesSpellings
 pub mod ExamplesTexts
+pub mod PathPrinting
 pub mod PathReading
 pub mod ReadingSteps
 pub mod ShapeInhabited
 pub mod ShapeInside
 pub mod ShapeWitness
+pub mod SpellingLookups

@@ -1,10 +1,10 @@
 -- A text spells at most one path, and is not refused beside it; the printed form of a path spells it.
-use Rattle.std.proofs.Common.{◌≡◌, ◌+◌, ◌-◌, ◌<◌, ◌≤◌, List, [], ◌∷◌, ◌++◌, ℕ, zero, suc, length, take, drop, Bool, true, false, ◌==◌, Option, Some, None, if◌then◌else◌, option_map, option_and_then, IsTrue, IsFalse, refl, ap, ap₂, sym, subst, ◌∙◌, arith, length-drop, lt_trans}
+use Rattle.std.proofs.Common.{◌≡◌, ◌+◌, ◌-◌, ◌<◌, ◌≤◌, List, [], ◌∷◌, ◌++◌, ℕ, zero, suc, length, take, drop, Bool, true, false, ◌==◌, Option, Some, None, if◌then◌else◌, option_map, option_and_then, IsTrue, IsFalse, refl, ap, ap₂, sym, subst, ◌∙◌, arith, length-drop, ◌⊎◌, inl, inr}
 use Rattle.std.specs.Char.{is_ascii_digit}
-use Rattle.std.proofs.lemmas.Bool.{eqb-true, true≢false}
+use Rattle.std.proofs.lemmas.Bool.{eqb-true, ne_eqb, true≢false, false≢true}
 use Rattle.std.proofs.lemmas.Option.{none-some, same_Some}
 use Rattle.asl_model.specs.Path.{Segment, Name, Index}
-use Rattle.asl_model.specs.PathSpelling.{after, front_length, in_dot_name, in_quoted_name, is_index, cut_dot_name, cut_quoted_name, cut_index, cut_bracket, cut_segment, Begins, Spells, segments_of, path_of, StopsAt, IsRefusedPath, PathFault, NoDollar, BadSegment, LeftOut}
+use Rattle.asl_model.specs.PathSpelling.{after, front_length, in_dot_name, in_quoted_name, is_index, cut_dot_name, cut_quoted_name, cut_index, cut_bracket, cut_segment, Begins, Spells, segments_of, path_of, StopsAt, has_left_out, IsRefusedPath, PathFault, NoDollar, BadSegment, LeftOut}
 use Rattle.asl_model.proofs.ReadingSteps.{taken_if, taken_unless, then_from, map_from, one_value}
 
 pub after_is : (b : ℕ) (text rest : List ℕ) → after b text ≡ Some rest → text ≡ b ∷ rest
@@ -112,3 +112,77 @@ pub spelled_not_refused : (text : List ℕ) (p : List Segment) (f : PathFault) �
 spelled_not_refused text p NoDollar s r = none-some s.segments (sym r ∙ ap (after 36) s.dollar)
 spelled_not_refused text p (BadSegment b) s r = spelled_never_stops text p b r.0 s r.1
 spelled_not_refused text p (LeftOut b) s r = spelled_never_stops text p b r.0 s r.1
+
+-- ---- a text that spells no path has exactly one refusal
+
+stops_once : (before front : List Segment) (text rest other : List ℕ) → Begins before text rest → cut_segment rest ≡ None → Begins front text other → cut_segment other ≡ None → rest ≡ other
+stops_once [] [] text rest other b m f n = sym b ∙ f
+stops_once [] (s ∷ front) text rest other b m f n = absurd (none-some (s, f.0) (sym m ∙ ap cut_segment (sym b) ∙ f.1))
+stops_once (s ∷ before) [] text rest other b m f n = absurd (none-some (s, b.0) (sym n ∙ ap cut_segment (sym f) ∙ b.1))
+stops_once (s ∷ before) (q ∷ front) text rest other b m f n =
+    let same = same_Some (s, b.0) (q, f.0) (sym b.1 ∙ f.1) in
+    stops_once before front b.0 rest other b.2 m (subst (λ t. Begins front t other) (sym (ap (λ c. c.1) same)) f.2) n
+
+same_rest : (text : List ℕ) (b c : ℕ) (rest other : List ℕ) → StopsAt text b rest → StopsAt text c other → rest ≡ other
+same_rest text b c rest other s t =
+    stops_once s.before t.before s.segments rest other s.front s.none (subst (λ u. Begins t.before u other) (tails t.segments s.segments (sym t.dollar ∙ s.dollar)) t.front) t.none
+
+same_byte : (text : List ℕ) (b c : ℕ) (rest other : List ℕ) → StopsAt text b rest → StopsAt text c other → b ≡ c
+same_byte text b c rest other s t = omega (arith, s.place, t.place, ap length (same_rest text b c rest other s t))
+
+pub one_refusal : (text : List ℕ) (f g : PathFault) → IsRefusedPath text f → IsRefusedPath text g → f ≡ g
+one_refusal text NoDollar NoDollar r s = refl
+one_refusal text NoDollar (BadSegment c) r s = absurd (none-some s.1.segments (sym r ∙ ap (after 36) s.1.dollar))
+one_refusal text NoDollar (LeftOut c) r s = absurd (none-some s.1.segments (sym r ∙ ap (after 36) s.1.dollar))
+one_refusal text (BadSegment b) NoDollar r s = absurd (none-some r.1.segments (sym s ∙ ap (after 36) r.1.dollar))
+one_refusal text (BadSegment b) (BadSegment c) r s = ap BadSegment (same_byte text b c r.0 s.0 r.1 s.1)
+one_refusal text (BadSegment b) (LeftOut c) r s = absurd (false≢true (sym r.2 ∙ ap has_left_out (same_rest text b c r.0 s.0 r.1 s.1) ∙ s.2))
+one_refusal text (LeftOut b) NoDollar r s = absurd (none-some r.1.segments (sym s ∙ ap (after 36) r.1.dollar))
+one_refusal text (LeftOut b) (BadSegment c) r s = absurd (false≢true (sym s.2 ∙ ap has_left_out (same_rest text c b s.0 r.0 s.1 r.1) ∙ r.2))
+one_refusal text (LeftOut b) (LeftOut c) r s = ap LeftOut (same_byte text b c r.0 s.0 r.1 s.1)
+
+-- the segments go to the end of a text, or stop before it
+record Stop (text : List ℕ) : Type 0 where
+  rest : List ℕ
+  before : List Segment
+  front : Begins before text rest
+  some : IsFalse (length rest == 0)
+  none : cut_segment rest ≡ None
+  short : length rest ≤ length text
+
+abbrev Goes : List ℕ → Type 0
+Goes text = ((p : List Segment) × Begins p text []) ⊎ Stop text
+
+goes_on : (text : List ℕ) (c : Segment × List ℕ) → cut_segment text ≡ Some c → Goes c.1 → Goes text
+goes_on text c h (inl g) = inl (c.0 ∷ g.0, (c.1, h, g.1))
+goes_on text c h (inr s) = inr (record { rest = s.rest; before = c.0 ∷ s.before; front = (c.1, h, s.front); some = s.some; none = s.none; short = omega (arith, s.short, segment_rest text c h) })
+
+goes : (n : ℕ) (text : List ℕ) → length text ≤ n → Goes text
+goes n [] l = inl ([], refl)
+goes zero (x ∷ t) l = absurd (omega arith)
+goes (suc n) (x ∷ t) l = by (cut_segment (x ∷ t)) refl (λ c h. goes n c.1 (omega (arith, l, segment_rest (x ∷ t) c h)))
+  where
+    by : (o : Option (Segment × List ℕ)) → cut_segment (x ∷ t) ≡ o → ((c : Segment × List ℕ) → cut_segment (x ∷ t) ≡ Some c → Goes c.1) → Goes (x ∷ t)
+    by None e k = inr (record { rest = x ∷ t; before = []; front = refl; some = ne_eqb (suc (length t)) 0 (λ e. absurd (omega (arith, e))); none = e; short = omega arith })
+    by (Some c) e k = goes_on (x ∷ t) c e (k c e)
+
+refused_at : (text segments : List ℕ) → text ≡ 36 ∷ segments → Stop segments → (f : PathFault) × IsRefusedPath text f
+refused_at text segments dollar s = by (has_left_out s.rest) refl
+  where
+    stops : StopsAt text (length text - length s.rest) s.rest
+    stops = record { segments = segments; before = s.before; dollar = dollar; front = s.front; some = s.some; none = s.none; place = omega (arith, s.short, ap length dollar) }
+
+    by : (left_out : Bool) → has_left_out s.rest ≡ left_out → (f : PathFault) × IsRefusedPath text f
+    by true e = (LeftOut (length text - length s.rest), (s.rest, stops, e))
+    by false e = (BadSegment (length text - length s.rest), (s.rest, stops, e))
+
+pub spelled_or_refused : (text : List ℕ) → ((p : List Segment) × Spells text p) ⊎ ((f : PathFault) × IsRefusedPath text f)
+spelled_or_refused text = by (after 36 text) refl
+  where
+    by : (o : Option (List ℕ)) → after 36 text ≡ o → ((p : List Segment) × Spells text p) ⊎ ((f : PathFault) × IsRefusedPath text f)
+    by None e = inr (NoDollar, e)
+    by (Some segments) e = end (goes (length segments) segments (omega arith))
+      where
+        end : Goes segments → ((p : List Segment) × Spells text p) ⊎ ((f : PathFault) × IsRefusedPath text f)
+        end (inl g) = inl (g.0, record { segments = segments; dollar = after_is 36 text segments e; all = g.1 })
+        end (inr s) = inr (refused_at text segments (after_is 36 text segments e) s)

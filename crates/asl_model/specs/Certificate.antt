@@ -1,7 +1,12 @@
--- Declared shapes and certificates, and what makes a certificate closed (the profile's own).
-use Rattle.std.specs.Prelude.{ℕ, zero, suc, List, [], ◌∷◌, Option, Some, None, bytes_eq, if◌then◌else◌}
-use Rattle.asl_model.specs.Shape.{Shape, Any, Never}
-use Rattle.asl_model.specs.Machine.{Kind, Pass, Task, Choice, Wait, Succeed, Fail, Parallel, Map}
+-- Declared shapes and certificates, what makes a certificate closed, and what a closed certificate promises of runs.
+-- This is the profile's own: the standard has no shapes.
+use Rattle.std.specs.Prelude.{◌≡◌, ℕ, zero, suc, List, [], ◌∷◌, Bool, true, false, IsTrue, ◌↔◌, length, Option, Some, None, is_some, bytes_eq, if◌then◌else◌, option_and_then, Result, Ok, Err}
+use Rattle.asl_model.specs.Tree.{Tree, Array, Trees, NoTrees, AndTree, count}
+use Rattle.asl_model.specs.Shape.{Shape, Any, Never, Has, Inside}
+use Rattle.asl_model.specs.Faults.{Fault}
+use Rattle.asl_model.specs.Machine.{Catcher, Scope, State, Kind, Pass, Task, Choice, Wait, Succeed, Fail, Parallel, Map, settings_of, kind_of, start_of, state_named, child_scope, how_many, names_state, names_task}
+use Rattle.asl_model.specs.Flow.{Work, Finishes, Leaves, FailsWith, Asks, Splits, Raises, at_output_path, output_of, first_move}
+use Rattle.asl_model.specs.Run.{Activity, Ready, Waiting, Split, Done, Failed, Action, Move, Gives, FailsTask, Event, Outcome, Output, FailedWith, Entry, Entered, Asked, Left, Raised, TaskFailed, BranchFailed, Retried, Caught, Ended, Step, Turn, caught_input, scope_below, activity_at, child_at, run_of, entries_of}
 
 -- the shapes of a task: of its payload, and of the answers that it gives
 pub record TaskShapes : Type 0 where
@@ -97,3 +102,182 @@ takes_of declared n = takes_among (under n declared.tasks)
 -- the shape of the answers that it gives; Any where it isn't declared
 abbrev pub gives_of : Declared → List ℕ → Shape
 gives_of declared n = gives_among (under n declared.tasks)
+
+-- how many branches a state has
+abbrev pub branches_in : Kind → ℕ
+branches_in (Pass result) = 0
+branches_in (Task resource) = 0
+branches_in (Choice rules default) = 0
+branches_in (Wait delay) = 0
+branches_in Succeed = 0
+branches_in (Fail error cause) = 0
+branches_in (Parallel branches) = how_many branches
+branches_in (Map items selector processor) = 0
+
+-- a Map
+abbrev pub is_map : Kind → Bool
+is_map (Pass result) = false
+is_map (Task resource) = false
+is_map (Choice rules default) = false
+is_map (Wait delay) = false
+is_map Succeed = false
+is_map (Fail error cause) = false
+is_map (Parallel branches) = false
+is_map (Map items selector processor) = true
+
+-- the entry is there and of the right form: a shape a branch for a Parallel, that of the processor's end for a Map alone
+pub record HasEntry (certificate : Certificate) (n : List ℕ) (kind : Kind) : Type 0 where
+  pub shapes : StateShapes
+  pub stands : certified certificate n ≡ Some shapes
+  pub branches : length shapes.branches ≡ branches_in kind
+  pub item : is_some shapes.item ≡ is_map kind
+
+-- The scopes of a machine, each with the shape certified for its end: the machine itself with the certificate's
+-- output; a child's scope of a state in one of them with what the state's entry says.
+pub data IsScope (certificate : Certificate) (machine : Scope) : Scope → Shape → Type 0 where
+  whole_machine : IsScope certificate machine machine certificate.output
+  child_of_state : {scope : Scope} {end : Shape} (n : List ℕ) (state : State) (i : ℕ) → IsScope certificate machine scope end → state_named n scope ≡ Some state → IsScope certificate machine (child_scope (kind_of state) i) (or_never (child_end (kind_of state) (certified certificate n) i))
+
+-- each of the trees has the shape that its number gives
+abbrev pub EachHas : (ℕ → Shape) → Trees → Type 0
+EachHas shapes NoTrees = Unit {0}
+EachHas shapes (AndTree t ts) = Has (shapes 0) t × EachHas (λ i. shapes (suc i)) ts
+
+-- the output of state n meets no fault, has the state's certified shape, and that of what comes next: the next state's input or the scope's end
+abbrev pub OutputFits : Certificate → Shape → List ℕ → Option (List ℕ) → Result Tree Fault → Type 0
+OutputFits certificate end n next (Err fault) = ⊥
+OutputFits certificate end n None (Ok output) = Has (certified_output certificate n) output × Has end output
+OutputFits certificate end n (Some next) (Ok output) = Has (certified_output certificate n) output × Has (certified_input certificate next) output
+
+-- what the first move of state n comes to on raw input v raises no fault, and the shapes fit: of a payload, of each
+-- child's input, and of the output for each result that the shapes allow
+abbrev pub WorkFits : Declared → Certificate → Shape → List ℕ → State → Tree → Work → Type 0
+WorkFits declared certificate end n state v (Finishes result) = OutputFits certificate end n (settings_of state).next (output_of (settings_of state) v result)
+WorkFits declared certificate end n state v (Leaves next u) = OutputFits certificate end n next (at_output_path (settings_of state) u)
+WorkFits declared certificate end n state v (FailsWith error cause) = Unit {0}
+WorkFits declared certificate end n state v (Asks payload) = Has (takes_of declared n) payload
+    × ((answer : Tree) → Has (gives_of declared n) answer → OutputFits certificate end n (settings_of state).next (output_of (settings_of state) v answer))
+WorkFits declared certificate end n state v (Splits inputs) = EachHas (λ i. certified_input certificate (start_of (child_scope (kind_of state) i))) inputs
+    × ((outputs : Trees) → count outputs ≡ count inputs → EachHas (λ i. or_never (child_end (kind_of state) (certified certificate n) i)) outputs → OutputFits certificate end n (settings_of state).next (output_of (settings_of state) v (Array outputs)))
+WorkFits declared certificate end n state v (Raises fault) = ⊥
+
+-- what a catcher hands on is there, and has the certified input of its next state
+abbrev pub CaughtFits : Certificate → List ℕ → Option Tree → Type 0
+CaughtFits certificate next None = ⊥
+CaughtFits certificate next (Some input) = Has (certified_input certificate next) input
+
+-- so for each of the catchers, whatever the error and its cause are
+abbrev pub CatchersFit : Certificate → Tree → List Catcher → Type 0
+CatchersFit certificate v [] = Unit {0}
+CatchersFit certificate v (catcher ∷ others) = ((error cause : List ℕ) → CaughtFits certificate catcher.next (caught_input catcher v error cause)) × CatchersFit certificate v others
+
+-- the certificate is closed at state n of a scope with that end
+pub record IsClosedAt (declared : Declared) (certificate : Certificate) (end : Shape) (n : List ℕ) (state : State) : Type 0 where
+  pub entry : HasEntry certificate n (kind_of state)
+  pub work : (v : Tree) → Has (certified_input certificate n) v → WorkFits declared certificate end n state v (first_move state v)
+  pub catchers : (v : Tree) → Has (certified_input certificate n) v → CatchersFit certificate v (settings_of state).catchers
+
+-- The certificate is closed: its entries are those of the machine's states, the declared tasks are its Tasks, the
+-- declared input is inside what is certified for the start state, and it is closed at each state of each scope.
+pub record IsClosed (declared : Declared) (certificate : Certificate) (machine : Scope) : Type 0 where
+  pub no_other_entry : (n : List ℕ) → IsTrue (is_some (certified certificate n)) → IsTrue (names_state machine n)
+  pub tasks : (n : List ℕ) → IsTrue (is_some (under n declared.tasks)) ↔ IsTrue (names_task machine n)
+  pub start : Inside declared.input (certified_input certificate (start_of machine))
+  pub states : (scope : Scope) (end : Shape) → IsScope certificate machine scope end → (n : List ℕ) (state : State) → state_named n scope ≡ Some state → IsClosedAt declared certificate end n state
+
+-- the name of the state that waits in the activity itself
+abbrev pub waiting_name : Activity → Option (List ℕ)
+waiting_name (Ready n raw counts) = None
+waiting_name (Waiting n raw counts payload) = Some n
+waiting_name (Split n raw counts children) = None
+waiting_name (Done output) = None
+waiting_name (Failed error cause) = None
+
+-- the name of the state that waits at a place
+abbrev pub waiting_at : List ℕ → Activity → Option (List ℕ)
+waiting_at p a = option_and_then waiting_name (activity_at p a)
+
+-- the answer has the shape that is declared for the state that waits
+abbrev pub AnswerObeys : Declared → Option (List ℕ) → Tree → Type 0
+AnswerObeys declared None answer = Unit {0}
+AnswerObeys declared (Some n) answer = Has (gives_of declared n) answer
+
+-- so for an action at a place; moves and failures of tasks are free
+abbrev pub ActionObeys : Declared → List ℕ → Activity → Action → Type 0
+ActionObeys declared p a Move = Unit {0}
+ActionObeys declared p a (Gives answer) = AnswerObeys declared (waiting_at p a) answer
+ActionObeys declared p a (FailsTask error cause) = Unit {0}
+
+-- so where the action is enabled; what isn't taken is free too
+abbrev pub TakenObeys : Declared → List ℕ → Activity → Action → Option Step → Type 0
+TakenObeys declared p a action None = Unit {0}
+TakenObeys declared p a action (Some taken) = ActionObeys declared p a action
+
+-- each answer that is taken in these turns has the shape that is declared for its state
+abbrev pub AnswersObey : Declared → List Turn → Type 0
+AnswersObey declared [] = Unit {0}
+AnswersObey declared (turn ∷ turns) = TakenObeys declared turn.event.place turn.before turn.event.action turn.taken × AnswersObey declared turns
+
+-- an input and a list of events obey the declared shapes
+pub record Obeys (declared : Declared) (machine : Scope) (input : Tree) (events : List Event) : Type 0 where
+  pub has_input : Has declared.input input
+  pub answers : AnswersObey declared (run_of machine input events)
+
+-- the shape certified for the end of the scope of a Split's child
+abbrev pub end_under : Certificate → List ℕ → Option State → ℕ → Shape
+end_under certificate n None i = Never
+end_under certificate n (Some state) i = or_never (child_end (kind_of state) (certified certificate n) i)
+
+-- the end of a child that is there
+abbrev pub end_of_child : (Activity → Shape) → Option Activity → Shape
+end_of_child end_of None = Never
+end_of_child end_of (Some child) = end_of child
+
+-- the shape certified for the end of the scope at a place of an activity, which stands in a scope with that end
+abbrev pub end_at : Certificate → List ℕ → Scope → Shape → Activity → Shape
+end_at certificate [] scope end a = end
+end_at certificate (i ∷ p) scope end (Ready n raw counts) = Never
+end_at certificate (i ∷ p) scope end (Waiting n raw counts payload) = Never
+end_at certificate (i ∷ p) scope end (Split n raw counts children) = end_of_child (λ child. end_at certificate p (scope_below scope n i) (end_under certificate n (state_named n scope) i) child) (child_at i children)
+end_at certificate (i ∷ p) scope end (Done output) = Never
+end_at certificate (i ∷ p) scope end (Failed error cause) = Never
+
+-- the entry is no data-flow fault
+abbrev pub RaisesNothing : Entry → Type 0
+RaisesNothing (Entered n input) = Unit {0}
+RaisesNothing (Asked n payload) = Unit {0}
+RaisesNothing (Left n output) = Unit {0}
+RaisesNothing (Raised n fault) = ⊥
+RaisesNothing (TaskFailed n error cause) = Unit {0}
+RaisesNothing (BranchFailed n i error cause) = Unit {0}
+RaisesNothing (Retried n i) = Unit {0}
+RaisesNothing (Caught n i next) = Unit {0}
+RaisesNothing (Ended outcome) = Unit {0}
+
+-- an output has the shape certified for the scope's end; an error has none
+abbrev pub OutcomeFits : Shape → Outcome → Type 0
+OutcomeFits end (Output output) = Has end output
+OutcomeFits end (FailedWith error cause) = Unit {0}
+
+-- an input has the certified input of its state, a payload what its task takes, an output the certified output, an
+-- end the shape certified for the scope's end
+abbrev pub IsAsCertified : Declared → Certificate → Shape → Entry → Type 0
+IsAsCertified declared certificate end (Entered n input) = Has (certified_input certificate n) input
+IsAsCertified declared certificate end (Asked n payload) = Has (takes_of declared n) payload
+IsAsCertified declared certificate end (Left n output) = Has (certified_output certificate n) output
+IsAsCertified declared certificate end (Raised n fault) = Unit {0}
+IsAsCertified declared certificate end (TaskFailed n error cause) = Unit {0}
+IsAsCertified declared certificate end (BranchFailed n i error cause) = Unit {0}
+IsAsCertified declared certificate end (Retried n i) = Unit {0}
+IsAsCertified declared certificate end (Caught n i next) = Unit {0}
+IsAsCertified declared certificate end (Ended outcome) = OutcomeFits end outcome
+
+-- each of the entries raises nothing and is as certified, where the scope of their place has that end
+abbrev pub EntriesFit : Declared → Certificate → Shape → List Entry → Type 0
+EntriesFit declared certificate end [] = Unit {0}
+EntriesFit declared certificate end (entry ∷ entries) = RaisesNothing entry × IsAsCertified declared certificate end entry × EntriesFit declared certificate end entries
+
+-- so for each turn
+abbrev pub TurnsFit : Declared → Certificate → Scope → List Turn → Type 0
+TurnsFit declared certificate machine [] = Unit {0}
+TurnsFit declared certificate machine (turn ∷ turns) = EntriesFit declared certificate (end_at certificate turn.event.place machine certificate.output turn.before) (entries_of turn.taken) × TurnsFit declared certificate machine turns

@@ -1,13 +1,17 @@
 pub mod Certificate
 pub mod Faults
+pub mod Flow
 pub mod Intrinsic
 pub mod Json
 pub mod Machine
 pub mod Path
 pub mod PathSpelling
 pub mod Placing
+pub mod Run
 pub mod Shape
+pub mod ShapeFlow
 pub mod ShapeOrder
+pub mod ShapeSpelling
 pub mod Template
 pub mod Test
 pub mod Tree

@@ -2,7 +2,7 @@
 -- A machine holds what a run or a finding looks at, defaults filled in. What is read and looked at nowhere is left
 -- out: comments, `Version`, `QueryLanguage`, `ProcessorConfig`, `MaxConcurrency` (the order of events is free), and all that is
 -- time alone (`TimeoutSeconds`, `HeartbeatSeconds`, `IntervalSeconds`, `BackoffRate`, `MaxDelaySeconds`, `JitterStrategy`).
-use Rattle.std.specs.Prelude.{ℕ, zero, suc, List, [], Option, Some, None, bytes_eq, if◌then◌else◌}
+use Rattle.std.specs.Prelude.{ℕ, zero, suc, List, [], Bool, true, false, ◌&&◌, ◌||◌, Option, Some, None, bytes_eq, if◌then◌else◌}
 use Rattle.asl_model.specs.Tree.{Tree}
 use Rattle.asl_model.specs.Path.{Segment}
 use Rattle.asl_model.specs.Template.{Template}
@@ -119,6 +119,52 @@ child_scope Succeed i = empty_scope
 child_scope (Fail error cause) i = empty_scope
 child_scope (Parallel branches) i = scope_at i branches
 child_scope (Map items selector processor) i = processor
+
+-- a Task
+abbrev pub is_task : Kind → Bool
+is_task (Pass result) = false
+is_task (Task resource) = true
+is_task (Choice rules default) = false
+is_task (Wait delay) = false
+is_task Succeed = false
+is_task (Fail error cause) = false
+is_task (Parallel branches) = false
+is_task (Map items selector processor) = false
+
+abbrev mutual
+  -- some state of the scope, those of nested scopes included, passes the test on its name and itself
+  pub some_state : (List ℕ → State → Bool) → Scope → Bool
+  some_state test (ScopeOf start held) = some_of_states test held
+
+  pub some_of_states : (List ℕ → State → Bool) → States → Bool
+  some_of_states test NoStates = false
+  some_of_states test (AndState n state others) = test n state || (some_inside test state || some_of_states test others)
+
+  -- some state in the scopes of a state passes it
+  pub some_inside : (List ℕ → State → Bool) → State → Bool
+  some_inside test (StateOf settings kind) = some_in_kind test kind
+
+  pub some_in_kind : (List ℕ → State → Bool) → Kind → Bool
+  some_in_kind test (Pass result) = false
+  some_in_kind test (Task resource) = false
+  some_in_kind test (Choice rules default) = false
+  some_in_kind test (Wait delay) = false
+  some_in_kind test Succeed = false
+  some_in_kind test (Fail error cause) = false
+  some_in_kind test (Parallel branches) = some_in_scopes test branches
+  some_in_kind test (Map items selector processor) = some_state test processor
+
+  pub some_in_scopes : (List ℕ → State → Bool) → Scopes → Bool
+  some_in_scopes test NoScopes = false
+  some_in_scopes test (AndScope scope others) = some_state test scope || some_in_scopes test others
+
+-- a state of the machine, in whatever scope, has that name
+abbrev pub names_state : Scope → List ℕ → Bool
+names_state machine n = some_state (λ m state. bytes_eq m n) machine
+
+-- a Task of the machine, in whatever scope, has that name
+abbrev pub names_task : Scope → List ℕ → Bool
+names_task machine n = some_state (λ m state. bytes_eq m n && is_task (kind_of state)) machine
 
 -- how many scopes there are
 abbrev pub how_many : Scopes → ℕ

@@ -4,13 +4,19 @@
 //! [`read`] makes one of a text, [`to_text`] writes it as compact JSON, [`copy`] and [`same`] copy and compare.
 #![tactic(auto)]
 
+ghost use Rattle.std.specs.Prelude.{◌≡◌};
+
 pub mod comparing;
 pub mod copying;
+pub mod reading;
+pub mod writing;
 
 pub use comparing::same;
 pub use copying::copy;
+pub use reading::{from_value, read, read_value};
 use std::alloc::{AllocError, AllocFailed};
 use std::collections::BTreeMap;
+pub use writing::to_text;
 
 /// A JSON value whose numbers are whole.
 #[derive(Debug, Drop)]
@@ -37,5 +43,36 @@ impl From<AllocError> for OutOfMemory {
 impl<T: Drop> From<AllocFailed<T>> for OutOfMemory {
     fn from(_error: AllocFailed<T>) -> OutOfMemory {
         OutOfMemory
+    }
+}
+
+/// Why bytes or a JSON value aren't read as a tree.
+#[derive(Debug, PartialEq, Drop)]
+pub enum TreeRefusal {
+    /// The bytes aren't UTF-8, or no JSON, or nest deeper than 127.
+    NotJson,
+    /// Some number isn't whole, or is out of an `i64`'s range.
+    NotWhole,
+    /// An allocation was refused.
+    OutOfMemory,
+}
+
+impl From<AllocError> for TreeRefusal {
+    ghost use Rattle.asl_tree.specs.declared.TreeRefusal.{TreeRefusal};
+
+    ghost from_gives = { λ _ refusal. refusal ≡ TreeRefusal.OutOfMemory };
+
+    fn from(_error: AllocError) -> TreeRefusal {
+        TreeRefusal::OutOfMemory
+    }
+}
+
+impl<T: Drop> From<AllocFailed<T>> for TreeRefusal {
+    ghost use Rattle.asl_tree.specs.declared.TreeRefusal.{TreeRefusal};
+
+    ghost from_gives = { λ _ refusal. refusal ≡ TreeRefusal.OutOfMemory };
+
+    fn from(_error: AllocFailed<T>) -> TreeRefusal {
+        TreeRefusal::OutOfMemory
     }
 }

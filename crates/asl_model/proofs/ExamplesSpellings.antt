@@ -1,0 +1,98 @@
+-- Worked examples of the spelling of shapes.
+use Rattle.std.specs.Prelude.{◌≡◌, List, [], ◌∷◌, ◌++◌, ℕ, Bool, true, false, pos, negsuc, Option, Some, None, option_map, option_and_then, codes, refl}
+use Rattle.serde_json.specs.Read.{read}
+use Rattle.serde_json.proofs.OnLiterals.{serde_json_on_literals}
+use Rattle.asl_model.specs.Json.{tree_of}
+use Rattle.asl_model.specs.Shape.{Shape, Any, Never, IntegerShape, StringShape, ArrayShape, ObjectShape, NoShapes, AndShape, NoFieldShapes, AndFieldShape}
+use Rattle.asl_model.specs.ShapeSpelling.{shape_of, shape_faults, ShapeFault, NotAShape, Keyword, BadType, MinItems}
+
+shape_in : List ℕ → Option Shape
+shape_in text = option_map shape_of (option_and_then tree_of (read text))
+
+faults_in : List ℕ → Option (List ShapeFault)
+faults_in text = option_map shape_faults (option_and_then tree_of (read text))
+
+an_object : shape_in (codes "{\"type\":\"object\",\"properties\":{\"a\":{\"type\":\"integer\"},\"c\":false},\"required\":[\"b\",\"a\"],\"title\":7}") ≡ Some (ObjectShape (AndFieldShape (codes "a") true IntegerShape (AndFieldShape (codes "b") true Any (AndFieldShape (codes "c") false Never NoFieldShapes))) true)
+unfolding serde_json_on_literals shape_in
+an_object = refl
+
+an_object_is_right : faults_in (codes "{\"type\":\"object\",\"properties\":{\"a\":{\"type\":\"integer\"},\"c\":false},\"required\":[\"b\",\"a\"],\"title\":7}") ≡ Some []
+unfolding serde_json_on_literals faults_in
+an_object_is_right = refl
+
+any_and_never : (shape_in (codes "{}") ≡ Some Any) × (shape_in (codes "true") ≡ Some Any) × (shape_in (codes "{\"title\":7,\"examples\":[]}") ≡ Some Any) × (shape_in (codes "false") ≡ Some Never)
+unfolding serde_json_on_literals shape_in
+any_and_never = (refl, refl, refl, refl)
+
+a_list : shape_in (codes "{\"type\":\"array\",\"prefixItems\":[{\"type\":\"string\"},true],\"minItems\":2}") ≡ Some (ArrayShape (AndShape StringShape (AndShape Any NoShapes)) Any)
+unfolding serde_json_on_literals shape_in
+a_list = refl
+
+a_list_is_right : faults_in (codes "{\"type\":\"array\",\"prefixItems\":[{\"type\":\"string\"},true],\"minItems\":2}") ≡ Some []
+unfolding serde_json_on_literals faults_in
+a_list_is_right = refl
+
+-- a needed field that no property mentions, where there are no others, has no value
+needed_but_closed : shape_in (codes "{\"type\":\"object\",\"required\":[\"a\"],\"additionalProperties\":false}") ≡ Some (ObjectShape (AndFieldShape (codes "a") true Never NoFieldShapes) false)
+unfolding serde_json_on_literals shape_in
+needed_but_closed = refl
+
+too_few_items : faults_in (codes "{\"type\":\"array\",\"prefixItems\":[true],\"minItems\":0}") ≡ Some (MinItems ∷ [])
+unfolding serde_json_on_literals faults_in
+too_few_items = refl
+
+items_not_counted : faults_in (codes "{\"type\":\"array\",\"prefixItems\":[true]}") ≡ Some (MinItems ∷ [])
+unfolding serde_json_on_literals faults_in
+items_not_counted = refl
+
+negative_items : faults_in (codes "{\"type\":\"array\",\"minItems\":-1}") ≡ Some (MinItems ∷ [])
+unfolding serde_json_on_literals faults_in
+negative_items = refl
+
+items_as_text : faults_in (codes "{\"type\":\"array\",\"minItems\":\"1\"}") ≡ Some (NotAShape ∷ [])
+unfolding serde_json_on_literals faults_in
+items_as_text = refl
+
+other_type : faults_in (codes "{\"type\":\"number\"}") ≡ Some (BadType ∷ [])
+unfolding serde_json_on_literals faults_in
+other_type = refl
+
+several_types : faults_in (codes "{\"type\":[\"string\",\"null\"]}") ≡ Some (BadType ∷ [])
+unfolding serde_json_on_literals faults_in
+several_types = refl
+
+null_as_type : faults_in (codes "{\"type\":null}") ≡ Some (NotAShape ∷ [])
+unfolding serde_json_on_literals faults_in
+null_as_type = refl
+
+no_type : faults_in (codes "{\"colour\":1}") ≡ Some (BadType ∷ [])
+unfolding serde_json_on_literals faults_in
+no_type = refl
+
+foreign_keyword : faults_in (codes "{\"type\":\"string\",\"colour\":1}") ≡ Some (Keyword ∷ [])
+unfolding serde_json_on_literals faults_in
+foreign_keyword = refl
+
+keyword_of_another_type : faults_in (codes "{\"type\":\"object\",\"items\":true}") ≡ Some (Keyword ∷ [])
+unfolding serde_json_on_literals faults_in
+keyword_of_another_type = refl
+
+a_number : faults_in (codes "7") ≡ Some (NotAShape ∷ [])
+unfolding serde_json_on_literals faults_in
+a_number = refl
+
+required_twice : faults_in (codes "{\"type\":\"object\",\"required\":[\"a\",\"a\"]}") ≡ Some (NotAShape ∷ [])
+unfolding serde_json_on_literals faults_in
+required_twice = refl
+
+required_number : faults_in (codes "{\"type\":\"object\",\"required\":[7]}") ≡ Some (NotAShape ∷ [])
+unfolding serde_json_on_literals faults_in
+required_number = refl
+
+extra_as_object : faults_in (codes "{\"type\":\"object\",\"additionalProperties\":{}}") ≡ Some (NotAShape ∷ [])
+unfolding serde_json_on_literals faults_in
+extra_as_object = refl
+
+deep_inside : faults_in (codes "{\"type\":\"object\",\"properties\":{\"a\":{\"type\":\"array\",\"items\":{\"type\":\"number\"}}}}") ≡ Some (BadType ∷ [])
+unfolding serde_json_on_literals faults_in
+deep_inside = refl

@@ -1,0 +1,468 @@
+-- Shapes through a state: what follows of the shape of a state's input for what its paths name, its templates give, its
+-- rules let through and its output is (States Language, "Input and Output Processing", "Payload Template",
+-- "Intrinsic Functions", "Choice State"). The rules are the profile's own, and of a shape without a tree all give Never.
+use Rattle.std.specs.Prelude.{ℕ, zero, suc, ◌==◌, List, [], ◌∷◌, ◌++◌, length, map, Bool, true, false, ◌&&◌, ◌||◌, not, Option, Some, None, Result, Ok, Err, codes, if◌then◌else◌}
+use Rattle.asl_model.specs.Tree.{Tree, Null, Boolean, Integer, Text, Array, Object, Trees, NoTrees, AndTree, Fields, NoFields, AndField}
+use Rattle.asl_model.specs.Path.{Segment, Name, Index}
+use Rattle.asl_model.specs.Intrinsic.{Reference, InInput, ItemIndex, InItem, Function, StatesArray, StatesArrayLength, StatesFormat, Call, CallOf, Argument, NullArgument, BooleanArgument, IntegerArgument, TextArgument, PathArgument, CallArgument, Arguments, NoArguments, AndArgument, Pieces, literal_pieces}
+use Rattle.asl_model.specs.Template.{Template, Literal, FromPath, FromCall, ArrayTemplate, ObjectTemplate, Templates, NoTemplates, AndTemplate, FieldTemplates, NoFieldTemplates, AndFieldTemplate}
+use Rattle.asl_model.specs.Test.{Test, And, Or, Not, Compare, StringMatches, IsOfKind, IsPresent, Tests, NoTests, AndTest, Operand, Constant, AtPath}
+use Rattle.asl_model.specs.Machine.{Settings, Kind, Pass, Task, Choice, Wait, Succeed, Fail, Parallel, Map}
+use Rattle.asl_model.specs.Shape.{Shape, Any, Never, NullShape, BooleanShape, IntegerShape, StringShape, ArrayShape, ObjectShape, Shapes, NoShapes, AndShape, FieldShapes, NoFieldShapes, AndFieldShape, inhabited}
+use Rattle.asl_model.specs.ShapeOrder.{mention_of, set_mention, join, array_shape_where, is_null_shape, is_boolean_shape, is_integer_shape, is_string_shape}
+
+-- Paths
+
+-- the shape of a field that is needed
+abbrev pub if_needed : Option (Bool × Shape) → Option Shape
+if_needed None = None
+if_needed (Some mention) = if mention.0 then Some mention.1 else None
+
+-- the shape at a position, counted from 0
+abbrev pub place_at : ℕ → Shapes → Option Shape
+place_at i NoShapes = None
+place_at zero (AndShape s others) = Some s
+place_at (suc i) (AndShape s others) = place_at i others
+
+-- the shape of what a segment names in every tree of a shape
+abbrev pub part_at : Segment → Shape → Option Shape
+part_at segment Any = None
+part_at segment Never = None
+part_at segment NullShape = None
+part_at segment BooleanShape = None
+part_at segment IntegerShape = None
+part_at segment StringShape = None
+part_at (Name n) (ArrayShape first rest) = None
+part_at (Index i) (ArrayShape first rest) = place_at i first
+part_at (Name n) (ObjectShape shapes extra) = if_needed (mention_of n shapes)
+part_at (Index i) (ObjectShape shapes extra) = None
+
+-- a refusal behind a segment, counted with it
+abbrev pub one_further : {A : Type 0} → Result A ℕ → Result A ℕ
+one_further (Ok a) = Ok a
+one_further (Err at) = Err (suc at)
+
+-- goes on with the part, or refuses the segment at hand
+abbrev pub through : (Shape → Result Shape ℕ) → Option Shape → Result Shape ℕ
+through go_on None = Err 0
+through go_on (Some part) = one_further (go_on part)
+
+-- the shape of what a path names in every tree of a shape, or the number of the segment that may name nothing
+abbrev pub look_at : List Segment → Shape → Result Shape ℕ
+look_at [] s = Ok s
+look_at (segment ∷ path) s = through (look_at path) (part_at segment s)
+
+-- the same, Never where the shape has no tree
+abbrev pub look : List Segment → Shape → Result Shape ℕ
+look path s = if inhabited s then look_at path s else Ok Never
+
+-- Placing
+
+-- the shape of an object with one field, or the refusal
+abbrev pub around : List ℕ → Result Shape ℕ → Result Shape ℕ
+around n (Ok s) = Ok (ObjectShape (AndFieldShape n true s NoFieldShapes) false)
+around n (Err at) = Err (suc at)
+
+-- the shape of what is built for the segments that remain
+abbrev pub built : List Segment → Shape → Result Shape ℕ
+built [] w = Ok w
+built (Name n ∷ path) w = around n (built path w)
+built (Index i ∷ path) w = Err 0
+
+-- the join, or the first refusal
+abbrev pub join_results : Result Shape ℕ → Result Shape ℕ → Result Shape ℕ
+join_results (Ok s) (Ok t) = Ok (join s t)
+join_results (Ok s) (Err at) = Err at
+join_results (Err at) t = Err at
+
+-- the shape with that one at a position
+abbrev pub set_place : ℕ → Shape → Shapes → Shapes
+set_place i w NoShapes = NoShapes
+set_place zero w (AndShape s others) = AndShape w others
+set_place (suc i) w (AndShape s others) = AndShape s (set_place i w others)
+
+-- the array shape with that one in it, or the refusal
+abbrev pub array_with : ℕ → Shapes → Shape → Result Shape ℕ → Result Shape ℕ
+array_with i first rest (Ok w) = Ok (ArrayShape (set_place i w first) rest)
+array_with i first rest (Err at) = Err (suc at)
+
+-- the object shape with that field needed, or the refusal
+abbrev pub object_with : List ℕ → FieldShapes → Bool → Result Shape ℕ → Result Shape ℕ
+object_with n shapes extra (Ok w) = Ok (ObjectShape (set_mention n true w shapes) extra)
+object_with n shapes extra (Err at) = Err (suc at)
+
+-- what is placed at a position of an array, by the shape that stands there
+abbrev pub put_in_place : (Shape → Result Shape ℕ) → ℕ → Shapes → Shape → Option Shape → Result Shape ℕ
+put_in_place go_on i first rest None = Err 0
+put_in_place go_on i first rest (Some s) = array_with i first rest (go_on s)
+
+-- What is placed in a field that has no mention: what is built, unless there are segments further and the object may
+-- have that field.
+abbrev pub put_unmentioned : Bool → List Segment → Shape → Result Shape ℕ
+put_unmentioned extra [] w = Ok w
+put_unmentioned true (segment ∷ path) w = Err 0
+put_unmentioned false (segment ∷ path) w = built (segment ∷ path) w
+
+-- the put in a field if that is needed, and else its join with what is built
+abbrev pub put_or_built : Bool → Result Shape ℕ → Result Shape ℕ → Result Shape ℕ
+put_or_built true inner outer = inner
+put_or_built false inner outer = join_results inner outer
+
+-- what is placed in a field, by its mention
+abbrev pub put_mentioned : (Shape → Result Shape ℕ) → Bool → List Segment → Shape → Option (Bool × Shape) → Result Shape ℕ
+put_mentioned go_on extra path w None = put_unmentioned extra path w
+put_mentioned go_on extra path w (Some mention) = put_or_built mention.0 (go_on mention.1) (built path w)
+
+-- the shape of a tree with one placed under a segment, or the refusal; the function goes on behind the segment, with the path
+abbrev pub put_under : (Shape → Result Shape ℕ) → Segment → List Segment → Shape → Shape → Result Shape ℕ
+put_under go_on segment path w Any = Err 0
+put_under go_on segment path w Never = Err 0
+put_under go_on segment path w NullShape = Err 0
+put_under go_on segment path w BooleanShape = Err 0
+put_under go_on segment path w IntegerShape = Err 0
+put_under go_on segment path w StringShape = Err 0
+put_under go_on (Name n) path w (ArrayShape first rest) = Err 0
+put_under go_on (Index i) path w (ArrayShape first rest) = put_in_place go_on i first rest (place_at i first)
+put_under go_on (Name n) path w (ObjectShape shapes extra) = object_with n shapes extra (put_mentioned go_on extra path w (mention_of n shapes))
+put_under go_on (Index i) path w (ObjectShape shapes extra) = Err 0
+
+-- The shape of every tree of the first shape with a tree of the second placed at the path, or the number of the
+-- segment where it may not fit
+abbrev pub put : List Segment → Shape → Shape → Result Shape ℕ
+put [] w s = Ok (if inhabited s && inhabited w then w else Never)
+put (segment ∷ path) w s = if inhabited s && inhabited w then put_under (put path w) segment path w s else Ok Never
+
+-- Literals and payload templates
+
+abbrev mutual
+  -- the shape of a tree that stands for itself: each value's kind, arrays place by place, objects field by field
+  pub literal : Tree → Shape
+  literal Null = NullShape
+  literal (Boolean b) = BooleanShape
+  literal (Integer n) = IntegerShape
+  literal (Text t) = StringShape
+  literal (Array ts) = ArrayShape (literals ts) Never
+  literal (Object fs) = ObjectShape (literal_fields fs) false
+
+  pub literals : Trees → Shapes
+  literals NoTrees = NoShapes
+  literals (AndTree t ts) = AndShape (literal t) (literals ts)
+
+  pub literal_fields : Fields → FieldShapes
+  literal_fields NoFields = NoFieldShapes
+  literal_fields (AndField n t fs) = set_mention n true (literal t) (literal_fields fs)
+
+-- why a template may have no value: a path may name nothing, or a call may fail
+pub data Doubt : Type 0 where
+  MayBeMissing : Doubt
+  MayFail : Doubt
+
+-- where a path's segment may name nothing, there is that doubt
+abbrev pub or_missing : Result Shape ℕ → Result Shape Doubt
+or_missing (Ok s) = Ok s
+or_missing (Err at) = Err MayBeMissing
+
+-- the shape of the item's part that a path names; without an item that may fail
+abbrev pub item_part : List Segment → Option Shape → Result Shape Doubt
+item_part path None = Err MayFail
+item_part path (Some item) = or_missing (look path item)
+
+-- the shape of the item's number
+abbrev pub index_part : Option Shape → Result Shape Doubt
+index_part None = Err MayFail
+index_part (Some item) = Ok IntegerShape
+
+-- the shape of what a reference names in the template's input and the item
+abbrev pub reference_shape : Reference → Shape → Option Shape → Result Shape Doubt
+reference_shape (InInput path) input item = or_missing (look path input)
+reference_shape ItemIndex input item = index_part item
+reference_shape (InItem path) input item = item_part path item
+
+-- the shape, unless there is a doubt
+abbrev pub unless_doubtful : Result Shape Doubt → Option Shape
+unless_doubtful (Ok s) = Some s
+unless_doubtful (Err doubt) = None
+
+-- an argument of `States.Format` that can be put in a text, or that never comes
+abbrev pub is_formattable : Shape → Bool
+is_formattable s = not (inhabited s) || is_null_shape s || is_boolean_shape s || is_integer_shape s || is_string_shape s
+
+abbrev pub all_formattable : Shapes → Bool
+all_formattable NoShapes = true
+all_formattable (AndShape s others) = is_formattable s && all_formattable others
+
+abbrev pub is_array_shape : Shape → Bool
+is_array_shape s = array_shape_where (λ first rest. true) s
+
+abbrev pub how_many_shapes : Shapes → ℕ
+how_many_shapes NoShapes = 0
+how_many_shapes (AndShape s others) = suc (how_many_shapes others)
+
+-- an argument in front of the others, where none may fail
+abbrev pub and_argument : Option Shape → Option Shapes → Option Shapes
+and_argument None others = None
+and_argument (Some s) None = None
+and_argument (Some s) (Some others) = Some (AndShape s others)
+
+abbrev pub array_of : Option Shapes → Option Shape
+array_of None = None
+array_of (Some shapes) = Some (ArrayShape shapes Never)
+
+-- the length of one argument, which is an array or never comes
+abbrev pub number_of : Option Shapes → Option Shape
+number_of None = None
+number_of (Some NoShapes) = None
+number_of (Some (AndShape s NoShapes)) = if not (inhabited s) || is_array_shape s then Some IntegerShape else None
+number_of (Some (AndShape s (AndShape other others))) = None
+
+-- the first argument is a literal text with as many holes as there are further ones, or never comes
+abbrev pub fits_holes : Option Pieces → Shape → Shapes → Bool
+fits_holes None s others = not (inhabited s)
+fits_holes (Some pieces) s others = length pieces.after_holes == how_many_shapes others
+
+-- a text and what fills its holes, for the pieces of the first argument where that is a literal text
+abbrev pub format_of : Option Pieces → Option Shapes → Option Shape
+format_of literal_text None = None
+format_of literal_text (Some NoShapes) = None
+format_of literal_text (Some (AndShape s others)) = if fits_holes literal_text s others && all_formattable others then Some StringShape else None
+
+-- the shape of a function's value, where it has one for all values of its arguments
+abbrev pub value_shape : Function → Option Pieces → Option Shapes → Option Shape
+value_shape StatesArray literal_text shapes = array_of shapes
+value_shape StatesArrayLength literal_text shapes = number_of shapes
+value_shape StatesFormat literal_text shapes = format_of literal_text shapes
+
+abbrev mutual
+  -- the shape of a call's value; None: it may fail
+  pub call_shape : Call → Shape → Option Shape → Option Shape
+  call_shape (CallOf function arguments) input item = value_shape function (literal_pieces arguments) (argument_shapes arguments input item)
+
+  pub argument_shape : Argument → Shape → Option Shape → Option Shape
+  argument_shape NullArgument input item = Some NullShape
+  argument_shape (BooleanArgument b) input item = Some BooleanShape
+  argument_shape (IntegerArgument n) input item = Some IntegerShape
+  argument_shape (TextArgument pieces) input item = Some StringShape
+  argument_shape (PathArgument reference) input item = unless_doubtful (reference_shape reference input item)
+  argument_shape (CallArgument call) input item = call_shape call input item
+
+  pub argument_shapes : Arguments → Shape → Option Shape → Option Shapes
+  argument_shapes NoArguments input item = Some NoShapes
+  argument_shapes (AndArgument argument others) input item = and_argument (argument_shape argument input item) (argument_shapes others input item)
+
+-- a doubt, with the name of the nearest object field
+abbrev pub doubts_at : List ℕ → Result Shape Doubt → List (List ℕ × Doubt)
+doubts_at field (Ok s) = []
+doubts_at field (Err doubt) = (field, doubt) ∷ []
+
+-- the shape, or the doubt that the call may fail
+abbrev pub or_may_fail : Option Shape → Result Shape Doubt
+or_may_fail None = Err MayFail
+or_may_fail (Some s) = Ok s
+
+-- the shape, or Never where there is a doubt
+abbrev pub or_none : Result Shape Doubt → Shape
+or_none (Ok s) = s
+or_none (Err doubt) = Never
+
+abbrev mutual
+  -- every doubt of a template, in order, each with the name of the nearest object field
+  pub doubts : Template → List ℕ → Shape → Option Shape → List (List ℕ × Doubt)
+  doubts (Literal t) field input item = []
+  doubts (FromPath reference) field input item = doubts_at field (reference_shape reference input item)
+  doubts (FromCall call) field input item = doubts_at field (or_may_fail (call_shape call input item))
+  doubts (ArrayTemplate elements) field input item = element_doubts elements field input item
+  doubts (ObjectTemplate fields) field input item = field_doubts fields input item
+
+  pub element_doubts : Templates → List ℕ → Shape → Option Shape → List (List ℕ × Doubt)
+  element_doubts NoTemplates field input item = []
+  element_doubts (AndTemplate template others) field input item = doubts template field input item ++ element_doubts others field input item
+
+  pub field_doubts : FieldTemplates → Shape → Option Shape → List (List ℕ × Doubt)
+  field_doubts NoFieldTemplates input item = []
+  field_doubts (AndFieldTemplate n template others) input item = doubts template n input item ++ field_doubts others input item
+
+abbrev mutual
+  -- the shape of a template's value, where there is no doubt
+  pub filled_shape : Template → Shape → Option Shape → Shape
+  filled_shape (Literal t) input item = literal t
+  filled_shape (FromPath reference) input item = or_none (reference_shape reference input item)
+  filled_shape (FromCall call) input item = or_none (or_may_fail (call_shape call input item))
+  filled_shape (ArrayTemplate elements) input item = ArrayShape (filled_elements elements input item) Never
+  filled_shape (ObjectTemplate fields) input item = ObjectShape (filled_fields fields input item) false
+
+  pub filled_elements : Templates → Shape → Option Shape → Shapes
+  filled_elements NoTemplates input item = NoShapes
+  filled_elements (AndTemplate template others) input item = AndShape (filled_shape template input item) (filled_elements others input item)
+
+  pub filled_fields : FieldTemplates → Shape → Option Shape → FieldShapes
+  filled_fields NoFieldTemplates input item = NoFieldShapes
+  filled_fields (AndFieldTemplate n template others) input item = set_mention n true (filled_shape template input item) (filled_fields others input item)
+
+-- the shape, or the doubts where there are some
+abbrev pub unless_doubts : List (List ℕ × Doubt) → Shape → Result Shape (List (List ℕ × Doubt))
+unless_doubts [] s = Ok s
+unless_doubts (doubt ∷ others) s = Err (doubt ∷ others)
+
+-- the shape of the values that a template has for the trees of a shape and the items of another, or all its doubts
+abbrev pub template_shape : Template → Shape → Option Shape → Result Shape (List (List ℕ × Doubt))
+template_shape template input item = if inhabited input then unless_doubts (doubts template [] input item) (filled_shape template input item) else Ok Never
+
+-- Rules
+
+-- the field's mention, needed and narrowed; one that isn't mentioned is needed where the object may have it
+abbrev pub narrow_mention : (Shape → Shape) → List ℕ → FieldShapes → Bool → Option (Bool × Shape) → Shape
+narrow_mention go_on n shapes extra None = if extra then ObjectShape (set_mention n true Any shapes) true else Never
+narrow_mention go_on n shapes extra (Some mention) = ObjectShape (set_mention n true (go_on mention.1) shapes) extra
+
+-- the place narrowed, where it has a shape of its own
+abbrev pub narrow_place : (Shape → Shape) → ℕ → Shapes → Shape → Option Shape → Shape
+narrow_place go_on i first rest None = ArrayShape first rest
+narrow_place go_on i first rest (Some s) = ArrayShape (set_place i (go_on s) first) rest
+
+-- the shape of the trees in which the segment names something; the function narrows what it names
+abbrev pub narrow_under : (Shape → Shape) → Segment → Shape → Shape
+narrow_under go_on segment Any = Any
+narrow_under go_on segment Never = Never
+narrow_under go_on segment NullShape = Never
+narrow_under go_on segment BooleanShape = Never
+narrow_under go_on segment IntegerShape = Never
+narrow_under go_on segment StringShape = Never
+narrow_under go_on (Name n) (ArrayShape first rest) = Never
+narrow_under go_on (Index i) (ArrayShape first rest) = narrow_place go_on i first rest (place_at i first)
+narrow_under go_on (Name n) (ObjectShape shapes extra) = narrow_mention go_on n shapes extra (mention_of n shapes)
+narrow_under go_on (Index i) (ObjectShape shapes extra) = Never
+
+-- the shape of the trees of a shape in which the path names something
+abbrev pub where_present : List Segment → Shape → Shape
+where_present [] s = s
+where_present (segment ∷ path) s = narrow_under (where_present path) segment s
+
+-- the shape as it is, unless a path may name nothing
+abbrev pub if_found : Result Shape ℕ → Shape → Option Shape
+if_found (Ok part) s = Some s
+if_found (Err at) s = None
+
+-- the shape as it is, where both are found
+abbrev pub both_found : Result Shape ℕ → Result Shape ℕ → Shape → Option Shape
+both_found (Ok part) second s = if_found second s
+both_found (Err at) second s = None
+
+-- the shape of what a comparison's second value is
+abbrev pub operand_shape : Operand → Shape → Result Shape ℕ
+operand_shape (Constant t) s = Ok (literal t)
+operand_shape (AtPath path) s = look path s
+
+-- the shape, or none where a part's is none
+abbrev pub unless_none : Option Shape → Option Shape → Option Shape
+unless_none None s = None
+unless_none (Some part) s = s
+
+-- goes on with the shape, where there is one
+abbrev pub narrowed_by : (Shape → Option Shape) → Option Shape → Option Shape
+narrowed_by go_on None = None
+narrowed_by go_on (Some s) = go_on s
+
+abbrev mutual
+  -- the shape of the trees of a shape for which a test is true; None: a path of it may name nothing
+  pub true_of : Test → Shape → Option Shape
+  true_of (And tests) s = each_true_of tests s
+  true_of (Or tests) s = unless_none (each_found tests s) (Some s)
+  true_of (Not test) s = unless_none (true_of test s) (Some s)
+  true_of (Compare path comparison operand) s = both_found (look path s) (operand_shape operand s) s
+  true_of (StringMatches path pattern) s = if_found (look path s) s
+  true_of (IsOfKind path kind expected) s = if_found (look path s) s
+  true_of (IsPresent path expected) s = if expected then Some (where_present path s) else Some s
+
+  -- the narrowed shape goes from each test to the next
+  pub each_true_of : Tests → Shape → Option Shape
+  each_true_of NoTests s = Some s
+  each_true_of (AndTest test others) s = narrowed_by (each_true_of others) (true_of test s)
+
+  -- the shape as it is, where no path of any of the tests may name nothing
+  pub each_found : Tests → Shape → Option Shape
+  each_found NoTests s = Some s
+  each_found (AndTest test others) s = unless_none (true_of test s) (each_found others s)
+
+-- the shape of the trees of a shape for which a rule is true; None: a path of it may name nothing
+abbrev pub rule_shape : Test → Shape → Option Shape
+rule_shape test s = if inhabited s then true_of test s else Some Never
+
+-- The output of a state
+
+-- why a state's output may not come about, each with the field of the state
+pub data FlowFault : Type 0 where
+  MissingAt : List ℕ → FlowFault
+  FailsAt : List ℕ → FlowFault
+  MisfitAt : List ℕ → FlowFault
+
+-- a shape on its way through a state, or the faults that may stop it
+abbrev pub Flow : Type 0
+Flow = Result Shape (List FlowFault)
+
+abbrev pub flow_then : (Shape → Flow) → Flow → Flow
+flow_then go_on (Ok s) = go_on s
+flow_then go_on (Err faults) = Err faults
+
+-- a template's doubt as a fault at its field
+abbrev pub fault_of : List ℕ → Doubt → FlowFault
+fault_of field MayBeMissing = MissingAt field
+fault_of field MayFail = FailsAt field
+
+abbrev pub faults_of : List ℕ → List (List ℕ × Doubt) → List FlowFault
+faults_of field found = map (λ d. fault_of field d.1) found
+
+-- the template's shape, or its doubts as faults at that field
+abbrev pub template_flow : List ℕ → Result Shape (List (List ℕ × Doubt)) → Flow
+template_flow field (Ok s) = Ok s
+template_flow field (Err found) = Err (faults_of field found)
+
+-- a template that may not be given: without it the shape goes through
+abbrev pub through_template : List ℕ → Option Template → Shape → Flow
+through_template field None s = Ok s
+through_template field (Some template) s = template_flow field (template_shape template s None)
+
+abbrev pub path_flow : List ℕ → Result Shape ℕ → Flow
+path_flow field (Ok s) = Ok s
+path_flow field (Err at) = Err (MissingAt field ∷ [])
+
+-- the empty object, which `InputPath: null` and `OutputPath: null` give
+abbrev pub empty_object : Shape
+empty_object = ObjectShape NoFieldShapes false
+
+-- `InputPath` and `OutputPath`: what the path names, and for null the empty object
+abbrev pub through_path : List ℕ → Option (List Segment) → Shape → Flow
+through_path field None s = Ok (if inhabited s then empty_object else Never)
+through_path field (Some path) s = path_flow field (look path s)
+
+abbrev pub placing_flow : List ℕ → Result Shape ℕ → Flow
+placing_flow field (Ok s) = Ok s
+placing_flow field (Err at) = Err (MisfitAt field ∷ [])
+
+-- `ResultPath`: the result placed in the raw input, and for null the raw input
+abbrev pub through_placing : List ℕ → Option (List Segment) → Shape → Shape → Flow
+through_placing field None raw result = Ok (if inhabited result then raw else Never)
+through_placing field (Some path) raw result = placing_flow field (put path result raw)
+
+-- `OutputPath`
+abbrev pub output_flow : Settings → Shape → Flow
+output_flow settings s = through_path (codes "OutputPath") settings.output_path s
+
+-- `ResultSelector`, `ResultPath`, `OutputPath`
+abbrev pub result_flow : Settings → Shape → Shape → Flow
+result_flow settings raw result = flow_then (output_flow settings) (flow_then (through_placing (codes "ResultPath") settings.result_path raw) (through_template (codes "ResultSelector") settings.result_selector result))
+
+-- the same, Never where the raw input or the result isn't inhabited
+abbrev pub result_leaves : Settings → Shape → Shape → Flow
+result_leaves settings raw result = if inhabited raw && inhabited result then result_flow settings raw result else Ok Never
+
+-- The shape of a state's output, for the shapes of its raw input and of its work: the result, or for Choice, Wait and
+-- Succeed the effective input, of which `OutputPath` alone makes the output. Nothing leaves a Fail.
+abbrev pub leave : Settings → Kind → Shape → Shape → Flow
+leave settings (Pass result) raw work = result_leaves settings raw work
+leave settings (Task resource) raw work = result_leaves settings raw work
+leave settings (Choice rules default) raw work = if inhabited raw then output_flow settings work else Ok Never
+leave settings (Wait delay) raw work = if inhabited raw then output_flow settings work else Ok Never
+leave settings Succeed raw work = if inhabited raw then output_flow settings work else Ok Never
+leave settings (Fail error cause) raw work = Ok Never
+leave settings (Parallel branches) raw work = result_leaves settings raw work
+leave settings (Map items selector processor) raw work = result_leaves settings raw work

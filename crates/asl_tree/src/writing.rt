@@ -1,0 +1,59 @@
+//! Writing trees as JSON texts (RFC 8259).
+ghost use Rattle.std.specs.Prelude.{◌≡◌, IfOk, string_bytes};
+ghost use Rattle.serde_json.specs.View.{view as json_view, items_view, members_view};
+ghost use Rattle.asl_model.specs.Json.{value_of, items_of, members_for, compact_text};
+ghost use Rattle.asl_tree.specs.View.{view, elements_view, entries_view};
+
+use crate::{OutOfMemory, Tree};
+use serde_json::{Map, Value};
+use std::alloc::Global;
+use std::collections::BTreeMap;
+
+/// The compact text of `tree`: no space, names in the order of their bytes, escapes as `serde_json` writes them.
+/// Refuses only where an allocation was refused.
+pub fn to_text(alloc: Global, tree: &Tree) -> Result<String, OutOfMemory>
+    ensures { IfOk result (λ s. string_bytes s ≡ compact_text (view tree.now)) }
+{
+    let value = to_value(alloc, tree)?;
+    Ok(value.to_string(alloc)?)
+}
+
+#[cycle(unbuild)]
+fn to_value(alloc: Global, tree: &Tree) -> Result<Value, OutOfMemory>
+    ensures { IfOk result (λ v. json_view v ≡ value_of (view tree.now)) }
+{
+    match tree {
+        Tree::Null => Ok(Value::Null),
+        Tree::Bool(b) => Ok(Value::Bool(*b)),
+        Tree::Int(n) => Ok(Value::from(*n)),
+        Tree::Text(text) => Ok(Value::String(text.clone()?)),
+        Tree::List(elements) => Ok(Value::Array(items_for(alloc, elements)?)),
+        Tree::Object(fields) => Ok(Value::Object(members_for(alloc, fields)?)),
+    }
+}
+
+#[cycle(unbuild)]
+fn items_for(alloc: Global, elements: &Vec<Tree>) -> Result<Vec<Value>, OutOfMemory>
+    ensures { IfOk result (λ v. items_view v.items ≡ items_of (elements_view elements.now.items)) }
+{
+    let mut items = Vec::with_capacity(alloc, elements.len())?;
+    for element in elements {
+        items.push(to_value(alloc, element)?)?;
+    }
+    Ok(items)
+}
+
+#[cycle(unbuild)]
+fn members_for(
+    alloc: Global,
+    fields: &BTreeMap<String, Tree>,
+) -> Result<Map<String, Value>, OutOfMemory>
+    ensures { IfOk result (λ m. members_view m.entries ≡ members_for (entries_view fields.now.entries)) }
+{
+    let mut members = Map::new(alloc);
+    for (name, field) in fields.iter() {
+        let key = name.clone()?;
+        drop(members.insert(key, to_value(alloc, field)?)?);
+    }
+    Ok(members)
+}

@@ -1,0 +1,69 @@
+"""Texts of the tables, in which a part between << and >> is made.
+
+<<TEXT * N>>      TEXT, N times
+<<C to N>>        the character C as often as makes the whole text N bytes long
+<<bytes 00 ff>>   these bytes, in hexadecimal
+<<states N>>      N Pass states S00000, S00001, .., each followed by the next, the last one ending
+<<entries N>>     a certificate's entries for these states, integers going in and out
+"""
+
+import re
+
+
+def made(text):
+    """Returns the bytes of a table's text, its parts made."""
+    pieces = re.split(r"<<(.*?)>>", text)
+    fills = [part for part in pieces[1::2] if re.fullmatch(r". to \d+", part)]
+    done = [
+        b"" if part in fills else made_part(part) if is_part else part.encode()
+        for is_part, part in zip(alternating(), pieces)
+    ]
+    if not fills:
+        return b"".join(done)
+    if len(fills) > 1:
+        raise ValueError(f"two parts fill one text: {fills}")
+    place = 2 * pieces[1::2].index(fills[0]) + 1
+    done[place] = filling(fills[0], sum(map(len, done)))
+    return b"".join(done)
+
+
+def alternating():
+    """Gives False, True, False, True, without an end."""
+    is_part = False
+    while True:
+        yield is_part
+        is_part = not is_part
+
+
+def filling(part, length):
+    """Returns the filling of a text that is `length` bytes long without it."""
+    character, wanted = part[0], int(part[len("x to "):])
+    if len(character.encode()) != 1 or wanted < length:
+        raise ValueError(f"<<{part}>> can't fill a text of {length} bytes")
+    return character.encode() * (wanted - length)
+
+
+def made_part(part):
+    """Returns the bytes of one part, which stood between << and >>."""
+    repeated = re.fullmatch(r"(.+) \* (\d+)", part)
+    if repeated:
+        return repeated[1].encode() * int(repeated[2])
+    counted = re.fullmatch(r"(states|entries) (\d+)", part)
+    if counted:
+        make = {"states": states, "entries": entries}[counted[1]]
+        return make(int(counted[2])).encode()
+    if part.startswith("bytes "):
+        return bytes.fromhex(part[len("bytes "):])
+    raise ValueError(f"nothing makes <<{part}>>")
+
+
+def states(count):
+    """Returns the members of `States` for a chain of Pass states."""
+    chained = (f'"S{i:05}":{{"Type":"Pass","Next":"S{i + 1:05}"}},' for i in range(count - 1))
+    return "".join(chained) + f'"S{count - 1:05}":{{"Type":"Pass","End":true}}'
+
+
+def entries(count):
+    """Returns the members of a certificate's `states` for that chain."""
+    integers = '{"input":{"type":"integer"},"output":{"type":"integer"}}'
+    return ",".join(f'"S{i:05}":{integers}' for i in range(count))
