@@ -1,10 +1,17 @@
 pub mod ExamplesPaths
+pub mod ExamplesRecords
+pub mod ExamplesRuns
+pub mod ExamplesShapes
 pub mod ExamplesSpellings
+pub mod ExamplesTemplates
 pub mod ExamplesTexts
 pub mod PathPrinting
 pub mod PathReading
 pub mod ReadingSteps
+pub mod RunFits
+pub mod RunLaws
 pub mod ShapeInhabited
 pub mod ShapeInside
+pub mod ShapeLook
 pub mod ShapeWitness
 pub mod SpellingLookups

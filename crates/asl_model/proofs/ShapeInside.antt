@@ -62,7 +62,7 @@ further_inside test goal inside (AndShape a others) further (AndTree t ts) each 
     and_from (goal t) (each_element goal ts) (inside a tests.0 t both.0) (further_inside test goal inside others further ts tests.1 last both.1)
 
 -- the first mention of a field holds
-mention_holds : (n : List ℕ) (others : FieldShapes) (fs : Fields) (mention : Bool × Shape) → mention_of n others ≡ Some mention → IsTrue (fields_have others fs) → IsTrue (there_and mention.0 (has mention.1) (field_named n fs))
+pub mention_holds : (n : List ℕ) (others : FieldShapes) (fs : Fields) (mention : Bool × Shape) → mention_of n others ≡ Some mention → IsTrue (fields_have others fs) → IsTrue (there_and mention.0 (has mention.1) (field_named n fs))
 mention_holds n NoFieldShapes fs mention e h = absurd (cc)
 mention_holds n (AndFieldShape m needed s others) fs mention e h = go (bytes_eq m n) refl (λ below. mention_holds n others fs mention below both.1)
   where

@@ -1,12 +1,13 @@
 -- Declared shapes and certificates, what makes a certificate closed, and what a closed certificate promises of runs.
 -- This is the profile's own: the standard has no shapes.
 use Rattle.std.specs.Prelude.{◌≡◌, ℕ, zero, suc, List, [], ◌∷◌, Bool, true, false, IsTrue, ◌↔◌, length, Option, Some, None, is_some, bytes_eq, if◌then◌else◌, option_and_then, Result, Ok, Err}
+use Rattle.std.specs.Option.{option_map}
 use Rattle.asl_model.specs.Tree.{Tree, Array, Trees, NoTrees, AndTree, count}
 use Rattle.asl_model.specs.Shape.{Shape, Any, Never, Has, Inside}
 use Rattle.asl_model.specs.Faults.{Fault}
 use Rattle.asl_model.specs.Machine.{Catcher, Scope, State, Kind, Pass, Task, Choice, Wait, Succeed, Fail, Parallel, Map, settings_of, kind_of, start_of, state_named, child_scope, how_many, names_state, names_task}
 use Rattle.asl_model.specs.Flow.{Work, Finishes, Leaves, FailsWith, Asks, Splits, Raises, at_output_path, output_of, first_move}
-use Rattle.asl_model.specs.Run.{Activity, Ready, Waiting, Split, Done, Failed, Action, Move, Gives, FailsTask, Event, Outcome, Output, FailedWith, Entry, Entered, Asked, Left, Raised, TaskFailed, BranchFailed, Retried, Caught, Ended, Step, Turn, caught_input, scope_below, activity_at, child_at, run_of, entries_of}
+use Rattle.asl_model.specs.Run.{Activity, Activities, NoActivities, AndActivity, Ready, Waiting, Split, Done, Failed, Action, Move, Gives, FailsTask, Event, Outcome, Output, FailedWith, Entry, Entered, Asked, Left, Raised, TaskFailed, BranchFailed, Retried, Caught, Ended, Step, Turn, caught_input, scope_below, activity_at, child_at, run_of, entries_of}
 
 -- the shapes of a task: of its payload, and of the answers that it gives
 pub record TaskShapes : Type 0 where
@@ -272,12 +273,58 @@ IsAsCertified declared certificate end (Retried n i) = Unit {0}
 IsAsCertified declared certificate end (Caught n i next) = Unit {0}
 IsAsCertified declared certificate end (Ended outcome) = OutcomeFits end outcome
 
--- each of the entries raises nothing and is as certified, where the scope of their place has that end
-abbrev pub EntriesFit : Declared → Certificate → Shape → List Entry → Type 0
-EntriesFit declared certificate end [] = Unit {0}
-EntriesFit declared certificate end (entry ∷ entries) = RaisesNothing entry × IsAsCertified declared certificate end entry × EntriesFit declared certificate end entries
+-- none of the entries is a data-flow fault
+abbrev pub NoneRaises : List Entry → Type 0
+NoneRaises [] = Unit {0}
+NoneRaises (entry ∷ entries) = RaisesNothing entry × NoneRaises entries
 
--- so for each turn
-abbrev pub TurnsFit : Declared → Certificate → Scope → List Turn → Type 0
-TurnsFit declared certificate machine [] = Unit {0}
-TurnsFit declared certificate machine (turn ∷ turns) = EntriesFit declared certificate (end_at certificate turn.event.place machine certificate.output turn.before) (entries_of turn.taken) × TurnsFit declared certificate machine turns
+-- each of the entries is as certified, where the scope of their place has that end
+abbrev pub EachIsAsCertified : Declared → Certificate → Shape → List Entry → Type 0
+EachIsAsCertified declared certificate end [] = Unit {0}
+EachIsAsCertified declared certificate end (entry ∷ entries) = IsAsCertified declared certificate end entry × EachIsAsCertified declared certificate end entries
+
+-- no turn raises a data-flow fault
+abbrev pub NoTurnRaises : List Turn → Type 0
+NoTurnRaises [] = Unit {0}
+NoTurnRaises (turn ∷ turns) = NoneRaises (entries_of turn.taken) × NoTurnRaises turns
+
+-- every entry of every turn is as certified
+abbrev pub TurnsAreAsCertified : Declared → Certificate → Scope → List Turn → Type 0
+TurnsAreAsCertified declared certificate machine [] = Unit {0}
+TurnsAreAsCertified declared certificate machine (turn ∷ turns) = EachIsAsCertified declared certificate (end_at certificate turn.event.place machine certificate.output turn.before) (entries_of turn.taken) × TurnsAreAsCertified declared certificate machine turns
+
+-- the run of a machine on an input, with these events, raises no data-flow fault and is as certified throughout
+pub record RunIsAsCertified (declared : Declared) (certificate : Certificate) (machine : Scope) (input : Tree) (events : List Event) : Type 0 where
+  pub raises_nothing : NoTurnRaises (run_of machine input events)
+  pub as_certified : TurnsAreAsCertified declared certificate machine (run_of machine input events)
+
+-- what the first move of the scope's state of that name comes to; None where there is no such state
+abbrev pub move_at : Scope → List ℕ → Tree → Option Work
+move_at scope n raw = option_map (λ state. first_move state raw) (state_named n scope)
+
+-- how many children there are
+abbrev pub number_of : Activities → ℕ
+number_of NoActivities = 0
+number_of (AndActivity child others) = suc (number_of others)
+
+-- the first move of state n on its raw input splits, and there is a child for each input: one a branch, or one an item
+pub record HasSplit (scope : Scope) (n : List ℕ) (raw : Tree) (children : Activities) : Type 0 where
+  pub inputs : Trees
+  pub split : move_at scope n raw ≡ Some (Splits inputs)
+  pub one_each : number_of children ≡ count inputs
+
+abbrev mutual
+  -- An activity is as certified, which stands in a scope with that end: what is Ready, Waiting or Split has a raw input
+  -- of its state's certified input; a Waiting has the payload that its state asks with, one that its task takes; a
+  -- Split has a child for each input that its state splits into; what is Done has an output of the scope's end.
+  pub ActivityFits : Declared → Certificate → Activity → Scope → Shape → Type 0
+  ActivityFits declared certificate (Ready n raw counts) scope end = Has (certified_input certificate n) raw
+  ActivityFits declared certificate (Waiting n raw counts payload) scope end = Has (certified_input certificate n) raw × Has (takes_of declared n) payload × (move_at scope n raw ≡ Some (Asks payload))
+  ActivityFits declared certificate (Split n raw counts children) scope end = Has (certified_input certificate n) raw × HasSplit scope n raw children × ActivitiesFit declared certificate children (scope_below scope n) (end_under certificate n (state_named n scope))
+  ActivityFits declared certificate (Done output) scope end = Has end output
+  ActivityFits declared certificate (Failed error cause) scope end = Unit {0}
+
+  -- so for each child, in the scope of its number and with that scope's end
+  pub ActivitiesFit : Declared → Certificate → Activities → (ℕ → Scope) → (ℕ → Shape) → Type 0
+  ActivitiesFit declared certificate NoActivities scopes ends = Unit {0}
+  ActivitiesFit declared certificate (AndActivity child others) scopes ends = ActivityFits declared certificate child (scopes 0) (ends 0) × ActivitiesFit declared certificate others (λ i. scopes (suc i)) (λ i. ends (suc i))

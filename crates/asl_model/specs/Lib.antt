@@ -1,5 +1,7 @@
 pub mod Certificate
+pub mod DefinitionTable
 pub mod Faults
+pub mod Finding
 pub mod Flow
 pub mod Intrinsic
 pub mod Json
@@ -7,11 +9,14 @@ pub mod Machine
 pub mod Path
 pub mod PathSpelling
 pub mod Placing
+pub mod Records
+pub mod RuleSpelling
 pub mod Run
 pub mod Shape
 pub mod ShapeFlow
 pub mod ShapeOrder
 pub mod ShapeSpelling
 pub mod Template
+pub mod TemplateSpelling
 pub mod Test
 pub mod Tree

@@ -1,7 +1,7 @@
 -- When one shape is inside another, and the least shape above two that this profile computes. JSON Schema has no
 -- word for either: both are the profile's own. The first is only a test that is enough: where it is true, every tree
 -- of the one shape has the other.
-use Rattle.std.specs.Prelude.{ℕ, zero, suc, ◌+◌, max, List, Bool, true, false, ◌&&◌, ◌||◌, not, Option, Some, None, bytes_eq, if◌then◌else◌}
+use Rattle.std.specs.Prelude.{ℕ, zero, suc, max, List, Bool, true, false, ◌&&◌, ◌||◌, not, Option, Some, None, bytes_eq, if◌then◌else◌}
 use Rattle.asl_model.specs.Shape.{Shape, Any, Never, NullShape, BooleanShape, IntegerShape, StringShape, ArrayShape, ObjectShape, Shapes, NoShapes, AndShape, FieldShapes, NoFieldShapes, AndFieldShape, inhabited, mentions}
 use Rattle.asl_model.specs.Tree.{comes_before}
 

@@ -1,0 +1,107 @@
+-- Worked examples of declared shapes and certificates.
+use Rattle.std.specs.Prelude.{◌≡◌, ℕ, List, [], ◌∷◌, Option, Some, None, option_map, codes, refl}
+use Rattle.serde_json.specs.Read.{read}
+use Rattle.serde_json.proofs.OnLiterals.{serde_json_on_literals}
+use Rattle.asl_model.specs.Shape.{Any, IntegerShape, BooleanShape}
+use Rattle.asl_model.specs.Certificate.{Declared, Certificate}
+use Rattle.asl_model.specs.ShapeSpelling.{NotAShape, MinItems}
+use Rattle.asl_model.specs.Records.{RecordFault, NotObject, MissingField, UnknownField, WrongKind, BadShape, BadVersion, RecordComplaint, declared_from, declared_complaints, certificate_from, certificate_complaints}
+
+declared_in : List ℕ → Option (Declared × List RecordComplaint)
+declared_in text = option_map (λ v. (declared_from v, declared_complaints v)) (read text)
+
+certificate_in : List ℕ → Option (Certificate × List RecordComplaint)
+certificate_in text = option_map (λ v. (certificate_from v, certificate_complaints v)) (read text)
+
+declared_faults_in : List ℕ → Option (List RecordComplaint)
+declared_faults_in text = option_map declared_complaints (read text)
+
+certificate_faults_in : List ℕ → Option (List RecordComplaint)
+certificate_faults_in text = option_map certificate_complaints (read text)
+
+-- that fault alone, at that entry and field
+only : RecordFault → List ℕ → List ℕ → Option (List RecordComplaint)
+only fault name field = Some (record { fault = fault; name = name; field = field } ∷ [])
+
+-- ---- what is read
+
+declared_input_alone : declared_in (codes "{\"input\":{\"type\":\"integer\"},\"tasks\":{}}") ≡ Some (record { input = IntegerShape; tasks = [] }, [])
+unfolding serde_json_on_literals declared_in
+declared_input_alone = refl
+
+declared_tasks : declared_in (codes "{\"input\":true,\"tasks\":{\"A\":{\"gives\":{\"type\":\"integer\"}},\"B\":{\"takes\":{\"type\":\"boolean\"},\"gives\":true}}}")
+    ≡ Some (record { input = Any; tasks = (codes "A", record { takes = Any; gives = IntegerShape }) ∷ (codes "B", record { takes = BooleanShape; gives = Any }) ∷ [] }, [])
+unfolding serde_json_on_literals declared_in
+declared_tasks = refl
+
+certificate_of_one_state : certificate_in (codes "{\"version\":1,\"output\":{\"type\":\"integer\"},\"states\":{\"A\":{\"input\":{\"type\":\"integer\"},\"output\":{\"type\":\"integer\"}}}}")
+    ≡ Some (record { output = IntegerShape; states = (codes "A", record { input = IntegerShape; output = IntegerShape; branches = []; item = None }) ∷ [] }, [])
+unfolding serde_json_on_literals certificate_in
+certificate_of_one_state = refl
+
+certificate_of_branches : certificate_in (codes "{\"version\":1,\"output\":true,\"states\":{\"P\":{\"input\":true,\"output\":true,\"branches\":[{\"type\":\"integer\"},true],\"item\":{\"type\":\"boolean\"}}}}")
+    ≡ Some (record { output = Any; states = (codes "P", record { input = Any; output = Any; branches = IntegerShape ∷ Any ∷ []; item = Some BooleanShape }) ∷ [] }, [])
+unfolding serde_json_on_literals certificate_in
+certificate_of_branches = refl
+
+-- ---- each fault
+
+declared_no_object : declared_faults_in (codes "[]") ≡ only NotObject [] []
+unfolding serde_json_on_literals declared_faults_in only
+declared_no_object = refl
+
+task_no_object : declared_faults_in (codes "{\"input\":true,\"tasks\":{\"A\":7}}") ≡ only NotObject (codes "A") []
+unfolding serde_json_on_literals declared_faults_in only
+task_no_object = refl
+
+input_missing : declared_faults_in (codes "{}") ≡ only MissingField [] (codes "input")
+unfolding serde_json_on_literals declared_faults_in only
+input_missing = refl
+
+gives_missing : declared_faults_in (codes "{\"input\":true,\"tasks\":{\"A\":{}}}") ≡ only MissingField (codes "A") (codes "gives")
+unfolding serde_json_on_literals declared_faults_in only
+gives_missing = refl
+
+declared_unknown : declared_faults_in (codes "{\"input\":true,\"colour\":1}") ≡ only UnknownField [] (codes "colour")
+unfolding serde_json_on_literals declared_faults_in only
+declared_unknown = refl
+
+tasks_no_object : declared_faults_in (codes "{\"input\":true,\"tasks\":[]}") ≡ only WrongKind [] (codes "tasks")
+unfolding serde_json_on_literals declared_faults_in only
+tasks_no_object = refl
+
+input_no_shape : declared_faults_in (codes "{\"input\":7}") ≡ only (BadShape NotAShape) [] (codes "input")
+unfolding serde_json_on_literals declared_faults_in only
+input_no_shape = refl
+
+takes_no_shape : declared_faults_in (codes "{\"input\":true,\"tasks\":{\"A\":{\"takes\":{\"type\":\"array\",\"minItems\":1},\"gives\":true}}}") ≡ only (BadShape MinItems) (codes "A") (codes "takes")
+unfolding serde_json_on_literals declared_faults_in only
+takes_no_shape = refl
+
+state_no_object : certificate_faults_in (codes "{\"version\":1,\"output\":true,\"states\":{\"A\":7}}") ≡ only NotObject (codes "A") []
+unfolding serde_json_on_literals certificate_faults_in only
+state_no_object = refl
+
+output_no_shape : certificate_faults_in (codes "{\"version\":1,\"output\":7,\"states\":{}}") ≡ only (BadShape NotAShape) [] (codes "output")
+unfolding serde_json_on_literals certificate_faults_in only
+output_no_shape = refl
+
+version_no_number : certificate_faults_in (codes "{\"version\":\"1\",\"output\":true,\"states\":{}}") ≡ only WrongKind [] (codes "version")
+unfolding serde_json_on_literals certificate_faults_in only
+version_no_number = refl
+
+other_version : certificate_faults_in (codes "{\"version\":2,\"output\":true,\"states\":{}}") ≡ only BadVersion [] (codes "version")
+unfolding serde_json_on_literals certificate_faults_in only
+other_version = refl
+
+shapes_unknown : certificate_faults_in (codes "{\"version\":1,\"output\":true,\"shapes\":[],\"states\":{}}") ≡ only UnknownField [] (codes "shapes")
+unfolding serde_json_on_literals certificate_faults_in only
+shapes_unknown = refl
+
+branches_no_list : certificate_faults_in (codes "{\"version\":1,\"output\":true,\"states\":{\"P\":{\"input\":true,\"output\":true,\"branches\":true}}}") ≡ only WrongKind (codes "P") (codes "branches")
+unfolding serde_json_on_literals certificate_faults_in only
+branches_no_list = refl
+
+branch_no_shape : certificate_faults_in (codes "{\"version\":1,\"output\":true,\"states\":{\"P\":{\"input\":true,\"output\":true,\"branches\":[true,7]}}}") ≡ only (BadShape NotAShape) (codes "P") (codes "branches")
+unfolding serde_json_on_literals certificate_faults_in only
+branch_no_shape = refl

@@ -1,0 +1,276 @@
+-- Worked examples of shapes: joins, what paths find, what is placed, templates, rules, outputs, and the findings of
+-- worked machines.
+use Rattle.std.specs.Prelude.{◌≡◌, ℕ, pos, List, [], ◌∷◌, true, false, Option, Some, None, Ok, Err, codes, refl}
+use Rattle.asl_model.specs.Tree.{Integer, Text}
+use Rattle.asl_model.specs.Path.{Segment, Name, Index}
+use Rattle.asl_model.specs.Intrinsic.{InInput, InItem, ItemIndex, CallOf, StatesFormat, StatesArrayLength, TextArgument, PathArgument, NoArguments, AndArgument}
+use Rattle.asl_model.specs.Template.{Template, FromPath, FromCall, ObjectTemplate, NoFieldTemplates, AndFieldTemplate}
+use Rattle.asl_model.specs.Test.{Test, And, Or, Compare, StringIs, NumericIs, Equals, LessThan, Constant, IsPresent, Tests, NoTests, AndTest}
+use Rattle.asl_model.specs.Machine.{Settings, SecondsPath, Scope, ScopeOf, NoStates, AndState, StateOf, Pass, Task, Choice, Wait, Succeed, Parallel, Map, NoScopes, AndScope}
+use Rattle.asl_model.specs.Shape.{Shape, Any, Never, IntegerShape, StringShape, ArrayShape, ObjectShape, NoShapes, AndShape, FieldShapes, NoFieldShapes, AndFieldShape}
+use Rattle.asl_model.specs.ShapeOrder.{join}
+use Rattle.asl_model.specs.ShapeFlow.{look, put, template_shape, rule_shape, leave, MayFail}
+use Rattle.asl_model.specs.Certificate.{TaskShapes, Declared, StateShapes, Certificate}
+use Rattle.asl_model.specs.Finding.{Finding, FindingFault, NotCertified, NotAState, TaskUndeclared, TaskUnknown, StartInput, PathMayBeMissing, WrongKind, ResultMayNotFit, IntrinsicMayFail, NoDefault, PayloadNotTaken, OutputNotCertified, NextInput, ScopeOutput, BranchInput, CatchInput, findings}
+
+-- Shapes and paths
+
+abbrev closed : FieldShapes → Shape
+closed shapes = ObjectShape shapes false
+
+abbrev opened : FieldShapes → Shape
+opened shapes = ObjectShape shapes true
+
+abbrev needed : List ℕ → Shape → FieldShapes → FieldShapes
+needed n s shapes = AndFieldShape n true s shapes
+
+abbrev optional : List ℕ → Shape → FieldShapes → FieldShapes
+optional n s shapes = AndFieldShape n false s shapes
+
+-- two kinds have no join but Any
+join_kinds_apart : join IntegerShape StringShape ≡ Any
+join_kinds_apart = refl
+
+join_of_objects : join (closed (needed (codes "a") IntegerShape NoFieldShapes)) (closed NoFieldShapes) ≡ closed (optional (codes "a") IntegerShape NoFieldShapes)
+join_of_objects = refl
+
+look_at_optional : look (Name (codes "a") ∷ []) (closed (optional (codes "a") IntegerShape NoFieldShapes)) ≡ Err 0
+look_at_optional = refl
+
+put_builds : put (Name (codes "a") ∷ Name (codes "b") ∷ []) IntegerShape (closed NoFieldShapes) ≡ Ok (closed (needed (codes "a") (closed (needed (codes "b") IntegerShape NoFieldShapes)) NoFieldShapes))
+put_builds = refl
+
+put_in_open : put (Name (codes "a") ∷ Name (codes "b") ∷ []) IntegerShape (opened NoFieldShapes) ≡ Err 1
+put_in_open = refl
+
+put_in_optional : put (Name (codes "a") ∷ Name (codes "b") ∷ []) IntegerShape (closed (optional (codes "a") (closed (needed (codes "c") StringShape NoFieldShapes)) NoFieldShapes)) ≡ Ok (closed (needed (codes "a") (closed (needed (codes "b") IntegerShape (optional (codes "c") StringShape NoFieldShapes))) NoFieldShapes))
+put_in_optional = refl
+
+-- Rules
+
+abbrev k : List Segment
+k = Name (codes "k") ∷ []
+
+-- an optional field `k` that is a text, and others
+abbrev with_k : Shape
+with_k = opened (optional (codes "k") StringShape NoFieldShapes)
+
+present_in_closed : rule_shape (IsPresent k true) (closed NoFieldShapes) ≡ Some Never
+present_in_closed = refl
+
+present_in_open : rule_shape (IsPresent k true) (opened NoFieldShapes) ≡ Some (opened (needed (codes "k") Any NoFieldShapes))
+present_in_open = refl
+
+or_keeps : rule_shape (Or (AndTest (IsPresent k true) (AndTest (IsPresent (Name (codes "j") ∷ []) true) NoTests))) with_k ≡ Some with_k
+or_keeps = refl
+
+abbrev k_is_x : Test
+k_is_x = Compare k (StringIs Equals) (Constant (Text (codes "x")))
+
+and_narrows : rule_shape (And (AndTest (IsPresent k true) (AndTest k_is_x NoTests))) with_k ≡ Some (opened (needed (codes "k") StringShape NoFieldShapes))
+and_narrows = refl
+
+and_in_order : rule_shape (And (AndTest k_is_x (AndTest (IsPresent k true) NoTests))) with_k ≡ None
+and_in_order = refl
+
+-- Templates
+
+template_of_input : template_shape (ObjectTemplate (AndFieldTemplate (codes "p") (FromPath (InInput [])) NoFieldTemplates)) (closed NoFieldShapes) None ≡ Ok (closed (needed (codes "p") (closed NoFieldShapes) NoFieldShapes))
+template_of_input = refl
+
+-- `States.Format('{}', $)` of a list
+abbrev format_of_input : Template
+format_of_input = FromCall (CallOf StatesFormat (AndArgument (TextArgument (record { first = []; after_holes = [] ∷ [] })) (AndArgument (PathArgument (InInput [])) NoArguments)))
+
+template_of_list : template_shape (ObjectTemplate (AndFieldTemplate (codes "x") format_of_input NoFieldTemplates)) (ArrayShape NoShapes Any) None ≡ Err ((codes "x", MayFail) ∷ [])
+template_of_list = refl
+
+-- Machines
+
+-- a state of a type that has all fields, with none given; it ends its scope
+abbrev ending : Settings
+ending = record { input_path = Some []; parameters = None; result_selector = None; result_path = Some []; output_path = Some []; next = None; retriers = []; catchers = [] }
+
+-- the same, going on to that state
+abbrev going_to : List ℕ → Settings
+going_to n = record { input_path = Some []; parameters = None; result_selector = None; result_path = Some []; output_path = Some []; next = Some n; retriers = []; catchers = [] }
+
+abbrev finding : List ℕ → List ℕ → FindingFault → Finding
+finding state field fault = record { state = state; field = field; fault = fault }
+
+-- an entry of a state that has no children
+abbrev entry : List ℕ → Shape → Shape → List ℕ × StateShapes
+entry n input output = (n, record { input = input; output = output; branches = []; item = None })
+
+abbrev certificate_of : Shape → List (List ℕ × StateShapes) → Certificate
+certificate_of output entries = record { output = output; states = entries }
+
+abbrev task : List ℕ → Shape → Shape → List ℕ × TaskShapes
+task n takes gives = (n, record { takes = takes; gives = gives })
+
+abbrev declared_of : Shape → List (List ℕ × TaskShapes) → Declared
+declared_of input tasks = record { input = input; tasks = tasks }
+
+-- a Pass that ends
+abbrev one_pass : Scope
+one_pass = ScopeOf (codes "A") (AndState (codes "A") (StateOf ending (Pass None)) NoStates)
+
+abbrev of_integers : Declared
+of_integers = declared_of IntegerShape []
+
+leave_of_pass : leave ending (Pass None) IntegerShape IntegerShape ≡ Ok IntegerShape
+leave_of_pass = refl
+
+pass_yes : findings one_pass of_integers (certificate_of IntegerShape (entry (codes "A") IntegerShape IntegerShape ∷ [])) ≡ []
+pass_yes = refl
+
+pass_start : findings one_pass of_integers (certificate_of IntegerShape (entry (codes "A") Never IntegerShape ∷ [])) ≡ finding (codes "A") (codes "StartAt") StartInput ∷ []
+pass_start = refl
+
+pass_no_entry : findings one_pass of_integers (certificate_of IntegerShape []) ≡ finding (codes "A") (codes "states") NotCertified ∷ []
+pass_no_entry = refl
+
+pass_unknown_task : findings one_pass (declared_of IntegerShape (task (codes "Z") Any Any ∷ [])) (certificate_of IntegerShape (entry (codes "A") IntegerShape IntegerShape ∷ [])) ≡ finding (codes "Z") (codes "tasks") TaskUnknown ∷ []
+pass_unknown_task = refl
+
+pass_output : findings one_pass of_integers (certificate_of IntegerShape (entry (codes "A") IntegerShape StringShape ∷ [])) ≡ finding (codes "A") (codes "OutputPath") OutputNotCertified ∷ []
+pass_output = refl
+
+pass_end : findings one_pass of_integers (certificate_of StringShape (entry (codes "A") IntegerShape IntegerShape ∷ [])) ≡ finding (codes "A") (codes "End") ScopeOutput ∷ []
+pass_end = refl
+
+pass_further_entry : findings one_pass of_integers (certificate_of IntegerShape (entry (codes "A") IntegerShape IntegerShape ∷ entry (codes "Z") IntegerShape IntegerShape ∷ [])) ≡ finding (codes "Z") (codes "states") NotAState ∷ []
+pass_further_entry = refl
+
+-- a Pass and a Succeed, whose certified input is Never
+pass_next : findings (ScopeOf (codes "A") (AndState (codes "A") (StateOf (going_to (codes "B")) (Pass None)) (AndState (codes "B") (StateOf ending Succeed) NoStates))) of_integers (certificate_of IntegerShape (entry (codes "A") IntegerShape IntegerShape ∷ entry (codes "B") Never IntegerShape ∷ [])) ≡ finding (codes "A") (codes "Next") NextInput ∷ []
+pass_next = refl
+
+-- the length of the input
+abbrev with_length : Settings
+with_length = record { input_path = Some []; parameters = Some (ObjectTemplate (AndFieldTemplate (codes "x") (FromCall (CallOf StatesArrayLength (AndArgument (PathArgument (InInput [])) NoArguments))) NoFieldTemplates)); result_selector = None; result_path = Some []; output_path = Some []; next = None; retriers = []; catchers = [] }
+
+-- a Pass whose template asks for the length of what is no array
+pass_call : findings (ScopeOf (codes "A") (AndState (codes "A") (StateOf with_length (Pass None)) NoStates)) of_integers (certificate_of IntegerShape (entry (codes "A") IntegerShape IntegerShape ∷ [])) ≡ finding (codes "A") (codes "Parameters") IntrinsicMayFail ∷ []
+pass_call = refl
+
+-- a Pass that places 7 at `$.a.b`
+abbrev placing_pass : Scope
+placing_pass = ScopeOf (codes "A") (AndState (codes "A") (StateOf (record { input_path = Some []; parameters = None; result_selector = None; result_path = Some (Name (codes "a") ∷ Name (codes "b") ∷ []); output_path = Some []; next = None; retriers = []; catchers = [] }) (Pass (Some (Integer (pos 7))))) NoStates)
+
+-- its findings for an input of that shape, with Any certified of its output
+abbrev placing_findings : Shape → List Finding
+placing_findings input = findings placing_pass (declared_of input []) (certificate_of Any (entry (codes "A") input Any ∷ []))
+
+abbrev misplaced : List Finding
+misplaced = finding (codes "A") (codes "ResultPath") ResultMayNotFit ∷ []
+
+place_in_text : placing_findings (closed (needed (codes "a") StringShape NoFieldShapes)) ≡ misplaced
+place_in_text = refl
+
+place_in_open : placing_findings (opened NoFieldShapes) ≡ misplaced
+place_in_open = refl
+
+place_in_closed : placing_findings (closed NoFieldShapes) ≡ []
+place_in_closed = refl
+
+-- a Choice by the truth of both tests, whose rule and default go on to the same state
+abbrev choosing : Tests → Scope
+choosing tests = ScopeOf (codes "A") (AndState (codes "A") (StateOf ending (Choice (record { test = And tests; next = codes "B" } ∷ []) (Some (codes "B")))) (AndState (codes "B") (StateOf ending Succeed) NoStates))
+
+abbrev choosing_findings : Tests → List Finding
+choosing_findings tests = findings (choosing tests) (declared_of with_k []) (certificate_of with_k (entry (codes "A") with_k with_k ∷ entry (codes "B") with_k with_k ∷ []))
+
+choice_yes : choosing_findings (AndTest (IsPresent k true) (AndTest k_is_x NoTests)) ≡ []
+choice_yes = refl
+
+choice_in_order : choosing_findings (AndTest k_is_x (AndTest (IsPresent k true) NoTests)) ≡ finding (codes "A") (codes "Choices") PathMayBeMissing ∷ []
+choice_in_order = refl
+
+-- a required integer `n`
+abbrev with_n : Shape
+with_n = opened (needed (codes "n") IntegerShape NoFieldShapes)
+
+choice_no_default : findings (ScopeOf (codes "A") (AndState (codes "A") (StateOf ending (Choice (record { test = Compare (Name (codes "n") ∷ []) (NumericIs LessThan) (Constant (Integer (pos 0))); next = codes "B" } ∷ []) None)) (AndState (codes "B") (StateOf ending Succeed) NoStates))) (declared_of with_n []) (certificate_of with_n (entry (codes "A") with_n with_n ∷ entry (codes "B") with_n with_n ∷ [])) ≡ finding (codes "A") (codes "Default") NoDefault ∷ []
+choice_no_default = refl
+
+-- a Task that ends
+abbrev one_task : List ℕ → Scope
+one_task n = ScopeOf n (AndState n (StateOf ending (Task (codes "r"))) NoStates)
+
+-- a Parallel of two Tasks, and a Pass that takes one of their answers
+abbrev two_tasks : ℕ → Scope
+two_tasks i = ScopeOf (codes "P") (AndState (codes "N") (StateOf (record { input_path = Some (Index i ∷ []); parameters = None; result_selector = None; result_path = Some []; output_path = Some []; next = None; retriers = []; catchers = [] }) (Pass None)) (AndState (codes "P") (StateOf (going_to (codes "N")) (Parallel (AndScope (one_task (codes "T0")) (AndScope (one_task (codes "T1")) NoScopes)))) NoStates))
+
+-- the answers of both
+abbrev both_answers : Shape
+both_answers = ArrayShape (AndShape IntegerShape (AndShape StringShape NoShapes)) Never
+
+-- the findings, by the position that the Pass takes, the certified input of the second Task, and what the machine gives
+abbrev two_tasks_findings : ℕ → Shape → List Finding
+two_tasks_findings i second = findings (two_tasks i) (declared_of IntegerShape (task (codes "T0") Any IntegerShape ∷ task (codes "T1") Any StringShape ∷ [])) (certificate_of StringShape (entry (codes "N") both_answers StringShape ∷ (codes "P", record { input = IntegerShape; output = both_answers; branches = IntegerShape ∷ StringShape ∷ []; item = None }) ∷ entry (codes "T0") IntegerShape IntegerShape ∷ entry (codes "T1") second StringShape ∷ []))
+
+parallel_yes : two_tasks_findings 1 IntegerShape ≡ []
+parallel_yes = refl
+
+parallel_past_end : two_tasks_findings 2 IntegerShape ≡ finding (codes "N") (codes "InputPath") PathMayBeMissing ∷ []
+parallel_past_end = refl
+
+parallel_branch : two_tasks_findings 1 Never ≡ finding (codes "P") (codes "Branches") BranchInput ∷ []
+parallel_branch = refl
+
+-- one Task, and one whose payload isn't what it takes
+task_yes : findings (one_task (codes "A")) (declared_of Any (task (codes "A") Any Any ∷ [])) (certificate_of Any (entry (codes "A") Any Any ∷ [])) ≡ []
+task_yes = refl
+
+abbrev keeps_input : Settings
+keeps_input = record { input_path = Some []; parameters = None; result_selector = None; result_path = None; output_path = Some []; next = None; retriers = []; catchers = [] }
+
+task_payload : findings (ScopeOf (codes "A") (AndState (codes "A") (StateOf keeps_input (Task (codes "r"))) NoStates)) (declared_of IntegerShape (task (codes "A") StringShape Any ∷ [])) (certificate_of IntegerShape (entry (codes "A") IntegerShape IntegerShape ∷ [])) ≡ finding (codes "A") (codes "Parameters") PayloadNotTaken ∷ []
+task_payload = refl
+
+-- a Task that catches all errors for a Pass
+abbrev catching : Scope
+catching = ScopeOf (codes "T") (AndState (codes "E") (StateOf ending (Pass None)) (AndState (codes "T") (StateOf (record { input_path = Some []; parameters = None; result_selector = None; result_path = Some []; output_path = Some []; next = None; retriers = []; catchers = record { error_equals = codes "States.ALL" ∷ []; result_path = Some []; next = codes "E" } ∷ [] }) (Task (codes "r"))) NoStates))
+
+abbrev catching_findings : List (List ℕ × TaskShapes) → List Finding
+catching_findings tasks = findings catching (declared_of Any tasks) (certificate_of Any (entry (codes "E") IntegerShape Any ∷ entry (codes "T") Any Any ∷ []))
+
+catch_input : catching_findings (task (codes "T") Any Any ∷ []) ≡ finding (codes "T") (codes "Catch") CatchInput ∷ []
+catch_input = refl
+
+catch_undeclared : catching_findings [] ≡ finding (codes "T") (codes "Resource") TaskUndeclared ∷ finding (codes "T") (codes "Catch") CatchInput ∷ []
+catch_undeclared = refl
+
+-- a Wait for as many seconds as its input says
+abbrev waiting_findings : Shape → List Finding
+waiting_findings input = findings (ScopeOf (codes "A") (AndState (codes "A") (StateOf ending (Wait (SecondsPath []))) NoStates)) (declared_of input []) (certificate_of input (entry (codes "A") input input ∷ []))
+
+wait_text : waiting_findings StringShape ≡ finding (codes "A") (codes "SecondsPath") WrongKind ∷ []
+wait_text = refl
+
+wait_yes : waiting_findings IntegerShape ≡ []
+wait_yes = refl
+
+-- a Map that hands on each item with its number
+abbrev mapping : Scope
+mapping = ScopeOf (codes "M") (AndState (codes "M") (StateOf ending (Map [] (Some (ObjectTemplate (AndFieldTemplate (codes "i") (FromPath ItemIndex) (AndFieldTemplate (codes "v") (FromPath (InItem [])) NoFieldTemplates)))) (one_task (codes "Q")))) NoStates)
+
+-- a list of integers, and an item with its number
+abbrev integers : Shape
+integers = ArrayShape NoShapes IntegerShape
+
+abbrev numbered : Shape
+numbered = closed (needed (codes "i") IntegerShape (needed (codes "v") IntegerShape NoFieldShapes))
+
+abbrev mapping_findings : Option Shape → List Finding
+mapping_findings item = findings mapping (declared_of integers (task (codes "Q") numbered StringShape ∷ [])) (certificate_of (ArrayShape NoShapes StringShape) ((codes "M", record { input = integers; output = ArrayShape NoShapes StringShape; branches = []; item = item }) ∷ entry (codes "Q") numbered StringShape ∷ []))
+
+map_yes : mapping_findings (Some StringShape) ≡ []
+map_yes = refl
+
+map_no_item : mapping_findings None ≡ finding (codes "M") (codes "states") NotCertified ∷ []
+map_no_item = refl
+
+map_item : mapping_findings (Some Never) ≡ finding (codes "Q") (codes "End") ScopeOutput ∷ []
+map_item = refl

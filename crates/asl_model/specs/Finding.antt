@@ -1,0 +1,315 @@
+-- What a checker may tell: every rule of a certificate that is broken, as computed lists (the profile's own). A
+-- finding stands where it is in the list of all; which one of a state is told is the checker's choice.
+use Rattle.std.specs.Prelude.{ℕ, suc, ◌==◌, List, [], ◌∷◌, ◌++◌, length, map, Bool, true, false, ◌&&◌, ◌||◌, not, Option, Some, None, Result, Ok, Err, Contains, is_some, is_none, codes, if◌then◌else◌}
+use Rattle.asl_model.specs.Tree.{Tree}
+use Rattle.asl_model.specs.Path.{Segment}
+use Rattle.asl_model.specs.Template.{Template}
+use Rattle.asl_model.specs.Test.{Rule}
+use Rattle.asl_model.specs.Machine.{Catcher, Settings, Delay, Seconds, SecondsPath, Timestamp, TimestampPath, Scope, ScopeOf, States, NoStates, AndState, State, StateOf, Kind, Pass, Task, Choice, Wait, Succeed, Fail, Parallel, Map, Scopes, NoScopes, AndScope, start_of, is_task, names_state, names_task}
+use Rattle.asl_model.specs.Shape.{Shape, Any, Never, NullShape, BooleanShape, IntegerShape, StringShape, ArrayShape, ObjectShape, Shapes, NoShapes, AndShape, NoFieldShapes, AndFieldShape, inhabited}
+use Rattle.asl_model.specs.ShapeOrder.{sub, join, joined_with_each, is_integer_shape, is_string_shape}
+use Rattle.asl_model.specs.ShapeFlow.{look, put, literal, template_shape, rule_shape, leave, Flow, FlowFault, MissingAt, FailsAt, MisfitAt, flow_then, through_path, through_template, template_flow}
+use Rattle.asl_model.specs.Certificate.{TaskShapes, Declared, StateShapes, Certificate, under, certified, branches_in, is_map, branch_end, item_end, takes_of, gives_of}
+
+-- the faults that a finding can have
+pub data FindingFault : Type 0 where
+  -- the state has no entry of the right form
+  NotCertified : FindingFault
+  -- an entry names no state
+  NotAState : FindingFault
+  -- the task isn't declared
+  TaskUndeclared : FindingFault
+  -- a declared task names no Task state
+  TaskUnknown : FindingFault
+  -- the declared input isn't inside the start state's input
+  StartInput : FindingFault
+  PathMayBeMissing : FindingFault
+  -- what a path names may be of another kind than its field wants
+  WrongKind : FindingFault
+  -- what is placed may not fit
+  ResultMayNotFit : FindingFault
+  IntrinsicMayFail : FindingFault
+  -- a Choice has no `Default`
+  NoDefault : FindingFault
+  -- the payload isn't inside what the task takes
+  PayloadNotTaken : FindingFault
+  -- the output isn't inside the state's output
+  OutputNotCertified : FindingFault
+  -- the output isn't inside the next state's input
+  NextInput : FindingFault
+  -- the output isn't inside the shape of the scope's end
+  ScopeOutput : FindingFault
+  -- a child's input isn't inside its start state's input
+  BranchInput : FindingFault
+  -- what a catcher hands on isn't inside the next state's input
+  CatchInput : FindingFault
+
+-- a broken rule of a state: the state's field, and the fault
+pub record Breach : Type 0 where
+  pub field : List ℕ
+  pub fault : FindingFault
+
+-- a broken rule, with the name of its state (or of the entry that names none)
+pub record Finding : Type 0 where
+  pub state : List ℕ
+  pub field : List ℕ
+  pub fault : FindingFault
+
+-- the breaches as findings of the state of that name
+abbrev pub found_at : List ℕ → List Breach → List Finding
+found_at n breaches = map (λ (b : Breach). record { state = n; field = b.field; fault = b.fault }) breaches
+
+-- the breach, unless the test holds
+abbrev pub breach_unless : Bool → List ℕ → FindingFault → List Breach
+breach_unless true field fault = []
+breach_unless false field fault = record { field = field; fault = fault } ∷ []
+
+-- a comparison of what flows with what is certified, passed over where nothing is
+abbrev pub breach_unless_sub : List ℕ → FindingFault → Shape → Option Shape → List Breach
+breach_unless_sub field fault s None = []
+breach_unless_sub field fault s (Some expected) = breach_unless (sub s expected) field fault
+
+abbrev pub breach_of : FlowFault → Breach
+breach_of (MissingAt field) = record { field = field; fault = PathMayBeMissing }
+breach_of (FailsAt field) = record { field = field; fault = IntrinsicMayFail }
+breach_of (MisfitAt field) = record { field = field; fault = ResultMayNotFit }
+
+-- goes on with the shape, or tells what may stop it
+abbrev pub breaches_then : (Shape → List Breach) → Flow → List Breach
+breaches_then go_on (Ok s) = go_on s
+breaches_then go_on (Err faults) = map breach_of faults
+
+-- The entries
+
+-- whether an entry has the form that the state's type asks for: a shape a branch for a Parallel, that of the processor's end for a Map alone
+abbrev pub has_form : Kind → StateShapes → Bool
+has_form kind entry = (length entry.branches == branches_in kind) && (if is_map kind then is_some entry.item else is_none entry.item)
+
+-- the state has an entry of the right form
+abbrev pub is_certified : Kind → Option StateShapes → Bool
+is_certified kind None = false
+is_certified kind (Some entry) = has_form kind entry
+
+-- the entry is there and of the right form, and a Task is declared
+abbrev pub entry_breaches : Kind → Option StateShapes → Option TaskShapes → List Breach
+entry_breaches kind entry task = breach_unless (is_certified kind entry) (codes "states") NotCertified ++ breach_unless (not (is_task kind) || is_some task) (codes "Resource") TaskUndeclared
+
+abbrev pub input_of_entry : Option StateShapes → Option Shape
+input_of_entry None = None
+input_of_entry (Some entry) = Some entry.input
+
+-- the certified input of the state of that name, where it has an entry
+abbrev pub input_if_certified : Certificate → List ℕ → Option Shape
+input_if_certified certificate n = input_of_entry (certified certificate n)
+
+-- Data flow
+
+-- what stands after `InputPath` and `Parameters`
+abbrev pub effective_flow : Settings → Shape → Flow
+effective_flow settings input = flow_then (through_template (codes "Parameters") settings.parameters) (through_path (codes "InputPath") settings.input_path input)
+
+-- the output, compared with the state's own and with the input of the state that follows
+abbrev pub next_breaches : Certificate → Shape → List ℕ → List ℕ → Shape → List Breach
+next_breaches certificate certified_output field next output = breach_unless_sub (codes "OutputPath") OutputNotCertified output (Some certified_output) ++ breach_unless_sub field NextInput output (input_if_certified certificate next)
+
+-- the output, compared with the state's own and with the shape of the scope's end
+abbrev pub end_breaches : Shape → List ℕ → Option Shape → Shape → List Breach
+end_breaches certified_output field end output = breach_unless_sub (codes "OutputPath") OutputNotCertified output (Some certified_output) ++ breach_unless_sub field ScopeOutput output end
+
+-- the same, by `Next` or `End`
+abbrev pub output_breaches : Certificate → Shape → Option Shape → Option (List ℕ) → Shape → List Breach
+output_breaches certificate certified_output end None output = end_breaches certified_output (codes "End") end output
+output_breaches certificate certified_output end (Some next) output = next_breaches certificate certified_output (codes "Next") next output
+
+-- what a path names is of the kind that its field wants
+abbrev pub kind_breaches : List ℕ → (Shape → Bool) → Result Shape ℕ → List Breach
+kind_breaches field test (Ok s) = breach_unless (test s) field WrongKind
+kind_breaches field test (Err at) = breach_unless false field PathMayBeMissing
+
+-- `SecondsPath` and `TimestampPath`
+abbrev pub delay_breaches : Delay → Shape → List Breach
+delay_breaches (Seconds n) s = []
+delay_breaches (SecondsPath path) s = kind_breaches (codes "SecondsPath") is_integer_shape (look path s)
+delay_breaches (Timestamp t) s = []
+delay_breaches (TimestampPath path) s = kind_breaches (codes "TimestampPath") is_string_shape (look path s)
+
+-- the result of a Pass: its literal, or the effective input
+abbrev pub pass_result : Option Tree → Shape → Shape
+pass_result None s = s
+pass_result (Some t) s = literal t
+
+-- a child's input, compared with that of its start state
+abbrev pub child_breaches : Certificate → List ℕ → Scope → Shape → List Breach
+child_breaches certificate field scope input = breach_unless_sub field BranchInput input (input_if_certified certificate (start_of scope))
+
+abbrev pub branch_breaches : Certificate → Scopes → Shape → List Breach
+branch_breaches certificate NoScopes input = []
+branch_breaches certificate (AndScope scope others) input = child_breaches certificate (codes "Branches") scope input ++ branch_breaches certificate others input
+
+abbrev pub shapes_of : List Shape → Shapes
+shapes_of [] = NoShapes
+shapes_of (s ∷ further) = AndShape s (shapes_of further)
+
+-- Maps
+
+-- the shape of an item: the join of those of the first elements in order, and of that of the further ones
+abbrev pub element_shape : Shapes → Shape → Shape
+element_shape first rest = join (joined_with_each join Never first) rest
+
+-- the shape of a child's input; for an element that never comes `ItemSelector` isn't looked at
+abbrev pub item_flow : Option Template → Shape → Shape → Flow
+item_flow None effective element = Ok element
+item_flow (Some selector) effective element = if inhabited element then template_flow (codes "ItemSelector") (template_shape selector effective (Some element)) else Ok Never
+
+-- one shape for each place
+abbrev pub at_each_place : Shape → Shapes → Shapes
+at_each_place s NoShapes = NoShapes
+at_each_place s (AndShape other others) = AndShape s (at_each_place s others)
+
+-- the shape of the list of the children's outputs
+abbrev pub map_result : Shape → Shapes → Shape → Shape
+map_result item first rest = ArrayShape (at_each_place item first) (if inhabited rest then item else Never)
+
+-- the shapes of an array's first elements and of its further ones, where the shape is one of arrays
+abbrev pub elements_of : Shape → Option (Shapes × Shape)
+elements_of Any = None
+elements_of Never = None
+elements_of NullShape = None
+elements_of BooleanShape = None
+elements_of IntegerShape = None
+elements_of StringShape = None
+elements_of (ArrayShape first rest) = Some (first, rest)
+elements_of (ObjectShape shapes extra) = None
+
+-- goes on with the shapes of the elements of what `ItemsPath` names
+abbrev pub with_elements : (Shapes × Shape → List Breach) → Option (Shapes × Shape) → List Breach
+with_elements go_on None = breach_unless false (codes "ItemsPath") WrongKind
+with_elements go_on (Some elements) = go_on elements
+
+abbrev pub with_items : (Shapes × Shape → List Breach) → Result Shape ℕ → List Breach
+with_items go_on (Ok s) = with_elements go_on (elements_of s)
+with_items go_on (Err at) = breach_unless false (codes "ItemsPath") PathMayBeMissing
+
+-- Choices
+
+-- the output for an effective input, on its way to a state that the field names
+abbrev pub chosen_breaches : Certificate → StateShapes → Settings → Kind → List ℕ → List ℕ → Shape → List Breach
+chosen_breaches certificate entry settings kind field next s = breaches_then (next_breaches certificate entry.output field next) (leave settings kind entry.input s)
+
+-- a rule's paths, and the output for what it lets through
+abbrev pub rule_breaches : Certificate → StateShapes → Settings → Kind → List ℕ → Option Shape → List Breach
+rule_breaches certificate entry settings kind next None = breach_unless false (codes "Choices") PathMayBeMissing
+rule_breaches certificate entry settings kind next (Some s) = chosen_breaches certificate entry settings kind (codes "Choices") next s
+
+-- each rule is taken on the whole effective input
+abbrev pub rules_breaches : Certificate → StateShapes → Settings → Kind → List Rule → Shape → List Breach
+rules_breaches certificate entry settings kind [] s = []
+rules_breaches certificate entry settings kind (rule ∷ rules) s = rule_breaches certificate entry settings kind rule.next (rule_shape rule.test s) ++ rules_breaches certificate entry settings kind rules s
+
+abbrev pub default_breaches : Certificate → StateShapes → Settings → Kind → Option (List ℕ) → Shape → List Breach
+default_breaches certificate entry settings kind None s = breach_unless false (codes "Default") NoDefault
+default_breaches certificate entry settings kind (Some next) s = chosen_breaches certificate entry settings kind (codes "Default") next s
+
+-- Catchers
+
+-- the shape of what a catcher places: the error's name and its cause
+abbrev pub error_output : Shape
+error_output = ObjectShape (AndFieldShape (codes "Cause") true StringShape (AndFieldShape (codes "Error") true StringShape NoFieldShapes)) false
+
+-- the shape of what a catcher hands on, for the state's input; with `ResultPath` null that input itself
+abbrev pub caught : Catcher → Shape → Result Shape ℕ
+caught catcher input = at_result_path catcher.result_path
+  where
+    at_result_path : Option (List Segment) → Result Shape ℕ
+    at_result_path None = Ok input
+    at_result_path (Some path) = put path error_output input
+
+abbrev pub caught_breaches : Certificate → List ℕ → Result Shape ℕ → List Breach
+caught_breaches certificate next (Ok s) = breach_unless_sub (codes "Catch") CatchInput s (input_if_certified certificate next)
+caught_breaches certificate next (Err at) = breach_unless false (codes "Catch") ResultMayNotFit
+
+abbrev pub catcher_breaches : Certificate → Shape → List Catcher → List Breach
+catcher_breaches certificate input [] = []
+catcher_breaches certificate input (catcher ∷ catchers) = caught_breaches certificate catcher.next (caught catcher input) ++ catcher_breaches certificate input catchers
+
+-- States
+
+-- a result's way to the output, and the output's comparisons
+abbrev pub result_breaches : Certificate → Option Shape → StateShapes → Settings → Kind → Shape → List Breach
+result_breaches certificate end entry settings kind result = breaches_then (output_breaches certificate entry.output end settings.next) (leave settings kind entry.input result)
+
+-- the result of a Map, where a shape is certified of its items
+abbrev pub map_breaches : Certificate → Option Shape → StateShapes → Settings → Kind → Option Shape → Shapes × Shape → List Breach
+map_breaches certificate end entry settings kind None elements = []
+map_breaches certificate end entry settings kind (Some item) elements = result_breaches certificate end entry settings kind (map_result item elements.0 elements.1)
+
+-- what follows for an effective input of that shape, by the state's type
+abbrev pub work_breaches : Declared → Certificate → Option Shape → List ℕ → StateShapes → Settings → Kind → Shape → List Breach
+work_breaches declared certificate end n entry settings (Pass result) s = result_breaches certificate end entry settings (Pass result) (pass_result result s)
+work_breaches declared certificate end n entry settings (Task resource) s = breach_unless_sub (codes "Parameters") PayloadNotTaken s (Some (takes_of declared n)) ++ result_breaches certificate end entry settings (Task resource) (gives_of declared n)
+work_breaches declared certificate end n entry settings (Choice rules default) s = rules_breaches certificate entry settings (Choice rules default) rules s ++ default_breaches certificate entry settings (Choice rules default) default s
+work_breaches declared certificate end n entry settings (Wait delay) s = delay_breaches delay s ++ result_breaches certificate end entry settings (Wait delay) s
+work_breaches declared certificate end n entry settings Succeed s = breaches_then (end_breaches entry.output (codes "Type") end) (leave settings Succeed entry.input s)
+work_breaches declared certificate end n entry settings (Fail error cause) s = []
+work_breaches declared certificate end n entry settings (Parallel branches) s = branch_breaches certificate branches s ++ result_breaches certificate end entry settings (Parallel branches) (ArrayShape (shapes_of entry.branches) Never)
+work_breaches declared certificate end n entry settings (Map items selector processor) s = with_items (λ elements. breaches_then (child_breaches certificate (codes "ItemProcessor") processor) (item_flow selector s (element_shape elements.0 elements.1)) ++ map_breaches certificate end entry settings (Map items selector processor) entry.item elements) (look items s)
+
+-- the rules of a state that has an entry: none further where its certified input isn't inhabited
+abbrev pub flow_breaches : Declared → Certificate → Option Shape → List ℕ → Settings → Kind → Option StateShapes → List Breach
+flow_breaches declared certificate end n settings kind None = []
+flow_breaches declared certificate end n settings kind (Some entry) = if inhabited entry.input then breaches_then (work_breaches declared certificate end n entry settings kind) (effective_flow settings entry.input) ++ catcher_breaches certificate entry.input settings.catchers else []
+
+-- every rule that is broken at a state, by its name, in a scope with that shape of its end
+abbrev pub state_breaches : Declared → Certificate → Option Shape → List ℕ → Settings → Kind → List Breach
+state_breaches declared certificate end n settings kind = entry_breaches kind (certified certificate n) (under n declared.tasks) ++ flow_breaches declared certificate end n settings kind (certified certificate n)
+
+-- Machines
+
+abbrev mutual
+  -- every rule that is broken at a state of the scope, or of one inside it
+  pub scope_findings : Scope → Declared → Certificate → Option Shape → List Finding
+  scope_findings (ScopeOf start held) declared certificate end = states_findings held declared certificate end
+
+  pub states_findings : States → Declared → Certificate → Option Shape → List Finding
+  states_findings NoStates declared certificate end = []
+  states_findings (AndState n state others) declared certificate end = state_findings state declared certificate end n ++ states_findings others declared certificate end
+
+  pub state_findings : State → Declared → Certificate → Option Shape → List ℕ → List Finding
+  state_findings (StateOf settings kind) declared certificate end n = found_at n (state_breaches declared certificate end n settings kind) ++ children_findings kind declared certificate n
+
+  pub children_findings : Kind → Declared → Certificate → List ℕ → List Finding
+  children_findings (Pass result) declared certificate n = []
+  children_findings (Task resource) declared certificate n = []
+  children_findings (Choice rules default) declared certificate n = []
+  children_findings (Wait delay) declared certificate n = []
+  children_findings Succeed declared certificate n = []
+  children_findings (Fail error cause) declared certificate n = []
+  children_findings (Parallel branches) declared certificate n = branches_findings branches declared certificate n 0
+  children_findings (Map items selector processor) declared certificate n = scope_findings processor declared certificate (item_end (certified certificate n))
+
+  -- from the branch of that number on
+  pub branches_findings : Scopes → Declared → Certificate → List ℕ → ℕ → List Finding
+  branches_findings NoScopes declared certificate n i = []
+  branches_findings (AndScope scope others) declared certificate n i = scope_findings scope declared certificate (branch_end i (certified certificate n)) ++ branches_findings others declared certificate n (suc i)
+
+-- the entries' names that no state has
+abbrev pub unknown_entries : Scope → List (List ℕ × StateShapes) → List Finding
+unknown_entries machine [] = []
+unknown_entries machine (entry ∷ entries) = found_at entry.0 (breach_unless (names_state machine entry.0) (codes "states") NotAState) ++ unknown_entries machine entries
+
+-- the declared tasks' names that no Task state has
+abbrev pub unknown_tasks : Scope → List (List ℕ × TaskShapes) → List Finding
+unknown_tasks machine [] = []
+unknown_tasks machine (task ∷ tasks) = found_at task.0 (breach_unless (names_task machine task.0) (codes "tasks") TaskUnknown) ++ unknown_tasks machine tasks
+
+-- the declared input, compared with that of the machine's start state
+abbrev pub start_findings : Scope → Declared → Certificate → List Finding
+start_findings machine declared certificate = found_at (start_of machine) (breach_unless_sub (codes "StartAt") StartInput declared.input (input_if_certified certificate (start_of machine)))
+
+-- every rule that is broken
+abbrev pub findings : Scope → Declared → Certificate → List Finding
+findings machine declared certificate = unknown_entries machine certificate.states ++ (unknown_tasks machine declared.tasks ++ (start_findings machine declared certificate ++ scope_findings machine declared certificate (Some certificate.output)))
+
+-- the rule with the finding's fault is broken at its state and field
+abbrev pub Stands : Scope → Declared → Certificate → Finding → Type 0
+Stands machine declared certificate finding = Contains (findings machine declared certificate) finding

@@ -1,0 +1,233 @@
+-- How declared shapes and certificates are written as JSON values (the profile's own formats).
+-- Every value has here a reading, with defaults where something is wrong, and a list of all that is wrong with it. It
+-- stands for what is read where that list is empty and all its numbers are whole and in range.
+use Rattle.std.specs.Prelude.{◌≡◌, ℕ, ℤ, pos, List, [], ◌∷◌, ◌++◌, map, Bool, true, false, ◌||◌, IsTrue, is_some, if◌then◌else◌, Option, Some, None, option_map, bytes_eq, codes}
+use Rattle.std.specs.Option.{unwrap_or}
+use Rattle.std.specs.List.{Contains}
+use Rattle.std.specs.Ordering.{int_eq}
+use Rattle.serde_json.specs.Data as json
+use Rattle.serde_json.specs.Data.{Data, Items, Members, Num}
+use Rattle.serde_json.specs.Find.{as_i64, get_member}
+use Rattle.asl_model.specs.Tree.{Tree}
+use Rattle.asl_model.specs.Shape.{Shape, Any}
+use Rattle.asl_model.specs.Certificate.{Declared, TaskShapes, Certificate, StateShapes}
+use Rattle.asl_model.specs.Json.{tree_of}
+use Rattle.asl_model.specs.ShapeSpelling.{ShapeFault, shape_of, shape_faults}
+
+-- what can be wrong with a record
+pub data RecordFault : Type 0 where
+  -- the record, or one of its entries, is no object
+  NotObject : RecordFault
+  MissingField : RecordFault
+  UnknownField : RecordFault
+  -- a value of another kind
+  WrongKind : RecordFault
+  BadShape : ShapeFault → RecordFault
+  -- a whole number other than 1
+  BadVersion : RecordFault
+
+-- a fault, at the entry of that name (empty for the record itself), and at a field
+pub record RecordComplaint : Type 0 where
+  pub fault : RecordFault
+  pub name : List ℕ
+  pub field : List ℕ
+
+-- ---- the fields
+
+-- what the value of a field is
+pub data RecordValue : Type 0 where
+  -- the number 1
+  VersionValue : RecordValue
+  ShapeValue : RecordValue
+  ShapesValue : RecordValue
+  -- an object with an entry for each state or task
+  EntriesValue : RecordValue
+
+pub record RecordRow : Type 0 where
+  pub field : List ℕ
+  pub value : RecordValue
+  pub required : Bool
+
+abbrev row : List ℕ → RecordValue → Bool → RecordRow
+row field value required = record { field = field; value = value; required = required }
+
+abbrev pub declared_rows : List RecordRow
+declared_rows =
+    row (codes "input") ShapeValue true
+    ∷ row (codes "tasks") EntriesValue false
+    ∷ []
+
+abbrev pub task_rows : List RecordRow
+task_rows =
+    row (codes "takes") ShapeValue false
+    ∷ row (codes "gives") ShapeValue true
+    ∷ []
+
+abbrev pub certificate_rows : List RecordRow
+certificate_rows =
+    row (codes "version") VersionValue true
+    ∷ row (codes "output") ShapeValue true
+    ∷ row (codes "states") EntriesValue true
+    ∷ []
+
+abbrev pub state_rows : List RecordRow
+state_rows =
+    row (codes "input") ShapeValue true
+    ∷ row (codes "output") ShapeValue true
+    ∷ row (codes "branches") ShapesValue false
+    ∷ row (codes "item") ShapeValue false
+    ∷ []
+
+-- ---- what is wrong
+
+-- what is wrong with a value that should be a shape
+abbrev pub shape_misfits : Data → List RecordFault
+shape_misfits v = unwrap_or (option_map (λ t. map BadShape (shape_faults t)) (tree_of v)) []
+
+abbrev pub shapes_misfits : Items → List RecordFault
+shapes_misfits json.no_items = []
+shapes_misfits (json.item v vs) = shape_misfits v ++ shapes_misfits vs
+
+-- what is wrong with a number as the version; one that isn't whole is told of the whole text
+abbrev pub version_misfits : Option ℤ → List RecordFault
+version_misfits None = []
+version_misfits (Some n) = if int_eq n (pos 1) then [] else BadVersion ∷ []
+
+abbrev pub misfits : RecordValue → Data → List RecordFault
+misfits ShapeValue v = shape_misfits v
+misfits ShapesValue json.null = WrongKind ∷ []
+misfits ShapesValue (json.boolean b) = WrongKind ∷ []
+misfits ShapesValue (json.number n) = WrongKind ∷ []
+misfits ShapesValue (json.string s) = WrongKind ∷ []
+misfits ShapesValue (json.array vs) = shapes_misfits vs
+misfits ShapesValue (json.object ms) = WrongKind ∷ []
+misfits EntriesValue json.null = WrongKind ∷ []
+misfits EntriesValue (json.boolean b) = WrongKind ∷ []
+misfits EntriesValue (json.number n) = WrongKind ∷ []
+misfits EntriesValue (json.string s) = WrongKind ∷ []
+misfits EntriesValue (json.array vs) = WrongKind ∷ []
+misfits EntriesValue (json.object ms) = []
+misfits VersionValue json.null = WrongKind ∷ []
+misfits VersionValue (json.boolean b) = WrongKind ∷ []
+misfits VersionValue (json.number n) = version_misfits (as_i64 n)
+misfits VersionValue (json.string s) = WrongKind ∷ []
+misfits VersionValue (json.array vs) = WrongKind ∷ []
+misfits VersionValue (json.object ms) = WrongKind ∷ []
+
+abbrev complaint : List ℕ → List ℕ → RecordFault → RecordComplaint
+complaint name field fault = record { fault = fault; name = name; field = field }
+
+-- what is wrong with the value of a row, or with its absence
+abbrev pub field_faults : RecordRow → Option Data → List RecordFault
+field_faults row None = if row.required then MissingField ∷ [] else []
+field_faults row (Some v) = misfits row.value v
+
+abbrev pub rows_complaints : List ℕ → List RecordRow → Members → List RecordComplaint
+rows_complaints name [] ms = []
+rows_complaints name (row ∷ rows) ms = map (complaint name row.field) (field_faults row (get_member row.field ms)) ++ rows_complaints name rows ms
+
+-- the name is that of a row
+abbrev pub has_row : List ℕ → List RecordRow → Bool
+has_row n [] = false
+has_row n (row ∷ rows) = bytes_eq row.field n || has_row n rows
+
+-- a complaint for each field that has no row
+abbrev pub unknown_complaints : List ℕ → List RecordRow → Members → List RecordComplaint
+unknown_complaints name rows json.no_members = []
+unknown_complaints name rows (json.member n v ms) = if has_row n rows then unknown_complaints name rows ms else complaint name n UnknownField ∷ unknown_complaints name rows ms
+
+-- what is wrong with the fields of an object
+abbrev pub object_complaints : List ℕ → List RecordRow → Data → List RecordComplaint
+object_complaints name rows json.null = complaint name [] NotObject ∷ []
+object_complaints name rows (json.boolean b) = complaint name [] NotObject ∷ []
+object_complaints name rows (json.number n) = complaint name [] NotObject ∷ []
+object_complaints name rows (json.string s) = complaint name [] NotObject ∷ []
+object_complaints name rows (json.array vs) = complaint name [] NotObject ∷ []
+object_complaints name rows (json.object ms) = rows_complaints name rows ms ++ unknown_complaints name rows ms
+
+-- the members of an object, and of the field of that name
+abbrev pub members_in : Data → Members
+members_in json.null = json.no_members
+members_in (json.boolean b) = json.no_members
+members_in (json.number n) = json.no_members
+members_in (json.string s) = json.no_members
+members_in (json.array vs) = json.no_members
+members_in (json.object ms) = ms
+
+abbrev pub members_under : List ℕ → Data → Members
+members_under field v = unwrap_or (option_map members_in (get_member field (members_in v))) json.no_members
+
+-- what is wrong with each entry
+abbrev pub entries_complaints : List RecordRow → Members → List RecordComplaint
+entries_complaints rows json.no_members = []
+entries_complaints rows (json.member n v ms) = object_complaints n rows v ++ entries_complaints rows ms
+
+-- all that is wrong with a value as declared shapes, and as a certificate
+abbrev pub declared_complaints : Data → List RecordComplaint
+declared_complaints v = object_complaints [] declared_rows v ++ entries_complaints task_rows (members_under (codes "tasks") v)
+
+abbrev pub certificate_complaints : Data → List RecordComplaint
+certificate_complaints v = object_complaints [] certificate_rows v ++ entries_complaints state_rows (members_under (codes "states") v)
+
+-- ---- what is read
+
+-- the shape that a value spells, Any where it spells none
+abbrev pub shape_from : Data → Shape
+shape_from v = unwrap_or (option_map shape_of (tree_of v)) Any
+
+-- the shape of the field of that name, Any where it is absent
+abbrev pub shape_at : List ℕ → Data → Shape
+shape_at field v = unwrap_or (option_map shape_from (get_member field (members_in v))) Any
+
+abbrev pub shapes_from : Items → List Shape
+shapes_from json.no_items = []
+shapes_from (json.item v vs) = shape_from v ∷ shapes_from vs
+
+-- the elements of a list
+abbrev pub items_in : Data → Items
+items_in json.null = json.no_items
+items_in (json.boolean b) = json.no_items
+items_in (json.number n) = json.no_items
+items_in (json.string s) = json.no_items
+items_in (json.array vs) = vs
+items_in (json.object ms) = json.no_items
+
+abbrev pub task_from : Data → TaskShapes
+task_from v = record { takes = shape_at (codes "takes") v; gives = shape_at (codes "gives") v }
+
+abbrev pub state_from : Data → StateShapes
+state_from v = record {
+    input = shape_at (codes "input") v;
+    output = shape_at (codes "output") v;
+    branches = unwrap_or (option_map (λ b. shapes_from (items_in b)) (get_member (codes "branches") (members_in v))) [];
+    item = option_map shape_from (get_member (codes "item") (members_in v)) }
+
+-- each entry under its name, in the same order
+abbrev pub entries_from : {A : Type 0} → (Data → A) → Members → List (List ℕ × A)
+entries_from f json.no_members = []
+entries_from f (json.member n v ms) = (n, f v) ∷ entries_from f ms
+
+abbrev pub declared_from : Data → Declared
+declared_from v = record { input = shape_at (codes "input") v; tasks = entries_from task_from (members_under (codes "tasks") v) }
+
+abbrev pub certificate_from : Data → Certificate
+certificate_from v = record { output = shape_at (codes "output") v; states = entries_from state_from (members_under (codes "states") v) }
+
+-- ---- the value stands for the record
+
+pub record StandsForDeclared (v : Data) (declared : Declared) : Type 0 where
+  pub whole : IsTrue (is_some (tree_of v))
+  pub none_wrong : declared_complaints v ≡ []
+  pub same : declared_from v ≡ declared
+
+pub record StandsForCertificate (v : Data) (certificate : Certificate) : Type 0 where
+  pub whole : IsTrue (is_some (tree_of v))
+  pub none_wrong : certificate_complaints v ≡ []
+  pub same : certificate_from v ≡ certificate
+
+-- that is wrong with the value as declared shapes, and as a certificate
+pub record HasDeclaredFault (v : Data) (c : RecordComplaint) : Type 0 where
+  pub listed : Contains (declared_complaints v) c
+
+pub record HasCertificateFault (v : Data) (c : RecordComplaint) : Type 0 where
+  pub listed : Contains (certificate_complaints v) c

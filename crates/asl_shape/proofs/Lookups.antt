@@ -1,0 +1,43 @@
+-- A map's look-up by a key finds what the fields, or the mentions, that the map shows have under that name.
+use Rattle.std.proofs.Common.{◌≡◌, ℕ, Bool, true, false, cond, List, [], ◌∷◌, Option, Some, None, String, string_bytes, option_map, is_some, ◌||◌, bytes_eq, refl, ◌∙◌, sym}
+use Rattle.std.specs.declared.alloc.Global.{Global}
+use Rattle.std.specs.BTreeMap.{is_at}
+use Rattle.std.specs.Cmp.Lexicographic.{slice_cmp}
+use Rattle.std.specs.Map.{lookup}
+use Rattle.std.specs.Ordering.{is_eq, nat_cmp}
+use Rattle.std.specs.String.{string_cmp}
+use Rattle.std.proofs.lemmas.Cmp.{nat_list_eq_equiv}
+use Rattle.std.proofs.lemmas.Map.Text.{is_eq-slice_cmp}
+use Rattle.asl_model.specs.Tree.{field_named}
+use Rattle.asl_model.specs.Shape.{mentions}
+use Rattle.asl_model.specs.ShapeOrder.{mention_of}
+use Rattle.asl_tree.specs.declared.Tree.{Tree}
+use Rattle.asl_tree.specs.View as trees
+use Rattle.asl_shape.specs.declared.shape.Field.{Field}
+use Rattle.asl_shape.specs.View.{view, fields_view}
+
+same_name : (k m : List ℕ) → bytes_eq m k ≡ is_eq (slice_cmp nat_cmp k m)
+same_name k m = nat_list_eq_equiv.symm m k ∙ sym (is_eq-slice_cmp k m)
+
+picked : {A B : Type 0} (f : A → B) (x : A) (b : Bool) (s : Option A) → cond b (Some (f x)) (option_map f s) ≡ option_map f (cond b (Some x) s)
+picked f x true s = refl
+picked f x false s = refl
+
+pub field_named_lookup : (k : String Global) (es : List (String Global × Tree)) → field_named (string_bytes k) (trees.entries_view es) ≡ option_map trees.view (lookup (is_at (string_cmp k)) es)
+field_named_lookup k [] = refl
+field_named_lookup k (e ∷ es) =
+    rw (same_name (string_bytes k) (string_bytes e.0), field_named_lookup k es) (picked trees.view e.1 _ _)
+
+found : {A : Type 0} (x : A) (b : Bool) (s : Option A) → b || is_some s ≡ is_some (cond b (Some x) s)
+found x true s = refl
+found x false s = refl
+
+pub mentions_lookup : (k : String Global) (ms : List (String Global × Field)) → mentions (string_bytes k) (fields_view ms) ≡ is_some (lookup (is_at (string_cmp k)) ms)
+mentions_lookup k [] = refl
+mentions_lookup k (m ∷ ms) =
+    rw (same_name (string_bytes k) (string_bytes m.0), mentions_lookup k ms) (found m.1 _ _)
+
+pub mention_of_lookup : (k : String Global) (ms : List (String Global × Field)) → mention_of (string_bytes k) (fields_view ms) ≡ option_map (λ m. (m.needed, view m.shape)) (lookup (is_at (string_cmp k)) ms)
+mention_of_lookup k [] = refl
+mention_of_lookup k (m ∷ ms) =
+    rw (same_name (string_bytes k) (string_bytes m.0), mention_of_lookup k ms) (picked (λ (m : Field). (m.needed, view m.shape)) m.1 _ _)

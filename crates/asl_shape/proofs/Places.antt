@@ -1,0 +1,53 @@
+-- The first elements of a list, each of a shape of its own, and the further ones.
+use Rattle.std.proofs.Common.{◌≡◌, ℕ, ◌≤◌, ◌-◌, Bool, true, false, ◌&&◌, List, [], ◌∷◌, length, take, drop, refl, ap, sym, ◌∙◌, rules, Vec, Box}
+use Rattle.std.specs.declared.alloc.Global.{Global}
+use Rattle.std.proofs.lemmas.List.{drop_all, take_all, length-drop}
+use Rattle.asl_model.specs.Tree as model
+use Rattle.asl_model.specs.Shape as shape
+use Rattle.asl_model.specs.Shape.{has, each_element, elements_have}
+use Rattle.asl_tree.specs.declared.Tree.{Tree}
+use Rattle.asl_tree.specs.declared.Tree as tree
+use Rattle.asl_tree.specs.declared.Tree.TheOpen as TreeOpen
+use Rattle.asl_tree.specs.declared.Tree.TheFolds.{fold-roll-Tree}
+use Rattle.asl_tree.specs.declared.Tree.TheVariants.{rolls-List}
+use Rattle.asl_tree.specs.View.{elements_view}
+use Rattle.asl_tree.specs.View as trees
+use Rattle.asl_shape.specs.declared.shape.Shape.{Shape}
+use Rattle.asl_shape.specs.declared.shape.Shape.TheViews
+use Rattle.asl_shape.specs.declared.shape.Shape.TheOpen
+use Rattle.asl_shape.specs.declared.shape.Shape.TheFolds.{fold-roll-Shape}
+use Rattle.asl_shape.specs.declared.shape.Shape.TheVariants as variants
+use Rattle.asl_shape.specs.View.{view, shapes_view, shape_step, field_step}
+
+pub all_pass : (ts : model.Trees) → each_element (λ _. true) ts ≡ true
+all_pass model.NoTrees = refl
+all_pass (model.AndTree t ts) = all_pass ts
+
+pub both : (a b c d : Bool) → c ≡ (b && d) → (a && c) ≡ ((a && b) && d)
+both true b c d e = e
+both false b c d e = refl
+
+pub first_then_further : (ss : List Shape) (test : model.Tree → Bool) (ts : List Tree) → elements_have (shapes_view ss) test (elements_view ts) ≡ (elements_have (shapes_view ss) (λ _. true) (elements_view ts) && each_element test (elements_view (drop (length ss) ts)))
+first_then_further [] test ts = rw (all_pass (elements_view ts)) refl
+first_then_further (s ∷ ss) test [] = refl
+first_then_further (s ∷ ss) test (t ∷ ts) = both (has (view s) (trees.view t)) _ _ _ (first_then_further ss test ts)
+
+pub view_list : (first : Vec Shape Global) (rest : Box Shape Global) → view (TheViews.List first rest) ≡ shape.ArrayShape (shapes_view first.items) (view rest.value)
+view_list first rest =
+    ap view (sym (variants.rolls-List first rest)) ∙ fold-roll-Shape shape.Shape (Bool × shape.Shape) shape_step field_step (TheOpen.List first rest)
+
+take_to_end : {A : Type 0} (n : ℕ) (xs : List A) → take (length xs - n) (drop n xs) ≡ drop n xs
+take_to_end n xs = search (rules, take_all, length-drop)
+
+view_array : (elements : Vec Tree Global) → trees.view (tree.List elements) ≡ model.Array (elements_view elements.items)
+view_array elements = ap trees.view (sym (rolls-List elements)) ∙ fold-roll-Tree model.Tree trees.view_step (TreeOpen.List elements)
+
+pub list_has : (first : Vec Shape Global) (rest : Box Shape Global) (elements : Vec Tree Global) (front behind : Bool) → front ≡ elements_have (shapes_view first.items) (λ _. true) (elements_view elements.items) → behind ≡ each_element (has (view rest.value)) (elements_view (take (length elements.items - length first.items) (drop (length first.items) elements.items))) → (front && behind) ≡ has (view (TheViews.List first rest)) (trees.view (tree.List elements))
+list_has first rest elements front behind e f =
+    rw (view_list first rest, view_array elements, e, f, take_to_end (length first.items) elements.items) (sym (first_then_further first.items (has (view rest.value)) elements.items))
+
+pub further_same : (r s : Shape) (ts us : List Tree) (m n : ℕ) → r ≡ s → ts ≡ us → m ≡ n → each_element (has (view r)) (elements_view (take (length ts - m) (drop m ts))) ≡ each_element (has (view s)) (elements_view (take (length us - n) (drop n us)))
+further_same r s ts us m n e f g = cc
+
+pub none_left : (ss : List Shape) (i : ℕ) (ts : model.Trees) → length ss ≤ i → elements_have (shapes_view (drop i ss)) (λ _. true) ts ≡ true
+none_left ss i ts h = rw (drop_all i ss h) (all_pass ts)

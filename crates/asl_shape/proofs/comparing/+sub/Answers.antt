@@ -1,0 +1,28 @@
+use Rattle.std.proofs.Common.{◌≡◌, true, false, refl, sym, ◌∙◌, ◌||◌, not}
+use Rattle.asl_model.specs.Shape as shape
+use Rattle.asl_model.specs.ShapeOrder as model
+use Rattle.asl_shape.specs.View.{view, shapes_view}
+use Rattle.asl_shape.proofs.Bounds.{list_sub, same_places, same_sub}
+use Rattle.asl_shape.proofs.comparing.+sub.Goals as goal
+
+pub part_by_part-returns-then-places_sub : goal.part_by_part-returns-then-places_sub
+part_by_part-returns-then-places_sub t c =
+    let places = c.in-List-inner.places in
+    let further = c.in-List-inner.further in
+    let first = c.in-List.first in
+    let rest = c.in-List.rest in
+    let front : true ≡ model.elements_sub (shapes_view places.items) shape.Never (shapes_view first.items) (λ s. model.sub s (view rest.value)) =
+    sym c.if-places_sub.true ∙ c.places_sub.ensures ∙ same_places _ _ _ _ _ _ c.deref.ensures.value c.deref-in-List-inner.ensures.value c.deref-in-List-inner-2.ensures in
+    let behind : c.sub.result ≡ model.sub (view further.value) (view rest.value) =
+    c.sub.ensures ∙ same_sub _ _ _ _ c.deref-then-places_sub.ensures c.deref-then-places_sub-2.ensures in
+    rw (c.in-List-inner.is, c.in-List.is) (list_sub places further first rest true c.sub.result front behind)
+
+pub part_by_part-returns-else-places_sub : goal.part_by_part-returns-else-places_sub
+part_by_part-returns-else-places_sub t c =
+    let places = c.in-List-inner.places in
+    let further = c.in-List-inner.further in
+    let first = c.in-List.first in
+    let rest = c.in-List.rest in
+    let front : false ≡ model.elements_sub (shapes_view places.items) shape.Never (shapes_view first.items) (λ s. model.sub s (view rest.value)) =
+    sym c.if-places_sub.false ∙ c.places_sub.ensures ∙ same_places _ _ _ _ _ _ c.deref.ensures.value c.deref-in-List-inner.ensures.value c.deref-in-List-inner-2.ensures in
+    rw (c.in-List-inner.is, c.in-List.is, c.if-places_sub.false) (list_sub places further first rest false _ front refl)
