@@ -1,5 +1,5 @@
 -- Worked examples of the spelling of shapes.
-use Rattle.std.specs.Prelude.{◌≡◌, List, [], ◌∷◌, ◌++◌, ℕ, Bool, true, false, pos, negsuc, Option, Some, None, option_map, option_and_then, codes, refl}
+use Rattle.std.specs.Prelude.{◌≡◌, List, [], ◌∷◌, ℕ, true, false, Option, Some, option_map, option_and_then, codes, refl}
 use Rattle.serde_json.specs.Read.{read}
 use Rattle.serde_json.proofs.OnLiterals.{serde_json_on_literals}
 use Rattle.asl_model.specs.Json.{tree_of}

@@ -1,9 +1,9 @@
 -- Worked examples of what texts mean.
-use Rattle.std.specs.Prelude.{◌≡◌, List, [], ◌∷◌, ◌++◌, ℕ, pos, negsuc, Bool, true, false, Option, Some, None, option_and_then, codes, refl}
+use Rattle.std.specs.Prelude.{◌≡◌, pos, negsuc, true, Some, None, option_and_then, codes, refl}
 use Rattle.std.specs.Fmt.{digits}
 use Rattle.serde_json.specs.Read.{read}
 use Rattle.serde_json.proofs.OnLiterals.{serde_json_on_literals}
-use Rattle.asl_model.specs.Tree.{Tree, Null, Boolean, Integer, Text, Array, Object, NoTrees, AndTree, NoFields, AndField}
+use Rattle.asl_model.specs.Tree.{Null, Boolean, Integer, Array, Object, NoTrees, AndTree, NoFields, AndField}
 use Rattle.asl_model.specs.Json.{tree_of, compact_text}
 
 -- the largest whole number of a tree is read, the next isn't, nor is a fraction

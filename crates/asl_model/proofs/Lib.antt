@@ -1,4 +1,7 @@
+pub mod ExamplesDefinitions
 pub mod ExamplesPaths
+pub mod ExamplesPrinted
+pub mod ExamplesReadings
 pub mod ExamplesRecords
 pub mod ExamplesRuns
 pub mod ExamplesShapes
@@ -7,9 +10,15 @@ pub mod ExamplesTemplates
 pub mod ExamplesTexts
 pub mod PathPrinting
 pub mod PathReading
+pub mod PlacingExactly
+pub mod ReadingLaws
 pub mod ReadingSteps
+pub mod RunApart
+pub mod RunEnabled
 pub mod RunFits
 pub mod RunLaws
+pub mod RunOptions
+pub mod RunPatterns
 pub mod ShapeInhabited
 pub mod ShapeInside
 pub mod ShapeLook

@@ -1,17 +1,17 @@
 -- The printed form of a path spells it, where each segment has a spelling; and each segment of a path that some text
 -- spells has one.
-use Rattle.std.proofs.Common.{◌≡◌, ◌+◌, ◌<◌, ◌≤◌, ◌^◌, List, [], ◌∷◌, ◌++◌, ℕ, zero, suc, length, take, drop, get_or, slice_index, Bool, true, false, ◌==◌, nat_lt, not, ◌&&◌, ◌||◌, Option, Some, None, if◌then◌else◌, option_map, option_and_then, IsTrue, IsFalse, refl, ap, ap₂, sym, subst, ◌∙◌, arith, append_assoc, decimal, codes}
-use Rattle.std.specs.Char.{is_ascii_digit, digit_value}
-use Rattle.std.specs.Str.Parse.{AllDigits, IsNumeral, digits_value}
+use Rattle.std.proofs.Common.{◌≡◌, ◌<◌, ◌≤◌, ◌^◌, List, [], ◌∷◌, ◌++◌, ℕ, zero, suc, length, take, drop, slice_index, Bool, true, false, ◌==◌, nat_lt, not, ◌&&◌, ◌||◌, Option, Some, None, if◌then◌else◌, option_map, option_and_then, IsTrue, refl, ap, ap₂, sym, subst, ◌∙◌, arith, append_assoc, decimal, codes}
+use Rattle.std.specs.Char.{is_ascii_digit}
+use Rattle.std.specs.Str.Parse.{AllDigits, digits_value}
 use Rattle.std.specs.Fmt.{digits}
 use Rattle.std.proofs.Math.Seq.{drop-append_seam, take-append_seam}
-use Rattle.std.proofs.lemmas.Bool.{eqb-true, true≢false, false≢true, and_from, and_parts, or_parts, or_right, lt-ltb, ltb-true, ne_eqb, eq-eqb, le-leb}
+use Rattle.std.proofs.lemmas.Bool.{eqb-true, false≢true, and_from, and_parts, or_parts, or_right, lt-ltb, ltb-true, ne_eqb, le-leb}
 use Rattle.std.proofs.lemmas.Fmt.{decimal_is_IsNumeral, decimal_nonempty, first_decimal}
-use Rattle.std.proofs.lemmas.Str.Parse.{digit_from_value, digit_at}
+use Rattle.std.proofs.lemmas.Str.Parse.{digit_from_value}
 use Rattle.std.proofs.lemmas.Option.{none-some, same_Some}
 use Rattle.asl_model.specs.Path.{Segment, Name, Index}
-use Rattle.asl_model.specs.PathSpelling.{after, front_length, is_one_of, in_dot_name, in_quoted_name, is_index, cut_dot_name, cut_quoted_name, cut_index, cut_bracket, cut_segment, Begins, Spells, is_dot_name, has_byte, printed_segment, printed_segments, printed_path, has_spelling, have_spellings}
-use Rattle.asl_model.proofs.ReadingSteps.{taken_if, taken_unless, then_from, map_from}
+use Rattle.asl_model.specs.PathSpelling.{after, front_length, in_dot_name, in_quoted_name, is_index, cut_dot_name, cut_quoted_name, cut_index, cut_bracket, cut_segment, Begins, Spells, is_dot_name, has_byte, printed_segment, printed_segments, printed_path, has_spelling, have_spellings}
+use Rattle.asl_model.proofs.ReadingSteps.{taken_if, taken_unless, map_from}
 
 -- ---- the longest front
 

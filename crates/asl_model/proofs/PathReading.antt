@@ -1,9 +1,9 @@
 -- A text spells at most one path, and is not refused beside it; the printed form of a path spells it.
-use Rattle.std.proofs.Common.{◌≡◌, ◌+◌, ◌-◌, ◌<◌, ◌≤◌, List, [], ◌∷◌, ◌++◌, ℕ, zero, suc, length, take, drop, Bool, true, false, ◌==◌, Option, Some, None, if◌then◌else◌, option_map, option_and_then, IsTrue, IsFalse, refl, ap, ap₂, sym, subst, ◌∙◌, arith, length-drop, ◌⊎◌, inl, inr}
+use Rattle.std.proofs.Common.{◌≡◌, ◌-◌, ◌<◌, ◌≤◌, List, [], ◌∷◌, ℕ, zero, suc, length, take, drop, Bool, true, false, ◌==◌, Option, Some, None, if◌then◌else◌, option_map, option_and_then, IsFalse, refl, ap, ap₂, sym, subst, ◌∙◌, arith, length-drop, ◌⊎◌, inl, inr}
 use Rattle.std.specs.Char.{is_ascii_digit}
 use Rattle.std.proofs.lemmas.Bool.{eqb-true, ne_eqb, true≢false, false≢true}
 use Rattle.std.proofs.lemmas.Option.{none-some, same_Some}
-use Rattle.asl_model.specs.Path.{Segment, Name, Index}
+use Rattle.asl_model.specs.Path.{Segment, Name}
 use Rattle.asl_model.specs.PathSpelling.{after, front_length, in_dot_name, in_quoted_name, is_index, cut_dot_name, cut_quoted_name, cut_index, cut_bracket, cut_segment, Begins, Spells, segments_of, path_of, StopsAt, has_left_out, IsRefusedPath, PathFault, NoDollar, BadSegment, LeftOut}
 use Rattle.asl_model.proofs.ReadingSteps.{taken_if, taken_unless, then_from, map_from, one_value}
 

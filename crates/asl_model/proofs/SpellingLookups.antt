@@ -1,8 +1,8 @@
 -- What stands under a name in the spelling of a shape is what the look-up of that name gives.
-use Rattle.std.proofs.Common.{◌≡◌, ℕ, List, [], ◌∷◌, Bool, true, false, Option, Some, None, if◌then◌else◌, option_map, unwrap_or, bytes_eq, refl}
+use Rattle.std.proofs.Common.{◌≡◌, ℕ, List, [], Bool, true, false, Option, Some, if◌then◌else◌, option_map, unwrap_or, bytes_eq, refl}
 use Rattle.asl_model.specs.Tree.{Tree, Fields, NoFields, AndField, field_named}
-use Rattle.asl_model.specs.Shape.{Shape, Any, Shapes, NoShapes, FieldShapes, NoFieldShapes}
-use Rattle.asl_model.specs.ShapeSpelling.{ShapeFault, shape_of, shape_under, shapes_of, shapes_under, properties_of, properties_under, shape_faults, shape_faults_under, shapes_faults, shapes_faults_under, properties_faults, properties_faults_under}
+use Rattle.asl_model.specs.Shape.{Any, NoShapes, NoFieldShapes}
+use Rattle.asl_model.specs.ShapeSpelling.{shape_of, shape_under, shapes_of, shapes_under, properties_of, properties_under, shape_faults, shape_faults_under, shapes_faults, shapes_faults_under, properties_faults, properties_faults_under}
 
 -- the step of each: the first field of that name, or what stands under the name in the others
 step : {A : Type 0} (f : Tree → A) (d : A) (t : Tree) (further : Option Tree) (rest : A) (here : Bool) → rest ≡ unwrap_or (option_map f further) d → (elim here [ true ↦ f t | false ↦ rest ]) ≡ unwrap_or (option_map f (if here then Some t else further)) d

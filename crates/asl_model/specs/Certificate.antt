@@ -7,7 +7,7 @@ use Rattle.asl_model.specs.Shape.{Shape, Any, Never, Has, Inside}
 use Rattle.asl_model.specs.Faults.{Fault}
 use Rattle.asl_model.specs.Machine.{Catcher, Scope, State, Kind, Pass, Task, Choice, Wait, Succeed, Fail, Parallel, Map, settings_of, kind_of, start_of, state_named, child_scope, how_many, names_state, names_task}
 use Rattle.asl_model.specs.Flow.{Work, Finishes, Leaves, FailsWith, Asks, Splits, Raises, at_output_path, output_of, first_move}
-use Rattle.asl_model.specs.Run.{Activity, Activities, NoActivities, AndActivity, Ready, Waiting, Split, Done, Failed, Action, Move, Gives, FailsTask, Event, Outcome, Output, FailedWith, Entry, Entered, Asked, Left, Raised, TaskFailed, BranchFailed, Retried, Caught, Ended, Step, Turn, caught_input, scope_below, activity_at, child_at, run_of, entries_of}
+use Rattle.asl_model.specs.Run.{Activity, Activities, NoActivities, AndActivity, Ready, Waiting, Split, Done, Failed, Action, Move, Gives, FailsTask, Event, Outcome, Output, FailedWith, Entry, Entered, Asked, Left, Raised, TaskFailed, BranchFailed, Retried, Caught, Ended, Step, Turn, caught_input, scope_below, activity_at, child_at, start, step, run_of, last_activity, entries_of}
 
 -- the shapes of a task: of its payload, and of the answers that it gives
 pub record TaskShapes : Type 0 where
@@ -328,3 +328,53 @@ abbrev mutual
   pub ActivitiesFit : Declared → Certificate → Activities → (ℕ → Scope) → (ℕ → Shape) → Type 0
   ActivitiesFit declared certificate NoActivities scopes ends = Unit {0}
   ActivitiesFit declared certificate (AndActivity child others) scopes ends = ActivityFits declared certificate child (scopes 0) (ends 0) × ActivitiesFit declared certificate others (λ i. scopes (suc i)) (λ i. ends (suc i))
+
+-- the types of states, by what their moves can do
+pub data TypeGroup : Type 0 where
+  -- Pass, Succeed, Fail: one move, and no other error than a data-flow fault or its own
+  MovesOn : TypeGroup
+  -- Wait, Choice, Task: they look at data, choose, or ask, with retry and catch
+  Works : TypeGroup
+  -- Parallel, Map: they split, join, and abandon their children
+  Nests : TypeGroup
+
+abbrev pub group_of : Kind → TypeGroup
+group_of (Pass result) = MovesOn
+group_of (Task resource) = Works
+group_of (Choice rules default) = Works
+group_of (Wait delay) = Works
+group_of Succeed = MovesOn
+group_of (Fail error cause) = MovesOn
+group_of (Parallel branches) = Nests
+group_of (Map items selector processor) = Nests
+
+-- the group of the state that an activity stands at
+abbrev pub group_here : Scope → Activity → Option TypeGroup
+group_here scope (Ready n raw counts) = option_map (λ state. group_of (kind_of state)) (state_named n scope)
+group_here scope (Waiting n raw counts payload) = option_map (λ state. group_of (kind_of state)) (state_named n scope)
+group_here scope (Split n raw counts children) = option_map (λ state. group_of (kind_of state)) (state_named n scope)
+group_here scope (Done output) = None
+group_here scope (Failed error cause) = None
+
+-- the group of the state that stands at a place of an activity, which stands in a scope
+abbrev pub group_at : List ℕ → Scope → Activity → Option TypeGroup
+group_at [] scope a = group_here scope a
+group_at (i ∷ p) scope (Ready n raw counts) = None
+group_at (i ∷ p) scope (Waiting n raw counts payload) = None
+group_at (i ∷ p) scope (Split n raw counts children) = option_and_then (group_at p (scope_below scope n i)) (child_at i children)
+group_at (i ∷ p) scope (Done output) = None
+group_at (i ∷ p) scope (Failed error cause) = None
+
+-- each activity of a run that obeys is as certified: that before each turn
+abbrev pub EachActivityFits : Declared → Certificate → Scope → List Turn → Type 0
+EachActivityFits declared certificate machine [] = Unit {0}
+EachActivityFits declared certificate machine (turn ∷ turns) = ActivityFits declared certificate turn.before machine certificate.output × EachActivityFits declared certificate machine turns
+
+-- each event at a state of that group, which is taken and whose answer obeys, leaves an activity as certified that was so
+pub record IsKeptBy (group : TypeGroup) (declared : Declared) (certificate : Certificate) (machine : Scope) : Type 0 where
+  pub kept : (a : Activity) (event : Event) (taken : Step) → ActivityFits declared certificate a machine certificate.output → group_at event.place machine a ≡ Some group → step machine a event ≡ Some taken → ActionObeys declared event.place a event.action → ActivityFits declared certificate taken.after machine certificate.output
+
+-- the activities of a run that obeys are as certified, before each turn and after the last
+pub record ActivitiesAreAsCertified (declared : Declared) (certificate : Certificate) (machine : Scope) (input : Tree) (events : List Event) : Type 0 where
+  pub before_each : EachActivityFits declared certificate machine (run_of machine input events)
+  pub after_all : ActivityFits declared certificate (last_activity (start machine input) (run_of machine input events)) machine certificate.output

@@ -1,9 +1,10 @@
 -- The fields of a definition, a line a field (States Language, "Structure of a State Machine", "State Types"), and what
 -- can be wrong with the value of one.
-use Rattle.std.specs.Prelude.{ℕ, ℤ, pos, List, [], ◌∷◌, ◌++◌, Bool, true, false, ◌||◌, not, int_lt, int_le, is_some, if◌then◌else◌, Option, Some, None, option_and_then, bytes_eq, codes}
+use Rattle.std.specs.Prelude.{ℕ, ℤ, pos, List, [], ◌∷◌, ◌++◌, Bool, true, false, ◌&&◌, int_lt, int_le, is_some, is_none, if◌then◌else◌, Option, Some, None, option_map, option_and_then, bytes_eq, codes}
+use Rattle.std.specs.Option.{unwrap_or}
 use Rattle.serde_json.specs.Data as json
 use Rattle.serde_json.specs.Data.{Data, Items, Num}
-use Rattle.serde_json.specs.Find.{as_i64, as_str, as_bool, as_number}
+use Rattle.serde_json.specs.Find.{as_i64, as_str, as_bool, as_null, as_number, as_array, as_object}
 use Rattle.asl_model.specs.Tree.{Tree}
 use Rattle.asl_model.specs.Json.{tree_of}
 use Rattle.asl_model.specs.PathSpelling.{path_of}
@@ -258,12 +259,7 @@ rows_of MapState = map_rows
 
 -- a value of another kind; of a number that isn't whole, that is told
 abbrev pub wrong_kind : Data → DefFault
-wrong_kind json.null = WrongKind
-wrong_kind (json.boolean b) = WrongKind
-wrong_kind (json.number n) = if is_some (as_i64 n) then WrongKind else NotWhole
-wrong_kind (json.string s) = WrongKind
-wrong_kind (json.array vs) = WrongKind
-wrong_kind (json.object ms) = WrongKind
+wrong_kind v = if is_some (as_number v) && is_none (option_and_then as_i64 (as_number v)) then NotWhole else WrongKind
 
 -- that fault, unless the test holds
 abbrev pub unless : Bool → DefFault → List DefFault
@@ -287,12 +283,7 @@ path_misfits v None = wrong_kind v ∷ []
 path_misfits v (Some s) = unless (is_some (path_of s)) BadPath
 
 abbrev pub path_or_null_misfits : Data → List DefFault
-path_or_null_misfits json.null = []
-path_or_null_misfits (json.boolean b) = WrongKind ∷ []
-path_or_null_misfits (json.number n) = wrong_kind (json.number n) ∷ []
-path_or_null_misfits (json.string s) = path_misfits (json.string s) (Some s)
-path_or_null_misfits (json.array vs) = WrongKind ∷ []
-path_or_null_misfits (json.object ms) = WrongKind ∷ []
+path_or_null_misfits v = if is_some (as_null v) then [] else path_misfits v (as_str v)
 
 abbrev pub template_misfits : Bool → Option Tree → List DefFault
 template_misfits item None = NotWhole ∷ []
@@ -303,21 +294,11 @@ rule_misfits None = NotWhole ∷ []
 rule_misfits (Some t) = unless (is_some (rule_of t)) BadRule
 
 abbrev pub object_misfits : Data → List DefFault
-object_misfits json.null = WrongKind ∷ []
-object_misfits (json.boolean b) = WrongKind ∷ []
-object_misfits (json.number n) = wrong_kind (json.number n) ∷ []
-object_misfits (json.string s) = WrongKind ∷ []
-object_misfits (json.array vs) = WrongKind ∷ []
-object_misfits (json.object ms) = []
+object_misfits v = unless (is_some (as_object v)) (wrong_kind v)
 
 -- of a list, for what is wrong with its elements
 abbrev pub list_misfits : (Items → List DefFault) → Data → List DefFault
-list_misfits of_elements json.null = WrongKind ∷ []
-list_misfits of_elements (json.boolean b) = WrongKind ∷ []
-list_misfits of_elements (json.number n) = wrong_kind (json.number n) ∷ []
-list_misfits of_elements (json.string s) = WrongKind ∷ []
-list_misfits of_elements (json.array vs) = of_elements vs
-list_misfits of_elements (json.object ms) = WrongKind ∷ []
+list_misfits of_elements v = unwrap_or (option_map of_elements (as_array v)) (wrong_kind v ∷ [])
 
 -- nothing is asked of the elements; there is one
 abbrev pub any_elements : Items → List DefFault

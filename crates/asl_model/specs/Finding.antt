@@ -94,13 +94,14 @@ is_certified kind (Some entry) = has_form kind entry
 abbrev pub entry_breaches : Kind → Option StateShapes → Option TaskShapes → List Breach
 entry_breaches kind entry task = breach_unless (is_certified kind entry) (codes "states") NotCertified ++ breach_unless (not (is_task kind) || is_some task) (codes "Resource") TaskUndeclared
 
-abbrev pub input_of_entry : Option StateShapes → Option Shape
-input_of_entry None = None
-input_of_entry (Some entry) = Some entry.input
+-- the input that an entry certifies; a state without an entry has none, and what is no state takes no tree
+abbrev pub input_of_entry : Bool → Option StateShapes → Option Shape
+input_of_entry is_state None = if is_state then None else Some Never
+input_of_entry is_state (Some entry) = Some entry.input
 
--- the certified input of the state of that name, where it has an entry
-abbrev pub input_if_certified : Certificate → List ℕ → Option Shape
-input_if_certified certificate n = input_of_entry (certified certificate n)
+-- what is compared with the certified input of the state of that name
+abbrev pub input_to_compare : Scope → Certificate → List ℕ → Option Shape
+input_to_compare machine certificate n = input_of_entry (names_state machine n) (certified certificate n)
 
 -- Data flow
 
@@ -109,17 +110,17 @@ abbrev pub effective_flow : Settings → Shape → Flow
 effective_flow settings input = flow_then (through_template (codes "Parameters") settings.parameters) (through_path (codes "InputPath") settings.input_path input)
 
 -- the output, compared with the state's own and with the input of the state that follows
-abbrev pub next_breaches : Certificate → Shape → List ℕ → List ℕ → Shape → List Breach
-next_breaches certificate certified_output field next output = breach_unless_sub (codes "OutputPath") OutputNotCertified output (Some certified_output) ++ breach_unless_sub field NextInput output (input_if_certified certificate next)
+abbrev pub next_breaches : (List ℕ → Option Shape) → Shape → List ℕ → List ℕ → Shape → List Breach
+next_breaches inputs certified_output field next output = breach_unless_sub (codes "OutputPath") OutputNotCertified output (Some certified_output) ++ breach_unless_sub field NextInput output (inputs next)
 
 -- the output, compared with the state's own and with the shape of the scope's end
 abbrev pub end_breaches : Shape → List ℕ → Option Shape → Shape → List Breach
 end_breaches certified_output field end output = breach_unless_sub (codes "OutputPath") OutputNotCertified output (Some certified_output) ++ breach_unless_sub field ScopeOutput output end
 
 -- the same, by `Next` or `End`
-abbrev pub output_breaches : Certificate → Shape → Option Shape → Option (List ℕ) → Shape → List Breach
-output_breaches certificate certified_output end None output = end_breaches certified_output (codes "End") end output
-output_breaches certificate certified_output end (Some next) output = next_breaches certificate certified_output (codes "Next") next output
+abbrev pub output_breaches : (List ℕ → Option Shape) → Shape → Option Shape → Option (List ℕ) → Shape → List Breach
+output_breaches inputs certified_output end None output = end_breaches certified_output (codes "End") end output
+output_breaches inputs certified_output end (Some next) output = next_breaches inputs certified_output (codes "Next") next output
 
 -- what a path names is of the kind that its field wants
 abbrev pub kind_breaches : List ℕ → (Shape → Bool) → Result Shape ℕ → List Breach
@@ -139,12 +140,12 @@ pass_result None s = s
 pass_result (Some t) s = literal t
 
 -- a child's input, compared with that of its start state
-abbrev pub child_breaches : Certificate → List ℕ → Scope → Shape → List Breach
-child_breaches certificate field scope input = breach_unless_sub field BranchInput input (input_if_certified certificate (start_of scope))
+abbrev pub child_breaches : (List ℕ → Option Shape) → List ℕ → Scope → Shape → List Breach
+child_breaches inputs field scope input = breach_unless_sub field BranchInput input (inputs (start_of scope))
 
-abbrev pub branch_breaches : Certificate → Scopes → Shape → List Breach
-branch_breaches certificate NoScopes input = []
-branch_breaches certificate (AndScope scope others) input = child_breaches certificate (codes "Branches") scope input ++ branch_breaches certificate others input
+abbrev pub branch_breaches : (List ℕ → Option Shape) → Scopes → Shape → List Breach
+branch_breaches inputs NoScopes input = []
+branch_breaches inputs (AndScope scope others) input = child_breaches inputs (codes "Branches") scope input ++ branch_breaches inputs others input
 
 abbrev pub shapes_of : List Shape → Shapes
 shapes_of [] = NoShapes
@@ -193,22 +194,22 @@ with_items go_on (Err at) = breach_unless false (codes "ItemsPath") PathMayBeMis
 -- Choices
 
 -- the output for an effective input, on its way to a state that the field names
-abbrev pub chosen_breaches : Certificate → StateShapes → Settings → Kind → List ℕ → List ℕ → Shape → List Breach
-chosen_breaches certificate entry settings kind field next s = breaches_then (next_breaches certificate entry.output field next) (leave settings kind entry.input s)
+abbrev pub chosen_breaches : (List ℕ → Option Shape) → StateShapes → Settings → Kind → List ℕ → List ℕ → Shape → List Breach
+chosen_breaches inputs entry settings kind field next s = breaches_then (next_breaches inputs entry.output field next) (leave settings kind entry.input s)
 
 -- a rule's paths, and the output for what it lets through
-abbrev pub rule_breaches : Certificate → StateShapes → Settings → Kind → List ℕ → Option Shape → List Breach
-rule_breaches certificate entry settings kind next None = breach_unless false (codes "Choices") PathMayBeMissing
-rule_breaches certificate entry settings kind next (Some s) = chosen_breaches certificate entry settings kind (codes "Choices") next s
+abbrev pub rule_breaches : (List ℕ → Option Shape) → StateShapes → Settings → Kind → List ℕ → Option Shape → List Breach
+rule_breaches inputs entry settings kind next None = breach_unless false (codes "Choices") PathMayBeMissing
+rule_breaches inputs entry settings kind next (Some s) = chosen_breaches inputs entry settings kind (codes "Choices") next s
 
 -- each rule is taken on the whole effective input
-abbrev pub rules_breaches : Certificate → StateShapes → Settings → Kind → List Rule → Shape → List Breach
-rules_breaches certificate entry settings kind [] s = []
-rules_breaches certificate entry settings kind (rule ∷ rules) s = rule_breaches certificate entry settings kind rule.next (rule_shape rule.test s) ++ rules_breaches certificate entry settings kind rules s
+abbrev pub rules_breaches : (List ℕ → Option Shape) → StateShapes → Settings → Kind → List Rule → Shape → List Breach
+rules_breaches inputs entry settings kind [] s = []
+rules_breaches inputs entry settings kind (rule ∷ rules) s = rule_breaches inputs entry settings kind rule.next (rule_shape rule.test s) ++ rules_breaches inputs entry settings kind rules s
 
-abbrev pub default_breaches : Certificate → StateShapes → Settings → Kind → Option (List ℕ) → Shape → List Breach
-default_breaches certificate entry settings kind None s = breach_unless false (codes "Default") NoDefault
-default_breaches certificate entry settings kind (Some next) s = chosen_breaches certificate entry settings kind (codes "Default") next s
+abbrev pub default_breaches : (List ℕ → Option Shape) → StateShapes → Settings → Kind → Option (List ℕ) → Shape → List Breach
+default_breaches inputs entry settings kind None s = breach_unless false (codes "Default") NoDefault
+default_breaches inputs entry settings kind (Some next) s = chosen_breaches inputs entry settings kind (codes "Default") next s
 
 -- Catchers
 
@@ -224,73 +225,73 @@ caught catcher input = at_result_path catcher.result_path
     at_result_path None = Ok input
     at_result_path (Some path) = put path error_output input
 
-abbrev pub caught_breaches : Certificate → List ℕ → Result Shape ℕ → List Breach
-caught_breaches certificate next (Ok s) = breach_unless_sub (codes "Catch") CatchInput s (input_if_certified certificate next)
-caught_breaches certificate next (Err at) = breach_unless false (codes "Catch") ResultMayNotFit
+abbrev pub caught_breaches : (List ℕ → Option Shape) → List ℕ → Result Shape ℕ → List Breach
+caught_breaches inputs next (Ok s) = breach_unless_sub (codes "Catch") CatchInput s (inputs next)
+caught_breaches inputs next (Err at) = breach_unless false (codes "Catch") ResultMayNotFit
 
-abbrev pub catcher_breaches : Certificate → Shape → List Catcher → List Breach
-catcher_breaches certificate input [] = []
-catcher_breaches certificate input (catcher ∷ catchers) = caught_breaches certificate catcher.next (caught catcher input) ++ catcher_breaches certificate input catchers
+abbrev pub catcher_breaches : (List ℕ → Option Shape) → Shape → List Catcher → List Breach
+catcher_breaches inputs input [] = []
+catcher_breaches inputs input (catcher ∷ catchers) = caught_breaches inputs catcher.next (caught catcher input) ++ catcher_breaches inputs input catchers
 
 -- States
 
 -- a result's way to the output, and the output's comparisons
-abbrev pub result_breaches : Certificate → Option Shape → StateShapes → Settings → Kind → Shape → List Breach
-result_breaches certificate end entry settings kind result = breaches_then (output_breaches certificate entry.output end settings.next) (leave settings kind entry.input result)
+abbrev pub result_breaches : (List ℕ → Option Shape) → Option Shape → StateShapes → Settings → Kind → Shape → List Breach
+result_breaches inputs end entry settings kind result = breaches_then (output_breaches inputs entry.output end settings.next) (leave settings kind entry.input result)
 
 -- the result of a Map, where a shape is certified of its items
-abbrev pub map_breaches : Certificate → Option Shape → StateShapes → Settings → Kind → Option Shape → Shapes × Shape → List Breach
-map_breaches certificate end entry settings kind None elements = []
-map_breaches certificate end entry settings kind (Some item) elements = result_breaches certificate end entry settings kind (map_result item elements.0 elements.1)
+abbrev pub map_breaches : (List ℕ → Option Shape) → Option Shape → StateShapes → Settings → Kind → Option Shape → Shapes × Shape → List Breach
+map_breaches inputs end entry settings kind None elements = []
+map_breaches inputs end entry settings kind (Some item) elements = result_breaches inputs end entry settings kind (map_result item elements.0 elements.1)
 
 -- what follows for an effective input of that shape, by the state's type
-abbrev pub work_breaches : Declared → Certificate → Option Shape → List ℕ → StateShapes → Settings → Kind → Shape → List Breach
-work_breaches declared certificate end n entry settings (Pass result) s = result_breaches certificate end entry settings (Pass result) (pass_result result s)
-work_breaches declared certificate end n entry settings (Task resource) s = breach_unless_sub (codes "Parameters") PayloadNotTaken s (Some (takes_of declared n)) ++ result_breaches certificate end entry settings (Task resource) (gives_of declared n)
-work_breaches declared certificate end n entry settings (Choice rules default) s = rules_breaches certificate entry settings (Choice rules default) rules s ++ default_breaches certificate entry settings (Choice rules default) default s
-work_breaches declared certificate end n entry settings (Wait delay) s = delay_breaches delay s ++ result_breaches certificate end entry settings (Wait delay) s
-work_breaches declared certificate end n entry settings Succeed s = breaches_then (end_breaches entry.output (codes "Type") end) (leave settings Succeed entry.input s)
-work_breaches declared certificate end n entry settings (Fail error cause) s = []
-work_breaches declared certificate end n entry settings (Parallel branches) s = branch_breaches certificate branches s ++ result_breaches certificate end entry settings (Parallel branches) (ArrayShape (shapes_of entry.branches) Never)
-work_breaches declared certificate end n entry settings (Map items selector processor) s = with_items (λ elements. breaches_then (child_breaches certificate (codes "ItemProcessor") processor) (item_flow selector s (element_shape elements.0 elements.1)) ++ map_breaches certificate end entry settings (Map items selector processor) entry.item elements) (look items s)
+abbrev pub work_breaches : Declared → (List ℕ → Option Shape) → Option Shape → List ℕ → StateShapes → Settings → Kind → Shape → List Breach
+work_breaches declared inputs end n entry settings (Pass result) s = result_breaches inputs end entry settings (Pass result) (pass_result result s)
+work_breaches declared inputs end n entry settings (Task resource) s = breach_unless_sub (codes "Parameters") PayloadNotTaken s (Some (takes_of declared n)) ++ result_breaches inputs end entry settings (Task resource) (gives_of declared n)
+work_breaches declared inputs end n entry settings (Choice rules default) s = rules_breaches inputs entry settings (Choice rules default) rules s ++ default_breaches inputs entry settings (Choice rules default) default s
+work_breaches declared inputs end n entry settings (Wait delay) s = delay_breaches delay s ++ result_breaches inputs end entry settings (Wait delay) s
+work_breaches declared inputs end n entry settings Succeed s = breaches_then (end_breaches entry.output (codes "Type") end) (leave settings Succeed entry.input s)
+work_breaches declared inputs end n entry settings (Fail error cause) s = []
+work_breaches declared inputs end n entry settings (Parallel branches) s = branch_breaches inputs branches s ++ result_breaches inputs end entry settings (Parallel branches) (ArrayShape (shapes_of entry.branches) Never)
+work_breaches declared inputs end n entry settings (Map items selector processor) s = with_items (λ elements. breaches_then (child_breaches inputs (codes "ItemProcessor") processor) (item_flow selector s (element_shape elements.0 elements.1)) ++ map_breaches inputs end entry settings (Map items selector processor) entry.item elements) (look items s)
 
 -- the rules of a state that has an entry: none further where its certified input isn't inhabited
-abbrev pub flow_breaches : Declared → Certificate → Option Shape → List ℕ → Settings → Kind → Option StateShapes → List Breach
-flow_breaches declared certificate end n settings kind None = []
-flow_breaches declared certificate end n settings kind (Some entry) = if inhabited entry.input then breaches_then (work_breaches declared certificate end n entry settings kind) (effective_flow settings entry.input) ++ catcher_breaches certificate entry.input settings.catchers else []
+abbrev pub flow_breaches : Declared → (List ℕ → Option Shape) → Option Shape → List ℕ → Settings → Kind → Option StateShapes → List Breach
+flow_breaches declared inputs end n settings kind None = []
+flow_breaches declared inputs end n settings kind (Some entry) = if inhabited entry.input then breaches_then (work_breaches declared inputs end n entry settings kind) (effective_flow settings entry.input) ++ catcher_breaches inputs entry.input settings.catchers else []
 
 -- every rule that is broken at a state, by its name, in a scope with that shape of its end
-abbrev pub state_breaches : Declared → Certificate → Option Shape → List ℕ → Settings → Kind → List Breach
-state_breaches declared certificate end n settings kind = entry_breaches kind (certified certificate n) (under n declared.tasks) ++ flow_breaches declared certificate end n settings kind (certified certificate n)
+abbrev pub state_breaches : Scope → Declared → Certificate → Option Shape → List ℕ → Settings → Kind → List Breach
+state_breaches machine declared certificate end n settings kind = entry_breaches kind (certified certificate n) (under n declared.tasks) ++ flow_breaches declared (input_to_compare machine certificate) end n settings kind (certified certificate n)
 
 -- Machines
 
 abbrev mutual
   -- every rule that is broken at a state of the scope, or of one inside it
-  pub scope_findings : Scope → Declared → Certificate → Option Shape → List Finding
-  scope_findings (ScopeOf start held) declared certificate end = states_findings held declared certificate end
+  pub scope_findings : Scope → Scope → Declared → Certificate → Option Shape → List Finding
+  scope_findings (ScopeOf start held) machine declared certificate end = states_findings held machine declared certificate end
 
-  pub states_findings : States → Declared → Certificate → Option Shape → List Finding
-  states_findings NoStates declared certificate end = []
-  states_findings (AndState n state others) declared certificate end = state_findings state declared certificate end n ++ states_findings others declared certificate end
+  pub states_findings : States → Scope → Declared → Certificate → Option Shape → List Finding
+  states_findings NoStates machine declared certificate end = []
+  states_findings (AndState n state others) machine declared certificate end = state_findings state machine declared certificate end n ++ states_findings others machine declared certificate end
 
-  pub state_findings : State → Declared → Certificate → Option Shape → List ℕ → List Finding
-  state_findings (StateOf settings kind) declared certificate end n = found_at n (state_breaches declared certificate end n settings kind) ++ children_findings kind declared certificate n
+  pub state_findings : State → Scope → Declared → Certificate → Option Shape → List ℕ → List Finding
+  state_findings (StateOf settings kind) machine declared certificate end n = found_at n (state_breaches machine declared certificate end n settings kind) ++ children_findings kind machine declared certificate n
 
-  pub children_findings : Kind → Declared → Certificate → List ℕ → List Finding
-  children_findings (Pass result) declared certificate n = []
-  children_findings (Task resource) declared certificate n = []
-  children_findings (Choice rules default) declared certificate n = []
-  children_findings (Wait delay) declared certificate n = []
-  children_findings Succeed declared certificate n = []
-  children_findings (Fail error cause) declared certificate n = []
-  children_findings (Parallel branches) declared certificate n = branches_findings branches declared certificate n 0
-  children_findings (Map items selector processor) declared certificate n = scope_findings processor declared certificate (item_end (certified certificate n))
+  pub children_findings : Kind → Scope → Declared → Certificate → List ℕ → List Finding
+  children_findings (Pass result) machine declared certificate n = []
+  children_findings (Task resource) machine declared certificate n = []
+  children_findings (Choice rules default) machine declared certificate n = []
+  children_findings (Wait delay) machine declared certificate n = []
+  children_findings Succeed machine declared certificate n = []
+  children_findings (Fail error cause) machine declared certificate n = []
+  children_findings (Parallel branches) machine declared certificate n = branches_findings branches machine declared certificate n 0
+  children_findings (Map items selector processor) machine declared certificate n = scope_findings processor machine declared certificate (item_end (certified certificate n))
 
   -- from the branch of that number on
-  pub branches_findings : Scopes → Declared → Certificate → List ℕ → ℕ → List Finding
-  branches_findings NoScopes declared certificate n i = []
-  branches_findings (AndScope scope others) declared certificate n i = scope_findings scope declared certificate (branch_end i (certified certificate n)) ++ branches_findings others declared certificate n (suc i)
+  pub branches_findings : Scopes → Scope → Declared → Certificate → List ℕ → ℕ → List Finding
+  branches_findings NoScopes machine declared certificate n i = []
+  branches_findings (AndScope scope others) machine declared certificate n i = scope_findings scope machine declared certificate (branch_end i (certified certificate n)) ++ branches_findings others machine declared certificate n (suc i)
 
 -- the entries' names that no state has
 abbrev pub unknown_entries : Scope → List (List ℕ × StateShapes) → List Finding
@@ -304,11 +305,11 @@ unknown_tasks machine (task ∷ tasks) = found_at task.0 (breach_unless (names_t
 
 -- the declared input, compared with that of the machine's start state
 abbrev pub start_findings : Scope → Declared → Certificate → List Finding
-start_findings machine declared certificate = found_at (start_of machine) (breach_unless_sub (codes "StartAt") StartInput declared.input (input_if_certified certificate (start_of machine)))
+start_findings machine declared certificate = found_at (start_of machine) (breach_unless_sub (codes "StartAt") StartInput declared.input (input_to_compare machine certificate (start_of machine)))
 
 -- every rule that is broken
 abbrev pub findings : Scope → Declared → Certificate → List Finding
-findings machine declared certificate = unknown_entries machine certificate.states ++ (unknown_tasks machine declared.tasks ++ (start_findings machine declared certificate ++ scope_findings machine declared certificate (Some certificate.output)))
+findings machine declared certificate = unknown_entries machine certificate.states ++ (unknown_tasks machine declared.tasks ++ (start_findings machine declared certificate ++ scope_findings machine machine declared certificate (Some certificate.output)))
 
 -- the rule with the finding's fault is broken at its state and field
 abbrev pub Stands : Scope → Declared → Certificate → Finding → Type 0

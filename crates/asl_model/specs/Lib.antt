@@ -9,6 +9,7 @@ pub mod Machine
 pub mod Path
 pub mod PathSpelling
 pub mod Placing
+pub mod Printed
 pub mod Records
 pub mod RuleSpelling
 pub mod Run
@@ -16,7 +17,9 @@ pub mod Shape
 pub mod ShapeFlow
 pub mod ShapeOrder
 pub mod ShapeSpelling
+pub mod StandsFor
 pub mod Template
 pub mod TemplateSpelling
 pub mod Test
+pub mod Texts
 pub mod Tree

@@ -1,14 +1,13 @@
 -- How declared shapes and certificates are written as JSON values (the profile's own formats).
 -- Every value has here a reading, with defaults where something is wrong, and a list of all that is wrong with it. It
 -- stands for what is read where that list is empty and all its numbers are whole and in range.
-use Rattle.std.specs.Prelude.{◌≡◌, ℕ, ℤ, pos, List, [], ◌∷◌, ◌++◌, map, Bool, true, false, ◌||◌, IsTrue, is_some, if◌then◌else◌, Option, Some, None, option_map, bytes_eq, codes}
+use Rattle.std.specs.Prelude.{◌≡◌, ℕ, ℤ, pos, List, [], ◌∷◌, ◌++◌, map, Bool, true, false, ◌||◌, IsTrue, is_some, if◌then◌else◌, Option, Some, None, option_map, option_and_then, bytes_eq, codes}
 use Rattle.std.specs.Option.{unwrap_or}
 use Rattle.std.specs.List.{Contains}
 use Rattle.std.specs.Ordering.{int_eq}
 use Rattle.serde_json.specs.Data as json
 use Rattle.serde_json.specs.Data.{Data, Items, Members, Num}
-use Rattle.serde_json.specs.Find.{as_i64, get_member}
-use Rattle.asl_model.specs.Tree.{Tree}
+use Rattle.serde_json.specs.Find.{as_i64, as_number, as_array, as_object, get_member}
 use Rattle.asl_model.specs.Shape.{Shape, Any}
 use Rattle.asl_model.specs.Certificate.{Declared, TaskShapes, Certificate, StateShapes}
 use Rattle.asl_model.specs.Json.{tree_of}
@@ -94,25 +93,10 @@ version_misfits None = []
 version_misfits (Some n) = if int_eq n (pos 1) then [] else BadVersion ∷ []
 
 abbrev pub misfits : RecordValue → Data → List RecordFault
+misfits VersionValue v = unwrap_or (option_map (λ n. version_misfits (as_i64 n)) (as_number v)) (WrongKind ∷ [])
 misfits ShapeValue v = shape_misfits v
-misfits ShapesValue json.null = WrongKind ∷ []
-misfits ShapesValue (json.boolean b) = WrongKind ∷ []
-misfits ShapesValue (json.number n) = WrongKind ∷ []
-misfits ShapesValue (json.string s) = WrongKind ∷ []
-misfits ShapesValue (json.array vs) = shapes_misfits vs
-misfits ShapesValue (json.object ms) = WrongKind ∷ []
-misfits EntriesValue json.null = WrongKind ∷ []
-misfits EntriesValue (json.boolean b) = WrongKind ∷ []
-misfits EntriesValue (json.number n) = WrongKind ∷ []
-misfits EntriesValue (json.string s) = WrongKind ∷ []
-misfits EntriesValue (json.array vs) = WrongKind ∷ []
-misfits EntriesValue (json.object ms) = []
-misfits VersionValue json.null = WrongKind ∷ []
-misfits VersionValue (json.boolean b) = WrongKind ∷ []
-misfits VersionValue (json.number n) = version_misfits (as_i64 n)
-misfits VersionValue (json.string s) = WrongKind ∷ []
-misfits VersionValue (json.array vs) = WrongKind ∷ []
-misfits VersionValue (json.object ms) = WrongKind ∷ []
+misfits ShapesValue v = unwrap_or (option_map shapes_misfits (as_array v)) (WrongKind ∷ [])
+misfits EntriesValue v = if is_some (as_object v) then [] else WrongKind ∷ []
 
 abbrev complaint : List ℕ → List ℕ → RecordFault → RecordComplaint
 complaint name field fault = record { fault = fault; name = name; field = field }
@@ -136,23 +120,13 @@ abbrev pub unknown_complaints : List ℕ → List RecordRow → Members → List
 unknown_complaints name rows json.no_members = []
 unknown_complaints name rows (json.member n v ms) = if has_row n rows then unknown_complaints name rows ms else complaint name n UnknownField ∷ unknown_complaints name rows ms
 
--- what is wrong with the fields of an object
+-- what is wrong with an object of those fields
 abbrev pub object_complaints : List ℕ → List RecordRow → Data → List RecordComplaint
-object_complaints name rows json.null = complaint name [] NotObject ∷ []
-object_complaints name rows (json.boolean b) = complaint name [] NotObject ∷ []
-object_complaints name rows (json.number n) = complaint name [] NotObject ∷ []
-object_complaints name rows (json.string s) = complaint name [] NotObject ∷ []
-object_complaints name rows (json.array vs) = complaint name [] NotObject ∷ []
-object_complaints name rows (json.object ms) = rows_complaints name rows ms ++ unknown_complaints name rows ms
+object_complaints name rows v = unwrap_or (option_map (λ ms. rows_complaints name rows ms ++ unknown_complaints name rows ms) (as_object v)) (complaint name [] NotObject ∷ [])
 
--- the members of an object, and of the field of that name
+-- the members of an object, none of anything else; and of the field of that name
 abbrev pub members_in : Data → Members
-members_in json.null = json.no_members
-members_in (json.boolean b) = json.no_members
-members_in (json.number n) = json.no_members
-members_in (json.string s) = json.no_members
-members_in (json.array vs) = json.no_members
-members_in (json.object ms) = ms
+members_in v = unwrap_or (as_object v) json.no_members
 
 abbrev pub members_under : List ℕ → Data → Members
 members_under field v = unwrap_or (option_map members_in (get_member field (members_in v))) json.no_members
@@ -183,24 +157,16 @@ abbrev pub shapes_from : Items → List Shape
 shapes_from json.no_items = []
 shapes_from (json.item v vs) = shape_from v ∷ shapes_from vs
 
--- the elements of a list
-abbrev pub items_in : Data → Items
-items_in json.null = json.no_items
-items_in (json.boolean b) = json.no_items
-items_in (json.number n) = json.no_items
-items_in (json.string s) = json.no_items
-items_in (json.array vs) = vs
-items_in (json.object ms) = json.no_items
-
 abbrev pub task_from : Data → TaskShapes
 task_from v = record { takes = shape_at (codes "takes") v; gives = shape_at (codes "gives") v }
 
 abbrev pub state_from : Data → StateShapes
 state_from v = record {
-    input = shape_at (codes "input") v;
-    output = shape_at (codes "output") v;
-    branches = unwrap_or (option_map (λ b. shapes_from (items_in b)) (get_member (codes "branches") (members_in v))) [];
-    item = option_map shape_from (get_member (codes "item") (members_in v)) }
+  input = shape_at (codes "input") v;
+  output = shape_at (codes "output") v;
+  branches = unwrap_or (option_map shapes_from (option_and_then as_array (get_member (codes "branches") (members_in v)))) [];
+  item = option_map shape_from (get_member (codes "item") (members_in v));
+}
 
 -- each entry under its name, in the same order
 abbrev pub entries_from : {A : Type 0} → (Data → A) → Members → List (List ℕ × A)

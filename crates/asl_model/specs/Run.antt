@@ -2,7 +2,7 @@
 -- "Fallback States"). The profile chooses: an event is one move of one activity or one answer to one waiting task;
 -- events of different branches and iterations come in any order; waiting takes no time; an error name that isn't
 -- `States.ALL` matches itself alone.
-use Rattle.std.specs.Prelude.{ℕ, zero, suc, List, [], ◌∷◌, ◌++◌, map, Bool, false, ◌||◌, nat_lt, bytes_eq, if◌then◌else◌, Option, Some, None, option_and_then, Result, Ok, Err, codes}
+use Rattle.std.specs.Prelude.{◌≡◌, ◌≢◌, ◌⊎◌, ℕ, zero, suc, List, [], ◌∷◌, ◌++◌, map, Bool, false, ◌||◌, nat_lt, bytes_eq, if◌then◌else◌, Option, Some, None, option_and_then, Result, Ok, Err, codes}
 use Rattle.std.specs.Option.{option_map}
 use Rattle.asl_model.specs.Tree.{Tree, Text, Array, Object, Trees, NoTrees, AndTree, NoFields, AndField}
 use Rattle.asl_model.specs.Path.{Segment}
@@ -394,3 +394,24 @@ abbrev mutual
   pub enabled_below : Activities → (ℕ → Scope) → ℕ → List (List ℕ × Want)
   enabled_below NoActivities scopes i = []
   enabled_below (AndActivity child others) scopes i = map (down_from i) (enabled child (scopes i)) ++ enabled_below others scopes (suc i)
+
+-- two places apart: neither stands at or below the other
+pub data AreApart : List ℕ → List ℕ → Type 0 where
+  apart_here : {i j : ℕ} {p q : List ℕ} → i ≢ j → AreApart (i ∷ p) (j ∷ q)
+  apart_below : {i : ℕ} {p q : List ℕ} → AreApart p q → AreApart (i ∷ p) (i ∷ q)
+
+-- Two actions at places of an activity, of which the second follows the first with these steps, can be taken in the
+-- other order: each makes the same entries, and the activity after both is the same.
+pub record Commute (scope : Scope) (a : Activity) (p : List ℕ) (x : Action) (q : List ℕ) (y : Action) (first second : Step) : Type 0 where
+  pub sooner : Step
+  pub later : Step
+  pub second_first : step_at q scope a y ≡ Some sooner
+  pub first_second : step_at p scope sooner.after x ≡ Some later
+  pub same_second : sooner.entries ≡ second.entries
+  pub same_first : later.entries ≡ first.entries
+  pub same_after : later.after ≡ second.after
+
+-- an event of that kind is enabled at that place
+abbrev pub Enables : List (List ℕ × Want) → List ℕ → Want → Type 0
+Enables [] p want = ⊥
+Enables (wanted ∷ others) p want = (wanted ≡ (p, want)) ⊎ Enables others p want

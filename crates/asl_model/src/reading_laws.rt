@@ -1,1 +1,62 @@
-//! Laws about what texts mean.
+//! Laws about what texts mean. Each function here does nothing: its contract is the law.
+
+ghost use Rattle.std.specs.Prelude.{◌≡◌, ◌⊎◌, ℕ, List, IsTrue};
+ghost use Rattle.serde_json.specs.Data.{Data};
+ghost use Rattle.asl_model.specs.Tree.{Tree};
+ghost use Rattle.asl_model.specs.Path.{Segment};
+ghost use Rattle.asl_model.specs.Shape.{Shape};
+ghost use Rattle.asl_model.specs.Machine.{Scope};
+ghost use Rattle.asl_model.specs.Certificate.{Declared, Certificate};
+ghost use Rattle.asl_model.specs.Json.{ReadsAsValue, ReadsAsTree};
+ghost use Rattle.asl_model.specs.PathSpelling.{Spells, PathFault, IsRefusedPath, printed_path, have_spellings};
+ghost use Rattle.asl_model.specs.ShapeSpelling.{SpellsShape, ShapeFault, HasShapeFault};
+ghost use Rattle.asl_model.specs.Records.{RecordComplaint, StandsForDeclared, StandsForCertificate, HasDeclaredFault, HasCertificateFault};
+ghost use Rattle.asl_model.specs.StandsFor.{Complaint, StandsFor, HasComplaint};
+ghost use Rattle.asl_model.specs.Texts.{TextFault, ReadsAsMachine, ReadsAsDeclared, ReadsAsCertificate, IsDefinitionFault, IsDeclaredFault, IsCertificateFault};
+
+/// A text reads as at most one JSON value, tree, reference path, machine, declared shapes, certificate.
+pub fn texts_have_one_meaning()
+    ensures value { (text : List ℕ) (v w : Data) → ReadsAsValue text v → ReadsAsValue text w → v ≡ w }
+    ensures tree { (text : List ℕ) (t u : Tree) → ReadsAsTree text t → ReadsAsTree text u → t ≡ u }
+    ensures path { (text : List ℕ) (p q : List Segment) → Spells text p → Spells text q → p ≡ q }
+    ensures machine { (text : List ℕ) (m n : Scope) → ReadsAsMachine text m → ReadsAsMachine text n → m ≡ n }
+    ensures declared { (text : List ℕ) (d e : Declared) → ReadsAsDeclared text d → ReadsAsDeclared text e → d ≡ e }
+    ensures certificate { (text : List ℕ) (c d : Certificate) → ReadsAsCertificate text c → ReadsAsCertificate text d → c ≡ d }
+{}
+
+/// Nothing is wrong with a text that has a meaning.
+pub fn meaningful_texts_have_no_fault()
+    ensures path { (text : List ℕ) (p : List Segment) (f : PathFault) → Spells text p → IsRefusedPath text f → ⊥ }
+    ensures machine { (text : List ℕ) (m : Scope) (f : TextFault) → ReadsAsMachine text m → IsDefinitionFault text f → ⊥ }
+    ensures declared { (text : List ℕ) (d : Declared) (f : TextFault) → ReadsAsDeclared text d → IsDeclaredFault text f → ⊥ }
+    ensures certificate { (text : List ℕ) (c : Certificate) (f : TextFault) → ReadsAsCertificate text c → IsCertificateFault text f → ⊥ }
+{}
+
+/// A JSON value stands for at most one machine, declared shapes, certificate, and nothing is wrong with one that does.
+pub fn values_stand_for_one_thing()
+    ensures machine { (v : Data) (m n : Scope) → StandsFor v m → StandsFor v n → m ≡ n }
+    ensures no_complaint { (v : Data) (m : Scope) (c : Complaint) → StandsFor v m → HasComplaint v c → ⊥ }
+    ensures declared { (v : Data) (d e : Declared) → StandsForDeclared v d → StandsForDeclared v e → d ≡ e }
+    ensures no_declared_fault { (v : Data) (d : Declared) (c : RecordComplaint) → StandsForDeclared v d → HasDeclaredFault v c → ⊥ }
+    ensures certificate { (v : Data) (c d : Certificate) → StandsForCertificate v c → StandsForCertificate v d → c ≡ d }
+    ensures no_certificate_fault { (v : Data) (d : Certificate) (c : RecordComplaint) → StandsForCertificate v d → HasCertificateFault v c → ⊥ }
+{}
+
+/// A tree spells at most one shape, and nothing is wrong with one that does.
+pub fn trees_spell_one_shape()
+    ensures shape { (t : Tree) (a b : Shape) → SpellsShape t a → SpellsShape t b → a ≡ b }
+    ensures no_fault { (t : Tree) (a : Shape) (f : ShapeFault) → SpellsShape t a → HasShapeFault t f → ⊥ }
+{}
+
+/// Each text spells a reference path or is refused, in one way.
+pub fn texts_spell_paths_or_are_refused()
+    ensures either { (text : List ℕ) → ((p : List Segment) × Spells text p) ⊎ ((f : PathFault) × IsRefusedPath text f) }
+    ensures one_refusal { (text : List ℕ) (f g : PathFault) → IsRefusedPath text f → IsRefusedPath text g → f ≡ g }
+{}
+
+/// The printed form of a path spells it, if any text does. Such paths are those whose segments have a spelling each.
+pub fn printed_paths_are_spelled()
+    ensures again { (text : List ℕ) (p : List Segment) → Spells text p → Spells (printed_path p) p }
+    ensures spelled { (p : List Segment) → IsTrue (have_spellings p) → Spells (printed_path p) p }
+    ensures have_spellings { (text : List ℕ) (p : List Segment) → Spells text p → IsTrue (have_spellings p) }
+{}

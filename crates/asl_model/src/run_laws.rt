@@ -1,10 +1,13 @@
 //! Laws about runs. Each function here does nothing: its contract is the law.
 
-ghost use Rattle.std.specs.Prelude.{◌≡◌, List};
+ghost use Rattle.std.specs.Prelude.{◌≡◌, ◌↔◌, ℕ, List, Some, is_some, IsTrue};
 ghost use Rattle.asl_model.specs.Tree.{Tree};
+ghost use Rattle.asl_model.specs.Path.{Segment, named_by, Names};
+ghost use Rattle.asl_model.specs.Placing.{placed, Places};
+ghost use Rattle.asl_model.specs.Test.{PatternPart, is_cut_by, IsCutBy};
 ghost use Rattle.asl_model.specs.Machine.{Scope};
-ghost use Rattle.asl_model.specs.Run.{Event};
-ghost use Rattle.asl_model.specs.Certificate.{Declared, Certificate, IsClosed, Obeys, RunIsAsCertified};
+ghost use Rattle.asl_model.specs.Run.{Activity, Action, Event, Step, activity_at, step_at, start, want_of, enabled, AreApart, Commute, Enables};
+ghost use Rattle.asl_model.specs.Certificate.{Declared, Certificate, IsClosed, Obeys, RunIsAsCertified, ActivitiesAreAsCertified, MovesOn, Works, Nests, IsKeptBy};
 
 /// Closed runs never fault: where a certificate is closed for a machine and declared shapes, then for every input and
 /// every list of events that obey them, no turn raises a data-flow fault, and each state's input, each payload, each
@@ -12,4 +15,58 @@ ghost use Rattle.asl_model.specs.Certificate.{Declared, Certificate, IsClosed, O
 /// and iterations in any order; each answer that is taken is a failure, or has its declared shape.
 pub fn closed_runs_never_fault()
     ensures { (declared : Declared) (certificate : Certificate) (machine : Scope) → IsClosed declared certificate machine → (input : Tree) (events : List Event) → Obeys declared machine input events → RunIsAsCertified declared certificate machine input events }
+{}
+
+/// Every activity of an obeying run is as certified, at every nesting depth: each Ready, Waiting and Split has a raw
+/// input of its state's certified input; each Waiting the payload that its state asks with, one that its task takes;
+/// each Split one child a branch, or one an element of the list found for its raw input, each in its own scope; each
+/// Done an output of its scope's end.
+pub fn every_activity_is_as_certified()
+    ensures { (declared : Declared) (certificate : Certificate) (machine : Scope) → IsClosed declared certificate machine → (input : Tree) (events : List Event) → Obeys declared machine input events → ActivitiesAreAsCertified declared certificate machine input events }
+{}
+
+/// An event at a Pass, a Succeed or a Fail, wherever it is nested, leaves every activity as certified.
+pub fn moving_on_keeps_activities_as_certified()
+    ensures { (declared : Declared) (certificate : Certificate) (machine : Scope) → IsClosed declared certificate machine → IsKeptBy MovesOn declared certificate machine }
+{}
+
+/// An event at a Wait, a Choice or a Task, with retry and catch, leaves every activity as certified.
+pub fn working_keeps_activities_as_certified()
+    ensures { (declared : Declared) (certificate : Certificate) (machine : Scope) → IsClosed declared certificate machine → IsKeptBy Works declared certificate machine }
+{}
+
+/// An event at a Parallel or a Map, which splits, joins or abandons its children, leaves every activity as certified.
+pub fn nesting_keeps_activities_as_certified()
+    ensures { (declared : Declared) (certificate : Certificate) (machine : Scope) → IsClosed declared certificate machine → IsKeptBy Nests declared certificate machine }
+{}
+
+/// What stands apart from an event's place stays as it was.
+pub fn apart_stays_as_it_was()
+    ensures { (p q : List ℕ) → AreApart p q → (scope : Scope) (a : Activity) (action : Action) (taken : Step) → step_at p scope a action ≡ Some taken → activity_at q taken.after ≡ activity_at q a }
+{}
+
+/// Two events at places apart can be taken in either order: each makes the same entries, and the activity after both
+/// is the same.
+pub fn apart_events_commute()
+    ensures { (p q : List ℕ) → AreApart p q → (scope : Scope) (a : Activity) (x y : Action) (first second : Step) → step_at p scope a x ≡ Some first → step_at q scope first.after y ≡ Some second → Commute scope a p x q y first second }
+{}
+
+/// A place is in the list of enabled ones, with a kind of event, exactly where an event of that kind has a step there.
+pub fn enabled_lists_exactly_the_steps()
+    ensures { (p : List ℕ) (scope : Scope) (a : Activity) (action : Action) → IsTrue (is_some (step_at p scope a action)) ↔ Enables (enabled a scope) p (want_of action) }
+{}
+
+/// The function that looks up a path gives exactly what the path names.
+pub fn named_by_is_exactly_names()
+    ensures { (p : List Segment) (v w : Tree) → Names p v w ↔ named_by p v ≡ Some w }
+{}
+
+/// The function that places a tree gives exactly what the placing gives, and nothing where there is no placing.
+pub fn placed_is_exactly_places()
+    ensures { (p : List Segment) (w v u : Tree) → Places p w v u ↔ placed p w v ≡ Some u }
+{}
+
+/// A text passes the test of a pattern exactly where it can be cut into parts, one for each element of the pattern.
+pub fn matching_is_exactly_cutting()
+    ensures { (parts : List PatternPart) (text : List ℕ) → IsCutBy parts text ↔ IsTrue (is_cut_by parts text) }
 {}

@@ -7,7 +7,8 @@ use Rattle.asl_model.specs.ShapeOrder.{sub, elements_sub, each_shape}
 use Rattle.asl_shape.specs.declared.shape.Shape.{Shape}
 use Rattle.asl_shape.specs.declared.shape.Shape.TheViews
 use Rattle.asl_shape.specs.View.{view, shapes_view}
-use Rattle.asl_shape.proofs.Places.{both, view_list}
+use Rattle.asl_shape.proofs.Places.{both}
+use Rattle.asl_shape.proofs.Views.{view_list}
 
 never_sub : (s : model.Shape) → sub model.Never s ≡ true
 never_sub model.Any = refl

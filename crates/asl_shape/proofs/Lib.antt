@@ -1,3 +1,6 @@
 pub mod Bounds
 pub mod Lookups
+pub mod Orders
 pub mod Places
+pub mod Views
+pub mod Witnesses

@@ -3,21 +3,15 @@ use Rattle.std.proofs.Common.{◌≡◌, ℕ, ◌≤◌, ◌-◌, Bool, true, fa
 use Rattle.std.specs.declared.alloc.Global.{Global}
 use Rattle.std.proofs.lemmas.List.{drop_all, take_all, length-drop}
 use Rattle.asl_model.specs.Tree as model
-use Rattle.asl_model.specs.Shape as shape
 use Rattle.asl_model.specs.Shape.{has, each_element, elements_have}
 use Rattle.asl_tree.specs.declared.Tree.{Tree}
 use Rattle.asl_tree.specs.declared.Tree as tree
-use Rattle.asl_tree.specs.declared.Tree.TheOpen as TreeOpen
-use Rattle.asl_tree.specs.declared.Tree.TheFolds.{fold-roll-Tree}
-use Rattle.asl_tree.specs.declared.Tree.TheVariants.{rolls-List}
-use Rattle.asl_tree.specs.View.{elements_view}
 use Rattle.asl_tree.specs.View as trees
+use Rattle.asl_tree.specs.View.{elements_view}
 use Rattle.asl_shape.specs.declared.shape.Shape.{Shape}
 use Rattle.asl_shape.specs.declared.shape.Shape.TheViews
-use Rattle.asl_shape.specs.declared.shape.Shape.TheOpen
-use Rattle.asl_shape.specs.declared.shape.Shape.TheFolds.{fold-roll-Shape}
-use Rattle.asl_shape.specs.declared.shape.Shape.TheVariants as variants
-use Rattle.asl_shape.specs.View.{view, shapes_view, shape_step, field_step}
+use Rattle.asl_shape.specs.View.{view, shapes_view}
+use Rattle.asl_shape.proofs.Views.{view_list, view_array}
 
 pub all_pass : (ts : model.Trees) → each_element (λ _. true) ts ≡ true
 all_pass model.NoTrees = refl
@@ -32,15 +26,8 @@ first_then_further [] test ts = rw (all_pass (elements_view ts)) refl
 first_then_further (s ∷ ss) test [] = refl
 first_then_further (s ∷ ss) test (t ∷ ts) = both (has (view s) (trees.view t)) _ _ _ (first_then_further ss test ts)
 
-pub view_list : (first : Vec Shape Global) (rest : Box Shape Global) → view (TheViews.List first rest) ≡ shape.ArrayShape (shapes_view first.items) (view rest.value)
-view_list first rest =
-    ap view (sym (variants.rolls-List first rest)) ∙ fold-roll-Shape shape.Shape (Bool × shape.Shape) shape_step field_step (TheOpen.List first rest)
-
 take_to_end : {A : Type 0} (n : ℕ) (xs : List A) → take (length xs - n) (drop n xs) ≡ drop n xs
 take_to_end n xs = search (rules, take_all, length-drop)
-
-view_array : (elements : Vec Tree Global) → trees.view (tree.List elements) ≡ model.Array (elements_view elements.items)
-view_array elements = ap trees.view (sym (rolls-List elements)) ∙ fold-roll-Tree model.Tree trees.view_step (TreeOpen.List elements)
 
 pub list_has : (first : Vec Shape Global) (rest : Box Shape Global) (elements : Vec Tree Global) (front behind : Bool) → front ≡ elements_have (shapes_view first.items) (λ _. true) (elements_view elements.items) → behind ≡ each_element (has (view rest.value)) (elements_view (take (length elements.items - length first.items) (drop (length first.items) elements.items))) → (front && behind) ≡ has (view (TheViews.List first rest)) (trees.view (tree.List elements))
 list_has first rest elements front behind e f =

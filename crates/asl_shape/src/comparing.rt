@@ -2,20 +2,29 @@
 ghost use Rattle.asl_model.specs.Shape as shape;
 ghost use Rattle.asl_model.specs.ShapeOrder as model;
 ghost use Rattle.asl_shape.specs.View.{view, shapes_view, fields_view};
-ghost use Rattle.std.specs.Prelude.{◌≡◌, ◌||◌, not};
+ghost use Rattle.std.specs.Prelude.{◌≡◌, ◌||◌, IsTrue, not};
 
-use crate::inhabiting::inhabited;
+use crate::inhabiting::is_inhabited;
 use crate::shape::{Field, Shape};
+use asl_model::shape_laws::sub_means_inside;
 use std::collections::BTreeMap;
 
 /// Whether every tree of the first shape is seen to have the second: the first isn't inhabited, or the second is
 /// `Any`, or both are of one kind and the first is inside the second part by part. Where it answers true, each tree
 /// of the first shape has the second; it may answer false although that is so.
-#[cycle(sub)]
 pub fn sub(inner: &Shape, outer: &Shape) -> bool
+    ensures as_defined { result ≡ model.sub (view inner.now) (view outer.now) }
+    ensures inside { IsTrue result → shape.Inside (view inner.now) (view outer.now) }
+{
+    sub_means_inside();
+    is_sub(inner, outer)
+}
+
+#[cycle(sub)]
+fn is_sub(inner: &Shape, outer: &Shape) -> bool
     ensures { result ≡ model.sub (view inner.now) (view outer.now) }
 {
-    part_by_part(inner, outer) || !inhabited(inner)
+    part_by_part(inner, outer) || !is_inhabited(inner)
 }
 
 // Whether the outer shape is `Any`, or both are of one kind and the inner is inside the outer part by part.
@@ -35,7 +44,7 @@ fn part_by_part(inner: &Shape, outer: &Shape) -> bool
             Shape::List {
                 first: places,
                 rest: further,
-            } => { places_sub(places, first, rest) && sub(further, rest) }
+            } => { places_sub(places, first, rest) && is_sub(further, rest) }
             _ => false,
         },
         Shape::Object { fields, extra } => match inner {
@@ -64,7 +73,7 @@ fn places_sub(places: &[Shape], bounds: &[Shape], rest: &Shape) -> bool
 {
     let mut left = bounds.iter();
     for place in places {
-        if !sub(place, left.next().unwrap_or(rest)) {
+        if !is_sub(place, left.next().unwrap_or(rest)) {
             return false;
         }
     }
@@ -82,7 +91,7 @@ fn fields_sub(inner: &BTreeMap<String, Field>, more: bool, outer: &BTreeMap<Stri
     for (name, field) in outer.iter() {
         match inner.get(name) {
             Some(other) => {
-                if (field.needed && !other.needed) || !sub(&other.shape, &field.shape) {
+                if (field.needed && !other.needed) || !is_sub(&other.shape, &field.shape) {
                     return false;
                 }
             }
@@ -103,7 +112,7 @@ fn others_never_there(outer: &BTreeMap<String, Field>, inner: &BTreeMap<String, 
         ≡ model.others_never_there (fields_view outer.now.entries) (fields_view inner.now.entries) }
 {
     for (name, field) in inner.iter() {
-        if !outer.contains_key(name) && inhabited(&field.shape) {
+        if !outer.contains_key(name) && is_inhabited(&field.shape) {
             return false;
         }
     }

@@ -1,12 +1,55 @@
 //! Shapes of trees: reading them, membership, and comparing them.
+//!
+//! A [`Shape`] says which trees are meant (a subset of JSON Schema 2020-12). [`read`] makes one of the tree that spells
+//! it, [`has`] tests a tree, [`inhabited`] whether there is one at all, [`sub`] whether one shape is inside another.
 #![tactic(auto)]
+
+ghost use Rattle.std.specs.Prelude.{◌≡◌};
 
 mod comparing;
 mod inhabiting;
 mod membership;
+mod reading;
 mod shape;
 
 pub use comparing::sub;
 pub use inhabiting::inhabited;
 pub use membership::has;
+pub use reading::read;
 pub use shape::{Field, Shape};
+use std::alloc::{AllocError, AllocFailed};
+
+/// Why a tree is no spelling of a shape.
+#[derive(Debug, PartialEq, Drop)]
+pub enum ShapeRefusal {
+    /// A value is of a wrong kind, or a name stands twice in `required`.
+    NotAShape,
+    /// A keyword doesn't belong to the type.
+    Keyword,
+    /// There is no `type` beside another keyword, or it is a list or another text.
+    BadType,
+    /// `minItems` isn't the number of the shapes in `prefixItems`.
+    MinItems,
+    /// An allocation was refused.
+    OutOfMemory,
+}
+
+impl From<AllocError> for ShapeRefusal {
+    ghost use Rattle.asl_shape.specs.declared.ShapeRefusal.{ShapeRefusal};
+
+    ghost from_gives = { λ _ refusal. refusal ≡ ShapeRefusal.OutOfMemory };
+
+    fn from(_error: AllocError) -> ShapeRefusal {
+        ShapeRefusal::OutOfMemory
+    }
+}
+
+impl<T: Drop> From<AllocFailed<T>> for ShapeRefusal {
+    ghost use Rattle.asl_shape.specs.declared.ShapeRefusal.{ShapeRefusal};
+
+    ghost from_gives = { λ _ refusal. refusal ≡ ShapeRefusal.OutOfMemory };
+
+    fn from(_error: AllocFailed<T>) -> ShapeRefusal {
+        ShapeRefusal::OutOfMemory
+    }
+}

@@ -13,9 +13,9 @@ part_by_part-returns-then-places_sub t c =
     let rest = c.in-List.rest in
     let front : true ≡ model.elements_sub (shapes_view places.items) shape.Never (shapes_view first.items) (λ s. model.sub s (view rest.value)) =
     sym c.if-places_sub.true ∙ c.places_sub.ensures ∙ same_places _ _ _ _ _ _ c.deref.ensures.value c.deref-in-List-inner.ensures.value c.deref-in-List-inner-2.ensures in
-    let behind : c.sub.result ≡ model.sub (view further.value) (view rest.value) =
-    c.sub.ensures ∙ same_sub _ _ _ _ c.deref-then-places_sub.ensures c.deref-then-places_sub-2.ensures in
-    rw (c.in-List-inner.is, c.in-List.is) (list_sub places further first rest true c.sub.result front behind)
+    let behind : c.is_sub.result ≡ model.sub (view further.value) (view rest.value) =
+    c.is_sub.ensures ∙ same_sub _ _ _ _ c.deref-then-places_sub.ensures c.deref-then-places_sub-2.ensures in
+    rw (c.in-List-inner.is, c.in-List.is) (list_sub places further first rest true c.is_sub.result front behind)
 
 pub part_by_part-returns-else-places_sub : goal.part_by_part-returns-else-places_sub
 part_by_part-returns-else-places_sub t c =

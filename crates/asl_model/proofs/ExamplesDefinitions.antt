@@ -1,0 +1,308 @@
+-- Worked examples of definitions: the machine that a text stands for, and one value for each fault.
+use Rattle.std.specs.Prelude.{◌≡◌, ℕ, zero, suc, pos, List, [], ◌∷◌, ◌++◌, Option, Some, None, option_map, codes, refl}
+use Rattle.serde_json.specs.Read.{read}
+use Rattle.serde_json.proofs.OnLiterals.{serde_json_on_literals}
+use Rattle.asl_model.specs.Tree.{Null, Integer, Array, NoTrees, AndTree}
+use Rattle.asl_model.specs.Path.{Name, Index}
+use Rattle.asl_model.specs.Template.{Literal, ObjectTemplate, NoFieldTemplates, AndFieldTemplate}
+use Rattle.asl_model.specs.Machine.{Settings, Seconds, Scope, ScopeOf, NoStates, AndState, StateOf, Pass, Task, Wait, Succeed, Fail, Parallel, Map, NoScopes, AndScope}
+use Rattle.asl_model.specs.DefinitionTable.{DefFault, NotObject, MissingField, WrongKind, UnknownField, LeftOut, UnknownType, NameTooLong, DuplicateName, NoSuchState, NextOrEnd, BadPath, BadTemplate, BadRule, BadErrorEquals, EmptyList, HeartbeatNotSmaller, NotWhole}
+use Rattle.asl_model.specs.StandsFor.{Complaint, complaints, scope_of, characters}
+
+complaints_in : List ℕ → Option (List Complaint)
+complaints_in text = option_map complaints (read text)
+
+machine_in : List ℕ → Option (Scope × List Complaint)
+machine_in text = option_map (λ v. (scope_of v, complaints v)) (read text)
+
+-- that fault alone, at that state and field
+only : DefFault → List ℕ → List ℕ → Option (List Complaint)
+only fault state field = Some (record { fault = fault; state = state; field = field } ∷ [])
+
+-- a machine that starts at A, with those states
+machine : List ℕ → List ℕ
+machine held = codes "{\"StartAt\":\"A\",\"States\":{" ++ (held ++ codes "}}")
+
+-- ---- one value for each fault
+
+state_no_object : complaints_in (machine (codes "\"A\":7")) ≡ only NotObject (codes "A") ([])
+unfolding serde_json_on_literals complaints_in machine only
+state_no_object = refl
+
+type_missing : complaints_in (machine (codes "\"A\":{\"End\":true}")) ≡ only MissingField (codes "A") (codes "Type")
+unfolding serde_json_on_literals complaints_in machine only
+type_missing = refl
+
+type_no_text : complaints_in (machine (codes "\"A\":{\"Type\":7}")) ≡ only WrongKind (codes "A") (codes "Type")
+unfolding serde_json_on_literals complaints_in machine only
+type_no_text = refl
+
+unknown_type : complaints_in (machine (codes "\"A\":{\"Type\":\"Choise\"}")) ≡ only UnknownType (codes "A") (codes "Type")
+unfolding serde_json_on_literals complaints_in machine only
+unknown_type = refl
+
+end_no_truth_value : complaints_in (machine (codes "\"A\":{\"Type\":\"Pass\",\"End\":1}")) ≡ only WrongKind (codes "A") (codes "End")
+unfolding serde_json_on_literals complaints_in machine only
+end_no_truth_value = refl
+
+comment_no_text : complaints_in (machine (codes "\"A\":{\"Type\":\"Pass\",\"End\":true,\"Comment\":[]}")) ≡ only WrongKind (codes "A") (codes "Comment")
+unfolding serde_json_on_literals complaints_in machine only
+comment_no_text = refl
+
+a_fraction_for_a_text : complaints_in (machine (codes "\"A\":{\"Type\":\"Pass\",\"End\":true,\"Comment\":1.5}")) ≡ only NotWhole (codes "A") (codes "Comment")
+unfolding serde_json_on_literals complaints_in machine only
+a_fraction_for_a_text = refl
+
+unknown_field : complaints_in (machine (codes "\"A\":{\"Type\":\"Pass\",\"End\":true,\"Colour\":1}")) ≡ only UnknownField (codes "A") (codes "Colour")
+unfolding serde_json_on_literals complaints_in machine only
+unknown_field = refl
+
+left_out_field : complaints_in (machine (codes "\"A\":{\"Type\":\"Pass\",\"End\":true,\"Assign\":{}}")) ≡ only LeftOut (codes "A") (codes "Assign")
+unfolding serde_json_on_literals complaints_in machine only
+left_out_field = refl
+
+left_out_language : complaints_in (machine (codes "\"A\":{\"Type\":\"Pass\",\"End\":true,\"QueryLanguage\":\"JSONata\"}")) ≡ only LeftOut (codes "A") (codes "QueryLanguage")
+unfolding serde_json_on_literals complaints_in machine only
+left_out_language = refl
+
+field_of_another_type : complaints_in (machine (codes "\"A\":{\"Type\":\"Succeed\",\"ResultPath\":\"$\"}")) ≡ only UnknownField (codes "A") (codes "ResultPath")
+unfolding serde_json_on_literals complaints_in machine only
+field_of_another_type = refl
+
+fail_has_no_paths : complaints_in (machine (codes "\"A\":{\"Type\":\"Fail\",\"InputPath\":\"$\"}")) ≡ only UnknownField (codes "A") (codes "InputPath")
+unfolding serde_json_on_literals complaints_in machine only
+fail_has_no_paths = refl
+
+no_such_next : complaints_in (machine (codes "\"A\":{\"Type\":\"Pass\",\"Next\":\"Z\"}")) ≡ only NoSuchState (codes "A") (codes "Next")
+unfolding serde_json_on_literals complaints_in machine only
+no_such_next = refl
+
+neither_next_nor_end : complaints_in (machine (codes "\"A\":{\"Type\":\"Pass\"}")) ≡ only NextOrEnd (codes "A") (codes "Next")
+unfolding serde_json_on_literals complaints_in machine only
+neither_next_nor_end = refl
+
+false_end_is_absent : complaints_in (machine (codes "\"A\":{\"Type\":\"Pass\",\"End\":false}")) ≡ only NextOrEnd (codes "A") (codes "Next")
+unfolding serde_json_on_literals complaints_in machine only
+false_end_is_absent = refl
+
+both_next_and_end : complaints_in (machine (codes "\"A\":{\"Type\":\"Pass\",\"End\":true,\"Next\":\"A\"}")) ≡ only NextOrEnd (codes "A") (codes "Next")
+unfolding serde_json_on_literals complaints_in machine only
+both_next_and_end = refl
+
+bad_path : complaints_in (machine (codes "\"A\":{\"Type\":\"Pass\",\"End\":true,\"InputPath\":\"a\"}")) ≡ only BadPath (codes "A") (codes "InputPath")
+unfolding serde_json_on_literals complaints_in machine only
+bad_path = refl
+
+path_no_text : complaints_in (machine (codes "\"A\":{\"Type\":\"Pass\",\"End\":true,\"OutputPath\":7}")) ≡ only WrongKind (codes "A") (codes "OutputPath")
+unfolding serde_json_on_literals complaints_in machine only
+path_no_text = refl
+
+bad_template : complaints_in (machine (codes "\"A\":{\"Type\":\"Pass\",\"End\":true,\"Parameters\":7}")) ≡ only BadTemplate (codes "A") (codes "Parameters")
+unfolding serde_json_on_literals complaints_in machine only
+bad_template = refl
+
+result_with_fraction : complaints_in (machine (codes "\"A\":{\"Type\":\"Pass\",\"End\":true,\"Result\":1.5}")) ≡ only NotWhole (codes "A") (codes "Result")
+unfolding serde_json_on_literals complaints_in machine only
+result_with_fraction = refl
+
+resource_missing : complaints_in (machine (codes "\"A\":{\"Type\":\"Task\",\"End\":true}")) ≡ only MissingField (codes "A") (codes "Resource")
+unfolding serde_json_on_literals complaints_in machine only
+resource_missing = refl
+
+heartbeat_not_smaller : complaints_in (machine (codes "\"A\":{\"Type\":\"Task\",\"Resource\":\"r\",\"End\":true,\"TimeoutSeconds\":5,\"HeartbeatSeconds\":5}")) ≡ only HeartbeatNotSmaller (codes "A") (codes "HeartbeatSeconds")
+unfolding serde_json_on_literals complaints_in machine only
+heartbeat_not_smaller = refl
+
+timeout_zero : complaints_in (machine (codes "\"A\":{\"Type\":\"Task\",\"Resource\":\"r\",\"End\":true,\"TimeoutSeconds\":0}")) ≡ only WrongKind (codes "A") (codes "TimeoutSeconds")
+unfolding serde_json_on_literals complaints_in machine only
+timeout_zero = refl
+
+retry_no_list : complaints_in (machine (codes "\"A\":{\"Type\":\"Task\",\"Resource\":\"r\",\"End\":true,\"Retry\":{}}")) ≡ only WrongKind (codes "A") (codes "Retry")
+unfolding serde_json_on_literals complaints_in machine only
+retry_no_list = refl
+
+retrier_no_object : complaints_in (machine (codes "\"A\":{\"Type\":\"Task\",\"Resource\":\"r\",\"End\":true,\"Retry\":[7]}")) ≡ only WrongKind (codes "A") (codes "Retry")
+unfolding serde_json_on_literals complaints_in machine only
+retrier_no_object = refl
+
+retrier_without_names : complaints_in (machine (codes "\"A\":{\"Type\":\"Task\",\"Resource\":\"r\",\"End\":true,\"Retry\":[{}]}")) ≡ only MissingField (codes "A") (codes "ErrorEquals")
+unfolding serde_json_on_literals complaints_in machine only
+retrier_without_names = refl
+
+retrier_negative : complaints_in (machine (codes "\"A\":{\"Type\":\"Task\",\"Resource\":\"r\",\"End\":true,\"Retry\":[{\"ErrorEquals\":[\"E\"],\"MaxAttempts\":-1}]}")) ≡ only WrongKind (codes "A") (codes "Retry")
+unfolding serde_json_on_literals complaints_in machine only
+retrier_negative = refl
+
+retrier_unknown : complaints_in (machine (codes "\"A\":{\"Type\":\"Task\",\"Resource\":\"r\",\"End\":true,\"Retry\":[{\"ErrorEquals\":[\"E\"],\"Colour\":1}]}")) ≡ only UnknownField (codes "A") (codes "Colour")
+unfolding serde_json_on_literals complaints_in machine only
+retrier_unknown = refl
+
+no_error_names : complaints_in (machine (codes "\"A\":{\"Type\":\"Task\",\"Resource\":\"r\",\"End\":true,\"Retry\":[{\"ErrorEquals\":[]}]}")) ≡ only EmptyList (codes "A") (codes "Retry")
+unfolding serde_json_on_literals complaints_in machine only
+no_error_names = refl
+
+all_not_alone : complaints_in (machine (codes "\"A\":{\"Type\":\"Task\",\"Resource\":\"r\",\"End\":true,\"Retry\":[{\"ErrorEquals\":[\"States.ALL\",\"E\"]}]}")) ≡ only BadErrorEquals (codes "A") (codes "Retry")
+unfolding serde_json_on_literals complaints_in machine only
+all_not_alone = refl
+
+all_not_last : complaints_in (machine (codes "\"A\":{\"Type\":\"Task\",\"Resource\":\"r\",\"End\":true,\"Retry\":[{\"ErrorEquals\":[\"States.ALL\"]},{\"ErrorEquals\":[\"E\"]}]}")) ≡ only BadErrorEquals (codes "A") (codes "Retry")
+unfolding serde_json_on_literals complaints_in machine only
+all_not_last = refl
+
+catcher_to_nowhere : complaints_in (machine (codes "\"A\":{\"Type\":\"Task\",\"Resource\":\"r\",\"End\":true,\"Catch\":[{\"ErrorEquals\":[\"E\"],\"Next\":\"Z\"}]}")) ≡ only NoSuchState (codes "A") (codes "Catch")
+unfolding serde_json_on_literals complaints_in machine only
+catcher_to_nowhere = refl
+
+catcher_with_bad_path : complaints_in (machine (codes "\"A\":{\"Type\":\"Task\",\"Resource\":\"r\",\"End\":true,\"Catch\":[{\"ErrorEquals\":[\"E\"],\"Next\":\"A\",\"ResultPath\":\"a\"}]}")) ≡ only BadPath (codes "A") (codes "Catch")
+unfolding serde_json_on_literals complaints_in machine only
+catcher_with_bad_path = refl
+
+no_choices : complaints_in (machine (codes "\"A\":{\"Type\":\"Choice\",\"Choices\":[]}")) ≡ only EmptyList (codes "A") (codes "Choices")
+unfolding serde_json_on_literals complaints_in machine only
+no_choices = refl
+
+bad_rule : complaints_in (machine (codes "\"A\":{\"Type\":\"Choice\",\"Choices\":[{}]}")) ≡ only BadRule (codes "A") (codes "Choices")
+unfolding serde_json_on_literals complaints_in machine only
+bad_rule = refl
+
+wait_for_nothing : complaints_in (machine (codes "\"A\":{\"Type\":\"Wait\",\"End\":true}")) ≡ only MissingField (codes "A") (codes "Seconds")
+unfolding serde_json_on_literals complaints_in machine only
+wait_for_nothing = refl
+
+wait_for_two : complaints_in (machine (codes "\"A\":{\"Type\":\"Wait\",\"End\":true,\"Seconds\":1,\"Timestamp\":\"t\"}")) ≡ only WrongKind (codes "A") (codes "Timestamp")
+unfolding serde_json_on_literals complaints_in machine only
+wait_for_two = refl
+
+no_branches : complaints_in (machine (codes "\"A\":{\"Type\":\"Parallel\",\"End\":true,\"Branches\":[]}")) ≡ only EmptyList (codes "A") (codes "Branches")
+unfolding serde_json_on_literals complaints_in machine only
+no_branches = refl
+
+branch_no_object : complaints_in (machine (codes "\"A\":{\"Type\":\"Parallel\",\"End\":true,\"Branches\":[7]}")) ≡ only WrongKind (codes "A") (codes "Branches")
+unfolding serde_json_on_literals complaints_in machine only
+branch_no_object = refl
+
+branch_starts_nowhere : complaints_in (machine (codes "\"A\":{\"Type\":\"Parallel\",\"End\":true,\"Branches\":[{\"StartAt\":\"A\",\"States\":{\"B\":{\"Type\":\"Succeed\"}}}]}")) ≡ only NoSuchState (codes "A") (codes "Branches")
+unfolding serde_json_on_literals complaints_in machine only
+branch_starts_nowhere = refl
+
+branch_without_start : complaints_in (machine (codes "\"A\":{\"Type\":\"Parallel\",\"End\":true,\"Branches\":[{\"States\":{\"B\":{\"Type\":\"Succeed\"}}}]}")) ≡ only MissingField (codes "A") (codes "StartAt")
+unfolding serde_json_on_literals complaints_in machine only
+branch_without_start = refl
+
+branch_with_version : complaints_in (machine (codes "\"A\":{\"Type\":\"Parallel\",\"End\":true,\"Branches\":[{\"StartAt\":\"B\",\"Version\":\"1\",\"States\":{\"B\":{\"Type\":\"Succeed\"}}}]}")) ≡ only UnknownField (codes "A") (codes "Version")
+unfolding serde_json_on_literals complaints_in machine only
+branch_with_version = refl
+
+state_of_branch : complaints_in (machine (codes "\"A\":{\"Type\":\"Parallel\",\"End\":true,\"Branches\":[{\"StartAt\":\"B\",\"States\":{\"B\":{\"Type\":\"Pass\",\"Next\":\"A\"}}}]}")) ≡ only NoSuchState (codes "B") (codes "Next")
+unfolding serde_json_on_literals complaints_in machine only
+state_of_branch = refl
+
+duplicate_name : complaints_in (machine (codes "\"A\":{\"Type\":\"Parallel\",\"End\":true,\"Branches\":[{\"StartAt\":\"A\",\"States\":{\"A\":{\"Type\":\"Succeed\"}}}]}")) ≡ only DuplicateName (codes "A") (codes "States")
+unfolding serde_json_on_literals complaints_in machine only
+duplicate_name = refl
+
+processor_missing : complaints_in (machine (codes "\"A\":{\"Type\":\"Map\",\"End\":true}")) ≡ only MissingField (codes "A") (codes "ItemProcessor")
+unfolding serde_json_on_literals complaints_in machine only
+processor_missing = refl
+
+two_processors : complaints_in (machine (codes "\"A\":{\"Type\":\"Map\",\"End\":true,\"ItemProcessor\":{\"StartAt\":\"B\",\"States\":{\"B\":{\"Type\":\"Succeed\"}}},\"Iterator\":{\"StartAt\":\"C\",\"States\":{\"C\":{\"Type\":\"Succeed\"}}}}")) ≡ only WrongKind (codes "A") (codes "Iterator")
+unfolding serde_json_on_literals complaints_in machine only
+two_processors = refl
+
+two_selectors : complaints_in (machine (codes "\"A\":{\"Type\":\"Map\",\"End\":true,\"ItemProcessor\":{\"StartAt\":\"B\",\"States\":{\"B\":{\"Type\":\"Succeed\"}}},\"ItemSelector\":{},\"Parameters\":{}}")) ≡ only WrongKind (codes "A") (codes "Parameters")
+unfolding serde_json_on_literals complaints_in machine only
+two_selectors = refl
+
+config_with_fraction : complaints_in (machine (codes "\"A\":{\"Type\":\"Map\",\"End\":true,\"Iterator\":{\"StartAt\":\"B\",\"States\":{\"B\":{\"Type\":\"Succeed\"}},\"ProcessorConfig\":{\"a\":1.5}}}")) ≡ only NotWhole (codes "A") (codes "Iterator")
+unfolding serde_json_on_literals complaints_in machine only
+config_with_fraction = refl
+
+no_object : complaints_in (codes "[]") ≡ only NotObject ([]) ([])
+unfolding serde_json_on_literals complaints_in only
+no_object = refl
+
+start_missing : complaints_in (codes "{\"States\":{\"A\":{\"Type\":\"Pass\",\"End\":true}}}") ≡ only MissingField ([]) (codes "StartAt")
+unfolding serde_json_on_literals complaints_in only
+start_missing = refl
+
+start_no_text : complaints_in (codes "{\"StartAt\":7,\"States\":{\"A\":{\"Type\":\"Pass\",\"End\":true}}}") ≡ only WrongKind ([]) (codes "StartAt")
+unfolding serde_json_on_literals complaints_in only
+start_no_text = refl
+
+no_states : complaints_in (codes "{\"StartAt\":\"A\",\"States\":{}}") ≡ only NoSuchState ([]) (codes "StartAt")
+unfolding serde_json_on_literals complaints_in only
+no_states = refl
+
+unknown_machine_field : complaints_in (codes "{\"StartAt\":\"A\",\"States\":{\"A\":{\"Type\":\"Pass\",\"End\":true}},\"Colour\":1}") ≡ only UnknownField ([]) (codes "Colour")
+unfolding serde_json_on_literals complaints_in only
+unknown_machine_field = refl
+
+timeout_fraction : complaints_in (codes "{\"StartAt\":\"A\",\"States\":{\"A\":{\"Type\":\"Pass\",\"End\":true}},\"TimeoutSeconds\":1.5}") ≡ only NotWhole ([]) (codes "TimeoutSeconds")
+unfolding serde_json_on_literals complaints_in only
+timeout_fraction = refl
+
+-- 80 characters are allowed, 81 aren't; é is one character of two bytes
+repeated : ℕ → List ℕ → List ℕ
+repeated zero text = []
+repeated (suc n) text = text ++ repeated n text
+
+eighty_characters : characters (repeated 80 (195 ∷ 169 ∷ [])) ≡ 80
+unfolding repeated
+eighty_characters = refl
+
+machine_named : List ℕ → List ℕ
+machine_named n = codes "{\"StartAt\":\"" ++ (n ++ (codes "\",\"States\":{\"" ++ (n ++ codes "\":{\"Type\":\"Succeed\"}}}")))
+
+long_enough_name : complaints_in (machine_named (repeated 80 (codes "a"))) ≡ Some []
+unfolding serde_json_on_literals complaints_in machine_named repeated
+long_enough_name = refl
+
+too_long_name : complaints_in (machine_named (repeated 81 (codes "a"))) ≡ only NameTooLong (repeated 81 (codes "a")) (codes "States")
+unfolding serde_json_on_literals complaints_in machine_named repeated only
+too_long_name = refl
+
+-- ---- what is read
+
+-- the settings of a state that gives none
+bare : Option (List ℕ) → Settings
+bare next = record { input_path = Some []; parameters = None; result_selector = None; result_path = Some []; output_path = Some []; next = next; retriers = []; catchers = [] }
+
+one_pass : machine_in (machine (codes "\"A\":{\"Type\":\"Pass\",\"End\":true}")) ≡ Some (ScopeOf (codes "A") (AndState (codes "A") (StateOf (bare None) (Pass None)) NoStates), [])
+unfolding serde_json_on_literals machine_in machine bare
+one_pass = refl
+
+-- every field of Pass, Succeed and Fail
+every_field : machine_in (machine (codes "\"A\":{\"Type\":\"Pass\",\"Comment\":\"c\",\"QueryLanguage\":\"JSONPath\",\"InputPath\":\"$.in\",\"OutputPath\":null,\"ResultPath\":\"$.r[0]\",\"Parameters\":{\"x\":1},\"Result\":[null],\"Next\":\"B\"},\"B\":{\"Type\":\"Succeed\",\"InputPath\":null,\"OutputPath\":\"$.o\"},\"C\":{\"Type\":\"Fail\",\"Comment\":\"d\",\"Error\":\"E\",\"Cause\":\"why\"}")) ≡ Some (
+  ScopeOf (codes "A")
+      (AndState (codes "A") (StateOf (record (bare (Some (codes "B"))) { input_path = Some (Name (codes "in") ∷ []); output_path = None; result_path = Some (Name (codes "r") ∷ Index 0 ∷ []); parameters = Some (ObjectTemplate (AndFieldTemplate (codes "x") (Literal (Integer (pos 1))) NoFieldTemplates)) }) (Pass (Some (Array (AndTree Null NoTrees)))))
+      (AndState (codes "B") (StateOf (record (bare None) { input_path = None; output_path = Some (Name (codes "o") ∷ []) }) Succeed)
+      (AndState (codes "C") (StateOf (bare None) (Fail (codes "E") (codes "why"))) NoStates))),
+  [],
+)
+unfolding serde_json_on_literals machine_in machine bare
+every_field = refl
+
+-- a Task with retriers and a catcher
+a_task : machine_in (machine (codes "\"A\":{\"Type\":\"Task\",\"Resource\":\"r\",\"TimeoutSeconds\":5,\"HeartbeatSeconds\":4,\"ResultSelector\":{\"y\":2},\"Retry\":[{\"ErrorEquals\":[\"E\"],\"BackoffRate\":1.5},{\"ErrorEquals\":[\"States.ALL\"],\"MaxAttempts\":0,\"IntervalSeconds\":1,\"MaxDelaySeconds\":2,\"JitterStrategy\":\"FULL\"}],\"Catch\":[{\"ErrorEquals\":[\"F\"],\"ResultPath\":\"$.e\",\"Next\":\"A\"}],\"End\":true}")) ≡ Some (
+  ScopeOf (codes "A") (AndState (codes "A")
+      (StateOf (record (bare None) {
+        result_selector = Some (ObjectTemplate (AndFieldTemplate (codes "y") (Literal (Integer (pos 2))) NoFieldTemplates));
+        retriers = record { error_equals = codes "E" ∷ []; max_attempts = 3 } ∷ record { error_equals = codes "States.ALL" ∷ []; max_attempts = 0 } ∷ [];
+        catchers = record { error_equals = codes "F" ∷ []; result_path = Some (Name (codes "e") ∷ []); next = codes "A" } ∷ [];
+      }) (Task (codes "r"))) NoStates),
+  [],
+)
+unfolding serde_json_on_literals machine_in machine bare
+a_task = refl
+
+-- scopes in scopes
+nested_scopes : machine_in (machine (codes "\"A\":{\"Type\":\"Parallel\",\"Branches\":[{\"StartAt\":\"B\",\"States\":{\"B\":{\"Type\":\"Succeed\"}}},{\"StartAt\":\"C\",\"States\":{\"C\":{\"Type\":\"Map\",\"ItemsPath\":\"$.l\",\"Parameters\":{\"z\":3},\"Iterator\":{\"StartAt\":\"D\",\"States\":{\"D\":{\"Type\":\"Wait\",\"Seconds\":7,\"End\":true}}},\"End\":true}}}],\"End\":true}")) ≡ Some (
+  ScopeOf (codes "A") (AndState (codes "A") (StateOf (bare None) (Parallel
+      (AndScope (ScopeOf (codes "B") (AndState (codes "B") (StateOf (bare None) Succeed) NoStates))
+      (AndScope (ScopeOf (codes "C") (AndState (codes "C") (StateOf (bare None) (Map (Name (codes "l") ∷ []) (Some (ObjectTemplate (AndFieldTemplate (codes "z") (Literal (Integer (pos 3))) NoFieldTemplates)))
+      (ScopeOf (codes "D") (AndState (codes "D") (StateOf (bare None) (Wait (Seconds 7))) NoStates)))) NoStates))
+      NoScopes)))) NoStates),
+  [],
+)
+unfolding serde_json_on_literals machine_in machine bare
+nested_scopes = refl

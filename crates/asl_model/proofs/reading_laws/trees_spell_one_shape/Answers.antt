@@ -1,0 +1,5 @@
+use Rattle.asl_model.proofs.ReadingLaws.{shape_is_one, shape_has_no_fault}
+use Rattle.asl_model.proofs.reading_laws.trees_spell_one_shape.Goals as goal
+
+pub returns : goal.returns
+returns c = record { shape = shape_is_one; no_fault = shape_has_no_fault }

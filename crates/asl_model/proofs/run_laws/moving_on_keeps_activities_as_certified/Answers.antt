@@ -1,0 +1,6 @@
+use Rattle.asl_model.specs.Certificate.{MovesOn}
+use Rattle.asl_model.proofs.RunLaws.{kept_by}
+use Rattle.asl_model.proofs.run_laws.moving_on_keeps_activities_as_certified.Goals as goal
+
+pub returns : goal.returns
+returns c = kept_by MovesOn

@@ -1,0 +1,4 @@
+pub mod Bytes
+pub mod Cuts
+pub mod Nodes
+pub mod Reading

@@ -1,0 +1,36 @@
+-- What a list shape, an object shape and a list show.
+use Rattle.std.proofs.Common.{◌≡◌, List, [], ◌∷◌, map, Bool, ap, refl, sym, ◌∙◌, String, Vec, Box}
+use Rattle.std.specs.BTreeMap.{BTreeMap}
+use Rattle.std.specs.declared.alloc.Global.{Global}
+use Rattle.asl_model.specs.Tree as trees
+use Rattle.asl_model.specs.Shape as model
+use Rattle.asl_tree.specs.declared.Tree as tree
+use Rattle.asl_tree.specs.declared.Tree.TheFolds.{fold-roll-Tree}
+use Rattle.asl_tree.specs.declared.Tree.TheOpen as TreeOpen
+use Rattle.asl_tree.specs.declared.Tree.TheVariants as TreeVariants
+use Rattle.asl_tree.specs.View as tree_view
+use Rattle.asl_shape.specs.declared.shape.Field.{Field}
+use Rattle.asl_shape.specs.declared.shape.Shape.{Shape}
+use Rattle.asl_shape.specs.declared.shape.Shape.TheFolds.{fold-roll-Shape, fold-Field, fold_out-Field}
+use Rattle.asl_shape.specs.declared.shape.Shape.TheOpen
+use Rattle.asl_shape.specs.declared.shape.Shape.TheVariants
+use Rattle.asl_shape.specs.declared.shape.Shape.TheViews
+use Rattle.asl_shape.specs.View.{view, shapes_view, fields_view, mentions_of, shape_step, field_step}
+
+pub view_list : (first : Vec Shape Global) (rest : Box Shape Global) → view (TheViews.List first rest) ≡ model.ArrayShape (shapes_view first.items) (view rest.value)
+view_list first rest =
+    ap view (sym (TheVariants.rolls-List first rest)) ∙ fold-roll-Shape model.Shape (Bool × model.Shape) shape_step field_step (TheOpen.List first rest)
+
+-- a field that is opened by its fold shows what it holds
+mentions_shown : (ms : List (String Global × Field)) → mentions_of (map (λ m. (m.0, fold-Field model.Shape (Bool × model.Shape) shape_step field_step m.1)) ms) ≡ fields_view ms
+mentions_shown [] = refl
+mentions_shown (m ∷ ms) =
+    rw (fold_out-Field model.Shape (Bool × model.Shape) shape_step field_step m.1, mentions_shown ms) refl
+
+pub view_object : (fields : BTreeMap (String Global) Field) (extra : Bool) → view (TheViews.Object fields extra) ≡ model.ObjectShape (fields_view fields.entries) extra
+view_object fields extra =
+    ap view (sym (TheVariants.rolls-Object fields extra)) ∙ fold-roll-Shape model.Shape (Bool × model.Shape) shape_step field_step (TheOpen.Object fields extra) ∙ ap (λ ms. model.ObjectShape ms extra) (mentions_shown fields.entries)
+
+pub view_array : (elements : Vec tree.Tree Global) → tree_view.view (tree.List elements) ≡ trees.Array (tree_view.elements_view elements.items)
+view_array elements =
+    ap tree_view.view (sym (TreeVariants.rolls-List elements)) ∙ fold-roll-Tree trees.Tree tree_view.view_step (TreeOpen.List elements)
