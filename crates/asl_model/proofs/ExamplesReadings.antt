@@ -1,10 +1,8 @@
 -- The first worked example: what its three texts read as. And a machine with too many states.
-use Rattle.std.specs.Prelude.{◌≡◌, ℕ, zero, suc, List, [], ◌∷◌, Some, None, IsUtf8, codes, refl, replicate}
+use Rattle.std.specs.Prelude.{◌≡◌, ℕ, List, [], ◌∷◌, Some, None, codes, refl, replicate}
 use Rattle.serde_json.proofs.OnLiterals.{serde_json_on_literals}
-use Rattle.serde_json.specs.Data.{Data}
-use Rattle.serde_json.specs.Read.{read}
 use Rattle.asl_model.specs.Shape.{IntegerShape}
-use Rattle.asl_model.specs.Machine.{Settings, Scope, ScopeOf, NoStates, AndState, StateOf, Pass}
+use Rattle.asl_model.specs.Machine.{Scope, ScopeOf, NoStates, AndState, StateOf, Pass}
 use Rattle.asl_model.specs.Certificate.{Declared, Certificate}
 use Rattle.asl_model.specs.DefinitionTable.{TooLarge}
 use Rattle.asl_model.specs.StandsFor.{number_complaints}
@@ -21,14 +19,15 @@ certificate_text = codes "{\"version\":1,\"output\":{\"type\":\"integer\"},\"sta
 
 abbrev machine : Scope
 machine = ScopeOf (codes "A") (AndState (codes "A") (StateOf (record {
-    input_path = Some [];
-    parameters = None;
-    result_selector = None;
-    result_path = Some [];
-    output_path = Some [];
-    next = None;
-    retriers = [];
-    catchers = [] }) (Pass None)) NoStates)
+  input_path = Some [];
+  parameters = None;
+  result_selector = None;
+  result_path = Some [];
+  output_path = Some [];
+  next = None;
+  retriers = [];
+  catchers = [];
+}) (Pass None)) NoStates)
 
 abbrev declared : Declared
 declared = record { input = IntegerShape; tasks = [] }

@@ -1,3 +1,6 @@
+pub mod ClosedScopes
+pub mod ExamplesCalls
+pub mod ExamplesClosed
 pub mod ExamplesDefinitions
 pub mod ExamplesPaths
 pub mod ExamplesPrinted
@@ -6,12 +9,16 @@ pub mod ExamplesRecords
 pub mod ExamplesRuns
 pub mod ExamplesShapes
 pub mod ExamplesSpellings
+pub mod ExamplesTemplateSpellings
 pub mod ExamplesTemplates
 pub mod ExamplesTexts
+pub mod FindingScopes
 pub mod PathPrinting
 pub mod PathReading
 pub mod PlacingExactly
+pub mod ReadingCharacters
 pub mod ReadingLaws
+pub mod ReadingLookups
 pub mod ReadingSteps
 pub mod RunApart
 pub mod RunEnabled
@@ -19,8 +26,13 @@ pub mod RunFits
 pub mod RunLaws
 pub mod RunOptions
 pub mod RunPatterns
+pub mod ShapeFields
 pub mod ShapeInhabited
 pub mod ShapeInside
+pub mod ShapeJoin
 pub mod ShapeLook
+pub mod ShapePut
+pub mod ShapeRule
+pub mod ShapeTemplate
 pub mod ShapeWitness
 pub mod SpellingLookups

@@ -6,22 +6,15 @@ use Rattle.asl_model.specs.Shape.{Shape, Has}
 use Rattle.asl_model.specs.Faults.{Fault}
 use Rattle.asl_model.specs.Machine.{Catcher, Settings, Scope, State, settings_of, kind_of, start_of, state_named, child_scope}
 use Rattle.asl_model.specs.Flow.{Work, Finishes, Leaves, FailsWith, Asks, Splits, Raises, at_output_path, output_of, first_move}
-use Rattle.asl_model.specs.Run.{Activity, Ready, Waiting, Split, Done, Failed, Activities, NoActivities, AndActivity, Action, Move, Gives, FailsTask, Event, Entry, Entered, TaskFailed, BranchFailed, Step, Trouble, Retries, Catches, Misfits, Escapes, Joining, AllDone, OneFailed, StillRunning, entry_then, caught_input, caught_as, caught_by, catching, takes_error, retrying, unless_retrying, trouble_of, by_trouble, troubled, leaves_for, leaves_with, started, by_work, done_before, running_before, joining, join_error, joins, moves_ready, moves_waiting, moves_split, acts, scope_under, scope_below, child_at, set_child, within, step_at, step, run, start, after_step, entries_of, activity_at}
-use Rattle.asl_model.specs.Certificate.{waiting_name, Declared, Certificate, certified_input, IsScope, whole_machine, child_of_state, EachHas, OutputFits, WorkFits, CaughtFits, CatchersFit, IsClosedAt, IsClosed, AnswerObeys, ActionObeys, TakenObeys, AnswersObey, end_under, end_of_child, end_at, RaisesNothing, IsAsCertified, NoneRaises, EachIsAsCertified, NoTurnRaises, TurnsAreAsCertified, move_at, number_of, ActivityFits, ActivitiesFit}
-
--- equal values, where they are there
-some_inj : {A : Type 0} {a b : A} → Some a ≡ Some b → a ≡ b
-some_inj h = cc
+use Rattle.asl_model.specs.Run.{Activity, Ready, Waiting, Split, Done, Failed, Activities, NoActivities, AndActivity, Action, Move, Gives, FailsTask, Event, Entry, Entered, TaskFailed, BranchFailed, Step, Trouble, Retries, Catches, Misfits, Escapes, Joining, AllDone, OneFailed, StillRunning, entry_then, caught_input, caught_as, caught_by, catching, takes_error, retrying, unless_retrying, trouble_of, by_trouble, troubled, leaves_for, leaves_with, started, by_work, done_before, running_before, joining, join_error, joins, moves_ready, moves_waiting, moves_split, acts, scope_under, scope_below, child_at, set_child, within, step_at, step, run, start, after_step, last_activity, entries_of, activity_at}
+use Rattle.asl_model.specs.Certificate.{waiting_name, Declared, Certificate, certified_input, IsScope, whole_machine, child_of_state, EachHas, OutputFits, WorkFits, CaughtFits, CatchersFit, IsClosedAt, IsClosed, AnswerObeys, ActionObeys, TakenObeys, AnswersObey, end_under, end_of_child, end_at, RaisesNothing, IsAsCertified, NoneRaises, EachIsAsCertified, NoTurnRaises, TurnsAreAsCertified, move_at, number_of, ActivityFits, ActivitiesFit, EachActivityFits}
+use Rattle.asl_model.proofs.RunOptions.{some_inj, none_some}
 
 -- children of which one is still running in front aren't all done
 never_done : {A : Type 0} {outputs : Trees} (others : Joining) → running_before others ≡ AllDone outputs → A
 never_done (AllDone further) h = absurd (cc)
 never_done (OneFailed i error cause) h = absurd (cc)
 never_done StillRunning h = absurd (cc)
-
--- nothing is there, so not this
-none_some : {A B : Type 0} {a : A} → None ≡ Some a → B
-none_some h = absurd (cc)
 
 module _ (declared : Declared) (certificate : Certificate) (machine : Scope) (closed : IsClosed declared certificate machine) where
   -- what a step is to be
@@ -254,3 +247,11 @@ module _ (declared : Declared) (certificate : Certificate) (machine : Scope) (cl
   -- the start
   pub start_fits : (input : Tree) → Has declared.input input → ActivityFits declared certificate (start machine input) machine certificate.output
   start_fits input has = closed.start input has
+
+  -- all activities from one on
+  pub activities_fit : (a : Activity) (events : List Event) → ActivityFits declared certificate a machine certificate.output → AnswersObey declared (run machine a events) → EachActivityFits declared certificate machine (run machine a events) × ActivityFits declared certificate (last_activity a (run machine a events)) machine certificate.output
+  activities_fit a [] fits obeys = (tt, fits)
+  activities_fit a (event ∷ events) fits obeys =
+      let first = event_fits a event fits (step machine a event) refl obeys.0 in
+      let further = activities_fit (after_step a (step machine a event)) events first.2 obeys.1 in
+      ((fits, further.0), further.1)

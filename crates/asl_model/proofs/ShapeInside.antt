@@ -21,19 +21,19 @@ any_has : (s : Shape) (t : Tree) → IsTrue (is_any_shape s) → Has s t
 any_has Any t h = refl
 any_has s t h = absurd (false≢true h)
 
-only_null : (a : Shape) → IsTrue (is_null_shape a) → a ≡ NullShape
+pub only_null : (a : Shape) → IsTrue (is_null_shape a) → a ≡ NullShape
 only_null NullShape h = refl
 only_null a h = absurd (false≢true h)
 
-only_boolean : (a : Shape) → IsTrue (is_boolean_shape a) → a ≡ BooleanShape
+pub only_boolean : (a : Shape) → IsTrue (is_boolean_shape a) → a ≡ BooleanShape
 only_boolean BooleanShape h = refl
 only_boolean a h = absurd (false≢true h)
 
-only_integer : (a : Shape) → IsTrue (is_integer_shape a) → a ≡ IntegerShape
+pub only_integer : (a : Shape) → IsTrue (is_integer_shape a) → a ≡ IntegerShape
 only_integer IntegerShape h = refl
 only_integer a h = absurd (false≢true h)
 
-only_string : (a : Shape) → IsTrue (is_string_shape a) → a ≡ StringShape
+pub only_string : (a : Shape) → IsTrue (is_string_shape a) → a ≡ StringShape
 only_string StringShape h = refl
 only_string a h = absurd (false≢true h)
 
@@ -78,7 +78,7 @@ mention_holds n (AndFieldShape m needed s others) fs mention e h = go (bytes_eq 
     go false other below = below (rw other at e)
 
 -- a name with a mention has a first one
-mentions-mention : (n : List ℕ) (others : FieldShapes) → mention_of n others ≡ None → IsTrue (mentions n others) → ⊥
+pub mentions-mention : (n : List ℕ) (others : FieldShapes) → mention_of n others ≡ None → IsTrue (mentions n others) → ⊥
 mentions-mention n NoFieldShapes e h = false≢true h
 mentions-mention n (AndFieldShape m needed s others) e h = go (bytes_eq m n) refl (mentions-mention n others)
   where
@@ -89,7 +89,7 @@ mentions-mention n (AndFieldShape m needed s others) e h = go (bytes_eq m n) ref
     go false other below = below (rw other at e) (rw other at h)
 
 -- a field that is there is mentioned where every field is
-there-mentioned : (n : List ℕ) (others : FieldShapes) (fs : Fields) (t : Tree) → field_named n fs ≡ Some t → IsTrue (all_mentioned others fs) → IsTrue (mentions n others)
+pub there-mentioned : (n : List ℕ) (others : FieldShapes) (fs : Fields) (t : Tree) → field_named n fs ≡ Some t → IsTrue (all_mentioned others fs) → IsTrue (mentions n others)
 there-mentioned n others NoFields t e h = absurd (cc)
 there-mentioned n others (AndField m u fs) t e h = go (bytes_eq m n) refl (λ below. there-mentioned n others fs t below both.1)
   where
@@ -165,7 +165,7 @@ others_inside shapes others false true fs h mentioned never = absurd (false≢tr
 others_inside shapes others false false fs h mentioned never = all_mentioned-from shapes fs (λ n t e. never_there n shapes others fs t e h never (there-mentioned n others fs t e mentioned))
 
 -- where every field is mentioned, one without a mention isn't there
-closed_absent : (n : List ℕ) (others : FieldShapes) (more : Bool) (fs : Fields) → IsTrue (more || all_mentioned others fs) → mention_of n others ≡ None → IsTrue (not more) → field_named n fs ≡ None
+pub closed_absent : (n : List ℕ) (others : FieldShapes) (more : Bool) (fs : Fields) → IsTrue (more || all_mentioned others fs) → mention_of n others ≡ None → IsTrue (not more) → field_named n fs ≡ None
 closed_absent n others true fs mentioned none shut = absurd (false≢true shut)
 closed_absent n others false fs mentioned none shut = unmentioned-absent n others fs none mentioned
 

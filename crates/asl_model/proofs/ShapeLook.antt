@@ -14,7 +14,7 @@ use Rattle.asl_model.proofs.ShapeInside.{mention_holds}
 abbrev Reached : Segment → Shape → Tree → Type 0
 Reached segment part v = (u : Tree) × Has part u × ((q : List Segment) (w : Tree) → Names q u w → Names (segment ∷ q) v w)
 
-place-element : (i : ℕ) (first : Shapes) (part : Shape) (further : Tree → Bool) (ts : Trees) → place_at i first ≡ Some part → IsTrue (elements_have first further ts) → (u : Tree) × (element i ts ≡ Some u) × Has part u
+pub place-element : (i : ℕ) (first : Shapes) (part : Shape) (further : Tree → Bool) (ts : Trees) → place_at i first ≡ Some part → IsTrue (elements_have first further ts) → (u : Tree) × (element i ts ≡ Some u) × Has part u
 place-element i NoShapes part further ts e h = absurd (cc)
 place-element i (AndShape s others) part further NoTrees e h = absurd (false≢true h)
 place-element zero (AndShape s others) part further (AndTree t ts) e h =

@@ -214,16 +214,16 @@ default_breaches inputs entry settings kind (Some next) s = chosen_breaches inpu
 -- Catchers
 
 -- the shape of what a catcher places: the error's name and its cause
-abbrev pub error_output : Shape
-error_output = ObjectShape (AndFieldShape (codes "Cause") true StringShape (AndFieldShape (codes "Error") true StringShape NoFieldShapes)) false
+abbrev pub error_output_shape : Shape
+error_output_shape = ObjectShape (AndFieldShape (codes "Cause") true StringShape (AndFieldShape (codes "Error") true StringShape NoFieldShapes)) false
 
 -- the shape of what a catcher hands on, for the state's input; with `ResultPath` null that input itself
-abbrev pub caught : Catcher → Shape → Result Shape ℕ
-caught catcher input = at_result_path catcher.result_path
+abbrev pub caught_shape : Catcher → Shape → Result Shape ℕ
+caught_shape catcher input = at_result_path catcher.result_path
   where
     at_result_path : Option (List Segment) → Result Shape ℕ
     at_result_path None = Ok input
-    at_result_path (Some path) = put path error_output input
+    at_result_path (Some path) = put path error_output_shape input
 
 abbrev pub caught_breaches : (List ℕ → Option Shape) → List ℕ → Result Shape ℕ → List Breach
 caught_breaches inputs next (Ok s) = breach_unless_sub (codes "Catch") CatchInput s (inputs next)
@@ -231,7 +231,7 @@ caught_breaches inputs next (Err at) = breach_unless false (codes "Catch") Resul
 
 abbrev pub catcher_breaches : (List ℕ → Option Shape) → Shape → List Catcher → List Breach
 catcher_breaches inputs input [] = []
-catcher_breaches inputs input (catcher ∷ catchers) = caught_breaches inputs catcher.next (caught catcher input) ++ catcher_breaches inputs input catchers
+catcher_breaches inputs input (catcher ∷ catchers) = caught_breaches inputs catcher.next (caught_shape catcher input) ++ catcher_breaches inputs input catchers
 
 -- States
 

@@ -1,3 +1,4 @@
+pub mod CallSpelling
 pub mod Certificate
 pub mod DefinitionTable
 pub mod Faults

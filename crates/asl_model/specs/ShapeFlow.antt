@@ -64,10 +64,10 @@ around n (Ok s) = Ok (ObjectShape (AndFieldShape n true s NoFieldShapes) false)
 around n (Err at) = Err (suc at)
 
 -- the shape of what is built for the segments that remain
-abbrev pub built : List Segment → Shape → Result Shape ℕ
-built [] w = Ok w
-built (Name n ∷ path) w = around n (built path w)
-built (Index i ∷ path) w = Err 0
+abbrev pub built_shape : List Segment → Shape → Result Shape ℕ
+built_shape [] w = Ok w
+built_shape (Name n ∷ path) w = around n (built_shape path w)
+built_shape (Index i ∷ path) w = Err 0
 
 -- the join, or the first refusal
 abbrev pub join_results : Result Shape ℕ → Result Shape ℕ → Result Shape ℕ
@@ -101,7 +101,7 @@ put_in_place go_on i first rest (Some s) = array_with i first rest (go_on s)
 abbrev pub put_unmentioned : Bool → List Segment → Shape → Result Shape ℕ
 put_unmentioned extra [] w = Ok w
 put_unmentioned true (segment ∷ path) w = Err 0
-put_unmentioned false (segment ∷ path) w = built (segment ∷ path) w
+put_unmentioned false (segment ∷ path) w = built_shape (segment ∷ path) w
 
 -- the put in a field if that is needed, and else its join with what is built
 abbrev pub put_or_built : Bool → Result Shape ℕ → Result Shape ℕ → Result Shape ℕ
@@ -111,7 +111,7 @@ put_or_built false inner outer = join_results inner outer
 -- what is placed in a field, by its mention
 abbrev pub put_mentioned : (Shape → Result Shape ℕ) → Bool → List Segment → Shape → Option (Bool × Shape) → Result Shape ℕ
 put_mentioned go_on extra path w None = put_unmentioned extra path w
-put_mentioned go_on extra path w (Some mention) = put_or_built mention.0 (go_on mention.1) (built path w)
+put_mentioned go_on extra path w (Some mention) = put_or_built mention.0 (go_on mention.1) (built_shape path w)
 
 -- the shape of a tree with one placed under a segment, or the refusal; the function goes on behind the segment, with the path
 abbrev pub put_under : (Shape → Result Shape ℕ) → Segment → List Segment → Shape → Shape → Result Shape ℕ

@@ -130,7 +130,7 @@ state_by (Some MapState) ms branches processor = StateOf (settings_of None ms) (
 
 -- the field is a Map's processor, or has its older name
 abbrev pub is_processor : List ℕ → Bool
-is_processor n = bytes_eq n (codes "ItemProcessor") || bytes_eq n (codes "Iterator")
+is_processor n = bytes_eq (codes "ItemProcessor") n || bytes_eq (codes "Iterator") n
 
 abbrev mutual
   -- the machine that a value stands for; a branch; a processor
@@ -145,7 +145,7 @@ abbrev mutual
   -- the states in the field of that name
   pub states_under : List ℕ → Members → States
   states_under field json.no_members = NoStates
-  states_under field (json.member n v ms) = elim (bytes_eq n field) [ true ↦ states_in v | false ↦ states_under field ms ]
+  states_under field (json.member n v ms) = elim (bytes_eq field n) [ true ↦ states_in v | false ↦ states_under field ms ]
 
   pub states_in : Data → States
   states_in json.null = NoStates
@@ -170,7 +170,7 @@ abbrev mutual
   -- the scopes in `Branches`
   pub branches_under : Members → Scopes
   branches_under json.no_members = NoScopes
-  branches_under (json.member n v ms) = elim (bytes_eq n (codes "Branches")) [ true ↦ scopes_in v | false ↦ branches_under ms ]
+  branches_under (json.member n v ms) = elim (bytes_eq (codes "Branches") n) [ true ↦ scopes_in v | false ↦ branches_under ms ]
 
   pub scopes_in : Data → Scopes
   scopes_in json.null = NoScopes
@@ -459,7 +459,7 @@ abbrev mutual
   -- with the states in `States`; the names are those of the states of the scope
   pub states_complaints_under : List (List ℕ) → Members → List Complaint
   states_complaints_under names json.no_members = []
-  states_complaints_under names (json.member n v ms) = elim (bytes_eq n (codes "States")) [ true ↦ states_complaints names v | false ↦ states_complaints_under names ms ]
+  states_complaints_under names (json.member n v ms) = elim (bytes_eq (codes "States") n) [ true ↦ states_complaints names v | false ↦ states_complaints_under names ms ]
 
   pub states_complaints : List (List ℕ) → Data → List Complaint
   states_complaints names json.null = []
@@ -484,7 +484,7 @@ abbrev mutual
   -- with the scopes in `Branches`
   pub branches_complaints_under : List ℕ → Members → List Complaint
   branches_complaints_under state json.no_members = []
-  branches_complaints_under state (json.member n v ms) = elim (bytes_eq n (codes "Branches")) [ true ↦ branches_complaints state v | false ↦ branches_complaints_under state ms ]
+  branches_complaints_under state (json.member n v ms) = elim (bytes_eq (codes "Branches") n) [ true ↦ branches_complaints state v | false ↦ branches_complaints_under state ms ]
 
   pub branches_complaints : List ℕ → Data → List Complaint
   branches_complaints state json.null = []

@@ -1,6 +1,7 @@
 //! Laws about what texts mean. Each function here does nothing: its contract is the law.
 
-ghost use Rattle.std.specs.Prelude.{◌≡◌, ◌⊎◌, ℕ, List, IsTrue};
+ghost use Rattle.std.specs.Prelude.{◌≡◌, ◌⊎◌, ℕ, List, length, IsTrue};
+ghost use Rattle.std.specs.Str.{encode_utf8_all};
 ghost use Rattle.serde_json.specs.Data.{Data};
 ghost use Rattle.asl_model.specs.Tree.{Tree};
 ghost use Rattle.asl_model.specs.Path.{Segment};
@@ -11,7 +12,7 @@ ghost use Rattle.asl_model.specs.Json.{ReadsAsValue, ReadsAsTree};
 ghost use Rattle.asl_model.specs.PathSpelling.{Spells, PathFault, IsRefusedPath, printed_path, have_spellings};
 ghost use Rattle.asl_model.specs.ShapeSpelling.{SpellsShape, ShapeFault, HasShapeFault};
 ghost use Rattle.asl_model.specs.Records.{RecordComplaint, StandsForDeclared, StandsForCertificate, HasDeclaredFault, HasCertificateFault};
-ghost use Rattle.asl_model.specs.StandsFor.{Complaint, StandsFor, HasComplaint};
+ghost use Rattle.asl_model.specs.StandsFor.{Complaint, StandsFor, HasComplaint, characters};
 ghost use Rattle.asl_model.specs.Texts.{TextFault, ReadsAsMachine, ReadsAsDeclared, ReadsAsCertificate, IsDefinitionFault, IsDeclaredFault, IsCertificateFault};
 
 /// A text reads as at most one JSON value, tree, reference path, machine, declared shapes, certificate.
@@ -48,6 +49,15 @@ pub fn trees_spell_one_shape()
     ensures no_fault { (t : Tree) (a : Shape) (f : ShapeFault) → SpellsShape t a → HasShapeFault t f → ⊥ }
 {}
 
+/// Each text has a meaning or a fault, and so has each JSON value as a definition and each tree as a shape.
+pub fn texts_have_a_meaning_or_a_fault()
+    ensures machine { (text : List ℕ) → ((m : Scope) × ReadsAsMachine text m) ⊎ ((f : TextFault) × IsDefinitionFault text f) }
+    ensures declared { (text : List ℕ) → ((d : Declared) × ReadsAsDeclared text d) ⊎ ((f : TextFault) × IsDeclaredFault text f) }
+    ensures certificate { (text : List ℕ) → ((c : Certificate) × ReadsAsCertificate text c) ⊎ ((f : TextFault) × IsCertificateFault text f) }
+    ensures value { (v : Data) → ((m : Scope) × StandsFor v m) ⊎ ((c : Complaint) × HasComplaint v c) }
+    ensures shape { (t : Tree) → ((a : Shape) × SpellsShape t a) ⊎ ((f : ShapeFault) × HasShapeFault t f) }
+{}
+
 /// Each text spells a reference path or is refused, in one way.
 pub fn texts_spell_paths_or_are_refused()
     ensures either { (text : List ℕ) → ((p : List Segment) × Spells text p) ⊎ ((f : PathFault) × IsRefusedPath text f) }
@@ -59,4 +69,9 @@ pub fn printed_paths_are_spelled()
     ensures again { (text : List ℕ) (p : List Segment) → Spells text p → Spells (printed_path p) p }
     ensures spelled { (p : List Segment) → IsTrue (have_spellings p) → Spells (printed_path p) p }
     ensures have_spellings { (text : List ℕ) (p : List Segment) → Spells text p → IsTrue (have_spellings p) }
+{}
+
+/// The characters of a text are as many as its bytes that continue no character.
+pub fn characters_are_counted()
+    ensures { (text : List ℕ) → characters (encode_utf8_all text) ≡ length text }
 {}

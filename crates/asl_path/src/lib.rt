@@ -6,16 +6,19 @@
 
 ghost use Rattle.std.specs.Prelude.{◌≡◌};
 
-pub mod cutting;
-pub mod finding;
-pub mod parsing;
-pub mod scanning;
-
 use asl_tree::OutOfMemory;
-pub use finding::find;
-pub use parsing::parse;
 use std::alloc::AllocFailed;
 use std::marker::Model;
+
+mod cutting;
+mod finding;
+mod parsing;
+mod scanning;
+#[cfg(test)]
+mod tests;
+
+pub use finding::find;
+pub use parsing::parse;
 
 /// One step of a path.
 #[derive(Debug, PartialEq, Drop)]

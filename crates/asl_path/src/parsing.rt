@@ -1,6 +1,7 @@
 //! Reading a path's text.
-ghost use Rattle.std.specs.Prelude.{List, ℕ, IfOk, IfErr};
+ghost use Rattle.std.specs.Prelude.{◌≡◌, List, ℕ, IfOk, IfErr, MatchResult};
 ghost use Rattle.asl_model.specs.PathSpelling.{Spells, StopsAt};
+ghost use Rattle.asl_model.specs.Path as model;
 ghost use Rattle.asl_path.specs.Refusal.{IsRefused};
 
 use crate::cutting::{after, cut_segment};
@@ -15,6 +16,7 @@ use std::alloc::Global;
 /// text from there on has one of `* ? @ , : (` or `..`, and [`PathRefusal::BadSegment`] where not.
 pub fn parse(alloc: Global, text: &str) -> Result<RefPath, PathRefusal>
     ensures path { IfOk result (λ p. Spells text.now p) }
+    ensures every_path { (p : List model.Segment) → Spells text.now p → MatchResult result (λ q. q ≡ p) (λ refusal. refusal ≡ PathRefusal.OutOfMemory) }
     ensures refused { IfErr result (λ refusal. IsRefused text.now refusal) }
 {
     let Some(mut rest) = after(b'$', text) else {

@@ -1,0 +1,3 @@
+pub mod Chunk
+pub mod Lines
+pub mod Writing

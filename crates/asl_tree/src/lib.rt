@@ -6,16 +6,19 @@
 
 ghost use Rattle.std.specs.Prelude.{◌≡◌};
 
-pub mod comparing;
-pub mod copying;
-pub mod reading;
-pub mod writing;
+use std::alloc::{AllocError, AllocFailed};
+use std::collections::BTreeMap;
+
+mod comparing;
+mod copying;
+mod reading;
+#[cfg(test)]
+mod tests;
+mod writing;
 
 pub use comparing::same;
 pub use copying::copy;
 pub use reading::{from_value, read, read_value};
-use std::alloc::{AllocError, AllocFailed};
-use std::collections::BTreeMap;
 pub use writing::to_text;
 
 /// A JSON value whose numbers are whole.

@@ -1,8 +1,10 @@
-use Rattle.std.proofs.Common.{◌≡◌, ◌∙◌, Some, option_map, ap, sym, subst}
+use Rattle.std.proofs.Common.{◌≡◌, ◌∙◌, Some, option_map, ap, sym, subst, rules}
 use Rattle.asl_model.specs.PathSpelling.{cut_segment}
 use Rattle.asl_model.proofs.PathReading.{segment_rest}
 use Rattle.asl_path.specs.View.{segment_view, segments_view}
-use Rattle.asl_path.proofs.Reading.{SoFar, more, have, segments_view-push}
+use Rattle.asl_path.proofs.Reading.{SoFar, more, have, spelled, only_memory, segments_view-push}
+use Rattle.asl_model.proofs.PathReading.{one_path}
+use Rattle.asl_path.specs.Refusal.{IsRefused}
 use Rattle.asl_path.proofs.parsing.parse.Goals as goal
 
 pub loop-rest-smaller : goal.loop-rest-smaller
@@ -21,3 +23,13 @@ loop-rest-preserved c =
 
 pub invariant_of-result : goal.invariant_of-result
 invariant_of-result c = have c.args.text.now (segments_view c.loop-rest.segments.items) _ c.loop-rest.invariant
+
+pub returns-in_default-2-clause-every_path : goal.returns-in_default-2-clause-every_path
+returns-in_default-2-clause-every_path c = λ p s.
+    let refused : IsRefused c.args.text.now c.refusal_at.result = search rules in
+    only_memory c.args.text.now p c.refusal_at.result s refused
+
+pub returns-clause-every_path : goal.returns-clause-every_path
+returns-clause-every_path c = λ p s.
+    let found = segments_view c.loop-rest.segments.items in
+    one_path c.args.text.now found p (spelled c.args.text.now found c.loop-rest.rest.now c.loop-rest.invariant (sym c.loop-rest-test.ensures)) s

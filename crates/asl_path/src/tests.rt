@@ -1,0 +1,77 @@
+//! Vectors for paths, and each call once with ample memory.
+use crate::{PathRefusal, RefPath, find, parse};
+use asl_tree::{Tree, read, to_text};
+use std::alloc::Global;
+use std::test::Fail;
+
+/// The steps of the path read, or the refusal.
+fn steps(alloc: Global, answer: Result<RefPath, PathRefusal>) -> Result<String, Fail> {
+    match answer {
+        Ok(path) => Ok(format!(in alloc; "{:?}", path.segments())?),
+        Err(refusal) => Ok(format!(in alloc; "{refusal:?}")?),
+    }
+}
+
+/// The text of the node that the path names, or `nothing`.
+fn named(alloc: Global, tree: &Tree, text: &str) -> Result<String, Fail> {
+    match find(tree, &parse(alloc, text)?) {
+        Some(node) => Ok(to_text(alloc, node)?),
+        None => Ok(String::from_str(alloc, "nothing")?),
+    }
+}
+
+#[test]
+fn paths(rt: HostRuntime) -> Result<(), Fail> {
+    let alloc = rt.alloc();
+    let vectors = [
+        ("$", "[]"),
+        ("$['a b'].c[0]", r#"[Name("a b"), Name("c"), Index(0)]"#),
+        ("$['x']", r#"[Name("x")]"#),
+        (r#"$["it's"]"#, r#"[Name("it's")]"#),
+        ("$[4294967295]", "[Index(4294967295)]"),
+        ("$.é", r#"[Name("é")]"#),
+        ("$['']", r#"[Name("")]"#),
+        ("", "NoDollar"),
+        ("a", "NoDollar"),
+        ("$.", "BadSegment(1)"),
+        ("$.a[01]", "BadSegment(3)"),
+        ("$.a b", "BadSegment(3)"),
+        ("$['a'", "BadSegment(1)"),
+        ("$[", "BadSegment(1)"),
+        ("$x", "BadSegment(1)"),
+        ("$$.x", "BadSegment(1)"),
+        ("$['it's']", "BadSegment(1)"),
+        ("$[00]", "BadSegment(1)"),
+        ("$[4294967296]", "BadSegment(1)"),
+        ("$.a.", "BadSegment(3)"),
+        ("$.a[1", "BadSegment(3)"),
+        ("$.a$b", "BadSegment(3)"),
+        ("$.é.", "BadSegment(4)"),
+        ("$.a[*]", "LeftOut(3)"),
+        ("$..b", "LeftOut(1)"),
+        ("$['a,b'", "LeftOut(1)"),
+        ("$[1,2]", "LeftOut(1)"),
+        ("$.a b:c", "LeftOut(3)"),
+    ];
+    for (text, wanted) in vectors {
+        let answer = steps(alloc, parse(alloc, text))?;
+        assert_eq!(rt; answer.as_str(), wanted, "at {text}");
+    }
+
+    let tree = read(alloc, br#"{"a":[1,{"b":null}],"":2}"#)?;
+    let nodes = [
+        ("$", r#"{"":2,"a":[1,{"b":null}]}"#),
+        ("$.a[0]", "1"),
+        ("$.a[1].b", "null"),
+        ("$['']", "2"),
+        ("$.a[2]", "nothing"),
+        ("$.b", "nothing"),
+        ("$[0]", "nothing"),
+        ("$.a[1].b.c", "nothing"),
+    ];
+    for (text, wanted) in nodes {
+        let answer = named(alloc, &tree, text)?;
+        assert_eq!(rt; answer.as_str(), wanted, "at {text}");
+    }
+    Ok(())
+}

@@ -1,0 +1,3 @@
+pub mod LineSteps
+pub mod Slices
+pub mod WriteSteps

@@ -1,0 +1,13 @@
+//! How a run of the program ends.
+
+use crate::refusals::RunFault;
+use crate::verdicts::Verdict;
+
+/// What a run of the program ends with.
+#[derive(Debug, Drop)]
+pub enum Closing {
+    /// A verdict was written.
+    Verdict(Verdict),
+    /// Something failed.
+    Fault(RunFault),
+}

@@ -1,0 +1,68 @@
+//! The lines of a source, taken by chunks.
+
+ghost use Rattle.std.specs.Prelude.{◌≡◌, ◌≤◌, length, IsTrue, IfOk, IfErr};
+ghost use Rattle.std.specs.Io.KnownBytes.{prepend_known};
+ghost use Rattle.asl_tool.specs.Chunk.{pending};
+ghost use Rattle.asl_tool.specs.Lines.{line_of, TakesLine, LineFaultStands};
+
+use crate::chunks::Chunk;
+use crate::refusals::RunFault;
+use crate::sources::Source;
+use std::alloc::Global;
+
+/// How many bytes a line may have, its break not counted.
+const LINE_LIMIT: usize = 16777216;
+
+/// The next line, without its break (U+000A). At the end of the source it is what is left, or nothing.
+///
+/// Refused: TooLong where the line has more than `LINE_LIMIT` bytes, which aren't held; Read where a read failed.
+pub(crate) fn next_line<S: Source>(
+    alloc: Global,
+    source: &mut S,
+    chunk: &mut Chunk,
+) -> Result<Vec<u8>, RunFault>
+    ensures line { IfOk result (λ line. TakesLine (prepend_known (pending chunk.old) (S.remaining source.old))
+        (prepend_known (pending chunk.new) (S.remaining source.new)) line.items) }
+    ensures fault { IfErr result (λ fault. LineFaultStands (prepend_known (pending chunk.old) (S.remaining source.old))
+        (S.failed source.new) fault) }
+    ensures lasting { IsTrue (S.failed source.old) → IsTrue (S.failed source.new) }
+{
+    let mut line = Vec::new(alloc);
+    'pieces: loop {
+        match chunk.fill(source) {
+            Ok(()) => {}
+            Err(_) => return Err(RunFault::Read),
+        }
+        let rest = chunk.rest();
+        if rest.is_empty() {
+            return Ok(line);
+        }
+        let front = front_of_line(rest);
+        let ends = front < rest.len();
+        if front > LINE_LIMIT - line.len() {
+            return Err(RunFault::TooLong);
+        }
+        match line.extend_from_slice(&rest[..front]) {
+            Ok(()) => {}
+            Err(_) => return Err(RunFault::OutOfMemory),
+        }
+        chunk.take(front);
+        if ends {
+            chunk.take(1);
+            return Ok(line);
+        }
+    }
+}
+
+/// How many bytes stand before the first line break, or all of them.
+fn front_of_line(bytes: &[u8]) -> usize
+    ensures count { result ≡ length (line_of bytes.now) }
+    ensures within { result ≤ length bytes.now }
+{
+    for (i, byte) in bytes.iter().enumerate() {
+        if *byte == b'\n' {
+            return i;
+        }
+    }
+    bytes.len()
+}

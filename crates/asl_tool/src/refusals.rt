@@ -1,0 +1,230 @@
+//! Why a text is refused, and how a call over a reader and a writer can fail.
+
+use asl_shape::ShapeRefusal;
+use asl_tree::TreeRefusal;
+use std::alloc::Global;
+use thiserror::Error;
+
+/// What is wrong with a definition (States Language, "Structure of a State Machine", "Top-level fields", "State Types").
+#[derive(Clone, Copy, Debug, PartialEq, Eq)]
+pub enum DefFault {
+    /// The machine or a state is no object.
+    NotObject,
+    /// A field that is required isn't there.
+    MissingField,
+    /// A field has a value of another kind, or a number outside its range.
+    WrongKind,
+    /// There is no such field.
+    UnknownField,
+    /// The field belongs to a part of the language that is left out, or names another query language.
+    LeftOut,
+    /// There is no such type of state.
+    UnknownType,
+    /// A state's name has more than 80 characters.
+    NameTooLong,
+    /// A state's name stands in the machine already.
+    DuplicateName,
+    /// A start or a target names no state of its scope.
+    NoSuchState,
+    /// A state has both `Next` and `"End": true`, or neither.
+    NextOrEnd,
+    /// A text is no reference path.
+    BadPath,
+    /// A payload template is none.
+    BadTemplate,
+    /// A choice rule is none.
+    BadRule,
+    /// `States.ALL` doesn't stand alone and last.
+    BadErrorEquals,
+    /// A list that may not be empty is.
+    EmptyList,
+    /// A heartbeat isn't smaller than its timeout.
+    HeartbeatNotSmaller,
+    /// There are more than 10,000 states.
+    TooLarge,
+    /// There was no memory to tell.
+    OutOfMemory,
+    /// A number is no whole number from -9223372036854775808 to 9223372036854775807.
+    NotWhole,
+}
+
+impl DefFault {
+    /// The fault's name.
+    pub(crate) fn name(self) -> &'static str {
+        match self {
+            DefFault::NotObject => "NotObject",
+            DefFault::MissingField => "MissingField",
+            DefFault::WrongKind => "WrongKind",
+            DefFault::UnknownField => "UnknownField",
+            DefFault::LeftOut => "LeftOut",
+            DefFault::UnknownType => "UnknownType",
+            DefFault::NameTooLong => "NameTooLong",
+            DefFault::DuplicateName => "DuplicateName",
+            DefFault::NoSuchState => "NoSuchState",
+            DefFault::NextOrEnd => "NextOrEnd",
+            DefFault::BadPath => "BadPath",
+            DefFault::BadTemplate => "BadTemplate",
+            DefFault::BadRule => "BadRule",
+            DefFault::BadErrorEquals => "BadErrorEquals",
+            DefFault::EmptyList => "EmptyList",
+            DefFault::HeartbeatNotSmaller => "HeartbeatNotSmaller",
+            DefFault::TooLarge => "TooLarge",
+            DefFault::OutOfMemory => "OutOfMemory",
+            DefFault::NotWhole => "NotWhole",
+        }
+    }
+}
+
+/// Why a definition is refused: the fault, the name of its state, empty for the machine's own, and its field.
+#[derive(Debug, PartialEq, Drop)]
+pub struct DefRefusal {
+    pub fault: DefFault,
+    pub state: String,
+    pub field: String,
+}
+
+impl DefRefusal {
+    /// A fault at a state and a field. Where there is no memory for their names, that is what is told.
+    pub(crate) fn new(alloc: Global, fault: DefFault, state: &str, field: &str) -> DefRefusal {
+        match (
+            String::from_str(alloc, state),
+            String::from_str(alloc, field),
+        ) {
+            (Ok(state), Ok(field)) => DefRefusal {
+                fault,
+                state,
+                field,
+            },
+            _ => DefRefusal::out_of_memory(alloc),
+        }
+    }
+
+    /// Want of memory, at no state and no field.
+    pub(crate) fn out_of_memory(alloc: Global) -> DefRefusal {
+        DefRefusal {
+            fault: DefFault::OutOfMemory,
+            state: String::new(alloc),
+            field: String::new(alloc),
+        }
+    }
+}
+
+/// What is wrong with declared shapes or a certificate.
+#[derive(Debug, PartialEq, Drop)]
+pub enum RecordFault {
+    /// The record or one of its entries is no object.
+    NotObject,
+    /// A field that is required isn't there.
+    MissingField,
+    /// There is no such field.
+    UnknownField,
+    /// A field has a value of another kind.
+    WrongKind,
+    /// A shape is none.
+    BadShape(ShapeRefusal),
+    /// The certificate has another version.
+    BadVersion,
+    /// There was no memory to tell.
+    OutOfMemory,
+}
+
+impl RecordFault {
+    /// The fault's name.
+    pub(crate) fn name(&self) -> &'static str {
+        match self {
+            RecordFault::NotObject => "NotObject",
+            RecordFault::MissingField => "MissingField",
+            RecordFault::UnknownField => "UnknownField",
+            RecordFault::WrongKind => "WrongKind",
+            RecordFault::BadShape(_) => "BadShape",
+            RecordFault::BadVersion => "BadVersion",
+            RecordFault::OutOfMemory => "OutOfMemory",
+        }
+    }
+}
+
+/// Why declared shapes or a certificate are refused: the fault, the name of its entry, empty for the record itself, and
+/// the field.
+#[derive(Debug, PartialEq, Drop)]
+pub struct RecordRefusal {
+    pub fault: RecordFault,
+    pub name: String,
+    pub field: String,
+}
+
+impl RecordRefusal {
+    /// A fault at an entry and a field. Where there is no memory for their names, that is what is told.
+    pub(crate) fn new(alloc: Global, fault: RecordFault, name: &str, field: &str) -> RecordRefusal {
+        match (
+            String::from_str(alloc, name),
+            String::from_str(alloc, field),
+        ) {
+            (Ok(name), Ok(field)) => RecordRefusal { fault, name, field },
+            _ => RecordRefusal {
+                fault: RecordFault::OutOfMemory,
+                name: String::new(alloc),
+                field: String::new(alloc),
+            },
+        }
+    }
+}
+
+/// One of the texts.
+#[derive(Clone, Copy, Debug, PartialEq, Eq)]
+pub enum Which {
+    Definition,
+    Declared,
+    Certificate,
+    Input,
+    Answers,
+}
+
+impl Which {
+    /// The text's name.
+    pub(crate) fn name(self) -> &'static str {
+        match self {
+            Which::Definition => "definition",
+            Which::Declared => "declared",
+            Which::Certificate => "certificate",
+            Which::Input => "input",
+            Which::Answers => "answers",
+        }
+    }
+}
+
+/// What is wrong with a text.
+#[derive(Debug, PartialEq, Drop)]
+pub enum TextFault {
+    /// It is no JSON text, or has a number that isn't whole.
+    Tree(TreeRefusal),
+    /// It is no definition.
+    Def(DefRefusal),
+    /// It isn't declared shapes, or no certificate.
+    Record(RecordRefusal),
+    /// The element at this position is no answer.
+    BadAnswer(usize),
+    /// There was no memory to read it. No other fault says so here.
+    OutOfMemory,
+}
+
+/// A refused text: which one, and why.
+#[derive(Debug, PartialEq, Drop)]
+pub struct TextRefusal {
+    pub which: Which,
+    pub fault: TextFault,
+}
+
+/// How a call over a reader and a writer can fail.
+#[derive(Debug, Drop, Error)]
+pub enum RunFault {
+    #[error("a text is refused")]
+    Text(TextRefusal),
+    #[error("text too long")]
+    TooLong,
+    #[error("read failed")]
+    Read,
+    #[error("write failed")]
+    Write,
+    #[error("out of memory")]
+    OutOfMemory,
+}

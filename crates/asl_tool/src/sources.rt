@@ -1,0 +1,58 @@
+//! Where a text comes from.
+ghost use Rattle.std.specs.Prelude.{List, ℕ, Option, Bool, IsTrue, OnErr};
+ghost use Rattle.std.specs.Io.{ReadsAtMost};
+ghost use Rattle.std.specs.Io.KnownBytes.{ReadConsumes};
+
+use std::io::Read;
+
+/// A read or a write that failed. Nothing more is known of it.
+#[derive(Clone, Copy, Debug, PartialEq, Eq)]
+pub struct Failed;
+
+/// Where bytes come from.
+pub trait Source {
+    /// The bytes that are left to read, where they are known.
+    ghost remaining: { Self → Option (List ℕ) };
+    /// Whether a read has failed.
+    ghost failed: { Self → Bool };
+
+    /// Reads bytes into the front of `buffer` and says how many. None, where there is room, is the end.
+    fn read(&mut self, buffer: &mut [u8]) -> Result<usize, Failed>
+        ensures within { ReadsAtMost result buffer.new }
+        ensures bytes { ReadConsumes (remaining self.old) (remaining self.new) result buffer.new }
+        ensures failure { OnErr result (IsTrue (failed self.new)) }
+        ensures lasting { IsTrue (failed self.old) → IsTrue (failed self.new) };
+}
+
+/// A source over one of std's readers. A read that was interrupted is a failed one.
+#[derive(Drop)]
+pub struct FromRead<R: Read + Drop> {
+    reader: R,
+    failed: bool,
+}
+
+impl<R: Read + Drop> FromRead<R> {
+    /// A source that reads from `reader` and hasn't failed.
+    pub fn new(reader: R) -> FromRead<R> {
+        FromRead {
+            reader,
+            failed: false,
+        }
+    }
+}
+
+impl<R: Read + Drop> Source for FromRead<R> {
+    ghost remaining = { λ s. R.remaining s.reader };
+
+    ghost failed = { λ s. s.failed };
+
+    fn read(&mut self, buffer: &mut [u8]) -> Result<usize, Failed> {
+        match self.reader.read(buffer) {
+            Ok(count) => Ok(count),
+            Err(_) => {
+                self.failed = true;
+                Err(Failed)
+            }
+        }
+    }
+}

@@ -1,0 +1,105 @@
+//! From the three texts, or a source's first three lines, to a verdict.
+
+use crate::checker::check;
+use crate::chunks::Chunk;
+use crate::definition::{Machine, read_machine};
+use crate::lines::next_line;
+use crate::printing::verdict_text;
+use crate::records::{Certificate, Declared, read_certificate, read_declared, tree_fault};
+use crate::refusals::{DefFault, RunFault, TextFault, TextRefusal, Which};
+use crate::sinks::{Sink, write_all};
+use crate::sources::Source;
+use crate::verdicts::Verdict;
+use serde_json::Value;
+use std::alloc::Global;
+
+/// Checks a certificate against a definition and declared shapes, all given as JSON texts.
+///
+/// The texts are read in this order, and the first refused one is told.
+pub fn verify_texts(
+    alloc: Global,
+    definition: &[u8],
+    declared: &[u8],
+    certificate: &[u8],
+) -> Result<Verdict, TextRefusal> {
+    let machine = match machine_text(alloc, definition) {
+        Ok(machine) => machine,
+        Err(fault) => return Err(refusal(Which::Definition, fault)),
+    };
+    let declared = match declared_text(alloc, declared) {
+        Ok(declared) => declared,
+        Err(fault) => return Err(refusal(Which::Declared, fault)),
+    };
+    let certificate = match certificate_text(alloc, certificate) {
+        Ok(certificate) => certificate,
+        Err(fault) => return Err(refusal(Which::Certificate, fault)),
+    };
+    match check(alloc, &machine, &declared, &certificate) {
+        Ok(verdict) => Ok(verdict),
+        Err(_) => Err(refusal(Which::Certificate, TextFault::OutOfMemory)),
+    }
+}
+
+/// Takes three lines from the source (definition, declared shapes, certificate), checks them, and writes the lines of
+/// the verdict to the sink.
+///
+/// All three lines are read before any is looked at. A missing line is an empty text, and what follows the third line
+/// break isn't looked at. Refused: TooLong for a line of more than 16777216 bytes, its break not counted; Read and Write
+/// where the source or the sink failed; Text as [`verify_texts`] does; OutOfMemory where a growth was refused.
+pub fn check_lines<R: Source, W: Sink>(
+    alloc: Global,
+    source: &mut R,
+    sink: &mut W,
+) -> Result<Verdict, RunFault> {
+    let mut chunk = Chunk::new();
+    let definition = next_line(alloc, source, &mut chunk)?;
+    let declared = next_line(alloc, source, &mut chunk)?;
+    let certificate = next_line(alloc, source, &mut chunk)?;
+    let verdict = match verify_texts(alloc, &definition, &declared, &certificate) {
+        Ok(verdict) => verdict,
+        Err(refusal) => return Err(RunFault::Text(refusal)),
+    };
+    let text = match verdict_text(alloc, &verdict) {
+        Ok(text) => text,
+        Err(_) => return Err(RunFault::OutOfMemory),
+    };
+    match write_all(sink, text.as_bytes()) {
+        Ok(()) => Ok(verdict),
+        Err(_) => Err(RunFault::Write),
+    }
+}
+
+/// The machine that a text stands for.
+fn machine_text(alloc: Global, text: &[u8]) -> Result<Machine, TextFault> {
+    let value = json_value(alloc, text)?;
+    match read_machine(alloc, &value) {
+        Ok(machine) => Ok(machine),
+        Err(refusal) => match refusal.fault {
+            DefFault::OutOfMemory => Err(TextFault::OutOfMemory),
+            _ => Err(TextFault::Def(refusal)),
+        },
+    }
+}
+
+/// The declared shapes that a text stands for.
+fn declared_text(alloc: Global, text: &[u8]) -> Result<Declared, TextFault> {
+    read_declared(alloc, json_value(alloc, text)?)
+}
+
+/// The certificate that a text stands for.
+fn certificate_text(alloc: Global, text: &[u8]) -> Result<Certificate, TextFault> {
+    read_certificate(alloc, json_value(alloc, text)?)
+}
+
+/// The JSON value that a text reads as.
+fn json_value(alloc: Global, text: &[u8]) -> Result<Value, TextFault> {
+    match asl_tree::read_value(alloc, text) {
+        Ok(value) => Ok(value),
+        Err(refusal) => Err(tree_fault(refusal)),
+    }
+}
+
+/// A refused text.
+fn refusal(which: Which, fault: TextFault) -> TextRefusal {
+    TextRefusal { which, fault }
+}

@@ -1,0 +1,48 @@
+//! Vectors for texts and trees, and each call once with ample memory.
+use crate::{copy, from_value, read, read_value, same, to_text};
+use std::alloc::Global;
+use std::test::Fail;
+
+/// What the bytes read as, written again, or the refusal.
+fn read_and_written(alloc: Global, text: &[u8]) -> Result<String, Fail> {
+    match read(alloc, text) {
+        Ok(tree) => Ok(to_text(alloc, &tree)?),
+        Err(refusal) => Ok(format!(in alloc; "{refusal:?}")?),
+    }
+}
+
+#[test]
+fn trees(rt: HostRuntime) -> Result<(), Fail> {
+    let alloc = rt.alloc();
+    let declared = r#"{"input":{"type":"integer"},"tasks":{}}"#;
+    let too_deep = [b'['; 128];
+    let vectors: [(&[u8], &str); 14] = [
+        (b"9223372036854775807", "9223372036854775807"),
+        (b"-9223372036854775808", "-9223372036854775808"),
+        (b"9223372036854775808", "NotWhole"),
+        (b"1.0", "NotWhole"),
+        (b"[1e2]", "NotWhole"),
+        (b"1e309", "NotJson"),
+        (b"{\"a\":1", "NotJson"),
+        (b"\xEF\xBB\xBF1", "NotJson"),
+        (b"\"\xFF\"", "NotJson"),
+        (b"", "NotJson"),
+        (&too_deep, "NotJson"),
+        (
+            br#" {"b" : [ ], "a" : true, "b" : null} "#,
+            r#"{"a":true,"b":null}"#,
+        ),
+        (br#""\u0061\n\/""#, r#""a\n/""#),
+        (declared.as_bytes(), declared),
+    ];
+    for (text, wanted) in vectors {
+        let answer = read_and_written(alloc, text)?;
+        assert_eq!(rt; answer.as_str(), wanted);
+    }
+
+    let list = from_value(alloc, &read_value(alloc, b"[1,2,3]")?)?;
+    assert!(rt; same(&copy(alloc, &list)?, &list));
+    assert!(rt; !same(&read(alloc, b"[1,2]")?, &list));
+    assert!(rt; !same(&read(alloc, b"[1,2,3,4]")?, &list));
+    Ok(())
+}
