@@ -11,10 +11,12 @@ where no case failed and one passed. rows/README.md tells how a table is written
 import argparse
 import os
 import pathlib
+import resource
 import shutil
 import subprocess
 import sys
 import tempfile
+import threading
 
 from made import made
 
@@ -22,7 +24,7 @@ ROWS = pathlib.Path(__file__).resolve().parent
 TOP = ROWS.parent
 BUILDS = [TOP / "crates/asl/out/asl", TOP / "crates/asl/out/asl.by-rattle"]
 LINES = ["definition", "declared", "certificate"]
-ONCE = [*LINES, "lines", "unended", "after", "input", "output", "status"]
+ONCE = [*LINES, "lines", "unended", "after", "input", "output", "memory", "status"]
 MANY = ["word", "prints", "tells"]
 SECONDS = 120
 
@@ -104,11 +106,30 @@ def opened_input(case, folder):
         return os.open(folder, os.O_RDONLY)
     if kind == "file":
         return os.open(TOP / name, os.O_RDONLY)
+    if kind == "pipe":
+        return piped(case.text(), int(name))
     if kind != "lines":
         raise ValueError(f"{case.place}: no input is called '{kind}'")
     path = folder / "input"
     path.write_bytes(case.text())
     return os.open(path, os.O_RDONLY)
+
+
+def piped(text, step):
+    """Returns the reading end of a pipe into which a thread writes the text, `step` bytes at a time."""
+    reader, writer = os.pipe()
+
+    def write():
+        try:
+            for begin in range(0, len(text), step):
+                os.write(writer, text[begin:begin + step])
+        except BrokenPipeError:
+            pass  # the program has seen enough
+        finally:
+            os.close(writer)
+
+    threading.Thread(target=write).start()
+    return reader
 
 
 def opened_output(case, folder):
@@ -131,15 +152,17 @@ def answer(case, folder):
     """Runs the case with the program that stands in the folder; returns its status and streams."""
     ends = [opened_input(case, folder), opened_output(case, folder)]
 
-    def closes():
+    def prepare():
         for number, end in enumerate(ends):
             if end is None:
                 os.close(number)
+        if "memory" in case.given:
+            resource.setrlimit(resource.RLIMIT_AS, (int(case.given["memory"]) << 20,) * 2)
 
     try:
         done = subprocess.run(
             [b"./asl", *case.words()], executable=folder / "asl", cwd=folder, env={}, timeout=SECONDS,
-            stdin=ends[0], stdout=ends[1], stderr=subprocess.PIPE, preexec_fn=closes, check=False)
+            stdin=ends[0], stdout=ends[1], stderr=subprocess.PIPE, preexec_fn=prepare, check=False)
     finally:
         for end in ends:
             if end is not None:

@@ -1,16 +1,16 @@
 -- Worked certificates that are closed, and worked inputs and events that obey: no premise of the law is empty.
 use Rattle.std.proofs.Common.{◌≡◌, ◌∙◌, refl, subst, sym, arith, suc, List, [], ◌∷◌, Bool, true, false, ◌&&◌, ◌||◌, if◌then◌else◌, bytes_eq, IsTrue, Option, Some, None, is_some, codes}
 use Rattle.asl_model.specs.Tree.{Tree, Null, Boolean, Integer, Text, Array, Object, Trees, NoTrees, AndTree, count, NoFields, trees_of}
-use Rattle.asl_model.specs.Path.{Index}
-use Rattle.asl_model.specs.Shape.{Shape, Any, Never, IntegerShape, StringShape, ArrayShape, ObjectShape, NoShapes, AndShape, NoFieldShapes, Has, has, is_integer, is_text}
+use Rattle.asl_model.specs.Path.{Name, Index}
+use Rattle.asl_model.specs.Shape.{Shape, Any, Never, IntegerShape, StringShape, ArrayShape, ObjectShape, NoShapes, AndShape, NoFieldShapes, AndFieldShape, Has, has, is_integer, is_text}
 use Rattle.asl_model.specs.Flow.{first_move}
 use Rattle.asl_model.specs.Machine.{Scope, ScopeOf, AndState, NoStates, StateOf, Pass, Task, Parallel, AndScope, NoScopes}
-use Rattle.asl_model.specs.Run.{Event, Move, Gives, Entered, Asked, Left, Ended, Output}
-use Rattle.asl_model.specs.Certificate.{TaskShapes, Declared, StateShapes, Certificate, under, or_never, shape_at, EachHas, WorkFits, IsClosedAt, IsClosed, Obeys, RunIsAsCertified}
-use Rattle.asl_model.proofs.RunOptions.{false_true}
+use Rattle.asl_model.specs.Run.{Event, run_of, Move, Gives, Entered, Asked, Left, Ended, Output}
+use Rattle.asl_model.specs.Certificate.{TaskShapes, Declared, StateShapes, Certificate, under, or_never, shape_at, EachHas, WorkFits, IsClosedAt, whole_machine, IsClosed, Obeys, NoTurnRaises, TurnsAreAsCertified, RunIsAsCertified}
+use Rattle.asl_model.proofs.RunOptions.{false_true, none_some}
 use Rattle.asl_model.proofs.ClosedScopes.{closed_at_each}
 use Rattle.asl_model.proofs.RunLaws.{never_fault}
-use Rattle.asl_model.proofs.ExamplesRuns.{ends, whole, at, passing, one_task, retrying_with, retrier, three_failures, retried_and_caught, told}
+use Rattle.asl_model.proofs.ExamplesRuns.{ends, whole, one, at, passing, placing, one_task, retrying_with, retrier, three_failures, retried_and_caught, told}
 
 -- what is certified of a state that has no children
 abbrev pub plain : Shape → Shape → StateShapes
@@ -182,3 +182,45 @@ failures_obey = record { has_input = refl; answers = (tt, (tt, (tt, (tt, (tt, (t
 
 failures_told : told two_retriers (Object NoFields) three_failures ≡ retried_and_caught
 failures_told = refl
+
+-- what isn't promised: a run that raises, an input, a payload, an output and an end that lack their shapes, and an
+-- answer that lacks what is declared
+raising_is_seen : NoTurnRaises (run_of placing (one (codes "a") (Text (codes "x"))) (at [] Move ∷ [])) → ⊥
+raising_is_seen h = h.0.1.0
+
+other_input : TurnsAreAsCertified integers_in integers_out passing (run_of passing Null (at [] Move ∷ [])) → ⊥
+other_input h = false_true h.0.0
+
+abbrev pub all_certified : Shape → Shape → Certificate
+all_certified output end = record { output = end; states = (codes "A", plain Any output) ∷ [] }
+
+abbrev pub takes_integers : Declared
+takes_integers = record { input = Any; tasks = (codes "A", record { takes = IntegerShape; gives = IntegerShape }) ∷ [] }
+
+other_payload : TurnsAreAsCertified takes_integers (all_certified Any Any) (one_task (codes "A")) (run_of (one_task (codes "A")) Null (at [] Move ∷ [])) → ⊥
+other_payload h = false_true h.0.1.0
+
+other_output : TurnsAreAsCertified takes_integers (all_certified IntegerShape Any) passing (run_of passing Null (at [] Move ∷ [])) → ⊥
+other_output h = false_true h.0.1.0
+
+other_end : TurnsAreAsCertified takes_integers (all_certified Any IntegerShape) passing (run_of passing Null (at [] Move ∷ [])) → ⊥
+other_end h = false_true h.0.1.1.0
+
+other_answer : Obeys takes_integers (one_task (codes "A")) Null (at [] Move ∷ at [] (Gives Null) ∷ []) → ⊥
+other_answer h = false_true h.answers.1.0
+
+-- certificates that aren't closed: a result that misfits, a state without an entry, a task that isn't declared
+abbrev pub of_texts : Shape
+of_texts = ObjectShape (AndFieldShape (codes "a") true StringShape NoFieldShapes) false
+
+result_may_not_fit : IsClosed (record { input = of_texts; tasks = [] }) (record { output = Any; states = (codes "A", plain of_texts Any) ∷ [] }) placing → ⊥
+result_may_not_fit closed = (closed.states placing Any whole_machine (codes "A") (StateOf (record ends { result_path = Some (Name (codes "a") ∷ Name (codes "b") ∷ []) }) (Pass (Some (whole 7)))) refl).work (one (codes "a") (Text (codes "x"))) refl
+
+no_entry : IsClosed integers_in (record { output = Any; states = [] }) passing → ⊥
+no_entry closed = none_some (closed.states passing Any whole_machine (codes "A") (StateOf ends (Pass None)) refl).entry.stands
+
+undeclared_task : IsClosed integers_in (all_certified Any Any) (one_task (codes "A")) → ⊥
+undeclared_task closed = false_true ((closed.tasks (codes "A")).1 refl)
+
+start_not_inside : IsClosed (record { input = Any; tasks = [] }) integers_out passing → ⊥
+start_not_inside closed = false_true (closed.start Null refl)

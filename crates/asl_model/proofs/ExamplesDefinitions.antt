@@ -101,6 +101,22 @@ bad_template : complaints_in (machine (codes "\"A\":{\"Type\":\"Pass\",\"End\":t
 unfolding serde_json_on_literals complaints_in machine only
 bad_template = refl
 
+duplicate_in_template : complaints_in (machine (codes "\"A\":{\"Type\":\"Pass\",\"End\":true,\"Parameters\":{\"x.$\":\"$.n\",\"x\":1}}")) ≡ only BadTemplate (codes "A") (codes "Parameters")
+unfolding serde_json_on_literals complaints_in machine only
+duplicate_in_template = refl
+
+item_path_in_a_pass : complaints_in (machine (codes "\"A\":{\"Type\":\"Pass\",\"End\":true,\"Parameters\":{\"x.$\":\"$$.Map.Item.Index\"}}")) ≡ only BadTemplate (codes "A") (codes "Parameters")
+unfolding serde_json_on_literals complaints_in machine only
+item_path_in_a_pass = refl
+
+rule_to_nowhere : complaints_in (machine (codes "\"A\":{\"Type\":\"Choice\",\"Choices\":[{\"Variable\":\"$\",\"IsNull\":true,\"Next\":\"Z\"}]}")) ≡ only NoSuchState (codes "A") (codes "Choices")
+unfolding serde_json_on_literals complaints_in machine only
+rule_to_nowhere = refl
+
+rule_with_left_out_field : complaints_in (machine (codes "\"A\":{\"Type\":\"Choice\",\"Choices\":[{\"Variable\":\"$\",\"IsNull\":true,\"Next\":\"A\",\"Assign\":{}}]}")) ≡ only BadRule (codes "A") (codes "Choices")
+unfolding serde_json_on_literals complaints_in machine only
+rule_with_left_out_field = refl
+
 result_with_fraction : complaints_in (machine (codes "\"A\":{\"Type\":\"Pass\",\"End\":true,\"Result\":1.5}")) ≡ only NotWhole (codes "A") (codes "Result")
 unfolding serde_json_on_literals complaints_in machine only
 result_with_fraction = refl

@@ -1,12 +1,12 @@
 -- Worked runs, computed: each says what a machine does on an input with some events.
 use Rattle.std.proofs.Common.{◌≡◌, refl, ℕ, List, [], ◌∷◌, pos, negsuc, Some, None, codes}
-use Rattle.asl_model.specs.Tree.{Tree, Integer, Text, Array, Object, NoTrees, NoFields, AndField, trees_of}
+use Rattle.asl_model.specs.Tree.{Tree, Null, Integer, Text, Array, Object, NoTrees, NoFields, AndField, trees_of, fields_of}
 use Rattle.asl_model.specs.Path.{Segment, Name}
-use Rattle.asl_model.specs.Faults.{ResultPathMatchFailure, NoChoiceMatched, NamesNothing, WrongKind}
-use Rattle.asl_model.specs.Intrinsic.{ItemIndex, InItem}
-use Rattle.asl_model.specs.Template.{FromPath, ObjectTemplate, NoFieldTemplates, AndFieldTemplate}
-use Rattle.asl_model.specs.Test.{Compare, NumericIs, LessThan, Constant}
-use Rattle.asl_model.specs.Machine.{Retrier, Catcher, Settings, SecondsPath, Scope, ScopeOf, NoStates, AndState, StateOf, Kind, Pass, Task, Choice, Wait, Succeed, Parallel, Map, NoScopes, AndScope}
+use Rattle.asl_model.specs.Faults.{DataFlowError, ParameterPathFailure, ResultPathMatchFailure, NoChoiceMatched, NamesNothing, WrongKind, error_name}
+use Rattle.asl_model.specs.Intrinsic.{InInput, ItemIndex, InItem}
+use Rattle.asl_model.specs.Template.{Template, FromPath, ObjectTemplate, NoFieldTemplates, AndFieldTemplate}
+use Rattle.asl_model.specs.Test.{Rule, Compare, NumericIs, LessThan, Constant}
+use Rattle.asl_model.specs.Machine.{Retrier, Catcher, Settings, SecondsPath, TimestampPath, Scope, ScopeOf, NoStates, AndState, StateOf, Kind, Pass, Task, Choice, Wait, Succeed, Fail, Parallel, Map, NoScopes, AndScope}
 use Rattle.asl_model.specs.Run.{Activity, Ready, Split, Done, Failed, NoActivities, AndActivity, activity_at, Action, Move, Gives, FailsTask, Event, Output, FailedWith, Entry, Entered, Asked, Left, Raised, TaskFailed, BranchFailed, Retried, Caught, Ended, start, run_of, trace, last_activity, step, WantsMove, WantsAnswer, enabled}
 
 -- the settings of a state that has none of these fields and ends its scope
@@ -192,3 +192,132 @@ catching_misfit = ScopeOf (codes "T") (AndState (codes "E") (StateOf ends Succee
 
 catch_misfits : told catching_misfit (whole 5) (at [] Move ∷ at [] (FailsTask (codes "a") (codes "b")) ∷ []) ≡ ([], Entered (codes "T") (whole 5)) ∷ ([], Asked (codes "T") (whole 5)) ∷ ([], TaskFailed (codes "T") (codes "a") (codes "b")) ∷ ([], Raised (codes "T") (record { error = ResultPathMatchFailure; field = codes "Catch" })) ∷ ([], Ended (FailedWith (codes "States.ResultPathMatchFailure") (codes "Catch"))) ∷ []
 catch_misfits = refl
+
+-- a result is placed in the raw input, not in the effective one
+abbrev pub narrowing : Settings
+narrowing = record ends { input_path = Some (Name (codes "a") ∷ []); result_path = Some (Name (codes "r") ∷ []) }
+
+placed_in_raw_input : told (only narrowing (Task (codes "r"))) (one (codes "a") (whole 1)) (at [] Move ∷ at [] (Gives (whole 2)) ∷ [])
+    ≡ ([], Entered (codes "A") (one (codes "a") (whole 1))) ∷ ([], Asked (codes "A") (whole 1)) ∷ ([], Left (codes "A") (Object (fields_of ((codes "a", whole 1) ∷ (codes "r", whole 2) ∷ [])))) ∷ ([], Ended (Output (Object (fields_of ((codes "a", whole 1) ∷ (codes "r", whole 2) ∷ []))))) ∷ []
+placed_in_raw_input = refl
+
+-- so is what a catcher tells
+caught_in_raw_input : left (ScopeOf (codes "A") (AndState (codes "A") (StateOf (record narrowing { catchers = catcher (Name (codes "e") ∷ []) ∷ [] }) (Task (codes "r"))) NoStates)) (one (codes "a") (whole 1)) (at [] Move ∷ at [] (FailsTask (codes "x") (codes "y")) ∷ [])
+    ≡ Ready (codes "E") (Object (fields_of ((codes "a", whole 1) ∷ (codes "e", Object (fields_of ((codes "Cause", Text (codes "y")) ∷ (codes "Error", Text (codes "x")) ∷ []))) ∷ []))) []
+caught_in_raw_input = refl
+
+-- all fields of the data flow, in their order
+abbrev pub all_fields : Settings
+all_fields = record {
+  input_path = Some (Name (codes "a") ∷ []);
+  parameters = Some (ObjectTemplate (AndFieldTemplate (codes "p") (FromPath (InInput [])) NoFieldTemplates));
+  result_selector = Some (ObjectTemplate (AndFieldTemplate (codes "s") (FromPath (InInput (Name (codes "x") ∷ []))) NoFieldTemplates));
+  result_path = Some (Name (codes "r") ∷ []);
+  output_path = Some (Name (codes "r") ∷ Name (codes "s") ∷ []);
+  next = Some (codes "B");
+  retriers = [];
+  catchers = [];
+}
+
+in_this_order : told (only all_fields (Task (codes "r"))) (one (codes "a") (whole 1)) (at [] Move ∷ at [] (Gives (one (codes "x") (whole 2))) ∷ [])
+    ≡ ([], Entered (codes "A") (one (codes "a") (whole 1))) ∷ ([], Asked (codes "A") (one (codes "p") (whole 1))) ∷ ([], Left (codes "A") (whole 2)) ∷ []
+in_this_order = refl
+
+-- what a fault in each field is
+abbrev pub faults_in : Settings → Tree → List (List ℕ × Entry)
+faults_in settings input = told (only settings (Pass None)) input (at [] Move ∷ [])
+
+abbrev pub raises : Tree → DataFlowError → List ℕ → List (List ℕ × Entry)
+raises input error field = ([], Entered (codes "A") input) ∷ ([], Raised (codes "A") (record { error = error; field = field })) ∷ ([], Ended (FailedWith (error_name error) field)) ∷ []
+
+abbrev pub missing : List Segment
+missing = Name (codes "no") ∷ []
+
+abbrev pub missing_field : Template
+missing_field = ObjectTemplate (AndFieldTemplate (codes "x") (FromPath (InInput missing)) NoFieldTemplates)
+
+fault_in_input_path : faults_in (record ends { input_path = Some missing }) Null ≡ raises Null NamesNothing (codes "InputPath")
+fault_in_input_path = refl
+
+fault_in_output_path : faults_in (record ends { output_path = Some missing }) Null ≡ raises Null NamesNothing (codes "OutputPath")
+fault_in_output_path = refl
+
+fault_in_parameters : faults_in (record ends { parameters = Some missing_field }) Null ≡ raises Null ParameterPathFailure (codes "Parameters")
+fault_in_parameters = refl
+
+fault_in_result_selector : faults_in (record ends { result_selector = Some missing_field }) Null ≡ raises Null ParameterPathFailure (codes "ResultSelector")
+fault_in_result_selector = refl
+
+fault_in_timestamp_path : told (only ends (Wait (TimestampPath []))) (whole 1) (at [] Move ∷ []) ≡ raises (whole 1) WrongKind (codes "TimestampPath")
+fault_in_timestamp_path = refl
+
+timestamp_is_text : left (only ends (Wait (TimestampPath []))) (Text (codes "x")) (at [] Move ∷ []) ≡ Done (Text (codes "x"))
+timestamp_is_text = refl
+
+seconds_are_whole : left (only ends (Wait (SecondsPath []))) (whole 1) (at [] Move ∷ []) ≡ Done (whole 1)
+seconds_are_whole = refl
+
+fault_in_items_path : told (only ends (Map [] None passing)) (whole 1) (at [] Move ∷ []) ≡ raises (whole 1) WrongKind (codes "ItemsPath")
+fault_in_items_path = refl
+
+fault_in_item_selector : told (only ends (Map [] (Some missing_field) passing)) (Array (trees_of (Null ∷ []))) (at [] Move ∷ []) ≡ raises (Array (trees_of (Null ∷ []))) ParameterPathFailure (codes "ItemSelector")
+fault_in_item_selector = refl
+
+-- a data-flow fault goes through the state's own retriers and catchers
+fault_is_retried : left (only (record ends { output_path = Some missing; retriers = retrier (codes "Path.NamesNothing") ∷ [] }) (Pass None)) Null (at [] Move ∷ []) ≡ Ready (codes "A") Null (1 ∷ [])
+fault_is_retried = refl
+
+fault_is_caught : left (only (record ends { output_path = Some missing; catchers = catcher [] ∷ [] }) (Pass None)) Null (at [] Move ∷ []) ≡ Ready (codes "E") (Object (fields_of ((codes "Cause", Text (codes "OutputPath")) ∷ (codes "Error", Text (codes "Path.NamesNothing")) ∷ []))) []
+fault_is_caught = refl
+
+-- a new execution of a state counts from 0
+abbrev pub looping : Scope
+looping = ScopeOf (codes "A") (AndState (codes "A") (StateOf (record ends { next = Some (codes "A"); retriers = retrier (codes "x") ∷ [] }) (Task (codes "r"))) NoStates)
+
+counts_begin_anew : left looping Null (at [] Move ∷ at [] (FailsTask (codes "x") []) ∷ at [] Move ∷ at [] (Gives Null) ∷ at [] Move ∷ at [] (FailsTask (codes "x") []) ∷ []) ≡ Ready (codes "A") Null (1 ∷ [])
+counts_begin_anew = refl
+
+count_is_spent : left looping Null (at [] Move ∷ at [] (FailsTask (codes "x") []) ∷ at [] Move ∷ at [] (FailsTask (codes "x") []) ∷ []) ≡ Failed (codes "x") []
+count_is_spent = refl
+
+-- the first rule that is true decides, before `Default`
+abbrev pub below_number : ℕ → List ℕ → Rule
+below_number n next = record { test = Compare [] (NumericIs LessThan) (Constant (whole n)); next = next }
+
+abbrev pub deciding : Scope
+deciding = only ends (Choice (below_number 5 (codes "B") ∷ below_number 9 (codes "C") ∷ []) (Some (codes "D")))
+
+first_rule : left deciding (whole 3) (at [] Move ∷ []) ≡ Ready (codes "B") (whole 3) []
+first_rule = refl
+
+second_rule : left deciding (whole 7) (at [] Move ∷ []) ≡ Ready (codes "C") (whole 7) []
+second_rule = refl
+
+default_rule : left deciding (whole 9) (at [] Move ∷ []) ≡ Ready (codes "D") (whole 9) []
+default_rule = refl
+
+-- a Succeed ends its scope with what `OutputPath` leaves; a Fail with its error and cause
+succeeds : left (only (record ends { output_path = Some (Name (codes "a") ∷ []) }) Succeed) (one (codes "a") (whole 1)) (at [] Move ∷ []) ≡ Done (whole 1)
+succeeds = refl
+
+fails : told (only ends (Fail (codes "e") (codes "c"))) Null (at [] Move ∷ []) ≡ ([], Entered (codes "A") Null) ∷ ([], Ended (FailedWith (codes "e") (codes "c"))) ∷ []
+fails = refl
+
+-- of two branches that failed the first is told
+first_failed : step beside (left beside Null (at [] Move ∷ at (0 ∷ []) Move ∷ at (1 ∷ []) Move ∷ at (1 ∷ []) (FailsTask (codes "E") (codes "c")) ∷ at (0 ∷ []) (FailsTask (codes "F") (codes "d")) ∷ [])) (at [] Move) ≡ Some (record { entries = BranchFailed (codes "P") 0 (codes "F") (codes "d") ∷ Ended (FailedWith (codes "States.BranchFailed") (codes "d")) ∷ []; after = Failed (codes "States.BranchFailed") (codes "d") })
+first_failed = refl
+
+-- a Map fails with its child's own error
+map_fails : step selecting (left selecting (Array (trees_of (Null ∷ []))) (at [] Move ∷ at (0 ∷ []) Move ∷ at (0 ∷ []) (FailsTask (codes "E") (codes "c")) ∷ [])) (at [] Move) ≡ Some (record { entries = BranchFailed (codes "M") 0 (codes "E") (codes "c") ∷ Ended (FailedWith (codes "E") (codes "c")) ∷ []; after = Failed (codes "E") (codes "c") })
+map_fails = refl
+
+-- while a child is running and none has failed, the whole doesn't move
+not_yet : step beside (left beside Null (at [] Move ∷ at (0 ∷ []) Move ∷ at (0 ∷ []) (Gives Null) ∷ [])) (at [] Move) ≡ None
+not_yet = refl
+
+-- a branch that is done takes no more events, and a task that waits doesn't move
+done_takes_nothing : step beside (left beside Null (at [] Move ∷ at (0 ∷ []) Move ∷ at (0 ∷ []) (Gives Null) ∷ [])) (at (0 ∷ []) (Gives Null)) ≡ None
+done_takes_nothing = refl
+
+waiting_stays : step beside (left beside Null both_asked) (at (0 ∷ []) Move) ≡ None
+waiting_stays = refl

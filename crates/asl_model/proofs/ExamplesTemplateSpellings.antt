@@ -1,5 +1,5 @@
 -- Worked examples of the spelling of templates.
-use Rattle.std.specs.Prelude.{◌≡◌, ℕ, pos, List, [], ◌∷◌, Bool, true, false, Option, Some, None, option_map, option_and_then, codes, refl}
+use Rattle.std.specs.Prelude.{◌≡◌, ℕ, pos, List, [], ◌∷◌, Bool, true, false, Option, Some, option_map, option_and_then, codes, refl}
 use Rattle.serde_json.specs.Read.{read}
 use Rattle.serde_json.proofs.OnLiterals.{serde_json_on_literals}
 use Rattle.asl_model.specs.Tree.{Text, Integer}
@@ -72,4 +72,3 @@ twice = refl
 deep_twice : faults_in false (codes "{\"y\":[{\"x.$\":\"$.n\",\"x\":1}]}") ≡ Some (DuplicateAfterStrip ∷ [])
 unfolding serde_json_on_literals faults_in
 deep_twice = refl
-

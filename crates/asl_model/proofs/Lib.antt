@@ -6,6 +6,7 @@ pub mod ExamplesPaths
 pub mod ExamplesPrinted
 pub mod ExamplesReadings
 pub mod ExamplesRecords
+pub mod ExamplesRules
 pub mod ExamplesRuns
 pub mod ExamplesShapes
 pub mod ExamplesSpellings
@@ -19,6 +20,7 @@ pub mod PlacingExactly
 pub mod ReadingCharacters
 pub mod ReadingLaws
 pub mod ReadingLookups
+pub mod ReadingRules
 pub mod ReadingSteps
 pub mod RunApart
 pub mod RunEnabled
@@ -26,6 +28,8 @@ pub mod RunFits
 pub mod RunLaws
 pub mod RunOptions
 pub mod RunPatterns
+pub mod RunPieces
+pub mod RunTemplates
 pub mod ShapeFields
 pub mod ShapeInhabited
 pub mod ShapeInside

@@ -17,7 +17,7 @@ use Rattle.asl_model.specs.StandsFor.{StandsFor, HasComplaint, Complaint, compla
 use Rattle.asl_model.specs.Texts.{ReadsAsMachine, ReadsAsDeclared, ReadsAsCertificate, TextFault, NotJson, NotWhole, BadDefinition, BadRecord, IsNoJson, IsDefinitionFault, definition_no_json, definition_complaint, IsDeclaredFault, declared_no_json, declared_not_whole, declared_complaint, IsCertificateFault, certificate_no_json, certificate_not_whole, certificate_complaint}
 use Rattle.asl_model.proofs.ReadingSteps.{one_value}
 
-none_listed : {A : Type 0} (xs : List A) (x : A) → xs ≡ [] → Contains xs x → ⊥
+pub none_listed : {A : Type 0} (xs : List A) (x : A) → xs ≡ [] → Contains xs x → ⊥
 none_listed xs x e c = absurd (omega (arith, (subst (λ ys. Contains ys x) e c).1))
 
 pub value_is_one : (text : List ℕ) (v w : Data) → ReadsAsValue text v → ReadsAsValue text w → v ≡ w
@@ -84,7 +84,7 @@ certificate_text_has_no_fault text d f r (certificate_complaint {v = v} {c = c} 
 
 -- ---- every value and every text has a meaning or a fault
 
-first_listed : {A : Type 0} (xs : List A) → (xs ≡ []) ⊎ ((x : A) × Contains xs x)
+pub first_listed : {A : Type 0} (xs : List A) → (xs ≡ []) ⊎ ((x : A) × Contains xs x)
 first_listed [] = inl refl
 first_listed (x ∷ xs) = inr (x, (0, omega arith, refl))
 

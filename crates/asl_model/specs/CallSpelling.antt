@@ -3,10 +3,9 @@
 -- parentheses. An argument is a text in apostrophes, a whole number, `null`, `true`, `false`, a path, or a call.
 -- The profile chooses: calls nest at most 32 deep; a text has the escapes `\'`, `\{`, `\}`, `\\` and no other; a path
 -- goes to the first comma, `)` or space that isn't inside apostrophes or quotes; and which refusal comes first.
-use Rattle.std.specs.Prelude.{◌≡◌, ◌-◌, ◌^◌, ℕ, zero, suc, ℤ, pos, negsuc, List, [], ◌∷◌, ◌++◌, length, take, drop, slice_index, nat_lt, nat_le, ◌==◌, Bool, true, false, ◌&&◌, ◌||◌, not, is_some, if◌then◌else◌, Option, Some, None, option_map, option_and_then, Result, Ok, Err, bytes_eq, codes}
+use Rattle.std.specs.Prelude.{◌^◌, ℕ, zero, suc, ℤ, pos, negsuc, List, [], ◌∷◌, length, take, drop, slice_index, nat_lt, nat_le, ◌==◌, Bool, true, false, ◌&&◌, ◌||◌, not, is_some, if◌then◌else◌, Option, Some, None, option_map, option_and_then, Result, Ok, Err, bytes_eq, codes}
 use Rattle.std.specs.Char.{is_ascii_digit, is_ascii_alphanumeric}
 use Rattle.std.specs.Str.Parse.{digits_value}
-use Rattle.asl_model.specs.Path.{Segment}
 use Rattle.asl_model.specs.Intrinsic.{Reference, InInput, ItemIndex, InItem, Function, StatesArray, StatesArrayLength, StatesFormat, Pieces, Call, CallOf, Argument, NullArgument, BooleanArgument, IntegerArgument, TextArgument, PathArgument, CallArgument, Arguments, NoArguments, AndArgument}
 use Rattle.asl_model.specs.PathSpelling.{is_one_of, after, front_length, segments_of, path_of}
 
@@ -75,10 +74,16 @@ abbrev pub cut_pieces : List ℕ → Cut Pieces
 cut_pieces [] = None
 cut_pieces (x ∷ []) = if x == 39 then Some (end_of_text []) else None
 cut_pieces (x ∷ y ∷ rest) =
-    elim (x == 39) [ true ↦ Some (end_of_text (y ∷ rest))
-    | false ↦ elim (x == 92) [ true ↦ elim (is_one_of (codes "'{}\\") y) [ true ↦ option_map (byte_in_front y) (cut_pieces rest) | false ↦ None ]
-    | false ↦ elim (x == 123 && y == 125) [ true ↦ option_map hole_in_front (cut_pieces rest)
-    | false ↦ option_map (byte_in_front x) (cut_pieces (y ∷ rest)) ] ] ]
+    elim (x == 39) [
+      | true ↦ Some (end_of_text (y ∷ rest))
+      | false ↦ elim (x == 92) [
+        | true ↦ elim (is_one_of (codes "'{}\\") y) [ true ↦ option_map (byte_in_front y) (cut_pieces rest) | false ↦ None ]
+        | false ↦ elim (x == 123 && y == 125) [
+          | true ↦ option_map hole_in_front (cut_pieces rest)
+          | false ↦ option_map (byte_in_front x) (cut_pieces (y ∷ rest))
+        ]
+      ]
+    ]
 
 -- ---- numbers and words
 
@@ -132,24 +137,34 @@ cut_path text = let n = path_length 0 text in Some (followed_by (drop n text) (W
 abbrev pub cut_word : (List ℕ → Cut WrittenCall) → List ℕ → Cut WrittenArgument
 cut_word nested text =
     let n = front_length in_function_name text in
-    elim (slice_index (drop n text) 0 == 40) [ true ↦ option_map (λ c. followed_by c.1 (WrittenNested c.0)) (nested text)
-    | false ↦ option_map (followed_by (drop n text)) (word_of (take n text)) ]
+    elim (slice_index (drop n text) 0 == 40) [
+      | true ↦ option_map (λ c. followed_by c.1 (WrittenNested c.0)) (nested text)
+      | false ↦ option_map (followed_by (drop n text)) (word_of (take n text))
+    ]
 
 -- an argument, for the calls that may stand in it
 abbrev pub cut_argument : (List ℕ → Cut WrittenCall) → List ℕ → Cut WrittenArgument
 cut_argument nested [] = None
 cut_argument nested (x ∷ rest) =
-    elim (x == 39) [ true ↦ option_map (λ c. followed_by c.1 (WrittenText c.0)) (cut_pieces rest)
-    | false ↦ elim (x == 36) [ true ↦ cut_path (x ∷ rest)
-    | false ↦ elim (x == 45) [ true ↦ cut_negative rest
-    | false ↦ cut_word nested (x ∷ rest) ] ] ]
+    elim (x == 39) [
+      | true ↦ option_map (λ c. followed_by c.1 (WrittenText c.0)) (cut_pieces rest)
+      | false ↦ elim (x == 36) [
+        | true ↦ cut_path (x ∷ rest)
+        | false ↦ elim (x == 45) [
+          | true ↦ cut_negative rest
+          | false ↦ cut_word nested (x ∷ rest)
+        ]
+      ]
+    ]
 
 -- behind an argument stands `)`, or a comma and further arguments
 abbrev pub after_argument : (List ℕ → Cut WrittenArguments) → WrittenArgument → List ℕ → Cut WrittenArguments
 after_argument further argument [] = None
 after_argument further argument (x ∷ rest) =
-    elim (x == 41) [ true ↦ Some (AndWritten argument NoneWritten, rest)
-    | false ↦ elim (x == 44) [ true ↦ option_map (λ c. (AndWritten argument c.0, c.1)) (further rest) | false ↦ None ] ]
+    elim (x == 41) [
+      | true ↦ Some (AndWritten argument NoneWritten, rest)
+      | false ↦ elim (x == 44) [ true ↦ option_map (λ c. (AndWritten argument c.0, c.1)) (further rest) | false ↦ None ]
+    ]
 
 -- arguments, at least one, up to `)`; there are at most as many as the number
 abbrev pub cut_arguments : (List ℕ → Cut WrittenCall) → ℕ → List ℕ → Cut WrittenArguments
@@ -166,8 +181,10 @@ abbrev pub cut_call : ℕ → List ℕ → Cut WrittenCall
 cut_call zero text = None
 cut_call (suc n) text =
     let k = front_length in_function_name text in
-    elim (not (k == 0) && slice_index (drop k text) 0 == 40) [ true ↦ option_map (λ c. (WrittenAs (take k text) c.0, c.1)) (cut_parentheses (λ rest. cut_call n rest) (without_spaces (drop (suc k) text)))
-    | false ↦ None ]
+    elim (not (k == 0) && slice_index (drop k text) 0 == 40) [
+      | true ↦ option_map (λ c. (WrittenAs (take k text) c.0, c.1)) (cut_parentheses (λ rest. cut_call n rest) (without_spaces (drop (suc k) text)))
+      | false ↦ None
+    ]
 
 -- the call that is the whole text
 abbrev pub whole_call : WrittenCall × List ℕ → Option WrittenCall

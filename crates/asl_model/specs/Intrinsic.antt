@@ -2,7 +2,7 @@
 -- Intrinsic Functions"). The profile has three functions. It chooses: an escape other than those of the standard is
 -- refused on reading, so a literal text is here its pieces with the holes between them; a wrong number of arguments
 -- and a value of a wrong kind are failures of evaluation.
-use Rattle.std.specs.Prelude.{ℕ, zero, suc, ◌+◌, ◌/◌, ◌%◌, ℤ, pos, negsuc, List, [], ◌∷◌, ◌++◌, drop, Bool, true, false, ◌&&◌, nat_eq, nat_lt, if◌then◌else◌, Option, Some, None, option_and_then, codes}
+use Rattle.std.specs.Prelude.{◌≡◌, IsFalse, ◌||◌, ℕ, zero, suc, ◌+◌, ◌/◌, ◌%◌, ℤ, pos, negsuc, List, [], ◌∷◌, ◌++◌, drop, Bool, true, false, ◌&&◌, nat_eq, nat_lt, if◌then◌else◌, Option, Some, None, option_and_then, codes}
 use Rattle.std.specs.Option.{option_map}
 use Rattle.asl_model.specs.Tree.{Tree, Null, Boolean, Integer, Text, Array, Object, Trees, NoTrees, AndTree, count}
 use Rattle.asl_model.specs.Path.{Segment, named_by}
@@ -99,6 +99,21 @@ byte_before b pieces = if nat_eq b 123 && begins_with 125 pieces.first
 abbrev pub cut_at_holes : List ℕ → Pieces
 cut_at_holes [] = record { first = []; after_holes = [] }
 cut_at_holes (b ∷ bs) = byte_before b (cut_at_holes bs)
+
+-- a text has `{` directly in front of `}` somewhere
+abbrev pub has_hole : List ℕ → Bool
+has_hole [] = false
+has_hole (b ∷ bs) = (nat_eq b 123 && begins_with 125 bs) || has_hole bs
+
+abbrev pub NoneHasHole : List (List ℕ) → Type 0
+NoneHasHole [] = Unit {0}
+NoneHasHole (piece ∷ pieces) = IsFalse (has_hole piece) × NoneHasHole pieces
+
+-- the pieces are those of the text: joined by `{}` they give it, and none of them has a hole in it
+pub record ArePiecesOf (text : List ℕ) (pieces : Pieces) : Type 0 where
+  pub whole : joined_by_holes pieces.first pieces.after_holes ≡ text
+  pub first_is_whole : IsFalse (has_hole pieces.first)
+  pub others_are_whole : NoneHasHole pieces.after_holes
 
 -- piece 0, the word of value 1, piece 1, and so on; there is one value a hole
 abbrev pub holes_filled : List ℕ → List (List ℕ) → Trees → Option (List ℕ)

@@ -1,7 +1,7 @@
 -- Payload templates, and their values (States Language, "Payload Template").
 -- The profile chooses which failure counts: that of the least failing place.
-use Rattle.std.specs.Prelude.{ℕ, suc, List, [], ◌∷◌, ◌++◌, map, Option, Some, None, unwrap_or, Result, Ok, Err}
-use Rattle.asl_model.specs.Tree.{Tree, Null, Array, Object, Trees, NoTrees, AndTree, Fields, NoFields, AndField}
+use Rattle.std.specs.Prelude.{◌≡◌, ◌⊎◌, ◌<◌, ◌&&◌, Bool, true, IsTrue, bytes_eq, if◌then◌else◌, ℕ, zero, suc, List, [], ◌∷◌, ◌++◌, map, Option, Some, None, unwrap_or, Result, Ok, Err}
+use Rattle.asl_model.specs.Tree.{Tree, Null, Array, Object, Trees, NoTrees, AndTree, Fields, NoFields, AndField, comes_before}
 use Rattle.asl_model.specs.Path.{Segment, Name, Index}
 use Rattle.asl_model.specs.Faults.{DataFlowError, ParameterPathFailure, IntrinsicFailure}
 use Rattle.asl_model.specs.Intrinsic.{Reference, Call, Item, referred, call_value}
@@ -83,3 +83,59 @@ unless_failing (failure ∷ further) t = Err failure.error
 -- the value of a template for an input and the item at hand, or its fault
 abbrev pub template_value : Template → Tree → Option Item → Result Tree DataFlowError
 template_value t input item = unless_failing (failures t input item) (filled t input item)
+
+-- the element at a position, counted from 0
+abbrev pub template_at : ℕ → Templates → Option Template
+template_at i NoTemplates = None
+template_at zero (AndTemplate t others) = Some t
+template_at (suc i) (AndTemplate t others) = template_at i others
+
+-- the value of the first field of that name
+abbrev pub template_named : List ℕ → FieldTemplates → Option Template
+template_named n NoFieldTemplates = None
+template_named n (AndFieldTemplate m t others) = if bytes_eq m n then Some t else template_named n others
+
+-- A place of a template fails, for an input and the item at hand: a path that names nothing, or a call without a value.
+pub data FailsAt (input : Tree) (item : Option Item) : Template → List Segment → DataFlowError → Type 0 where
+  path_fails : {reference : Reference} → referred reference input item ≡ None → FailsAt input item (FromPath reference) [] ParameterPathFailure
+  call_fails : {call : Call} → call_value call input item ≡ None → FailsAt input item (FromCall call) [] IntrinsicFailure
+  fails_in_element : {i : ℕ} {elements : Templates} {t : Template} {p : List Segment} {error : DataFlowError} → template_at i elements ≡ Some t → FailsAt input item t p error → FailsAt input item (ArrayTemplate elements) (Index i ∷ p) error
+  fails_in_field : {n : List ℕ} {fields : FieldTemplates} {t : Template} {p : List Segment} {error : DataFlowError} → template_named n fields ≡ Some t → FailsAt input item t p error → FailsAt input item (ObjectTemplate fields) (Name n ∷ p) error
+
+-- a place comes before another: at the first difference by number, or by the bytes of the names
+pub data IsBefore : List Segment → List Segment → Type 0 where
+  lesser_number : {i j : ℕ} {p q : List Segment} → i < j → IsBefore (Index i ∷ p) (Index j ∷ q)
+  lesser_name : {m n : List ℕ} {p q : List Segment} → IsTrue (comes_before m n) → IsBefore (Name m ∷ p) (Name n ∷ q)
+  lesser_below : {s : Segment} {p q : List Segment} → IsBefore p q → IsBefore (s ∷ p) (s ∷ q)
+
+-- the least failing place of a template, with its error
+pub record IsLeastFailure (input : Tree) (item : Option Item) (t : Template) (failure : Failure) : Type 0 where
+  pub fails : FailsAt input item t failure.place failure.error
+  pub least : (p : List Segment) (error : DataFlowError) → FailsAt input item t p error → (failure.place ≡ p) ⊎ IsBefore failure.place p
+
+-- the name comes before each of these fields' names
+abbrev pub before_each : List ℕ → FieldTemplates → Bool
+before_each n NoFieldTemplates = true
+before_each n (AndFieldTemplate m t others) = comes_before n m && before_each n others
+
+abbrev mutual
+  -- a template as it is read: each object has its names once, in byte order
+  pub IsInOrder : Template → Type 0
+  IsInOrder (Literal t) = Unit {0}
+  IsInOrder (FromPath reference) = Unit {0}
+  IsInOrder (FromCall call) = Unit {0}
+  IsInOrder (ArrayTemplate elements) = AreInOrder elements
+  IsInOrder (ObjectTemplate fields) = HasFieldsInOrder fields
+
+  pub AreInOrder : Templates → Type 0
+  AreInOrder NoTemplates = Unit {0}
+  AreInOrder (AndTemplate t others) = IsInOrder t × AreInOrder others
+
+  pub HasFieldsInOrder : FieldTemplates → Type 0
+  HasFieldsInOrder NoFieldTemplates = Unit {0}
+  HasFieldsInOrder (AndFieldTemplate n t others) = IsTrue (before_each n others) × IsInOrder t × HasFieldsInOrder others
+
+-- what a template's value tells: the fault of the least failing place, or that no place fails
+abbrev pub TellsLeastFailure : Tree → Option Item → Template → Result Tree DataFlowError → Type 0
+TellsLeastFailure input item t (Ok v) = (v ≡ filled t input item) × ((p : List Segment) (error : DataFlowError) → FailsAt input item t p error → ⊥)
+TellsLeastFailure input item t (Err error) = (p : List Segment) × IsLeastFailure input item t (record { place = p; error = error })

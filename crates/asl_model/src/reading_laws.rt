@@ -1,16 +1,20 @@
 //! Laws about what texts mean. Each function here does nothing: its contract is the law.
 
-ghost use Rattle.std.specs.Prelude.{◌≡◌, ◌⊎◌, ℕ, List, length, IsTrue};
+ghost use Rattle.std.specs.Prelude.{◌≡◌, ◌⊎◌, ◌↔◌, ℕ, List, length, Bool, Some, IsTrue};
 ghost use Rattle.std.specs.Str.{encode_utf8_all};
 ghost use Rattle.serde_json.specs.Data.{Data};
 ghost use Rattle.asl_model.specs.Tree.{Tree};
 ghost use Rattle.asl_model.specs.Path.{Segment};
 ghost use Rattle.asl_model.specs.Shape.{Shape};
+ghost use Rattle.asl_model.specs.Template.{Template};
+ghost use Rattle.asl_model.specs.Test.{Rule};
 ghost use Rattle.asl_model.specs.Machine.{Scope};
 ghost use Rattle.asl_model.specs.Certificate.{Declared, Certificate};
 ghost use Rattle.asl_model.specs.Json.{ReadsAsValue, ReadsAsTree};
 ghost use Rattle.asl_model.specs.PathSpelling.{Spells, PathFault, IsRefusedPath, printed_path, have_spellings};
 ghost use Rattle.asl_model.specs.ShapeSpelling.{SpellsShape, ShapeFault, HasShapeFault};
+ghost use Rattle.asl_model.specs.TemplateSpelling.{TemplateFault, template_of, SpellsTemplate, HasTemplateFault};
+ghost use Rattle.asl_model.specs.RuleSpelling.{RuleFault, rule_of, SpellsRule, HasRuleFault};
 ghost use Rattle.asl_model.specs.Records.{RecordComplaint, StandsForDeclared, StandsForCertificate, HasDeclaredFault, HasCertificateFault};
 ghost use Rattle.asl_model.specs.StandsFor.{Complaint, StandsFor, HasComplaint, characters};
 ghost use Rattle.asl_model.specs.Texts.{TextFault, ReadsAsMachine, ReadsAsDeclared, ReadsAsCertificate, IsDefinitionFault, IsDeclaredFault, IsCertificateFault};
@@ -47,6 +51,23 @@ pub fn values_stand_for_one_thing()
 pub fn trees_spell_one_shape()
     ensures shape { (t : Tree) (a b : Shape) → SpellsShape t a → SpellsShape t b → a ≡ b }
     ensures no_fault { (t : Tree) (a : Shape) (f : ShapeFault) → SpellsShape t a → HasShapeFault t f → ⊥ }
+{}
+
+/// A tree spells at most one template, and either spells one or has a fault. So it is with and without leave for paths to
+/// a Map's item.
+pub fn trees_spell_one_template()
+    ensures template { (item : Bool) (t : Tree) (p q : Template) → SpellsTemplate item t p → SpellsTemplate item t q → p ≡ q }
+    ensures no_fault { (item : Bool) (t : Tree) (p : Template) (f : TemplateFault) → SpellsTemplate item t p → HasTemplateFault item t f → ⊥ }
+    ensures either { (item : Bool) (t : Tree) → ((p : Template) × SpellsTemplate item t p) ⊎ ((f : TemplateFault) × HasTemplateFault item t f) }
+    ensures read { (item : Bool) (t : Tree) (p : Template) → (template_of item t ≡ Some p) ↔ SpellsTemplate item t p }
+{}
+
+/// A tree spells at most one choice rule, and either spells one or has a fault.
+pub fn trees_spell_one_rule()
+    ensures rule { (t : Tree) (a b : Rule) → SpellsRule t a → SpellsRule t b → a ≡ b }
+    ensures no_fault { (t : Tree) (a : Rule) (f : RuleFault) → SpellsRule t a → HasRuleFault t f → ⊥ }
+    ensures either { (t : Tree) → ((a : Rule) × SpellsRule t a) ⊎ ((f : RuleFault) × HasRuleFault t f) }
+    ensures read { (t : Tree) (a : Rule) → (rule_of t ≡ Some a) ↔ SpellsRule t a }
 {}
 
 /// Each text has a meaning or a fault, and so has each JSON value as a definition and each tree as a shape.

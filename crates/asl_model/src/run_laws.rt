@@ -1,9 +1,11 @@
 //! Laws about runs. Each function here does nothing: its contract is the law.
 
-ghost use Rattle.std.specs.Prelude.{◌≡◌, ◌↔◌, ℕ, List, Some, is_some, IsTrue};
+ghost use Rattle.std.specs.Prelude.{◌≡◌, ◌↔◌, ℕ, List, Option, Some, is_some, IsTrue};
 ghost use Rattle.asl_model.specs.Tree.{Tree};
 ghost use Rattle.asl_model.specs.Path.{Segment, named_by, Names};
 ghost use Rattle.asl_model.specs.Placing.{placed, Places};
+ghost use Rattle.asl_model.specs.Intrinsic.{Item, Pieces, cut_at_holes, ArePiecesOf};
+ghost use Rattle.asl_model.specs.Template.{Template, template_value, IsInOrder, TellsLeastFailure};
 ghost use Rattle.asl_model.specs.Test.{PatternPart, is_cut_by, IsCutBy};
 ghost use Rattle.asl_model.specs.Machine.{Scope};
 ghost use Rattle.asl_model.specs.Run.{Activity, Action, Event, Step, activity_at, step_at, start, want_of, enabled, AreApart, Commute, Enables};
@@ -69,4 +71,15 @@ pub fn placed_is_exactly_places()
 /// A text passes the test of a pattern exactly where it can be cut into parts, one for each element of the pattern.
 pub fn matching_is_exactly_cutting()
     ensures { (parts : List PatternPart) (text : List ℕ) → IsCutBy parts text ↔ IsTrue (is_cut_by parts text) }
+{}
+
+/// Cutting a text at its holes gives exactly its pieces: joined by `{}` they are the text, and no piece has a hole in it.
+pub fn cutting_gives_exactly_the_pieces()
+    ensures { (text : List ℕ) (pieces : Pieces) → ArePiecesOf text pieces ↔ cut_at_holes text ≡ pieces }
+{}
+
+/// The value of a template whose names stand in byte order is the fault of its least failing place, or else every place
+/// filled, where no place fails.
+pub fn template_faults_are_those_of_the_least_place()
+    ensures { (input : Tree) (item : Option Item) (t : Template) → IsInOrder t → TellsLeastFailure input item t (template_value t input item) }
 {}
