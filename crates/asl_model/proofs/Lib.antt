@@ -1,4 +1,5 @@
 pub mod ClosedScopes
+pub mod ExamplesAnswers
 pub mod ExamplesCalls
 pub mod ExamplesClosed
 pub mod ExamplesDefinitions
@@ -13,10 +14,13 @@ pub mod ExamplesSpellings
 pub mod ExamplesTemplateSpellings
 pub mod ExamplesTemplates
 pub mod ExamplesTexts
+pub mod FindingClosed
 pub mod FindingScopes
+pub mod FindingStates
 pub mod PathPrinting
 pub mod PathReading
 pub mod PlacingExactly
+pub mod ReadingAnswers
 pub mod ReadingCharacters
 pub mod ReadingLaws
 pub mod ReadingLookups
@@ -34,6 +38,7 @@ pub mod ShapeFields
 pub mod ShapeInhabited
 pub mod ShapeInside
 pub mod ShapeJoin
+pub mod ShapeLeave
 pub mod ShapeLook
 pub mod ShapePut
 pub mod ShapeRule

@@ -103,7 +103,7 @@ spells_or_has_fault t = by (first_listed (shape_faults t))
     by (inr c) = inr (c.0, record { listed = c.1 })
 
 -- the text reads as a value, or is no JSON
-value_or_none : (text : List ℕ) → ((v : Data) × ReadsAsValue text v) ⊎ IsNoJson text
+pub value_or_none : (text : List ℕ) → ((v : Data) × ReadsAsValue text v) ⊎ IsNoJson text
 value_or_none text = by (is_utf8 text) (read text) refl refl
   where
     by : (u : Bool) (o : Option Data) → is_utf8 text ≡ u → read text ≡ o → ((v : Data) × ReadsAsValue text v) ⊎ IsNoJson text

@@ -22,7 +22,7 @@ abbrev pub AllInside : Shapes → Shape → Type 0
 AllInside NoShapes whole = Unit {0}
 AllInside (AndShape s others) whole = Inside s whole × AllInside others whole
 
-all_inside-more : (first : Shapes) (part whole : Shape) → Inside part whole → AllInside first part → AllInside first whole
+pub all_inside-more : (first : Shapes) (part whole : Shape) → Inside part whole → AllInside first part → AllInside first whole
 all_inside-more NoShapes part whole up h = tt
 all_inside-more (AndShape s others) part whole up h = (λ t m. up t (h.0 t m), all_inside-more others part whole up h.1)
 
@@ -34,7 +34,7 @@ module _ (joined : Shape → Shape → Shape) (above : IsAbove joined) where
       (λ t m. further.0 t (above.left s other t m), (λ t m. further.0 t (above.right s other t m), further.1))
 
   -- elements all of whose shapes are inside one
-  elements_above : (first : Shapes) (rest whole : Shape) (ts : Trees) → AllInside first whole → Inside rest whole → IsTrue (elements_have first (has rest) ts) → IsTrue (each_element (has whole) ts)
+  pub elements_above : (first : Shapes) (rest whole : Shape) (ts : Trees) → AllInside first whole → Inside rest whole → IsTrue (elements_have first (has rest) ts) → IsTrue (each_element (has whole) ts)
   elements_above NoShapes rest whole NoTrees all up h = refl
   elements_above NoShapes rest whole (AndTree t ts) all up h =
       let both = and_parts (has rest t) (each_element (has rest) ts) h in

@@ -11,7 +11,7 @@ use Rattle.asl_model.specs.Template.{Template, Literal, FromPath, FromCall, Arra
 use Rattle.asl_model.specs.Faults.{DataFlowError, ParameterPathFailure, IntrinsicFailure}
 use Rattle.asl_model.specs.Shape.{Shape, Never, NullShape, BooleanShape, IntegerShape, StringShape, ArrayShape, Shapes, NoShapes, AndShape, Has, has, elements_have, fields_have, all_mentioned, inhabited}
 use Rattle.asl_model.specs.ShapeOrder.{is_null_shape, is_boolean_shape, is_integer_shape, is_string_shape}
-use Rattle.asl_model.specs.ShapeFlow.{look, literal, literals, literal_fields, Doubt, or_missing, reference_shape, unless_doubtful, is_formattable, all_formattable, is_array_shape, how_many_shapes, and_argument, number_of, fits_holes, format_of, value_shape, call_shape, argument_shape, argument_shapes, doubts_at, or_may_fail, or_none, doubts, element_doubts, field_doubts, filled_shape, filled_elements, filled_fields, unless_doubts, template_shape}
+use Rattle.asl_model.specs.ShapeFlow.{ItemHas, look, literal, literals, literal_fields, Doubt, or_missing, reference_shape, unless_doubtful, is_formattable, all_formattable, is_array_shape, how_many_shapes, and_argument, number_of, fits_holes, format_of, value_shape, call_shape, argument_shape, argument_shapes, doubts_at, or_may_fail, or_none, doubts, element_doubts, field_doubts, filled_shape, filled_elements, filled_fields, unless_doubts, template_shape}
 use Rattle.asl_model.proofs.PlacingExactly.{found}
 use Rattle.asl_model.proofs.FindingScopes.{append-none}
 use Rattle.asl_model.proofs.ShapeInhabited.{has-inhabited}
@@ -24,12 +24,6 @@ pub look-gives : (path : List Segment) (s t : Shape) (v : Tree) → look path s 
 look-gives path s t v e h =
     let names = look-names path s t e v h in
     (names.0, found names.1, names.2)
-
--- where a shape of the item is given, there is an item of that shape
-abbrev pub ItemHas : Option Shape → Option Item → Type 0
-ItemHas None item = Unit {0}
-ItemHas (Some s) None = ⊥
-ItemHas (Some s) (Some item) = Has s item.value
 
 -- References
 

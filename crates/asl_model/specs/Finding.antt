@@ -217,21 +217,19 @@ default_breaches inputs entry settings kind (Some next) s = chosen_breaches inpu
 abbrev pub error_output_shape : Shape
 error_output_shape = ObjectShape (AndFieldShape (codes "Cause") true StringShape (AndFieldShape (codes "Error") true StringShape NoFieldShapes)) false
 
--- the shape of what a catcher hands on, for the state's input; with `ResultPath` null that input itself
-abbrev pub caught_shape : Catcher → Shape → Result Shape ℕ
-caught_shape catcher input = at_result_path catcher.result_path
-  where
-    at_result_path : Option (List Segment) → Result Shape ℕ
-    at_result_path None = Ok input
-    at_result_path (Some path) = put path error_output_shape input
+-- the shape of the state's input with the error output placed at a catcher's `ResultPath`; where that is null, that input
+abbrev pub error_placed_shape : Option (List Segment) → Shape → Result Shape ℕ
+error_placed_shape None input = Ok input
+error_placed_shape (Some path) input = put path error_output_shape input
 
+-- what a catcher hands on, compared with the next state's input
 abbrev pub caught_breaches : (List ℕ → Option Shape) → List ℕ → Result Shape ℕ → List Breach
 caught_breaches inputs next (Ok s) = breach_unless_sub (codes "Catch") CatchInput s (inputs next)
 caught_breaches inputs next (Err at) = breach_unless false (codes "Catch") ResultMayNotFit
 
 abbrev pub catcher_breaches : (List ℕ → Option Shape) → Shape → List Catcher → List Breach
 catcher_breaches inputs input [] = []
-catcher_breaches inputs input (catcher ∷ catchers) = caught_breaches inputs catcher.next (caught_shape catcher input) ++ catcher_breaches inputs input catchers
+catcher_breaches inputs input (catcher ∷ catchers) = caught_breaches inputs catcher.next (error_placed_shape catcher.result_path input) ++ catcher_breaches inputs input catchers
 
 -- States
 

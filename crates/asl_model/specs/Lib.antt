@@ -1,3 +1,4 @@
+pub mod AnswersSpelling
 pub mod CallSpelling
 pub mod Certificate
 pub mod DefinitionTable
@@ -23,4 +24,5 @@ pub mod Template
 pub mod TemplateSpelling
 pub mod Test
 pub mod Texts
+pub mod TracePrinted
 pub mod Tree

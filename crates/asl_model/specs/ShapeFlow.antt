@@ -4,11 +4,11 @@
 use Rattle.std.specs.Prelude.{ℕ, zero, suc, ◌==◌, List, [], ◌∷◌, ◌++◌, length, map, Bool, true, false, ◌&&◌, ◌||◌, not, Option, Some, None, Result, Ok, Err, codes, if◌then◌else◌}
 use Rattle.asl_model.specs.Tree.{Tree, Null, Boolean, Integer, Text, Array, Object, Trees, NoTrees, AndTree, Fields, NoFields, AndField}
 use Rattle.asl_model.specs.Path.{Segment, Name, Index}
-use Rattle.asl_model.specs.Intrinsic.{Reference, InInput, ItemIndex, InItem, Function, StatesArray, StatesArrayLength, StatesFormat, Call, CallOf, Argument, NullArgument, BooleanArgument, IntegerArgument, TextArgument, PathArgument, CallArgument, Arguments, NoArguments, AndArgument, Pieces, literal_pieces}
+use Rattle.asl_model.specs.Intrinsic.{Reference, InInput, ItemIndex, InItem, Function, StatesArray, StatesArrayLength, StatesFormat, Call, CallOf, Argument, NullArgument, BooleanArgument, IntegerArgument, TextArgument, PathArgument, CallArgument, Arguments, NoArguments, AndArgument, Pieces, literal_pieces, Item}
 use Rattle.asl_model.specs.Template.{Template, Literal, FromPath, FromCall, ArrayTemplate, ObjectTemplate, Templates, NoTemplates, AndTemplate, FieldTemplates, NoFieldTemplates, AndFieldTemplate}
 use Rattle.asl_model.specs.Test.{Test, And, Or, Not, Compare, StringMatches, IsOfKind, IsPresent, Tests, NoTests, AndTest, Operand, Constant, AtPath}
 use Rattle.asl_model.specs.Machine.{Settings, Kind, Pass, Task, Choice, Wait, Succeed, Fail, Parallel, Map}
-use Rattle.asl_model.specs.Shape.{Shape, Any, Never, NullShape, BooleanShape, IntegerShape, StringShape, ArrayShape, ObjectShape, Shapes, NoShapes, AndShape, FieldShapes, NoFieldShapes, AndFieldShape, inhabited}
+use Rattle.asl_model.specs.Shape.{Shape, Any, Never, NullShape, BooleanShape, IntegerShape, StringShape, ArrayShape, ObjectShape, Shapes, NoShapes, AndShape, FieldShapes, NoFieldShapes, AndFieldShape, Has, inhabited}
 use Rattle.asl_model.specs.ShapeOrder.{mention_of, set_mention, join, array_shape_where, is_null_shape, is_boolean_shape, is_integer_shape, is_string_shape}
 
 -- Paths
@@ -133,6 +133,12 @@ put [] w s = Ok (if inhabited s && inhabited w then w else Never)
 put (segment ∷ path) w s = if inhabited s && inhabited w then put_under (put path w) segment path w s else Ok Never
 
 -- Literals and payload templates
+
+-- where a shape of the item is given, there is an item, and its value has that shape
+abbrev pub ItemHas : Option Shape → Option Item → Type 0
+ItemHas None item = Unit {0}
+ItemHas (Some s) None = ⊥
+ItemHas (Some s) (Some item) = Has s item.value
 
 abbrev mutual
   -- the shape of a tree that stands for itself: each value's kind, arrays place by place, objects field by field
@@ -455,14 +461,28 @@ result_flow settings raw result = flow_then (output_flow settings) (flow_then (t
 abbrev pub result_leaves : Settings → Shape → Shape → Flow
 result_leaves settings raw result = if inhabited raw && inhabited result then result_flow settings raw result else Ok Never
 
+-- what leaves a state: its result, its effective input, or nothing
+pub data Leaving : Type 0 where
+  WithResult : Leaving
+  WithInput : Leaving
+  Nothing : Leaving
+
+abbrev pub leaving : Kind → Leaving
+leaving (Pass result) = WithResult
+leaving (Task resource) = WithResult
+leaving (Choice rules default) = WithInput
+leaving (Wait delay) = WithInput
+leaving Succeed = WithInput
+leaving (Fail error cause) = Nothing
+leaving (Parallel branches) = WithResult
+leaving (Map items selector processor) = WithResult
+
+abbrev pub leave_by : Leaving → Settings → Shape → Shape → Flow
+leave_by WithResult settings raw work = result_leaves settings raw work
+leave_by WithInput settings raw work = if inhabited raw then output_flow settings work else Ok Never
+leave_by Nothing settings raw work = Ok Never
+
 -- The shape of a state's output, for the shapes of its raw input and of its work: the result, or for Choice, Wait and
 -- Succeed the effective input, of which `OutputPath` alone makes the output. Nothing leaves a Fail.
 abbrev pub leave : Settings → Kind → Shape → Shape → Flow
-leave settings (Pass result) raw work = result_leaves settings raw work
-leave settings (Task resource) raw work = result_leaves settings raw work
-leave settings (Choice rules default) raw work = if inhabited raw then output_flow settings work else Ok Never
-leave settings (Wait delay) raw work = if inhabited raw then output_flow settings work else Ok Never
-leave settings Succeed raw work = if inhabited raw then output_flow settings work else Ok Never
-leave settings (Fail error cause) raw work = Ok Never
-leave settings (Parallel branches) raw work = result_leaves settings raw work
-leave settings (Map items selector processor) raw work = result_leaves settings raw work
+leave settings kind raw work = leave_by (leaving kind) settings raw work

@@ -15,6 +15,8 @@ ghost use Rattle.asl_model.specs.PathSpelling.{Spells, PathFault, IsRefusedPath,
 ghost use Rattle.asl_model.specs.ShapeSpelling.{SpellsShape, ShapeFault, HasShapeFault};
 ghost use Rattle.asl_model.specs.TemplateSpelling.{TemplateFault, template_of, SpellsTemplate, HasTemplateFault};
 ghost use Rattle.asl_model.specs.RuleSpelling.{RuleFault, rule_of, SpellsRule, HasRuleFault};
+ghost use Rattle.asl_model.specs.Run.{Action};
+ghost use Rattle.asl_model.specs.AnswersSpelling.{ReadsAsAnswers, IsAnswersFault};
 ghost use Rattle.asl_model.specs.Records.{RecordComplaint, StandsForDeclared, StandsForCertificate, HasDeclaredFault, HasCertificateFault};
 ghost use Rattle.asl_model.specs.StandsFor.{Complaint, StandsFor, HasComplaint, characters};
 ghost use Rattle.asl_model.specs.Texts.{TextFault, ReadsAsMachine, ReadsAsDeclared, ReadsAsCertificate, IsDefinitionFault, IsDeclaredFault, IsCertificateFault};
@@ -95,4 +97,11 @@ pub fn printed_paths_are_spelled()
 /// The characters of a text are as many as its bytes that continue no character.
 pub fn characters_are_counted()
     ensures { (text : List ℕ) → characters (encode_utf8_all text) ≡ length text }
+{}
+
+/// A text reads as at most one list of answers, and reads as one or has a fault, never both.
+pub fn texts_have_one_list_of_answers()
+    ensures one { (text : List ℕ) (a b : List Action) → ReadsAsAnswers text a → ReadsAsAnswers text b → a ≡ b }
+    ensures no_fault { (text : List ℕ) (a : List Action) (f : TextFault) → ReadsAsAnswers text a → IsAnswersFault text f → ⊥ }
+    ensures either { (text : List ℕ) → ((a : List Action) × ReadsAsAnswers text a) ⊎ ((f : TextFault) × IsAnswersFault text f) }
 {}

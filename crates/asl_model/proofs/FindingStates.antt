@@ -1,0 +1,320 @@
+-- Where no rule is broken at a state, the certificate is closed at it, whatever its type.
+use Rattle.std.proofs.Common.{◌≡◌, ℕ, suc, List, [], ◌∷◌, ◌++◌, length, Bool, true, false, Option, Some, None, Result, Ok, Err, refl, sym, ap, subst, arith}
+use Rattle.std.specs.Prelude.{IsTrue, is_some, unwrap_or, codes, if◌then◌else◌}
+use Rattle.std.proofs.lemmas.Bool.{and_parts, and_from, false≢true}
+use Rattle.asl_model.specs.Tree.{Tree, Integer, Text, Array, Trees, NoTrees, AndTree, count}
+use Rattle.asl_model.specs.Path.{Segment}
+use Rattle.asl_model.specs.Placing.{placed}
+use Rattle.asl_model.specs.Template.{Template}
+use Rattle.asl_model.specs.Test.{Rule, truth}
+use Rattle.asl_model.specs.Machine.{Catcher, Settings, Delay, Seconds, SecondsPath, Timestamp, TimestampPath, Scope, StateOf, Kind, Pass, Task, Choice, Wait, Succeed, Fail, Parallel, Map, Scopes, NoScopes, AndScope, start_of, scope_at, how_many, names_state}
+use Rattle.asl_model.specs.Flow.{effective_input, at_output_path, output_of, Work, works_on, Splits, chosen, by_truth, delay_of, branch_inputs, item_input, item_inputs, items_of, work_of, first_move}
+use Rattle.asl_model.specs.Run.{error_output, error_placed}
+use Rattle.asl_model.specs.Shape.{Shape, Any, Never, NullShape, BooleanShape, IntegerShape, StringShape, ArrayShape, ObjectShape, Shapes, NoShapes, AndShape, Has, has, elements_have, each_element, inhabited}
+use Rattle.asl_model.specs.ShapeOrder.{sub, join, joined_with_each, is_integer_shape, is_string_shape}
+use Rattle.asl_model.specs.ShapeFlow.{look, put, template_shape, rule_shape, Flow, template_flow, output_flow, result_leaves}
+use Rattle.asl_model.specs.Certificate.{Declared, StateShapes, Certificate, certified, certified_input, certified_output, input_among, output_among, branches_in, is_map, shape_at, branch_end, item_end, or_never, takes_of, gives_of, EachHas, OutputFits, WorkFits, CaughtFits, CatchersFit, HasEntry, IsClosedAt}
+use Rattle.asl_model.specs.Finding.{FindingFault, Breach, NotCertified, BranchInput, NextInput, ScopeOutput, OutputNotCertified, PayloadNotTaken, CatchInput, breach_unless, breach_unless_sub, breach_of, breaches_then, input_of_entry, input_to_compare, effective_flow, next_breaches, end_breaches, output_breaches, kind_breaches, delay_breaches, pass_result, child_breaches, branch_breaches, shapes_of, element_shape, item_flow, at_each_place, map_result, elements_of, with_elements, with_items, chosen_breaches, rule_breaches, rules_breaches, default_breaches, error_output_shape, error_placed_shape, caught_breaches, catcher_breaches, result_breaches, map_breaches, work_breaches, flow_breaches, state_breaches, scope_findings}
+use Rattle.asl_model.proofs.FindingScopes.{append-none, none-unless, flow-none, has-entry, state-certified}
+use Rattle.asl_model.proofs.ShapeInhabited.{has-inhabited}
+use Rattle.asl_model.proofs.ShapeInside.{sub-inside, only_integer, only_string}
+use Rattle.asl_model.proofs.ShapeJoin.{join_above, join_each-above, all_inside-more, elements_above}
+use Rattle.asl_model.proofs.ShapePut.{put-gives}
+use Rattle.asl_model.proofs.ShapeTemplate.{look-gives, literal-has_itself, template-gives}
+use Rattle.asl_model.proofs.ShapeRule.{rule-decided}
+use Rattle.asl_model.proofs.ShapeLeave.{Gives, IsTold, leaves-told, output-told, effective-told, template-told, template-parts, leaves-gives, output-gives, effective-gives}
+
+-- Comparisons
+
+sub-none : (field : List ℕ) (fault : FindingFault) (s t : Shape) → breach_unless_sub field fault s (Some t) ≡ [] → (v : Tree) → Has s v → Has t v
+sub-none field fault s t e v m = sub-inside s t (none-unless (sub s t) field fault e) v m
+
+then-none : (go_on : Shape → List Breach) (flow : Flow) → IsTold flow → breaches_then go_on flow ≡ [] → (s : Shape) × (flow ≡ Ok s) × (go_on s ≡ [])
+then-none go_on (Ok s) told e = (s, refl, e)
+then-none go_on (Err []) told e = absurd told
+then-none go_on (Err (fault ∷ further)) told e = absurd (cc)
+
+-- what passes the comparison with a state's input has the input that is certified
+abbrev pub InputsFit : Certificate → (List ℕ → Option Shape) → Type 0
+InputsFit certificate inputs = (n field : List ℕ) (fault : FindingFault) (s : Shape) → breach_unless_sub field fault s (inputs n) ≡ [] → (v : Tree) → Has s v → Has (certified_input certificate n) v
+
+-- Values that are wanted
+
+number-there : (field : List ℕ) (w : Tree) → Has IntegerShape w → (t : Tree) × (Rattle.asl_model.specs.Flow.number_wanted field w ≡ Ok t)
+number-there field (Integer n) m = (Integer n, refl)
+number-there field w m = absurd (false≢true m)
+
+text-there : (field : List ℕ) (w : Tree) → Has StringShape w → (t : Tree) × (Rattle.asl_model.specs.Flow.text_wanted field w ≡ Ok t)
+text-there field (Text s) m = (Text s, refl)
+text-there field w m = absurd (false≢true m)
+
+kind-none : (field : List ℕ) (test : Shape → Bool) (result : Result Shape ℕ) → kind_breaches field test result ≡ [] → (t : Shape) × (result ≡ Ok t) × IsTrue (test t)
+kind-none field test (Ok t) e = (t, refl, none-unless (test t) field Rattle.asl_model.specs.Finding.WrongKind e)
+kind-none field test (Err at) e = absurd (cc)
+
+delay-fits : (delay : Delay) (s : Shape) (u : Tree) → delay_breaches delay s ≡ [] → Has s u → (t : Tree) × (delay_of delay u ≡ Ok t)
+delay-fits (Seconds k) s u e m = (u, refl)
+delay-fits (SecondsPath path) s u e m =
+    let kind = kind-none (codes "SecondsPath") is_integer_shape (look path s) e in
+    let given = look-gives path s kind.0 u kind.1 m in
+    let number = number-there (codes "SecondsPath") given.0 (subst (λ (z : Shape). Has z given.0) (only_integer kind.0 kind.2) given.2) in
+    (number.0, rw (given.1) (number.1))
+delay-fits (Timestamp t) s u e m = (u, refl)
+delay-fits (TimestampPath path) s u e m =
+    let kind = kind-none (codes "TimestampPath") is_string_shape (look path s) e in
+    let given = look-gives path s kind.0 u kind.1 m in
+    let text = text-there (codes "TimestampPath") given.0 (subst (λ (z : Shape). Has z given.0) (only_string kind.0 kind.2) given.2) in
+    (text.0, rw (given.1) (text.1))
+
+pass-has : (result : Option Tree) (s : Shape) (u : Tree) → Has s u → Has (pass_result result s) (unwrap_or result u)
+pass-has None s u m = m
+pass-has (Some t) s u m = literal-has_itself t
+
+-- Lists of outputs
+
+branches-have : (all : List Shape) (outputs : Trees) → count outputs ≡ length all → EachHas (λ i. or_never (shape_at i all)) outputs → IsTrue (elements_have (shapes_of all) (has Never) outputs)
+branches-have [] NoTrees same each = refl
+branches-have [] (AndTree t ts) same each = absurd (omega arith)
+branches-have (s ∷ further) NoTrees same each = absurd (omega arith)
+branches-have (s ∷ further) (AndTree t ts) same each = and_from (has s t) (elements_have (shapes_of further) (has Never) ts) each.0 (branches-have further ts (omega arith) each.1)
+
+each-item : (item : Shape) (outputs : Trees) → EachHas (λ i. item) outputs → IsTrue (each_element (has item) outputs)
+each-item item NoTrees each = refl
+each-item item (AndTree t ts) each = and_from (has item t) (each_element (has item) ts) each.0 (each-item item ts each.1)
+
+map-has : (item : Shape) (first : Shapes) (rest : Shape) (ts outputs : Trees) → IsTrue (elements_have first (has rest) ts) → count outputs ≡ count ts → EachHas (λ i. item) outputs → IsTrue (elements_have (at_each_place item first) (has (if inhabited rest then item else Never)) outputs)
+map-has item NoShapes rest NoTrees NoTrees h same each = refl
+map-has item NoShapes rest NoTrees (AndTree u us) h same each = absurd (omega arith)
+map-has item NoShapes rest (AndTree t ts) outputs h same each = rw (has-inhabited rest t (and_parts (has rest t) (each_element (has rest) ts) h).0) (each-item item outputs each)
+map-has item (AndShape s others) rest NoTrees outputs h same each = absurd (false≢true h)
+map-has item (AndShape s others) rest (AndTree t ts) NoTrees h same each = absurd (omega arith)
+map-has item (AndShape s others) rest (AndTree t ts) (AndTree u us) h same each = and_from (has item u) (elements_have (at_each_place item others) (has (if inhabited rest then item else Never)) us) each.0 (map-has item others rest ts us (and_parts (has s t) (elements_have others (has rest) ts) h).1 (omega arith) each.1)
+
+-- Items of a Map
+
+items-parts : (go_on : Shapes × Shape → List Breach) (result : Result Shape ℕ) → with_items go_on result ≡ [] → (first : Shapes) × (rest : Shape) × (result ≡ Ok (ArrayShape first rest)) × (go_on (first, rest) ≡ [])
+items-parts go_on (Err at) e = absurd (cc)
+items-parts go_on (Ok Any) e = absurd (cc)
+items-parts go_on (Ok Never) e = absurd (cc)
+items-parts go_on (Ok NullShape) e = absurd (cc)
+items-parts go_on (Ok BooleanShape) e = absurd (cc)
+items-parts go_on (Ok IntegerShape) e = absurd (cc)
+items-parts go_on (Ok StringShape) e = absurd (cc)
+items-parts go_on (Ok (ArrayShape first rest)) e = (first, rest, refl, e)
+items-parts go_on (Ok (ObjectShape fields extra)) e = absurd (cc)
+
+-- a tree of an array's shape is an array
+array-tree : (field : List ℕ) (first : Shapes) (rest : Shape) (w : Tree) → Has (ArrayShape first rest) w → (ts : Trees) × (Rattle.asl_model.specs.Flow.list_wanted field w ≡ Ok ts) × IsTrue (elements_have first (has rest) ts)
+array-tree field first rest (Array ts) m = (ts, refl, m)
+array-tree field first rest w m = absurd (false≢true m)
+
+items-there : (items : List Segment) (s : Shape) (first : Shapes) (rest : Shape) (u : Tree) → look items s ≡ Ok (ArrayShape first rest) → Has s u → (ts : Trees) × (items_of items u ≡ Ok ts) × IsTrue (elements_have first (has rest) ts)
+items-there items s first rest u e m =
+    let given = look-gives items s (ArrayShape first rest) u e m in
+    let list = array-tree (codes "ItemsPath") first rest given.0 given.2 in
+    (list.0, rw (given.1) (list.1), list.2)
+
+-- each item has the element's shape
+items-have : (first : Shapes) (rest : Shape) (ts : Trees) → IsTrue (elements_have first (has rest) ts) → IsTrue (each_element (has (element_shape first rest)) ts)
+items-have first rest ts h =
+    let inner : Shape = joined_with_each join Never first in
+    elements_above join join_above first rest (join inner rest) ts (all_inside-more first inner (join inner rest) (λ t m. join_above.left inner rest t m) (join_each-above Never first).1) (λ t m. join_above.right inner rest t m) h
+
+item-told : (selector : Option Template) (s element : Shape) → IsTold (item_flow selector s element)
+item-told None s element = tt
+item-told (Some selector) s element = go (inhabited element)
+  where
+    go : (live : Bool) → IsTold (if live then template_flow (codes "ItemSelector") (template_shape selector s (Some element)) else Ok Never)
+    go true = template-told (codes "ItemSelector") selector s (Some element)
+    go false = tt
+
+item-gives : (selector : Option Template) (s element r : Shape) (u : Tree) (i : ℕ) (t : Tree) → item_flow selector s element ≡ Ok r → Has s u → Has element t → Gives r (item_input selector u i t)
+item-gives None s element r u i t e h m =
+    let is : element ≡ r = cc in
+    (t, refl, subst (λ (z : Shape). Has z t) is m)
+item-gives (Some selector) s element r u i t e h m =
+    let live : template_flow (codes "ItemSelector") (template_shape selector s (Some element)) ≡ Ok r = rw (has-inhabited element t m) at e in
+    let given = template-gives selector s (Some element) r u (Some (record { number = i; value = t })) (template-parts (codes "ItemSelector") (template_shape selector s (Some element)) r live) h m in
+    (given.0, rw (given.1) refl, given.2)
+
+inputs-give : (selector : Option Template) (s element r : Shape) (u : Tree) (i : ℕ) (ts : Trees) → item_flow selector s element ≡ Ok r → Has s u → IsTrue (each_element (has element) ts) → (us : Trees) × (item_inputs selector u i ts ≡ Ok us) × (count us ≡ count ts) × IsTrue (each_element (has r) us)
+inputs-give selector s element r u i NoTrees e h m = (NoTrees, refl, refl, refl)
+inputs-give selector s element r u i (AndTree t ts) e h m =
+    let both = and_parts (has element t) (each_element (has element) ts) m in
+    let first = item-gives selector s element r u i t e h both.0 in
+    let further = inputs-give selector s element r u (suc i) ts e h both.1 in
+    (AndTree first.0 further.0, rw (first.1, further.1) refl, ap suc further.2, and_from (has r first.0) (each_element (has r) further.0) first.2 further.3)
+
+-- the inputs have the shape of the processor's start
+each-fits : (r p : Shape) (us : Trees) → ((v : Tree) → Has r v → Has p v) → IsTrue (each_element (has r) us) → EachHas (λ i. p) us
+each-fits r p NoTrees inside h = tt
+each-fits r p (AndTree u us) inside h =
+    let both = and_parts (has r u) (each_element (has r) us) h in
+    (inside u both.0, each-fits r p us inside both.1)
+
+-- Catchers
+
+error-has : (error cause : List ℕ) → Has error_output_shape (error_output error cause)
+error-has error cause = refl
+
+module _ (declared : Declared) (certificate : Certificate) (inputs : List ℕ → Option Shape) (fit : InputsFit certificate inputs) where
+  caught-fits : (path : Option (List Segment)) (next : List ℕ) (input : Shape) (v : Tree) (error cause : List ℕ) → caught_breaches inputs next (error_placed_shape path input) ≡ [] → Has input v → CaughtFits certificate next (error_placed path v error cause)
+  caught-fits None next input v error cause e h = fit next (codes "Catch") CatchInput input e v h
+  caught-fits (Some path) next input v error cause e h = go (put path error_output_shape input) refl e
+    where
+      go : (result : Result Shape ℕ) → put path error_output_shape input ≡ result → caught_breaches inputs next result ≡ [] → CaughtFits certificate next (placed path (error_output error cause) v)
+      go (Err k) at e' = absurd (cc)
+      go (Ok r) at e' =
+          let given = put-gives path error_output_shape input r (error_output error cause) v at (error-has error cause) h in
+          rw (given.1) (fit next (codes "Catch") CatchInput r e' given.0 given.2)
+
+  catchers-fit : (catchers : List Catcher) (input : Shape) (v : Tree) → catcher_breaches inputs input catchers ≡ [] → Has input v → CatchersFit certificate v catchers
+  catchers-fit [] input v e h = tt
+  catchers-fit (catcher ∷ others) input v e h =
+      let parts = append-none (caught_breaches inputs catcher.next (error_placed_shape catcher.result_path input)) (catcher_breaches inputs input others) e in
+      (λ error cause. caught-fits catcher.result_path catcher.next input v error cause parts.0 h, catchers-fit others input v parts.1 h)
+
+  -- a branch's inputs
+  each-branch : (branches : Scopes) (s : Shape) (u : Tree) → branch_breaches inputs branches s ≡ [] → Has s u → EachHas (λ i. certified_input certificate (start_of (scope_at i branches))) (branch_inputs branches u)
+  each-branch NoScopes s u e m = tt
+  each-branch (AndScope scope others) s u e m =
+      let parts = append-none (child_breaches inputs (codes "Branches") scope s) (branch_breaches inputs others s) e in
+      (fit (start_of scope) (codes "Branches") BranchInput s parts.0 u m, each-branch others s u parts.1 m)
+
+  module _ (end : Shape) (n : List ℕ) (entry : StateShapes) (at : certified certificate n ≡ Some entry) where
+    out-certified : (output : Shape) (u : Tree) → breach_unless_sub (codes "OutputPath") OutputNotCertified output (Some entry.output) ≡ [] → Has output u → Has (certified_output certificate n) u
+    out-certified output u e m = subst (λ (o : Option StateShapes). Has (output_among o) u) (sym at) (sub-none (codes "OutputPath") OutputNotCertified output entry.output e u m)
+
+    next-fits : (field next : List ℕ) (output : Shape) (u : Tree) → next_breaches inputs entry.output field next output ≡ [] → Has output u → OutputFits certificate end n (Some next) (Ok u)
+    next-fits field next output u e m =
+        let parts = append-none (breach_unless_sub (codes "OutputPath") OutputNotCertified output (Some entry.output)) (breach_unless_sub field NextInput output (inputs next)) e in
+        (out-certified output u parts.0 m, fit next field NextInput output parts.1 u m)
+
+    end-fits : (field : List ℕ) (output : Shape) (u : Tree) → end_breaches entry.output field (Some end) output ≡ [] → Has output u → OutputFits certificate end n None (Ok u)
+    end-fits field output u e m =
+        let parts = append-none (breach_unless_sub (codes "OutputPath") OutputNotCertified output (Some entry.output)) (breach_unless_sub field ScopeOutput output (Some end)) e in
+        (out-certified output u parts.0 m, sub-none field ScopeOutput output end parts.1 u m)
+
+    output-fits : (next : Option (List ℕ)) (output : Shape) (u : Tree) → output_breaches inputs entry.output (Some end) next output ≡ [] → Has output u → OutputFits certificate end n next (Ok u)
+    output-fits None output u e m = end-fits (codes "End") output u e m
+    output-fits (Some next) output u e m = next-fits (codes "Next") next output u e m
+
+    -- an output by `ResultSelector`, `ResultPath` and `OutputPath`
+    result-fits : (settings : Settings) (result : Shape) (v x : Tree) → breaches_then (output_breaches inputs entry.output (Some end) settings.next) (result_leaves settings entry.input result) ≡ [] → Has entry.input v → Has result x → OutputFits certificate end n settings.next (output_of settings v x)
+    result-fits settings result v x e h m =
+        let parts = then-none (output_breaches inputs entry.output (Some end) settings.next) (result_leaves settings entry.input result) (leaves-told settings entry.input result) e in
+        let given = leaves-gives settings entry.input result parts.0 v x parts.1 h m in
+        rw (given.1) (output-fits settings.next parts.0 given.0 parts.2 given.2)
+
+    -- an output by `OutputPath` alone
+    passed-fits : (settings : Settings) (next : Option (List ℕ)) (compare : Shape → List Breach) (s : Shape) (v u : Tree) → ((output : Shape) (w : Tree) → compare output ≡ [] → Has output w → OutputFits certificate end n next (Ok w)) → breaches_then compare (if inhabited entry.input then output_flow settings s else Ok Never) ≡ [] → Has entry.input v → Has s u → OutputFits certificate end n next (at_output_path settings u)
+    passed-fits settings next compare s v u fits e h m =
+        let live : breaches_then compare (output_flow settings s) ≡ [] = rw (has-inhabited entry.input v h) at e in
+        let parts = then-none compare (output_flow settings s) (output-told settings s) live in
+        let given = output-gives settings s parts.0 u parts.1 m in
+        rw (given.1) (fits parts.0 given.0 parts.2 given.2)
+
+    -- the next state of a Choice
+    module _ (settings : Settings) (all : List Rule) (fallback : Option (List ℕ)) where
+      one-chosen : (field next : List ℕ) (s : Shape) (v u : Tree) → chosen_breaches inputs entry settings (Choice all fallback) field next s ≡ [] → Has entry.input v → Has s u → OutputFits certificate end n (Some next) (at_output_path settings u)
+      one-chosen field next s v u e h m = passed-fits settings (Some next) (next_breaches inputs entry.output field next) s v u (λ output w. next-fits field next output w) e h m
+
+      by-rules : (rules : List Rule) (default : Option (List ℕ)) (s : Shape) (v u : Tree) → rules_breaches inputs entry settings (Choice all fallback) rules s ≡ [] → default_breaches inputs entry settings (Choice all fallback) default s ≡ [] → Has entry.input v → Has s u → (next : List ℕ) × (chosen rules default u ≡ Ok next) × OutputFits certificate end n (Some next) (at_output_path settings u)
+      by-rules [] None s v u e f h m = absurd (cc)
+      by-rules [] (Some next) s v u e f h m = (next, refl, one-chosen (codes "Default") next s v u f h m)
+      by-rules (rule ∷ rules) default s v u e f h m = go (rule_shape rule.test s) refl parts.0 (by-rules rules default s v u parts.1 f h m)
+        where
+          parts : (rule_breaches inputs entry settings (Choice all fallback) rule.next (rule_shape rule.test s) ≡ []) × (rules_breaches inputs entry settings (Choice all fallback) rules s ≡ [])
+          parts = append-none (rule_breaches inputs entry settings (Choice all fallback) rule.next (rule_shape rule.test s)) (rules_breaches inputs entry settings (Choice all fallback) rules s) e
+
+          by-truth : (r : Shape) (b : Bool) → truth rule.test u ≡ Some b → (IsTrue b → Has r u) → rule_breaches inputs entry settings (Choice all fallback) rule.next (Some r) ≡ [] → (next : List ℕ) × (chosen rules default u ≡ Ok next) × OutputFits certificate end n (Some next) (at_output_path settings u) → (next : List ℕ) × (chosen (rule ∷ rules) default u ≡ Ok next) × OutputFits certificate end n (Some next) (at_output_path settings u)
+          by-truth r true is holds e' below = (rule.next, rw is refl, one-chosen (codes "Choices") rule.next r v u e' h (holds refl))
+          by-truth r false is holds e' below = (below.0, rw is (below.1), below.2)
+
+          go : (shape : Option Shape) → rule_shape rule.test s ≡ shape → rule_breaches inputs entry settings (Choice all fallback) rule.next shape ≡ [] → (next : List ℕ) × (chosen rules default u ≡ Ok next) × OutputFits certificate end n (Some next) (at_output_path settings u) → (next : List ℕ) × (chosen (rule ∷ rules) default u ≡ Ok next) × OutputFits certificate end n (Some next) (at_output_path settings u)
+          go None is e' below = absurd (cc)
+          go (Some r) is e' below =
+              let truth_known = rule-decided rule.test s r u is m in
+              by-truth r truth_known.0 truth_known.1 truth_known.2 e' below
+
+    -- what the first move comes to, for an effective input
+    work-fits : (kind : Kind) (settings : Settings) (s : Shape) (v u : Tree) → length entry.branches ≡ branches_in kind → is_some entry.item ≡ is_map kind → work_breaches declared inputs (Some end) n entry settings kind s ≡ [] → effective_input settings v ≡ Ok u → Has s u → Has entry.input v → WorkFits declared certificate end n (StateOf settings kind) v (work_of kind settings v)
+    work-fits (Pass result) settings s v u long item e eff m h = rw eff (result-fits settings (pass_result result s) v (unwrap_or result u) e h (pass-has result s u m))
+    work-fits (Task resource) settings s v u long item e eff m h =
+        let parts = append-none (breach_unless_sub (codes "Parameters") PayloadNotTaken s (Some (takes_of declared n))) (result_breaches inputs (Some end) entry settings (Task resource) (gives_of declared n)) e in
+        rw eff (sub-none (codes "Parameters") PayloadNotTaken s (takes_of declared n) parts.0 u m, λ answer given. result-fits settings (gives_of declared n) v answer parts.1 h given)
+    work-fits (Choice rules default) settings s v u long item e eff m h =
+        let parts = append-none (rules_breaches inputs entry settings (Choice rules default) rules s) (default_breaches inputs entry settings (Choice rules default) default s) e in
+        let next = by-rules settings rules default rules default s v u parts.0 parts.1 h m in
+        rw (eff, next.1) (next.2)
+    work-fits (Wait delay) settings s v u long item e eff m h =
+        let parts = append-none (delay_breaches delay s) (result_breaches inputs (Some end) entry settings (Wait delay) s) e in
+        let waits = delay-fits delay s u parts.0 m in
+        rw (eff, waits.1) (passed-fits settings settings.next (output_breaches inputs entry.output (Some end) settings.next) s v u (λ output w. output-fits settings.next output w) parts.1 h m)
+    work-fits Succeed settings s v u long item e eff m h = rw eff (passed-fits settings None (end_breaches entry.output (codes "Type") (Some end)) s v u (λ output w. end-fits (codes "Type") output w) e h m)
+    work-fits (Fail error cause) settings s v u long item e eff m h = tt
+    work-fits (Parallel branches) settings s v u long item e eff m h =
+        let parts = append-none (branch_breaches inputs branches s) (result_breaches inputs (Some end) entry settings (Parallel branches) (ArrayShape (shapes_of entry.branches) Never)) e in
+        rw eff (each-branch branches s u parts.0 m, λ outputs same each. result-fits settings (ArrayShape (shapes_of entry.branches) Never) v (Array outputs) parts.1 h (branches-have entry.branches outputs (as_many outputs same) (subst (λ (o : Option StateShapes). EachHas (λ i. or_never (branch_end i o)) outputs) at each)))
+      where
+        inputs-count : (branches' : Scopes) (u' : Tree) → count (branch_inputs branches' u') ≡ how_many branches'
+        inputs-count NoScopes u' = refl
+        inputs-count (AndScope scope others) u' = ap suc (inputs-count others u')
+
+        as_many : (outputs : Trees) → count outputs ≡ count (branch_inputs branches u) → count outputs ≡ length entry.branches
+        as_many outputs same =
+            let of_branches : count (branch_inputs branches u) ≡ how_many branches = inputs-count branches u in
+            omega arith
+    work-fits (Map items selector processor) settings s v u long item e eff m h =
+        let parts = items-parts (λ elements. breaches_then (child_breaches inputs (codes "ItemProcessor") processor) (item_flow selector s (element_shape elements.0 elements.1)) ++ map_breaches inputs (Some end) entry settings (Map items selector processor) entry.item elements) (look items s) e in
+        let both = append-none (breaches_then (child_breaches inputs (codes "ItemProcessor") processor) (item_flow selector s (element_shape parts.0 parts.1))) (map_breaches inputs (Some end) entry settings (Map items selector processor) entry.item (parts.0, parts.1)) parts.3 in
+        let list = items-there items s parts.0 parts.1 u parts.2 m in
+        let flow = then-none (child_breaches inputs (codes "ItemProcessor") processor) (item_flow selector s (element_shape parts.0 parts.1)) (item-told selector s (element_shape parts.0 parts.1)) both.0 in
+        let given = inputs-give selector s (element_shape parts.0 parts.1) flow.0 u 0 list.0 flow.1 m (items-have parts.0 parts.1 list.0 list.2) in
+        rw (eff, list.1, given.1) (each-fits flow.0 (certified_input certificate (start_of processor)) given.0 (λ w held. fit (start_of processor) (codes "ItemProcessor") BranchInput flow.0 flow.2 w held) given.3, λ outputs same each. outputs-fit entry.item refl outputs parts.0 parts.1 list.0 given.0 list.2 given.2 same (subst (λ (o : Option StateShapes). EachHas (λ i. or_never (item_end o)) outputs) at each) both.1)
+      where
+        outputs-fit : (shape : Option Shape) → entry.item ≡ shape → (outputs : Trees) (first : Shapes) (rest : Shape) (ts us : Trees) → IsTrue (elements_have first (has rest) ts) → count us ≡ count ts → count outputs ≡ count us → EachHas (λ i. or_never shape) outputs → map_breaches inputs (Some end) entry settings (Map items selector processor) shape (first, rest) ≡ [] → OutputFits certificate end n settings.next (output_of settings v (Array outputs))
+        outputs-fit None is outputs first rest ts us held many same each none =
+            let gone : is_some {T = Shape} None ≡ true = subst (λ (o : Option Shape). is_some o ≡ true) is item in
+            absurd (false≢true gone)
+        outputs-fit (Some one) is outputs first rest ts us held many same each none =
+            let alike : count outputs ≡ count ts = omega arith in
+            result-fits settings (map_result one first rest) v (Array outputs) none h (map-has one first rest ts outputs held alike each)
+
+-- what passes a comparison with a state's input has the input that is certified, where each state has an entry
+pub inputs-fit : (machine : Scope) (declared : Declared) (certificate : Certificate) → scope_findings machine machine declared certificate (Some certificate.output) ≡ [] → InputsFit certificate (input_to_compare machine certificate)
+inputs-fit machine declared certificate none n field fault s e v m = go (certified certificate n) refl (names_state machine n) refl e
+  where
+    go : (found : Option StateShapes) → certified certificate n ≡ found → (named : Bool) → names_state machine n ≡ named → breach_unless_sub field fault s (input_of_entry named found) ≡ [] → Has (input_among found) v
+    go (Some entry) at named is e' = sub-none field fault s entry.input e' v m
+    go None at false is e' = sub-none field fault s Never e' v m
+    go None at true is e' =
+        let there : is_some {T = StateShapes} None ≡ true = rw at at (state-certified machine declared certificate n none is) in
+        absurd (false≢true there)
+
+-- the certificate is closed at a state at which no rule is broken
+pub state-closed : (machine : Scope) (declared : Declared) (certificate : Certificate) (end : Shape) (n : List ℕ) (settings : Settings) (kind : Kind) → scope_findings machine machine declared certificate (Some certificate.output) ≡ [] → state_breaches machine declared certificate (Some end) n settings kind ≡ [] → IsClosedAt declared certificate end n (StateOf settings kind)
+state-closed machine declared certificate end n settings kind none e = record { entry = there; work = λ v h. works v (member v h); catchers = λ v h. catchers-fit declared certificate inputs fit settings.catchers there.shapes.input v (parts v (member v h)).1 (member v h) }
+  where
+    inputs : List ℕ → Option Shape
+    inputs = input_to_compare machine certificate
+
+    fit : InputsFit certificate inputs
+    fit = inputs-fit machine declared certificate none
+
+    there : HasEntry certificate n kind
+    there = has-entry machine declared certificate (Some end) n settings kind e
+
+    member : (v : Tree) → Has (certified_input certificate n) v → Has there.shapes.input v
+    member v h = subst (λ (o : Option StateShapes). Has (input_among o) v) there.stands h
+
+    parts : (v : Tree) → Has there.shapes.input v → (breaches_then (work_breaches declared inputs (Some end) n there.shapes settings kind) (effective_flow settings there.shapes.input) ≡ []) × (catcher_breaches inputs there.shapes.input settings.catchers ≡ [])
+    parts v h =
+        let flow : flow_breaches declared inputs (Some end) n settings kind (Some there.shapes) ≡ [] = subst (λ (o : Option StateShapes). flow_breaches declared inputs (Some end) n settings kind o ≡ []) there.stands (flow-none machine declared certificate (Some end) n settings kind e) in
+        append-none (breaches_then (work_breaches declared inputs (Some end) n there.shapes settings kind) (effective_flow settings there.shapes.input)) (catcher_breaches inputs there.shapes.input settings.catchers) (rw (has-inhabited there.shapes.input v h) at flow)
+
+    works : (v : Tree) → Has there.shapes.input v → WorkFits declared certificate end n (StateOf settings kind) v (first_move (StateOf settings kind) v)
+    works v h =
+        let effective = then-none (work_breaches declared inputs (Some end) n there.shapes settings kind) (effective_flow settings there.shapes.input) (effective-told settings there.shapes.input) (parts v h).0 in
+        let given = effective-gives settings there.shapes.input effective.0 v effective.1 h in
+        work-fits declared certificate inputs fit end n there.shapes there.stands kind settings effective.0 v given.0 there.branches there.item effective.2 given.1 given.2 h

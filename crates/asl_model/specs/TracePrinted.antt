@@ -1,0 +1,53 @@
+-- The lines of a run's trace (the profile's own format): each entry is one line of compact JSON.
+use Rattle.std.specs.Prelude.{ℕ, pos, List, [], ◌∷◌, ◌++◌, codes}
+use Rattle.asl_model.specs.Tree.{Tree, Integer, Text, Array, Object, Trees, NoTrees, AndTree, Fields, NoFields, AndField}
+use Rattle.asl_model.specs.Faults.{error_name}
+use Rattle.asl_model.specs.Run.{Outcome, Output, FailedWith, Entry, Entered, Asked, Left, Raised, TaskFailed, BranchFailed, Retried, Caught, Ended}
+use Rattle.asl_model.specs.Json.{compact_text}
+use Rattle.asl_model.specs.Printed.{line_break}
+
+-- a place: the numbers of the children on the way
+abbrev pub numbers : List ℕ → Trees
+numbers [] = NoTrees
+numbers (i ∷ place) = AndTree (Integer (pos i)) (numbers place)
+
+-- `at`: every entry begins with it
+abbrev at_place : List ℕ → Fields → Tree
+at_place place fs = Object (AndField (codes "at") (Array (numbers place)) fs)
+
+abbrev with_text : List ℕ → List ℕ → Fields → Fields
+with_text field s fs = AndField field (Text s) fs
+
+abbrev with_number : List ℕ → ℕ → Fields → Fields
+with_number field n fs = AndField field (Integer (pos n)) fs
+
+-- `entry` and `state`
+abbrev kind_of_entry : List ℕ → Fields → Fields
+kind_of_entry kind fs = with_text (codes "entry") kind fs
+
+abbrev of_state : List ℕ → Fields
+of_state n = with_text (codes "state") n NoFields
+
+abbrev pub outcome_tree : List ℕ → Outcome → Tree
+outcome_tree place (Output output) = at_place place (kind_of_entry (codes "Ended") (AndField (codes "output") output NoFields))
+outcome_tree place (FailedWith error cause) = at_place place (with_text (codes "cause") cause (kind_of_entry (codes "Ended") (with_text (codes "error") error NoFields)))
+
+-- an entry as an object, its names in byte order
+abbrev pub entry_tree : List ℕ → Entry → Tree
+entry_tree place (Entered n input) = at_place place (kind_of_entry (codes "Enter") (AndField (codes "input") input (of_state n)))
+entry_tree place (Asked n payload) = at_place place (kind_of_entry (codes "Task") (AndField (codes "payload") payload (of_state n)))
+entry_tree place (Left n output) = at_place place (kind_of_entry (codes "Leave") (AndField (codes "output") output (of_state n)))
+entry_tree place (Raised n fault) = at_place place (kind_of_entry (codes "Raise") (with_text (codes "error") (error_name fault.error) (with_text (codes "field") fault.field (of_state n))))
+entry_tree place (TaskFailed n error cause) = at_place place (with_text (codes "cause") cause (kind_of_entry (codes "TaskFailed") (with_text (codes "error") error (of_state n))))
+entry_tree place (BranchFailed n child error cause) = at_place place (with_text (codes "cause") cause (with_number (codes "child") child (kind_of_entry (codes "BranchFailed") (with_text (codes "error") error (of_state n)))))
+entry_tree place (Retried n retrier) = at_place place (kind_of_entry (codes "Retried") (with_number (codes "retrier") retrier (of_state n)))
+entry_tree place (Caught n catcher next) = at_place place (with_number (codes "catcher") catcher (kind_of_entry (codes "Caught") (with_text (codes "next") next (of_state n))))
+entry_tree place (Ended outcome) = outcome_tree place outcome
+
+abbrev pub entry_line : List ℕ × Entry → List ℕ
+entry_line e = compact_text (entry_tree e.0 e.1) ++ line_break
+
+-- the lines of a trace
+abbrev pub trace_text : List (List ℕ × Entry) → List ℕ
+trace_text [] = []
+trace_text (e ∷ es) = entry_line e ++ trace_text es
