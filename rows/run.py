@@ -36,13 +36,15 @@ class Case:
         self.name = name
         self.place = place
         self.given = dict(given)
+        self.named = set()
         self.many = {key: [] for key in MANY}
 
     def put(self, key, value):
         """Takes one line of the table."""
         if key in MANY:
             self.many[key].append(value)
-        elif key in ONCE and (key in LINES or key not in self.given):
+        elif key in ONCE and key not in self.named:
+            self.named.add(key)
             self.given[key] = value
         else:
             raise ValueError(f"{self.place}: '{key}' is unknown or stands twice")
@@ -162,7 +164,8 @@ def answer(case, folder):
     try:
         done = subprocess.run(
             [b"./asl", *case.words()], executable=folder / "asl", cwd=folder, env={}, timeout=SECONDS,
-            stdin=ends[0], stdout=ends[1], stderr=subprocess.PIPE, preexec_fn=prepare, check=False)
+            stdin=ends[0], stdout=ends[1], stderr=subprocess.PIPE,
+            preexec_fn=prepare if None in ends or "memory" in case.given else None, check=False)
     finally:
         for end in ends:
             if end is not None:

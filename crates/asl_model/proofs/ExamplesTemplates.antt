@@ -1,12 +1,12 @@
 -- Worked placings, calls, templates and patterns, computed.
-use Rattle.std.proofs.Common.{◌≡◌, refl, ℕ, List, [], ◌∷◌, true, false, pos, negsuc, Option, Some, None, Ok, Err, codes}
+use Rattle.std.proofs.Common.{◌≡◌, map, Bool, refl, ℕ, List, [], ◌∷◌, true, false, pos, negsuc, Option, Some, None, Ok, Err, codes}
 use Rattle.asl_model.specs.Tree.{Tree, Null, Boolean, Integer, Text, Array, Object, NoFields, AndField, trees_of, fields_of}
-use Rattle.asl_model.specs.Path.{Name, Index}
+use Rattle.asl_model.specs.Path.{Segment, Name, Index}
 use Rattle.asl_model.specs.Placing.{placed}
 use Rattle.asl_model.specs.Faults.{ParameterPathFailure}
 use Rattle.asl_model.specs.Intrinsic.{InInput, Call, CallOf, StatesArray, StatesArrayLength, StatesFormat, Argument, NullArgument, BooleanArgument, IntegerArgument, TextArgument, PathArgument, CallArgument, Arguments, NoArguments, AndArgument, call_value}
 use Rattle.asl_model.specs.Template.{Literal, FromPath, FromCall, ArrayTemplate, ObjectTemplate, NoTemplates, AndTemplate, NoFieldTemplates, AndFieldTemplate, template_value}
-use Rattle.asl_model.specs.Test.{ByteOf, Star, PatternPart, is_cut_by}
+use Rattle.asl_model.specs.Test.{Relation, Equals, LessThan, GreaterThan, LessThanEquals, GreaterThanEquals, StringIs, NumericIs, BooleanEquals, Constant, AtPath, NullKind, NumericKind, StringKind, BooleanKind, ByteOf, Star, PatternPart, is_cut_by, Test, And, Or, Not, Compare, StringMatches, IsOfKind, IsPresent, Tests, NoTests, AndTest, truth}
 
 abbrev pub whole : ℕ → Tree
 whole n = Integer (pos n)
@@ -100,3 +100,73 @@ pattern_longer = refl
 
 pattern_other : is_cut_by pattern_abc (codes "axb") ≡ false
 pattern_other = refl
+
+-- tests on an object whose fields are the number 3, the text `b` and true
+abbrev pub tested : Tree
+tested = Object (fields_of ((codes "flag", Boolean true) ∷ (codes "n", whole 3) ∷ (codes "t", Text (codes "b")) ∷ []))
+
+abbrev pub field : List ℕ → List Segment
+field n = Name n ∷ []
+
+abbrev pub number_is : Relation → ℕ → Test
+number_is relation n = Compare (field (codes "n")) (NumericIs relation) (Constant (whole n))
+
+abbrev pub text_is : Relation → List ℕ → Test
+text_is relation t = Compare (field (codes "t")) (StringIs relation) (Constant (Text t))
+
+abbrev pub undecided : Test
+undecided = Compare (field (codes "no")) BooleanEquals (Constant (Boolean true))
+
+abbrev pub two : Test → Test → Tests
+two first second = AndTest first (AndTest second NoTests)
+
+-- the answers of a list of tests
+abbrev pub answers : List Test → List (Option Bool)
+answers tests = map (λ test. truth test tested) tests
+
+numbers_compare : answers (number_is Equals 3 ∷ number_is LessThan 3 ∷ number_is LessThan 4 ∷ number_is GreaterThan 3 ∷ number_is GreaterThan 2 ∷ number_is LessThanEquals 3 ∷ number_is LessThanEquals 2 ∷ number_is GreaterThanEquals 3 ∷ number_is GreaterThanEquals 4 ∷ [])
+    ≡ Some true ∷ Some false ∷ Some true ∷ Some false ∷ Some true ∷ Some true ∷ Some false ∷ Some true ∷ Some false ∷ []
+numbers_compare = refl
+
+-- texts by bytes: a front of a text comes before it
+texts_compare : answers (text_is Equals (codes "b") ∷ text_is LessThan (codes "ba") ∷ text_is LessThan (codes "a") ∷ text_is GreaterThan (codes "B") ∷ text_is LessThanEquals (codes "b") ∷ [])
+    ≡ Some true ∷ Some true ∷ Some false ∷ Some true ∷ Some true ∷ []
+texts_compare = refl
+
+-- values that are not both of the operator's type compare as false
+other_types : answers (Compare (field (codes "n")) (StringIs Equals) (Constant (whole 3)) ∷ Compare (field (codes "t")) (NumericIs LessThanEquals) (Constant (whole 3)) ∷ Compare (field (codes "flag")) BooleanEquals (Constant (Boolean true)) ∷ Compare (field (codes "flag")) BooleanEquals (Constant (Boolean false)) ∷ Compare (field (codes "n")) BooleanEquals (Constant (Boolean true)) ∷ [])
+    ≡ Some false ∷ Some false ∷ Some true ∷ Some false ∷ Some false ∷ []
+other_types = refl
+
+-- an operand that is looked up
+operand_at_path : answers (Compare (field (codes "n")) (NumericIs Equals) (AtPath (field (codes "n"))) ∷ Compare (field (codes "n")) (NumericIs Equals) (AtPath (field (codes "t"))) ∷ Compare (field (codes "n")) (NumericIs Equals) (AtPath (field (codes "no"))) ∷ [])
+    ≡ Some true ∷ Some false ∷ None ∷ []
+operand_at_path = refl
+
+kinds : answers (IsOfKind (field (codes "n")) NumericKind true ∷ IsOfKind (field (codes "n")) NumericKind false ∷ IsOfKind (field (codes "t")) StringKind true ∷ IsOfKind (field (codes "flag")) BooleanKind true ∷ IsOfKind (field (codes "t")) NullKind true ∷ IsOfKind (field (codes "t")) NullKind false ∷ IsOfKind (field (codes "no")) NullKind true ∷ [])
+    ≡ Some true ∷ Some false ∷ Some true ∷ Some true ∷ Some false ∷ Some true ∷ None ∷ []
+kinds = refl
+
+-- `IsPresent` is always decided
+presence : answers (IsPresent (field (codes "n")) true ∷ IsPresent (field (codes "n")) false ∷ IsPresent (field (codes "no")) true ∷ IsPresent (field (codes "no")) false ∷ [])
+    ≡ Some true ∷ Some false ∷ Some false ∷ Some true ∷ []
+presence = refl
+
+-- a value that isn't a text doesn't match
+patterns : answers (StringMatches (field (codes "t")) (Star ∷ []) ∷ StringMatches (field (codes "n")) (Star ∷ []) ∷ StringMatches (field (codes "no")) (Star ∷ []) ∷ [])
+    ≡ Some true ∷ Some false ∷ None ∷ []
+patterns = refl
+
+-- `And` is decided by its first part that isn't true
+conjunctions : answers (And (two (number_is Equals 3) (text_is Equals (codes "b"))) ∷ And (two (number_is Equals 3) undecided) ∷ And (two (number_is Equals 4) undecided) ∷ And (two undecided (number_is Equals 4)) ∷ And (two (IsPresent (field (codes "no")) true) undecided) ∷ [])
+    ≡ Some true ∷ None ∷ Some false ∷ None ∷ Some false ∷ []
+conjunctions = refl
+
+-- `Or` by its first part that isn't false
+disjunctions : answers (Or (two (number_is Equals 4) (text_is Equals (codes "b"))) ∷ Or (two (number_is Equals 3) undecided) ∷ Or (two (number_is Equals 4) undecided) ∷ Or (two undecided (number_is Equals 3)) ∷ Or (two (number_is Equals 4) (number_is Equals 5)) ∷ [])
+    ≡ Some true ∷ Some true ∷ None ∷ None ∷ Some false ∷ []
+disjunctions = refl
+
+negations : answers (Not (number_is Equals 3) ∷ Not (number_is Equals 4) ∷ Not undecided ∷ [])
+    ≡ Some false ∷ Some true ∷ None ∷ []
+negations = refl

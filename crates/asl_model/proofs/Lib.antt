@@ -14,6 +14,7 @@ pub mod ExamplesSpellings
 pub mod ExamplesTemplateSpellings
 pub mod ExamplesTemplates
 pub mod ExamplesTexts
+pub mod ExamplesWritten
 pub mod FindingClosed
 pub mod FindingScopes
 pub mod FindingStates
@@ -27,10 +28,12 @@ pub mod ReadingLookups
 pub mod ReadingRules
 pub mod ReadingSteps
 pub mod RunApart
+pub mod RunDecimals
 pub mod RunEnabled
 pub mod RunFits
 pub mod RunLaws
 pub mod RunOptions
+pub mod RunOrder
 pub mod RunPatterns
 pub mod RunPieces
 pub mod RunTemplates
@@ -45,3 +48,4 @@ pub mod ShapeRule
 pub mod ShapeTemplate
 pub mod ShapeWitness
 pub mod SpellingLookups
+pub mod SpellingWritten

@@ -74,39 +74,56 @@ unchanged_apart p q (apart_below {i = i} {p = p'} {q = q'} apart) scope (Split n
 unchanged_apart p q (apart_below {i = i} {p = p'} {q = q'} apart) scope (Done output) action s h = none_some h
 unchanged_apart p q (apart_below {i = i} {p = p'} {q = q'} apart) scope (Failed error cause) action s h = none_some h
 
+-- two steps of different children can be taken in the other order
+others_commute : (i j : ℕ) → i ≢ j → (p q : List ℕ) (scope : Scope) (n : List ℕ) (raw : Tree) (counts : List ℕ) (children : Activities) (x y : Action) (s t : Step) (one : IsStepBelow i p scope n raw counts children x s) → IsStepBelow j q scope n raw counts (set_child i one.inner.after children) y t → Commute scope (Split n raw counts children) (i ∷ p) x (j ∷ q) y s t
+others_commute i j apart p q scope n raw counts children x y s t one two = record {
+  sooner = within n raw counts children j two.inner;
+  later = within n raw counts (set_child j two.inner.after children) i one.inner;
+  second_first = step_above j q scope n raw counts children y two.child two.inner (sym (other_child i j one.inner.after children apart) ∙ two.stands) two.steps;
+  first_second = step_above i p scope n raw counts (set_child j two.inner.after children) x one.child one.inner (other_child j i two.inner.after children (λ e. apart (sym e)) ∙ one.stands) one.steps;
+  same_second = ap (λ (u : Step). u.entries) two.whole;
+  same_first = ap (λ (u : Step). u.entries) one.whole;
+  same_after = ap (Split n raw counts) (replaced_both i j one.inner.after two.inner.after children apart) ∙ ap (λ (u : Step). u.after) two.whole;
+}
+
+-- two steps below one child can, where they can there
+below_commute : (i : ℕ) (p q : List ℕ) (scope : Scope) (n : List ℕ) (raw : Tree) (counts : List ℕ) (children : Activities) (x y : Action) (s t : Step) (one : IsStepBelow i p scope n raw counts children x s) (two : IsStepBelow i q scope n raw counts (set_child i one.inner.after children) y t) → Commute (scope_below scope n i) one.child p x q y one.inner two.inner → Commute scope (Split n raw counts children) (i ∷ p) x (i ∷ q) y s t
+below_commute i p q scope n raw counts children x y s t one two below = record {
+  sooner = within n raw counts children i below.sooner;
+  later = within n raw counts (set_child i below.sooner.after children) i below.later;
+  second_first = step_above i q scope n raw counts children y one.child below.sooner one.stands below.second_first;
+  first_second = step_above i p scope n raw counts (set_child i below.sooner.after children) x below.sooner.after below.later (same_child i below.sooner.after one.child children one.stands) below.first_second;
+  same_second = below.same_second ∙ ap (λ (u : Step). u.entries) two.whole;
+  same_first = below.same_first ∙ ap (λ (u : Step). u.entries) one.whole;
+  same_after = ap (Split n raw counts) (replaced_twice i below.sooner.after below.later.after children ∙ ap (λ c. set_child i c children) below.same_after ∙ sym (replaced_twice i one.inner.after two.inner.after children)) ∙ ap (λ (u : Step). u.after) two.whole;
+}
+
+-- the second step, at a place below a Split that the first has left
+second_below : (i j : ℕ) (q : List ℕ) (scope : Scope) (n : List ℕ) (raw : Tree) (counts : List ℕ) (children : Activities) (y : Action) (s t inner : Step) → within n raw counts children i inner ≡ s → step_at (j ∷ q) scope s.after y ≡ Some t → IsStepBelow j q scope n raw counts (set_child i inner.after children) y t
+second_below i j q scope n raw counts children y s t inner whole k = step_below j q scope n raw counts (set_child i inner.after children) y t (subst (λ (u : Step). step_at (j ∷ q) scope u.after y ≡ Some t) (sym whole) k)
+
+-- the second step below the same child follows the first there
+follows_below : (i : ℕ) (q : List ℕ) (scope : Scope) (n : List ℕ) (raw : Tree) (counts : List ℕ) (children : Activities) (y : Action) (t first : Step) (child : Activity) → child_at i children ≡ Some child → (two : IsStepBelow i q scope n raw counts (set_child i first.after children) y t) → step_at q (scope_below scope n i) first.after y ≡ Some two.inner
+follows_below i q scope n raw counts children y t first child e two = subst (λ (c : Activity). step_at q (scope_below scope n i) c y ≡ Some two.inner) (some_inj (sym two.stands ∙ same_child i first.after child children e)) two.steps
+
 -- two steps at places apart can be taken in the other order
 pub apart_commute : (p q : List ℕ) → AreApart p q → (scope : Scope) (a : Activity) (x y : Action) (s t : Step) → step_at p scope a x ≡ Some s → step_at q scope s.after y ≡ Some t → Commute scope a p x q y s t
 apart_commute p q (apart_here {i = i} {j = j} {p = p'} {q = q'} apart) scope (Ready n raw counts) x y s t h k = none_some h
 apart_commute p q (apart_here {i = i} {j = j} {p = p'} {q = q'} apart) scope (Waiting n raw counts payload) x y s t h k = none_some h
-apart_commute p q (apart_here {i = i} {j = j} {p = p'} {q = q'} apart) scope (Split n raw counts children) x y s t h k =
-    let one = step_below i p' scope n raw counts children x s h in
-    let two = step_below j q' scope n raw counts (set_child i one.inner.after children) y t (subst (λ (u : Step). step_at (j ∷ q') scope u.after y ≡ Some t) (sym one.whole) k) in
-    record {
-      sooner = within n raw counts children j two.inner;
-      later = within n raw counts (set_child j two.inner.after children) i one.inner;
-      second_first = step_above j q' scope n raw counts children y two.child two.inner (sym (other_child i j one.inner.after children apart) ∙ two.stands) two.steps;
-      first_second = step_above i p' scope n raw counts (set_child j two.inner.after children) x one.child one.inner (other_child j i two.inner.after children (λ e. apart (sym e)) ∙ one.stands) one.steps;
-      same_second = ap (λ (u : Step). u.entries) two.whole;
-      same_first = ap (λ (u : Step). u.entries) one.whole;
-      same_after = ap (Split n raw counts) (replaced_both i j one.inner.after two.inner.after children apart) ∙ ap (λ (u : Step). u.after) two.whole;
-    }
+apart_commute p q (apart_here {i = i} {j = j} {p = p'} {q = q'} apart) scope (Split n raw counts children) x y s t h k = go (step_below i p' scope n raw counts children x s h)
+  where
+    go : IsStepBelow i p' scope n raw counts children x s → Commute scope (Split n raw counts children) (i ∷ p') x (j ∷ q') y s t
+    go one = others_commute i j apart p' q' scope n raw counts children x y s t one (second_below i j q' scope n raw counts children y s t one.inner one.whole k)
 apart_commute p q (apart_here {i = i} {j = j} {p = p'} {q = q'} apart) scope (Done output) x y s t h k = none_some h
 apart_commute p q (apart_here {i = i} {j = j} {p = p'} {q = q'} apart) scope (Failed error cause) x y s t h k = none_some h
 apart_commute p q (apart_below {i = i} {p = p'} {q = q'} apart) scope (Ready n raw counts) x y s t h k = none_some h
 apart_commute p q (apart_below {i = i} {p = p'} {q = q'} apart) scope (Waiting n raw counts payload) x y s t h k = none_some h
-apart_commute p q (apart_below {i = i} {p = p'} {q = q'} apart) scope (Split n raw counts children) x y s t h k =
-    let one = step_below i p' scope n raw counts children x s h in
-    let two = step_below i q' scope n raw counts (set_child i one.inner.after children) y t (subst (λ (u : Step). step_at (i ∷ q') scope u.after y ≡ Some t) (sym one.whole) k) in
-    let there : one.inner.after ≡ two.child = some_inj (sym (same_child i one.inner.after one.child children one.stands) ∙ two.stands) in
-    let below = apart_commute p' q' apart (scope_below scope n i) one.child x y one.inner two.inner one.steps (subst (λ (c : Activity). step_at q' (scope_below scope n i) c y ≡ Some two.inner) (sym there) two.steps) in
-    record {
-      sooner = within n raw counts children i below.sooner;
-      later = within n raw counts (set_child i below.sooner.after children) i below.later;
-      second_first = step_above i q' scope n raw counts children y one.child below.sooner one.stands below.second_first;
-      first_second = step_above i p' scope n raw counts (set_child i below.sooner.after children) x below.sooner.after below.later (same_child i below.sooner.after one.child children one.stands) below.first_second;
-      same_second = below.same_second ∙ ap (λ (u : Step). u.entries) two.whole;
-      same_first = below.same_first ∙ ap (λ (u : Step). u.entries) one.whole;
-      same_after = ap (Split n raw counts) (replaced_twice i below.sooner.after below.later.after children ∙ ap (λ c. set_child i c children) below.same_after ∙ sym (replaced_twice i one.inner.after two.inner.after children)) ∙ ap (λ (u : Step). u.after) two.whole;
-    }
+apart_commute p q (apart_below {i = i} {p = p'} {q = q'} apart) scope (Split n raw counts children) x y s t h k = go (step_below i p' scope n raw counts children x s h) (λ child u v f g. apart_commute p' q' apart (scope_below scope n i) child x y u v f g)
+  where
+    with_two : (one : IsStepBelow i p' scope n raw counts children x s) → IsStepBelow i q' scope n raw counts (set_child i one.inner.after children) y t → ((child : Activity) (u v : Step) → step_at p' (scope_below scope n i) child x ≡ Some u → step_at q' (scope_below scope n i) u.after y ≡ Some v → Commute (scope_below scope n i) child p' x q' y u v) → Commute scope (Split n raw counts children) (i ∷ p') x (i ∷ q') y s t
+    with_two one two inner = below_commute i p' q' scope n raw counts children x y s t one two (inner one.child one.inner two.inner one.steps (follows_below i q' scope n raw counts children y t one.inner one.child one.stands two))
+
+    go : IsStepBelow i p' scope n raw counts children x s → ((child : Activity) (u v : Step) → step_at p' (scope_below scope n i) child x ≡ Some u → step_at q' (scope_below scope n i) u.after y ≡ Some v → Commute (scope_below scope n i) child p' x q' y u v) → Commute scope (Split n raw counts children) (i ∷ p') x (i ∷ q') y s t
+    go one inner = with_two one (second_below i i q' scope n raw counts children y s t one.inner one.whole k) inner
 apart_commute p q (apart_below {i = i} {p = p'} {q = q'} apart) scope (Done output) x y s t h k = none_some h
 apart_commute p q (apart_below {i = i} {p = p'} {q = q'} apart) scope (Failed error cause) x y s t h k = none_some h

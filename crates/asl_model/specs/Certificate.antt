@@ -45,10 +45,12 @@ abbrev pub or_never : Option Shape → Shape
 or_never None = Never
 or_never (Some s) = s
 
+-- the input of an entry; Never where there is none
 abbrev pub input_among : Option StateShapes → Shape
 input_among None = Never
 input_among (Some shapes) = shapes.input
 
+-- its output; Never where there is none
 abbrev pub output_among : Option StateShapes → Shape
 output_among None = Never
 output_among (Some shapes) = shapes.output
@@ -88,10 +90,12 @@ child_end (Fail error cause) entry i = None
 child_end (Parallel branches) entry i = branch_end i entry
 child_end (Map items selector processor) entry i = item_end entry
 
+-- what a declared task takes; Any where it isn't declared
 abbrev pub takes_among : Option TaskShapes → Shape
 takes_among None = Any
 takes_among (Some task) = task.takes
 
+-- what it gives; Any where it isn't declared
 abbrev pub gives_among : Option TaskShapes → Shape
 gives_among None = Any
 gives_among (Some task) = task.gives
@@ -338,6 +342,7 @@ pub data TypeGroup : Type 0 where
   -- Parallel, Map: they split, join, and abandon their children
   Nests : TypeGroup
 
+-- the group of a state's type
 abbrev pub group_of : Kind → TypeGroup
 group_of (Pass result) = MovesOn
 group_of (Task resource) = Works

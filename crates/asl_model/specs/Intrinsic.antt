@@ -32,6 +32,7 @@ mutual
   pub data Call : Type 0 where
     CallOf : Function → Arguments → Call
 
+  -- a literal, a path or a nested call
   pub data Argument : Type 0 where
     NullArgument : Argument
     BooleanArgument : Bool → Argument
@@ -41,6 +42,7 @@ mutual
     PathArgument : Reference → Argument
     CallArgument : Call → Argument
 
+  -- the arguments of a call, in order
   pub data Arguments : Type 0 where
     NoArguments : Arguments
     AndArgument : Argument → Arguments → Arguments
@@ -66,6 +68,7 @@ abbrev pub decimal_text : ℤ → List ℕ
 decimal_text (pos n) = digits_before (suc n) n []
 decimal_text (negsuc n) = 45 ∷ digits_before (suc (suc n)) (suc n) []
 
+-- a truth value as a word
 abbrev pub truth_text : Bool → List ℕ
 truth_text true = codes "true"
 truth_text false = codes "false"
@@ -105,6 +108,7 @@ abbrev pub has_hole : List ℕ → Bool
 has_hole [] = false
 has_hole (b ∷ bs) = (nat_eq b 123 && begins_with 125 bs) || has_hole bs
 
+-- none of the texts has a hole
 abbrev pub NoneHasHole : List (List ℕ) → Type 0
 NoneHasHole [] = Unit {0}
 NoneHasHole (piece ∷ pieces) = IsFalse (has_hole piece) × NoneHasHole pieces

@@ -26,3 +26,4 @@ pub mod Test
 pub mod Texts
 pub mod TracePrinted
 pub mod Tree
+pub mod Written

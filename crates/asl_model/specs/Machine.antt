@@ -53,6 +53,7 @@ mutual
     NoStates : States
     AndState : List ℕ → State → States → States
 
+  -- a state: its settings, and what its type adds
   pub data State : Type 0 where
     StateOf : Settings → Kind → State
 
@@ -73,13 +74,16 @@ mutual
     -- `ItemsPath`, `ItemSelector` where it is given, and the scope of `ItemProcessor`
     Map : List Segment → Option Template → Scope → Kind
 
+  -- the branches of a Parallel, in order
   pub data Scopes : Type 0 where
     NoScopes : Scopes
     AndScope : Scope → Scopes → Scopes
 
+-- the settings of a state
 abbrev pub settings_of : State → Settings
 settings_of (StateOf settings kind) = settings
 
+-- what its type adds
 abbrev pub kind_of : State → Kind
 kind_of (StateOf settings kind) = kind
 
@@ -87,6 +91,7 @@ kind_of (StateOf settings kind) = kind
 abbrev pub start_of : Scope → List ℕ
 start_of (ScopeOf start held) = start
 
+-- the states of a scope
 abbrev pub states_of : Scope → States
 states_of (ScopeOf start held) = held
 
@@ -136,6 +141,7 @@ abbrev mutual
   pub some_state : (List ℕ → State → Bool) → Scope → Bool
   some_state test (ScopeOf start held) = some_of_states test held
 
+  -- so for a list of states
   pub some_of_states : (List ℕ → State → Bool) → States → Bool
   some_of_states test NoStates = false
   some_of_states test (AndState n state others) = test n state || (some_inside test state || some_of_states test others)
@@ -144,6 +150,7 @@ abbrev mutual
   pub some_inside : (List ℕ → State → Bool) → State → Bool
   some_inside test (StateOf settings kind) = some_in_kind test kind
 
+  -- so by the state's type
   pub some_in_kind : (List ℕ → State → Bool) → Kind → Bool
   some_in_kind test (Pass result) = false
   some_in_kind test (Task resource) = false
@@ -154,6 +161,7 @@ abbrev mutual
   some_in_kind test (Parallel branches) = some_in_scopes test branches
   some_in_kind test (Map items selector processor) = some_state test processor
 
+  -- so for the branches
   pub some_in_scopes : (List ℕ → State → Bool) → Scopes → Bool
   some_in_scopes test NoScopes = false
   some_in_scopes test (AndScope scope others) = some_state test scope || some_in_scopes test others

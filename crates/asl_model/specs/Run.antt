@@ -2,7 +2,7 @@
 -- "Fallback States"). The profile chooses: an event is one move of one activity or one answer to one waiting task;
 -- events of different branches and iterations come in any order; waiting takes no time; an error name that isn't
 -- `States.ALL` matches itself alone.
-use Rattle.std.specs.Prelude.{◌≡◌, ◌≢◌, ◌⊎◌, ℕ, zero, suc, List, [], ◌∷◌, ◌++◌, map, Bool, false, ◌||◌, nat_lt, bytes_eq, if◌then◌else◌, Option, Some, None, option_and_then, Result, Ok, Err, codes}
+use Rattle.std.specs.Prelude.{◌≡◌, ◌≢◌, ◌⊎◌, ◌<◌, ℕ, zero, suc, List, [], ◌∷◌, ◌++◌, map, Bool, false, ◌||◌, nat_lt, bytes_eq, if◌then◌else◌, Option, Some, None, option_and_then, Result, Ok, Err, codes}
 use Rattle.std.specs.Option.{option_map}
 use Rattle.asl_model.specs.Tree.{Tree, Text, Array, Object, Trees, NoTrees, AndTree, NoFields, AndField}
 use Rattle.asl_model.specs.Path.{Segment}
@@ -133,14 +133,17 @@ pub data Trouble : Type 0 where
   -- nothing takes the error
   Escapes : Trouble
 
+-- a catcher's number and next state, with what it hands on
 abbrev pub caught_as : ℕ → List ℕ → Option Tree → Trouble
 caught_as i next None = Misfits
 caught_as i next (Some input) = Catches i next input
 
+-- what the catcher that takes the error does, if one does
 abbrev pub caught_by : Option (ℕ × Catcher) → Tree → List ℕ → List ℕ → Trouble
 caught_by None raw error cause = Escapes
 caught_by (Some found) raw error cause = caught_as found.0 found.1.next (caught_input found.1 raw error cause)
 
+-- a retrier that retries comes first
 abbrev pub unless_retrying : Option ℕ → Trouble → Trouble
 unless_retrying None otherwise = otherwise
 unless_retrying (Some i) otherwise = Retries i
@@ -246,17 +249,19 @@ joins n state raw counts (AllDone outputs) = Some (finishes n (settings_of state
 joins n state raw counts (OneFailed i error cause) = Some (entry_then (BranchFailed n i error cause) (troubled n (settings_of state) raw counts (join_error (kind_of state) error) cause))
 joins n state raw counts StillRunning = None
 
--- what a state does in an activity of its own; None where the action isn't enabled
+-- what a state that is Ready does: it is entered; None where the action isn't enabled
 abbrev pub moves_ready : List ℕ → Tree → List ℕ → Action → State → Option Step
 moves_ready n raw counts Move state = Some (enters n state raw counts)
 moves_ready n raw counts (Gives answer) state = None
 moves_ready n raw counts (FailsTask error cause) state = None
 
+-- the same for a Task that waits: it takes an answer
 abbrev pub moves_waiting : List ℕ → Tree → List ℕ → Action → State → Option Step
 moves_waiting n raw counts Move state = None
 moves_waiting n raw counts (Gives answer) state = Some (finishes n (settings_of state) raw counts answer)
 moves_waiting n raw counts (FailsTask error cause) state = Some (entry_then (TaskFailed n error cause) (troubled n (settings_of state) raw counts error cause))
 
+-- the same for a Split: it joins
 abbrev pub moves_split : List ℕ → Tree → List ℕ → Activities → Action → State → Option Step
 moves_split n raw counts children Move state = joins n state raw counts (joining 0 children)
 moves_split n raw counts children (Gives answer) state = None
@@ -356,11 +361,20 @@ abbrev pub last_activity : Activity → List Turn → Activity
 last_activity a [] = a
 last_activity a (turn ∷ turns) = last_activity (after_step turn.before turn.taken) turns
 
+-- how a run has ended, by the activity that stands at the machine's own place; None while it goes on
+abbrev pub outcome_of : Activity → Option Outcome
+outcome_of (Ready n raw counts) = None
+outcome_of (Waiting n raw counts payload) = None
+outcome_of (Split n raw counts children) = None
+outcome_of (Done output) = Some (Output output)
+outcome_of (Failed error cause) = Some (FailedWith error cause)
+
 -- the kinds of events
 pub data Want : Type 0 where
   WantsMove : Want
   WantsAnswer : Want
 
+-- the kind of an action
 abbrev pub want_of : Action → Want
 want_of Move = WantsMove
 want_of (Gives answer) = WantsAnswer
@@ -415,3 +429,19 @@ pub record Commute (scope : Scope) (a : Activity) (p : List ℕ) (x : Action) (q
 abbrev pub Enables : List (List ℕ × Want) → List ℕ → Want → Type 0
 Enables [] p want = ⊥
 Enables (wanted ∷ others) p want = (wanted ≡ (p, want)) ⊎ Enables others p want
+
+-- a place comes before another in lexicographic order; it comes before those below it
+pub data IsEarlier : List ℕ → List ℕ → Type 0 where
+  above : {i : ℕ} {q : List ℕ} → IsEarlier [] (i ∷ q)
+  lesser_child : {i j : ℕ} {p q : List ℕ} → i < j → IsEarlier (i ∷ p) (j ∷ q)
+  same_child : {i : ℕ} {p q : List ℕ} → IsEarlier p q → IsEarlier (i ∷ p) (i ∷ q)
+
+-- the place comes before each of these
+abbrev pub IsEarlierThanEach : List ℕ → List (List ℕ × Want) → Type 0
+IsEarlierThanEach p [] = Unit {0}
+IsEarlierThanEach p (wanted ∷ others) = IsEarlier p wanted.0 × IsEarlierThanEach p others
+
+-- each place comes before the later ones, so none stands twice
+abbrev pub AreInLexicographicOrder : List (List ℕ × Want) → Type 0
+AreInLexicographicOrder [] = Unit {0}
+AreInLexicographicOrder (wanted ∷ others) = IsEarlierThanEach wanted.0 others × AreInLexicographicOrder others

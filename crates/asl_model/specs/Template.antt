@@ -7,6 +7,7 @@ use Rattle.asl_model.specs.Faults.{DataFlowError, ParameterPathFailure, Intrinsi
 use Rattle.asl_model.specs.Intrinsic.{Reference, Call, Item, referred, call_value}
 
 mutual
+  -- a JSON value in which some values are to be replaced
   pub data Template : Type 0 where
     -- null, a truth value, a number or a text that stands for itself
     Literal : Tree → Template
@@ -54,6 +55,7 @@ abbrev mutual
   element_failures i NoTemplates input item = []
   element_failures i (AndTemplate t others) input item = map (below (Index i)) (failures t input item) ++ element_failures (suc i) others input item
 
+  -- those of the fields
   pub field_failures : FieldTemplates → Tree → Option Item → List Failure
   field_failures NoFieldTemplates input item = []
   field_failures (AndFieldTemplate n t others) input item = map (below (Name n)) (failures t input item) ++ field_failures others input item
@@ -67,10 +69,12 @@ abbrev mutual
   filled (ArrayTemplate elements) input item = Array (elements_filled elements input item)
   filled (ObjectTemplate fields) input item = Object (fields_filled fields input item)
 
+  -- so for each element
   pub elements_filled : Templates → Tree → Option Item → Trees
   elements_filled NoTemplates input item = NoTrees
   elements_filled (AndTemplate t others) input item = AndTree (filled t input item) (elements_filled others input item)
 
+  -- so for each field
   pub fields_filled : FieldTemplates → Tree → Option Item → Fields
   fields_filled NoFieldTemplates input item = NoFields
   fields_filled (AndFieldTemplate n t others) input item = AndField n (filled t input item) (fields_filled others input item)
@@ -127,10 +131,12 @@ abbrev mutual
   IsInOrder (ArrayTemplate elements) = AreInOrder elements
   IsInOrder (ObjectTemplate fields) = HasFieldsInOrder fields
 
+  -- so is each element
   pub AreInOrder : Templates → Type 0
   AreInOrder NoTemplates = Unit {0}
   AreInOrder (AndTemplate t others) = IsInOrder t × AreInOrder others
 
+  -- each field comes before the later ones, and its value is in order
   pub HasFieldsInOrder : FieldTemplates → Type 0
   HasFieldsInOrder NoFieldTemplates = Unit {0}
   HasFieldsInOrder (AndFieldTemplate n t others) = IsTrue (before_each n others) × IsInOrder t × HasFieldsInOrder others

@@ -41,6 +41,7 @@ pub data PatternPart : Type 0 where
   Star : PatternPart
 
 mutual
+  -- a rule without its `Next`
   pub data Test : Type 0 where
     And : Tests → Test
     Or : Tests → Test
@@ -54,6 +55,7 @@ mutual
     -- whether the path names something; with false the answer is turned round
     IsPresent : List Segment → Bool → Test
 
+  -- the parts of `And` or `Or`
   pub data Tests : Type 0 where
     NoTests : Tests
     AndTest : Test → Tests → Tests
@@ -63,6 +65,7 @@ pub record Rule : Type 0 where
   pub test : Test
   pub next : List ℕ
 
+-- the text that a tree is, if it is one
 abbrev pub as_text : Tree → Option (List ℕ)
 as_text Null = None
 as_text (Boolean b) = None
@@ -71,6 +74,7 @@ as_text (Text t) = Some t
 as_text (Array ts) = None
 as_text (Object fs) = None
 
+-- the number that a tree is, if it is one
 abbrev pub as_integer : Tree → Option ℤ
 as_integer Null = None
 as_integer (Boolean b) = None
@@ -79,6 +83,7 @@ as_integer (Text t) = None
 as_integer (Array ts) = None
 as_integer (Object fs) = None
 
+-- the truth value that a tree is, if it is one
 abbrev pub as_boolean : Tree → Option Bool
 as_boolean Null = None
 as_boolean (Boolean b) = Some b
@@ -93,6 +98,7 @@ both_and agree None b = false
 both_and agree (Some a) None = false
 both_and agree (Some a) (Some b) = agree a b
 
+-- two truth values are the same
 abbrev pub same_truth : Bool → Bool → Bool
 same_truth true b = b
 same_truth false b = not b
@@ -111,6 +117,7 @@ compares (StringIs relation) t u = both_and (λ a b. relates relation (slice_cmp
 compares (NumericIs relation) t u = both_and (λ a b. relates relation (int_cmp a b)) (as_integer t) (as_integer u)
 compares BooleanEquals t u = both_and same_truth (as_boolean t) (as_boolean u)
 
+-- the tree is null
 abbrev pub is_null_value : Tree → Bool
 is_null_value Null = true
 is_null_value (Boolean b) = false
@@ -178,10 +185,12 @@ abbrev mutual
   truth (IsOfKind p kind wanted) input = option_map (λ t. same_truth wanted (is_of_kind kind t)) (named_by p input)
   truth (IsPresent p wanted) input = Some (same_truth wanted (is_some (named_by p input)))
 
+  -- `And`: the first part that isn't true decides; true where there is none
   pub all_true : Tests → Tree → Option Bool
   all_true NoTests input = Some true
   all_true (AndTest test others) input = and_truth (truth test input) (all_true others input)
 
+  -- `Or`: the first part that isn't false decides; false where there is none
   pub some_true : Tests → Tree → Option Bool
   some_true NoTests input = Some false
   some_true (AndTest test others) input = or_truth (truth test input) (some_true others input)

@@ -70,10 +70,12 @@ abbrev mutual
   IsProper (Array ts) = AreProper ts
   IsProper (Object fs) = HasProperFields fs
 
+  -- so are the elements
   pub AreProper : Trees → Type 0
   AreProper NoTrees = Unit {0}
   AreProper (AndTree t ts) = IsProper t × AreProper ts
 
+  -- so are the fields: their names are UTF-8 and stand in byte order, each once
   pub HasProperFields : Fields → Type 0
   HasProperFields NoFields = Unit {0}
   HasProperFields (AndField n t fs) = IsUtf8 n × IsTrue (before_fields n fs) × IsProper t × HasProperFields fs

@@ -5,7 +5,8 @@ ghost use Rattle.std.specs.Str.{encode_utf8_all};
 ghost use Rattle.serde_json.specs.Data.{Data};
 ghost use Rattle.asl_model.specs.Tree.{Tree};
 ghost use Rattle.asl_model.specs.Path.{Segment};
-ghost use Rattle.asl_model.specs.Shape.{Shape};
+ghost use Rattle.asl_model.specs.Shape.{Shape, IsProperShape};
+ghost use Rattle.asl_model.specs.Written.{written_shape};
 ghost use Rattle.asl_model.specs.Template.{Template};
 ghost use Rattle.asl_model.specs.Test.{Rule};
 ghost use Rattle.asl_model.specs.Machine.{Scope};
@@ -70,6 +71,11 @@ pub fn trees_spell_one_rule()
     ensures no_fault { (t : Tree) (a : Rule) (f : RuleFault) → SpellsRule t a → HasRuleFault t f → ⊥ }
     ensures either { (t : Tree) → ((a : Rule) × SpellsRule t a) ⊎ ((f : RuleFault) × HasRuleFault t f) }
     ensures read { (t : Tree) (a : Rule) → (rule_of t ≡ Some a) ↔ SpellsRule t a }
+{}
+
+/// A proper shape is spelled by the tree that is written for it.
+pub fn written_shapes_are_spelled()
+    ensures { (a : Shape) → IsProperShape a → SpellsShape (written_shape a) a }
 {}
 
 /// Each text has a meaning or a fault, and so has each JSON value as a definition and each tree as a shape.

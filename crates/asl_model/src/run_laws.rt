@@ -8,7 +8,7 @@ ghost use Rattle.asl_model.specs.Intrinsic.{Item, Pieces, cut_at_holes, ArePiece
 ghost use Rattle.asl_model.specs.Template.{Template, template_value, IsInOrder, TellsLeastFailure};
 ghost use Rattle.asl_model.specs.Test.{PatternPart, is_cut_by, IsCutBy};
 ghost use Rattle.asl_model.specs.Machine.{Scope};
-ghost use Rattle.asl_model.specs.Run.{Activity, Action, Event, Step, activity_at, step_at, start, want_of, enabled, AreApart, Commute, Enables};
+ghost use Rattle.asl_model.specs.Run.{Activity, Action, Event, Step, activity_at, step_at, start, want_of, enabled, AreApart, Commute, Enables, AreInLexicographicOrder};
 ghost use Rattle.asl_model.specs.Certificate.{Declared, Certificate, IsClosed, Obeys, RunIsAsCertified, ActivitiesAreAsCertified, MovesOn, Works, Nests, IsKeptBy};
 
 /// Closed runs never fault: where a certificate is closed for a machine and declared shapes, then for every input and
@@ -56,6 +56,11 @@ pub fn apart_events_commute()
 /// A place is in the list of enabled ones, with a kind of event, exactly where an event of that kind has a step there.
 pub fn enabled_lists_exactly_the_steps()
     ensures { (p : List ℕ) (scope : Scope) (a : Activity) (action : Action) → IsTrue (is_some (step_at p scope a action)) ↔ Enables (enabled a scope) p (want_of action) }
+{}
+
+/// The enabled places stand in lexicographic order, a place before those below it, each once.
+pub fn enabled_places_stand_in_order()
+    ensures { (a : Activity) (scope : Scope) → AreInLexicographicOrder (enabled a scope) }
 {}
 
 /// The function that looks up a path gives exactly what the path names.

@@ -16,7 +16,7 @@ use Rattle.asl_tree.specs.View as trees
 use Rattle.asl_shape.specs.declared.shape.Field.{Field}
 use Rattle.asl_shape.specs.View.{view, fields_view}
 
-same_name : (k m : List ℕ) → bytes_eq m k ≡ is_eq (slice_cmp nat_cmp k m)
+pub same_name : (k m : List ℕ) → bytes_eq m k ≡ is_eq (slice_cmp nat_cmp k m)
 same_name k m = nat_list_eq_equiv.symm m k ∙ sym (is_eq-slice_cmp k m)
 
 picked : {A B : Type 0} (f : A → B) (x : A) (b : Bool) (s : Option A) → cond b (Some (f x)) (option_map f s) ≡ option_map f (cond b (Some x) s)
@@ -41,3 +41,9 @@ pub mention_of_lookup : (k : String Global) (ms : List (String Global × Field))
 mention_of_lookup k [] = refl
 mention_of_lookup k (m ∷ ms) =
     rw (same_name (string_bytes k) (string_bytes m.0), mention_of_lookup k ms) (picked (λ (m : Field). (m.needed, view m.shape)) m.1 _ _)
+
+-- the same for a key that is no text of the map's own
+pub field_named_lookup_by : (q : List ℕ) (es : List (String Global × Tree)) → field_named q (trees.entries_view es) ≡ option_map trees.view (lookup (is_at (λ k. slice_cmp nat_cmp q (string_bytes k))) es)
+field_named_lookup_by q [] = refl
+field_named_lookup_by q (e ∷ es) =
+    rw (same_name q (string_bytes e.0), field_named_lookup_by q es) (picked trees.view e.1 _ _)

@@ -1,2 +1,5 @@
 pub mod Known
+pub mod Refusal
+pub mod Required
 pub mod View
+pub mod Words

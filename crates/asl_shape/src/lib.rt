@@ -11,6 +11,8 @@ mod inhabiting;
 mod membership;
 mod reading;
 mod shape;
+#[cfg(test)]
+mod tests;
 
 pub use comparing::sub;
 pub use inhabiting::inhabited;

@@ -1,4 +1,14 @@
 // Reading a shape from the tree that spells it.
+ghost use Rattle.asl_model.specs.ShapeSpelling as model;
+ghost use Rattle.asl_shape.specs.Required.{is_needed};
+ghost use Rattle.asl_shape.specs.Refusal.{Tells};
+ghost use Rattle.asl_shape.specs.View.{view, fields_view};
+ghost use Rattle.asl_shape.specs.Words.{word_view};
+ghost use Rattle.asl_tree.specs.View as trees;
+ghost use Rattle.std.specs.List.{Contains};
+ghost use Rattle.std.specs.Ordering.{int_eq};
+ghost use Rattle.asl_shape.specs.declared.ShapeRefusal.{ShapeRefusal};
+ghost use Rattle.std.specs.Prelude.{◌≡◌, [], IsTrue, not, map, string_bytes, IfOk, IfErr, option_map, Some, pos, true, false};
 
 use crate::ShapeRefusal;
 use crate::shape::{Field, Shape};
@@ -82,8 +92,12 @@ enum TypeWord {
 /// false.
 ///
 /// Where several refusals stand in a tree, the answer is one of them.
-#[cycle(read)]
 pub fn read(alloc: Global, tree: &Tree) -> Result<Shape, ShapeRefusal> {
+    read_tree(alloc, tree)
+}
+
+#[cycle(read)]
+fn read_tree(alloc: Global, tree: &Tree) -> Result<Shape, ShapeRefusal> {
     match tree {
         Tree::Bool(true) => Ok(Shape::Any),
         Tree::Bool(false) => Ok(Shape::Never),
@@ -95,7 +109,7 @@ pub fn read(alloc: Global, tree: &Tree) -> Result<Shape, ShapeRefusal> {
 // The shape that an object of keywords spells.
 #[cycle(read)]
 fn read_keywords(alloc: Global, keywords: &BTreeMap<String, Tree>) -> Result<Shape, ShapeRefusal> {
-    match type_word(keywords) {
+    match type_word(keywords.get("type")) {
         TypeWord::Object => read_object(alloc, keywords),
         TypeWord::Array => read_array(alloc, keywords),
         TypeWord::Integer => simple(keywords, Shape::Int),
@@ -114,16 +128,28 @@ fn read_keywords(alloc: Global, keywords: &BTreeMap<String, Tree>) -> Result<Sha
     }
 }
 
-fn type_word(keywords: &BTreeMap<String, Tree>) -> TypeWord {
-    match keywords.get("type") {
+fn type_word(value: Option<&Tree>) -> TypeWord
+    ensures { word_view result ≡ model.type_in (option_map (λ t. trees.view t.now) value.entry) }
+{
+    match value {
         None => TypeWord::Absent,
-        Some(Tree::Text(word)) => word_of(word),
-        Some(Tree::List(_)) => TypeWord::Other,
-        Some(Tree::Null | Tree::Bool(_) | Tree::Int(_) | Tree::Object(_)) => TypeWord::NoWord,
+        Some(value) => type_in(value),
     }
 }
 
-fn word_of(word: &str) -> TypeWord {
+fn type_in(value: &Tree) -> TypeWord
+    ensures { word_view result ≡ model.type_in (Some (trees.view value.now)) }
+{
+    match value {
+        Tree::Text(word) => word_of(word),
+        Tree::List(_) => TypeWord::Other,
+        Tree::Null | Tree::Bool(_) | Tree::Int(_) | Tree::Object(_) => TypeWord::NoWord,
+    }
+}
+
+fn word_of(word: &str) -> TypeWord
+    ensures { word_view result ≡ model.type_word word.now }
+{
     match word {
         "object" => TypeWord::Object,
         "array" => TypeWord::Array,
@@ -136,7 +162,23 @@ fn word_of(word: &str) -> TypeWord {
 }
 
 // Whether each of the keywords is one of those.
-fn all_among(keywords: &BTreeMap<String, Tree>, known: &[&str]) -> bool {
+fn all_among(keywords: &BTreeMap<String, Tree>, known: &[&str]) -> bool
+    ensures known { IsTrue result
+        → (fault : model.ShapeFault)
+        → model.foreign_faults
+        fault
+        (map (λ k. k.now) known.now)
+        (trees.entries_view keywords.now.entries)
+        ≡ [] }
+    ensures foreign { IsTrue (not result)
+        → (fault : model.ShapeFault)
+        → Contains
+        (model.foreign_faults
+        fault
+        (map (λ k. k.now) known.now)
+        (trees.entries_view keywords.now.entries))
+        fault }
+{
     for (keyword, _) in keywords.iter() {
         if !is_among(keyword, known) {
             return false;
@@ -145,7 +187,9 @@ fn all_among(keywords: &BTreeMap<String, Tree>, known: &[&str]) -> bool {
     true
 }
 
-fn is_among(keyword: &str, known: &[&str]) -> bool {
+fn is_among(keyword: &str, known: &[&str]) -> bool
+    ensures { result ≡ model.is_among keyword.now (map (λ k. k.now) known.now) }
+{
     for one in known {
         if *one == keyword {
             return true;
@@ -170,7 +214,7 @@ fn read_array(alloc: Global, keywords: &BTreeMap<String, Tree>) -> Result<Shape,
     }
     let first = read_prefix_items(alloc, keywords)?;
     let rest = read_items(alloc, keywords)?;
-    check_min_items(keywords, first.len())?;
+    check_min_items(keywords.get("minItems"), first.len())?;
     Ok(Shape::List {
         first,
         rest: Box::new(alloc, rest)?,
@@ -185,8 +229,17 @@ fn read_prefix_items(
 ) -> Result<Vec<Shape>, ShapeRefusal> {
     match keywords.get("prefixItems") {
         None => Ok(Vec::new(alloc)),
-        Some(Tree::List(elements)) => read_elements(alloc, elements),
-        Some(_) => Err(ShapeRefusal::NotAShape),
+        Some(value) => read_shapes(alloc, value),
+    }
+}
+
+#[cycle(read)]
+fn read_shapes(alloc: Global, value: &Tree) -> Result<Vec<Shape>, ShapeRefusal> {
+    match value {
+        Tree::List(elements) => read_elements(alloc, elements),
+        Tree::Null | Tree::Bool(_) | Tree::Int(_) | Tree::Text(_) | Tree::Object(_) => {
+            Err(ShapeRefusal::NotAShape)
+        }
     }
 }
 
@@ -194,7 +247,7 @@ fn read_prefix_items(
 fn read_elements(alloc: Global, elements: &[Tree]) -> Result<Vec<Shape>, ShapeRefusal> {
     let mut shapes = Vec::with_capacity(alloc, elements.len())?;
     for element in elements {
-        shapes.push(read(alloc, element)?)?;
+        shapes.push(read_tree(alloc, element)?)?;
     }
     Ok(shapes)
 }
@@ -204,18 +257,34 @@ fn read_elements(alloc: Global, elements: &[Tree]) -> Result<Vec<Shape>, ShapeRe
 fn read_items(alloc: Global, keywords: &BTreeMap<String, Tree>) -> Result<Shape, ShapeRefusal> {
     match keywords.get("items") {
         None => Ok(Shape::Any),
-        Some(tree) => read(alloc, tree),
+        Some(tree) => read_tree(alloc, tree),
     }
 }
 
 // Refuses a `minItems` other than the number of the shapes in `prefixItems`.
-fn check_min_items(keywords: &BTreeMap<String, Tree>, count: usize) -> Result<(), ShapeRefusal> {
-    let stated = match keywords.get("minItems") {
-        None => 0,
-        Some(Tree::Int(stated)) => *stated,
-        Some(_) => return Err(ShapeRefusal::NotAShape),
-    };
-    if usize::try_from(stated) == Ok(count) {
+fn check_min_items(value: Option<&Tree>, count: usize) -> Result<(), ShapeRefusal>
+    ensures right { IfOk result
+        (λ _. model.min_items_faults (option_map (λ t. trees.view t.now) value.entry) count ≡ []) }
+    ensures refused { IfErr result
+        (λ e. Tells
+        e
+        (model.min_items_faults (option_map (λ t. trees.view t.now) value.entry) count)) }
+{
+    match value {
+        None => check_count(0, count),
+        Some(Tree::Int(stated)) => check_count(*stated, count),
+        Some(Tree::Null | Tree::Bool(_) | Tree::Text(_) | Tree::List(_) | Tree::Object(_)) => {
+            Err(ShapeRefusal::NotAShape)
+        }
+    }
+}
+
+fn check_count(stated: i64, count: usize) -> Result<(), ShapeRefusal>
+    ensures right { IfOk result (λ _. int_eq stated (pos count) ≡ true) }
+    ensures refused { IfErr result
+        (λ e. e ≡ ShapeRefusal.MinItems × (int_eq stated (pos count) ≡ false)) }
+{
+    if stated >= 0 && stated as u64 == count as u64 {
         Ok(())
     } else {
         Err(ShapeRefusal::MinItems)
@@ -227,18 +296,27 @@ fn read_object(alloc: Global, keywords: &BTreeMap<String, Tree>) -> Result<Shape
     if !all_among(keywords, &OBJECT_KEYWORDS) {
         return Err(ShapeRefusal::Keyword);
     }
-    let extra = read_additional(keywords)?;
+    let extra = read_additional(keywords.get("additionalProperties"))?;
     let mut fields = read_properties(alloc, keywords)?;
-    read_required(keywords, extra, &mut fields)?;
+    read_required(keywords.get("required"), extra, &mut fields)?;
     Ok(Shape::Object { fields, extra })
 }
 
 // Whether other fields may be there, as `additionalProperties` says.
-fn read_additional(keywords: &BTreeMap<String, Tree>) -> Result<bool, ShapeRefusal> {
-    match keywords.get("additionalProperties") {
+fn read_additional(value: Option<&Tree>) -> Result<bool, ShapeRefusal>
+    ensures right { IfOk result
+        (λ _. model.extra_faults (option_map (λ t. trees.view t.now) value.entry) ≡ []) }
+    ensures extra { IfOk result
+        (λ extra. extra ≡ model.extra_in (option_map (λ t. trees.view t.now) value.entry)) }
+    ensures refused { IfErr result
+        (λ e. Tells e (model.extra_faults (option_map (λ t. trees.view t.now) value.entry))) }
+{
+    match value {
         None => Ok(true),
         Some(Tree::Bool(extra)) => Ok(*extra),
-        Some(_) => Err(ShapeRefusal::NotAShape),
+        Some(Tree::Null | Tree::Int(_) | Tree::Text(_) | Tree::List(_) | Tree::Object(_)) => {
+            Err(ShapeRefusal::NotAShape)
+        }
     }
 }
 
@@ -250,8 +328,17 @@ fn read_properties(
 ) -> Result<BTreeMap<String, Field>, ShapeRefusal> {
     match keywords.get("properties") {
         None => Ok(BTreeMap::new(alloc)),
-        Some(Tree::Object(members)) => read_members(alloc, members),
-        Some(_) => Err(ShapeRefusal::NotAShape),
+        Some(value) => read_fields(alloc, value),
+    }
+}
+
+#[cycle(read)]
+fn read_fields(alloc: Global, value: &Tree) -> Result<BTreeMap<String, Field>, ShapeRefusal> {
+    match value {
+        Tree::Object(members) => read_members(alloc, members),
+        Tree::Null | Tree::Bool(_) | Tree::Int(_) | Tree::Text(_) | Tree::List(_) => {
+            Err(ShapeRefusal::NotAShape)
+        }
     }
 }
 
@@ -263,7 +350,7 @@ fn read_members(
     let mut fields = BTreeMap::new(alloc);
     for (name, member) in members.iter() {
         let name = name.clone()?;
-        let shape = read(alloc, member)?;
+        let shape = read_tree(alloc, member)?;
         let field = Field {
             needed: false,
             shape,
@@ -275,14 +362,16 @@ fn read_members(
 
 // Makes the fields needed that `required` names; those that aren't mentioned are added.
 fn read_required(
-    keywords: &BTreeMap<String, Tree>,
+    value: Option<&Tree>,
     extra: bool,
     fields: &mut BTreeMap<String, Field>,
 ) -> Result<(), ShapeRefusal> {
-    match keywords.get("required") {
+    match value {
         None => Ok(()),
         Some(Tree::List(names)) => require_all(names, extra, fields),
-        Some(_) => Err(ShapeRefusal::NotAShape),
+        Some(Tree::Null | Tree::Bool(_) | Tree::Int(_) | Tree::Text(_) | Tree::Object(_)) => {
+            Err(ShapeRefusal::NotAShape)
+        }
     }
 }
 
@@ -294,18 +383,28 @@ fn require_all(
     for name in names {
         match name {
             Tree::Text(name) => require(name, extra, fields)?,
-            _ => return Err(ShapeRefusal::NotAShape),
+            Tree::Null | Tree::Bool(_) | Tree::Int(_) | Tree::List(_) | Tree::Object(_) => {
+                return Err(ShapeRefusal::NotAShape);
+            }
         }
     }
     Ok(())
 }
 
 // Makes the field of that name needed. One that is needed already was named before.
+#[tactic(auto, using(crate::proofs::Requiring::is_needed_lookup))]
 fn require(
     name: &String,
     extra: bool,
     fields: &mut BTreeMap<String, Field>,
-) -> Result<(), ShapeRefusal> {
+) -> Result<(), ShapeRefusal>
+    ensures right { IfOk result (λ _. is_needed (string_bytes name.now) (fields_view fields.old.entries) ≡ false) }
+    ensures needed { IfOk result
+        (λ _. fields_view fields.new.entries
+        ≡ model.with_needed extra (string_bytes name.now) (fields_view fields.old.entries)) }
+    ensures refused { IfErr result
+        (λ e. Tells e (model.unless (not (is_needed (string_bytes name.now) (fields_view fields.old.entries))) model.NotAShape)) }
+{
     if let Some(field) = fields.get_mut(name) {
         if field.needed {
             return Err(ShapeRefusal::NotAShape);
@@ -313,11 +412,17 @@ fn require(
         field.needed = true;
         return Ok(());
     }
-    let shape = if extra { Shape::Any } else { Shape::Never };
     let field = Field {
         needed: true,
-        shape,
+        shape: unmentioned(extra),
     };
     drop(fields.insert(name.clone()?, field)?);
     Ok(())
+}
+
+// The shape of a needed field without a property.
+fn unmentioned(extra: bool) -> Shape
+    ensures { view result ≡ model.unmentioned extra }
+{
+    if extra { Shape::Any } else { Shape::Never }
 }

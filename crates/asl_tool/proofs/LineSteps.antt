@@ -1,69 +1,72 @@
 -- What a front of a text says of its first line.
-use Rattle.std.proofs.Common.{◌≡◌, ◌+◌, ◌-◌, ◌≤◌, ◌<◌, ℕ, List, [], ◌∷◌, ◌++◌, Bool, true, false, Option, None, Some, nat_eq, length, take, drop, arith, sym, ap, ◌∙◌, subst, refl, if◌then◌else◌}
+use Rattle.std.proofs.Common.{◌≡◌, ◌+◌, ◌-◌, ◌≤◌, ◌<◌, ℕ, List, [], ◌∷◌, ◌++◌, Bool, true, false, Option, None, Some, nat_eq, length, take, drop, arith, sym, ap, ◌∙◌, subst, refl, IsTrue, if◌then◌else◌, inl, inr}
 use Rattle.std.proofs.lemmas.List.{append_assoc, length-append, take_all, drop_all}
+use Rattle.std.proofs.lemmas.Bool.{lt-ltb, le-ltb}
+use Rattle.std.specs.Prelude.{IsFalse}
 use Rattle.std.specs.Io.KnownBytes.{Keeps, prepend_known}
-use Rattle.asl_tool.specs.Lines.{line_of, after_line, TakesLine, HasLongerLine}
+use Rattle.asl_model.specs.Printed.{first_line, further_lines, definition_line, declared_line, certificate_line, is_too_long}
+use Rattle.asl_tool.specs.Lines.{TakesLine, HasLongLine, AreLines, NoLineIsLong, SomeLineIsLong}
 
 -- known bytes have lost the beginning of their first line
 abbrev pub LeavesLine : Option (List ℕ) → Option (List ℕ) → List ℕ → Type 0
 LeavesLine None new line = Unit {0}
 LeavesLine (Some xs) None line = ⊥
-LeavesLine (Some xs) (Some ys) line = (line_of xs ≡ line ++ line_of ys) × (after_line xs ≡ after_line ys)
+LeavesLine (Some xs) (Some ys) line = (first_line xs ≡ line ++ first_line ys) × (further_lines xs ≡ further_lines ys)
 
 -- what a first byte, a line break or not, makes of the first line
 abbrev pub line_by : Bool → ℕ → List ℕ → List ℕ
 line_by t b rest = if t then [] else b ∷ rest
 
 -- no line break in p
-pub unbroken_line : (p ys : List ℕ) → length p ≤ length (line_of p) → line_of (p ++ ys) ≡ p ++ line_of ys
+pub unbroken_line : (p ys : List ℕ) → length p ≤ length (first_line p) → first_line (p ++ ys) ≡ p ++ first_line ys
 unbroken_line [] ys h = refl
 unbroken_line (b ∷ bs) ys h = step (nat_eq b 10) h (unbroken_line bs ys)
   where
-    step : (t : Bool) → length (b ∷ bs) ≤ length (line_by t b (line_of bs))
-        → (length bs ≤ length (line_of bs) → line_of (bs ++ ys) ≡ bs ++ line_of ys)
-        → line_by t b (line_of (bs ++ ys)) ≡ b ∷ (bs ++ line_of ys)
+    step : (t : Bool) → length (b ∷ bs) ≤ length (line_by t b (first_line bs))
+        → (length bs ≤ length (first_line bs) → first_line (bs ++ ys) ≡ bs ++ first_line ys)
+        → line_by t b (first_line (bs ++ ys)) ≡ b ∷ (bs ++ first_line ys)
     step true g rec = absurd (omega arith)
     step false g rec = ap (λ l. b ∷ l) (rec (omega arith))
 
-pub unbroken_after : (p ys : List ℕ) → length p ≤ length (line_of p) → after_line (p ++ ys) ≡ after_line ys
+pub unbroken_after : (p ys : List ℕ) → length p ≤ length (first_line p) → further_lines (p ++ ys) ≡ further_lines ys
 unbroken_after [] ys h = refl
 unbroken_after (b ∷ bs) ys h = step (nat_eq b 10) h (unbroken_after bs ys)
   where
-    step : (t : Bool) → length (b ∷ bs) ≤ length (line_by t b (line_of bs))
-        → (length bs ≤ length (line_of bs) → after_line (bs ++ ys) ≡ after_line ys)
-        → (if t then bs ++ ys else after_line (bs ++ ys)) ≡ after_line ys
+    step : (t : Bool) → length (b ∷ bs) ≤ length (line_by t b (first_line bs))
+        → (length bs ≤ length (first_line bs) → further_lines (bs ++ ys) ≡ further_lines ys)
+        → (if t then bs ++ ys else further_lines (bs ++ ys)) ≡ further_lines ys
     step true g rec = absurd (omega arith)
     step false g rec = rec (omega arith)
 
 -- a line break in p
-pub broken_line : (p ys : List ℕ) → length (line_of p) < length p → line_of (p ++ ys) ≡ take (length (line_of p)) p
+pub broken_line : (p ys : List ℕ) → length (first_line p) < length p → first_line (p ++ ys) ≡ take (length (first_line p)) p
 broken_line [] ys h = absurd (omega arith)
 broken_line (b ∷ bs) ys h = step (nat_eq b 10) h (broken_line bs ys)
   where
-    step : (t : Bool) → length (line_by t b (line_of bs)) < length (b ∷ bs)
-        → (length (line_of bs) < length bs → line_of (bs ++ ys) ≡ take (length (line_of bs)) bs)
-        → line_by t b (line_of (bs ++ ys)) ≡ take (length (line_by t b (line_of bs))) (b ∷ bs)
+    step : (t : Bool) → length (line_by t b (first_line bs)) < length (b ∷ bs)
+        → (length (first_line bs) < length bs → first_line (bs ++ ys) ≡ take (length (first_line bs)) bs)
+        → line_by t b (first_line (bs ++ ys)) ≡ take (length (line_by t b (first_line bs))) (b ∷ bs)
     step true g rec = refl
     step false g rec = ap (λ l. b ∷ l) (rec (omega arith))
 
-pub broken_after : (p ys : List ℕ) → length (line_of p) < length p
-    → after_line (p ++ ys) ≡ drop 1 (drop (length (line_of p)) p) ++ ys
+pub broken_after : (p ys : List ℕ) → length (first_line p) < length p
+    → further_lines (p ++ ys) ≡ drop 1 (drop (length (first_line p)) p) ++ ys
 broken_after [] ys h = absurd (omega arith)
 broken_after (b ∷ bs) ys h = step (nat_eq b 10) h (broken_after bs ys)
   where
-    step : (t : Bool) → length (line_by t b (line_of bs)) < length (b ∷ bs)
-        → (length (line_of bs) < length bs → after_line (bs ++ ys) ≡ drop 1 (drop (length (line_of bs)) bs) ++ ys)
-        → (if t then bs ++ ys else after_line (bs ++ ys)) ≡ drop 1 (drop (length (line_by t b (line_of bs))) (b ∷ bs)) ++ ys
+    step : (t : Bool) → length (line_by t b (first_line bs)) < length (b ∷ bs)
+        → (length (first_line bs) < length bs → further_lines (bs ++ ys) ≡ drop 1 (drop (length (first_line bs)) bs) ++ ys)
+        → (if t then bs ++ ys else further_lines (bs ++ ys)) ≡ drop 1 (drop (length (line_by t b (first_line bs))) (b ∷ bs)) ++ ys
     step true g rec = refl
     step false g rec = rec (omega arith)
 
 -- the first line of a text has what that of a front of it has, or more
-pub front_length : (p ys : List ℕ) → length (line_of p) ≤ length (line_of (p ++ ys))
+pub front_length : (p ys : List ℕ) → length (first_line p) ≤ length (first_line (p ++ ys))
 front_length [] ys = omega arith
 front_length (b ∷ bs) ys = step (nat_eq b 10) (front_length bs ys)
   where
-    step : (t : Bool) → length (line_of bs) ≤ length (line_of (bs ++ ys))
-        → length (line_by t b (line_of bs)) ≤ length (line_by t b (line_of (bs ++ ys)))
+    step : (t : Bool) → length (first_line bs) ≤ length (first_line (bs ++ ys))
+        → length (line_by t b (first_line bs)) ≤ length (line_by t b (first_line (bs ++ ys)))
     step true rec = omega arith
     step false rec = omega arith
 
@@ -73,41 +76,85 @@ left_by_fill None mid new line h k = tt
 left_by_fill (Some xs) None new line h k = absurd h
 left_by_fill (Some xs) (Some ys) None line h k = absurd k
 left_by_fill (Some xs) (Some ys) (Some zs) line h k =
-    let P : List ℕ → Type 0 = λ v. (line_of xs ≡ line ++ line_of v) × (after_line xs ≡ after_line v) in subst P (sym k) h
+    let P : List ℕ → Type 0 = λ v. (first_line xs ≡ line ++ first_line v) × (further_lines xs ≡ further_lines v) in subst P (sym k) h
 
 -- a piece with no line break is taken
-pub left_by_piece : (old rest : Option (List ℕ)) (line p : List ℕ) (n : ℕ) → n ≡ length (line_of p) → length p ≤ n
+pub left_by_piece : (old rest : Option (List ℕ)) (line p : List ℕ) (n : ℕ) → n ≡ length (first_line p) → length p ≤ n
     → LeavesLine old (prepend_known p rest) line → LeavesLine old (prepend_known (drop n p) rest) (line ++ take n p)
 left_by_piece None rest line p n e le h = tt
 left_by_piece (Some xs) None line p n e le h = absurd h
 left_by_piece (Some xs) (Some ys) line p n e le h =
-    let whole : length p ≤ length (line_of p) = omega arith in
+    let whole : length p ≤ length (first_line p) = omega arith in
     let none : drop n p ≡ [] = drop_all n p le in
     let all : take n p ≡ p = take_all n p le in
-    let at : line_of (drop n p ++ ys) ≡ line_of ys = ap (λ (v : List ℕ). line_of (v ++ ys)) none in
-    let after : after_line (drop n p ++ ys) ≡ after_line ys = ap (λ (v : List ℕ). after_line (v ++ ys)) none in (
-      h.0 ∙ ap (λ (v : List ℕ). line ++ v) (unbroken_line p ys whole) ∙ sym (append_assoc line p (line_of ys))
-          ∙ ap (λ (v : List ℕ). (line ++ v) ++ line_of ys) (sym all) ∙ ap (λ (v : List ℕ). (line ++ take n p) ++ v) (sym at),
+    let at : first_line (drop n p ++ ys) ≡ first_line ys = ap (λ (v : List ℕ). first_line (v ++ ys)) none in
+    let after : further_lines (drop n p ++ ys) ≡ further_lines ys = ap (λ (v : List ℕ). further_lines (v ++ ys)) none in (
+      h.0 ∙ ap (λ (v : List ℕ). line ++ v) (unbroken_line p ys whole) ∙ sym (append_assoc line p (first_line ys))
+          ∙ ap (λ (v : List ℕ). (line ++ v) ++ first_line ys) (sym all) ∙ ap (λ (v : List ℕ). (line ++ take n p) ++ v) (sym at),
       h.1 ∙ unbroken_after p ys whole ∙ sym after,
     )
 
 -- the last piece of a line is taken, and the line break is passed over
-pub taken_by_piece : (old rest : Option (List ℕ)) (line p : List ℕ) (n : ℕ) → n ≡ length (line_of p) → n < length p
+pub taken_by_piece : (old rest : Option (List ℕ)) (line p : List ℕ) (n : ℕ) → n ≡ length (first_line p) → n < length p
     → LeavesLine old (prepend_known p rest) line → TakesLine old (prepend_known (drop 1 (drop n p)) rest) (line ++ take n p)
 taken_by_piece None rest line p n e lt h = tt
 taken_by_piece (Some xs) None line p n e lt h = absurd h
 taken_by_piece (Some xs) (Some ys) line p n e lt h =
-    let inside : length (line_of p) < length p = omega arith in
-    let front : line_of (p ++ ys) ≡ take n p = broken_line p ys inside ∙ ap (λ k. take k p) (sym e) in
-    let back : after_line (p ++ ys) ≡ drop 1 (drop n p) ++ ys = broken_after p ys inside ∙ ap (λ k. drop 1 (drop k p) ++ ys) (sym e) in
+    let inside : length (first_line p) < length p = omega arith in
+    let front : first_line (p ++ ys) ≡ take n p = broken_line p ys inside ∙ ap (λ k. take k p) (sym e) in
+    let back : further_lines (p ++ ys) ≡ drop 1 (drop n p) ++ ys = broken_after p ys inside ∙ ap (λ k. drop 1 (drop k p) ++ ys) (sym e) in
     (sym (h.0 ∙ ap (λ (v : List ℕ). line ++ v) front), sym (h.1 ∙ back))
 
 -- a piece that doesn't fit into the limit shows that the line doesn't
-pub longer_by_piece : (old rest : Option (List ℕ)) (line p : List ℕ) (n limit : ℕ) → n ≡ length (line_of p) → limit < n + length line
-    → LeavesLine old (prepend_known p rest) line → HasLongerLine old limit
-longer_by_piece None rest line p n limit e lt h = tt
-longer_by_piece (Some xs) None line p n limit e lt h = absurd h
-longer_by_piece (Some xs) (Some ys) line p n limit e lt h =
-    let whole : length (line_of xs) ≡ length line + length (line_of (p ++ ys)) = ap length h.0 ∙ length-append line (line_of (p ++ ys)) in
+pub longer_by_piece : (old rest : Option (List ℕ)) (line p : List ℕ) (n : ℕ) → n ≡ length (first_line p) → 16777216 < n + length line
+    → LeavesLine old (prepend_known p rest) line → HasLongLine old
+longer_by_piece None rest line p n e lt h = tt
+longer_by_piece (Some xs) None line p n e lt h = absurd h
+longer_by_piece (Some xs) (Some ys) line p n e lt h =
+    let whole : length (first_line xs) ≡ length line + length (first_line (p ++ ys)) = ap length h.0 ∙ length-append line (first_line (p ++ ys)) in
     let more = front_length p ys in
-    omega arith
+    lt-ltb 16777216 (length (first_line xs)) (omega arith)
+
+-- no bytes before the known ones
+pub no_bytes_before : (known : Option (List ℕ)) → prepend_known [] known ≡ known
+no_bytes_before None = refl
+no_bytes_before (Some xs) = refl
+
+-- three lines taken one after another
+pub three_lines : (a b c d : Option (List ℕ)) (definition declared certificate : List ℕ)
+    → TakesLine a b definition → TakesLine b c declared → TakesLine c d certificate → AreLines a definition declared certificate
+three_lines None b c d x y z p q r = tt
+three_lines (Some xs) None c d x y z p q r = absurd p
+three_lines (Some xs) (Some ys) None d x y z p q r = absurd q
+three_lines (Some xs) (Some ys) (Some zs) None x y z p q r = absurd r
+three_lines (Some xs) (Some ys) (Some zs) (Some ws) x y z p q r =
+    let second : y ≡ declared_line xs = q.0 ∙ ap first_line p.1 in
+    let third : z ≡ certificate_line xs = r.0 ∙ ap first_line (q.1 ∙ ap further_lines p.1) in
+    (p.0, second, third)
+
+-- lines within the limit
+pub short_lines : (known : Option (List ℕ)) (definition declared certificate : List ℕ) → AreLines known definition declared certificate
+    → length definition ≤ 16777216 → length declared ≤ 16777216 → length certificate ≤ 16777216 → NoLineIsLong known
+short_lines None x y z e p q r = tt
+short_lines (Some xs) x y z e p q r =
+    let short : (v w : List ℕ) → v ≡ w → length v ≤ 16777216 → IsFalse (is_too_long w) =
+    λ v w same within. let len : length v ≡ length w = ap length same in le-ltb 16777216 (length w) (omega arith) in
+    (short x (definition_line xs) e.0 p, short y (declared_line xs) e.1 q, short z (certificate_line xs) e.2 r)
+
+-- a second or third line that is too long
+pub long_second : (a b : Option (List ℕ)) (line : List ℕ) → TakesLine a b line → HasLongLine b → SomeLineIsLong a
+long_second None b line p h = tt
+long_second (Some xs) None line p h = absurd p
+long_second (Some xs) (Some ys) line p h =
+    let P : List ℕ → Type 0 = λ v. IsTrue (is_too_long (first_line v)) in inr (inl (subst P p.1 h))
+
+pub long_third : (a b c : Option (List ℕ)) (line other : List ℕ) → TakesLine a b line → TakesLine b c other → HasLongLine c → SomeLineIsLong a
+long_third None b c line other p q h = tt
+long_third (Some xs) None c line other p q h = absurd p
+long_third (Some xs) (Some ys) None line other p q h = absurd q
+long_third (Some xs) (Some ys) (Some zs) line other p q h =
+    let P : List ℕ → Type 0 = λ v. IsTrue (is_too_long (first_line v)) in inr (inr (subst P (q.1 ∙ ap further_lines p.1) h))
+
+pub long_first : (a : Option (List ℕ)) → HasLongLine a → SomeLineIsLong a
+long_first None h = tt
+long_first (Some xs) h = inl h

@@ -1,3 +1,4 @@
 pub mod Chunk
 pub mod Lines
+pub mod View
 pub mod Writing

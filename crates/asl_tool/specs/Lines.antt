@@ -1,33 +1,47 @@
--- The lines of a text. A line ends before the first line break (U+000A), or where the text ends.
-use Rattle.std.specs.Prelude.{◌≡◌, ◌<◌, ℕ, List, [], ◌∷◌, Option, None, Some, Bool, IsTrue, ⊤, nat_eq, if◌then◌else◌, length}
+-- Lines that are taken from known bytes.
+use Rattle.std.specs.Prelude.{◌≡◌, ◌⊎◌, List, ℕ, Option, None, Some, Bool, IsTrue, IsFalse, ⊤}
+use Rattle.asl_model.specs.Printed.{first_line, further_lines, definition_line, declared_line, certificate_line, is_too_long}
 use Rattle.asl_tool.specs.declared.refusals.RunFault.{RunFault}
 use Rattle.asl_tool.specs.declared.refusals.RunFault.TheVariants as run
-
--- the first line, without its break
-abbrev pub line_of : List ℕ → List ℕ
-line_of [] = []
-line_of (b ∷ bs) = if nat_eq b 10 then [] else b ∷ line_of bs
-
--- what stands behind the first line and its break
-abbrev pub after_line : List ℕ → List ℕ
-after_line [] = []
-after_line (b ∷ bs) = if nat_eq b 10 then bs else after_line bs
 
 -- known bytes begin with that line, and lose it and its break
 abbrev pub TakesLine : Option (List ℕ) → Option (List ℕ) → List ℕ → Type 0
 TakesLine None new line = ⊤
 TakesLine (Some xs) None line = ⊥
-TakesLine (Some xs) (Some ys) line = (line ≡ line_of xs) × (ys ≡ after_line xs)
+TakesLine (Some xs) (Some ys) line = (line ≡ first_line xs) × (ys ≡ further_lines xs)
 
--- the first line of known bytes has more than n bytes
-abbrev pub HasLongerLine : Option (List ℕ) → ℕ → Type 0
-HasLongerLine None n = ⊤
-HasLongerLine (Some xs) n = n < length (line_of xs)
+-- the first line of known bytes is too long
+abbrev pub HasLongLine : Option (List ℕ) → Type 0
+HasLongLine None = ⊤
+HasLongLine (Some xs) = IsTrue (is_too_long (first_line xs))
 
--- why the next line of known bytes isn't taken: it has more than 16777216 bytes, or a read failed, or there was no memory
+-- why the next line of known bytes isn't taken: it is too long, or a read failed, or there was no memory
 abbrev pub LineFaultStands : Option (List ℕ) → Bool → RunFault → Type 0
 LineFaultStands known failed (run.Text refusal) = ⊥
-LineFaultStands known failed run.TooLong = HasLongerLine known 16777216
+LineFaultStands known failed run.TooLong = HasLongLine known
 LineFaultStands known failed run.Read = IsTrue failed
 LineFaultStands known failed run.Write = ⊥
 LineFaultStands known failed run.OutOfMemory = ⊤
+
+-- these are the first three lines of known bytes
+abbrev pub AreLines : Option (List ℕ) → List ℕ → List ℕ → List ℕ → Type 0
+AreLines None definition declared certificate = ⊤
+AreLines (Some xs) definition declared certificate = (definition ≡ definition_line xs) × (declared ≡ declared_line xs) × (certificate ≡ certificate_line xs)
+
+-- one of the first three lines of known bytes is too long
+abbrev pub SomeLineIsLong : Option (List ℕ) → Type 0
+SomeLineIsLong None = ⊤
+SomeLineIsLong (Some xs) = IsTrue (is_too_long (definition_line xs)) ⊎ IsTrue (is_too_long (declared_line xs)) ⊎ IsTrue (is_too_long (certificate_line xs))
+
+-- none of them is
+abbrev pub NoLineIsLong : Option (List ℕ) → Type 0
+NoLineIsLong None = ⊤
+NoLineIsLong (Some xs) = IsFalse (is_too_long (definition_line xs)) × IsFalse (is_too_long (declared_line xs)) × IsFalse (is_too_long (certificate_line xs))
+
+-- why the first three lines of known bytes aren't taken
+abbrev pub LinesFaultStands : Option (List ℕ) → Bool → RunFault → Type 0
+LinesFaultStands known failed (run.Text refusal) = ⊥
+LinesFaultStands known failed run.TooLong = SomeLineIsLong known
+LinesFaultStands known failed run.Read = IsTrue failed
+LinesFaultStands known failed run.Write = ⊥
+LinesFaultStands known failed run.OutOfMemory = ⊤

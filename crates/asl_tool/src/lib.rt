@@ -15,6 +15,8 @@ mod records;
 mod refusals;
 mod sinks;
 mod sources;
+#[cfg(test)]
+mod tests;
 mod verdicts;
 mod verifying;
 

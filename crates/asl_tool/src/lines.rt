@@ -1,9 +1,10 @@
 //! The lines of a source, taken by chunks.
 
-ghost use Rattle.std.specs.Prelude.{◌≡◌, ◌≤◌, length, IsTrue, IfOk, IfErr};
+ghost use Rattle.std.specs.Prelude.{◌≡◌, ◌≤◌, length, vec_len, IsTrue, IfOk, IfErr, OnOk};
 ghost use Rattle.std.specs.Io.KnownBytes.{prepend_known};
 ghost use Rattle.asl_tool.specs.Chunk.{pending};
-ghost use Rattle.asl_tool.specs.Lines.{line_of, TakesLine, LineFaultStands};
+ghost use Rattle.asl_model.specs.Printed.{first_line};
+ghost use Rattle.asl_tool.specs.Lines.{TakesLine, LineFaultStands, AreLines, NoLineIsLong, LinesFaultStands};
 
 use crate::chunks::Chunk;
 use crate::refusals::RunFault;
@@ -12,6 +13,43 @@ use std::alloc::Global;
 
 /// How many bytes a line may have, its break not counted.
 const LINE_LIMIT: usize = 16777216;
+
+/// The three lines that are checked.
+#[derive(Drop)]
+pub(crate) struct Lines {
+    pub(crate) definition: Vec<u8>,
+    pub(crate) declared: Vec<u8>,
+    pub(crate) certificate: Vec<u8>,
+}
+
+/// The first three lines of a source, without their breaks. A missing line is empty.
+///
+/// Refused: TooLong for a line of more than `LINE_LIMIT` bytes; Read where a read failed.
+pub(crate) fn read_lines<S: Source>(alloc: Global, source: &mut S) -> Result<Lines, RunFault>
+    ensures lines { IfOk result (λ lines. AreLines (S.remaining source.old) lines.definition.items lines.declared.items lines.certificate.items) }
+    ensures short { OnOk result (NoLineIsLong (S.remaining source.old)) }
+    ensures fault { IfErr result (λ fault. LinesFaultStands (S.remaining source.old) (S.failed source.new) fault) }
+    ensures lasting { IsTrue (S.failed source.old) → IsTrue (S.failed source.new) }
+{
+    let mut chunk = Chunk::new();
+    let definition = match next_line(alloc, source, &mut chunk) {
+        Ok(line) => line,
+        Err(fault) => return Err(fault),
+    };
+    let declared = match next_line(alloc, source, &mut chunk) {
+        Ok(line) => line,
+        Err(fault) => return Err(fault),
+    };
+    let certificate = match next_line(alloc, source, &mut chunk) {
+        Ok(line) => line,
+        Err(fault) => return Err(fault),
+    };
+    Ok(Lines {
+        definition,
+        declared,
+        certificate,
+    })
+}
 
 /// The next line, without its break (U+000A). At the end of the source it is what is left, or nothing.
 ///
@@ -23,6 +61,7 @@ pub(crate) fn next_line<S: Source>(
 ) -> Result<Vec<u8>, RunFault>
     ensures line { IfOk result (λ line. TakesLine (prepend_known (pending chunk.old) (S.remaining source.old))
         (prepend_known (pending chunk.new) (S.remaining source.new)) line.items) }
+    ensures within { IfOk result (λ line. vec_len line ≤ 16777216) }
     ensures fault { IfErr result (λ fault. LineFaultStands (prepend_known (pending chunk.old) (S.remaining source.old))
         (S.failed source.new) fault) }
     ensures lasting { IsTrue (S.failed source.old) → IsTrue (S.failed source.new) }
@@ -56,7 +95,7 @@ pub(crate) fn next_line<S: Source>(
 
 /// How many bytes stand before the first line break, or all of them.
 fn front_of_line(bytes: &[u8]) -> usize
-    ensures count { result ≡ length (line_of bytes.now) }
+    ensures count { result ≡ length (first_line bytes.now) }
     ensures within { result ≤ length bytes.now }
 {
     for (i, byte) in bytes.iter().enumerate() {

@@ -1,124 +1,217 @@
 //! The lines that a verdict and a fault are told by.
 
+ghost use Rattle.std.specs.Prelude.{◌≡◌, ◌++◌, IfOk, string_bytes, codes, decimal};
+ghost use Rattle.asl_model.specs.Printed.{quoted_name, finding_line, finding_lines, verdict_text, verdict_status, place_text, refusal_text, refusal_line, refusal_status, out_of_memory, fault_line, fault_status, closing_line, closing_status};
+ghost use Rattle.asl_tool.specs.View.{finding_view, findings_view, verdict_view, which_view, tree_refusal_view, def_refusal_view, record_refusal_view, text_fault_view, run_fault_view, closing_view};
+
 use crate::endings::Closing;
-use crate::refusals::{DefRefusal, RecordRefusal, RunFault, TextFault, TextRefusal};
+use crate::refusals::{
+    DefFault, DefRefusal, RecordFault, RecordRefusal, RunFault, TextFault, Which,
+};
 use crate::verdicts::{Finding, Verdict};
+use asl_shape::ShapeRefusal;
 use asl_tree::{OutOfMemory, Tree, TreeRefusal, to_text};
 use std::alloc::Global;
 
 /// The lines of a verdict, each ended by a line break: `yes`, or `no STATE FIELD FAULT` for each finding, the state's
 /// name as a JSON text.
-pub fn verdict_text(alloc: Global, verdict: &Verdict) -> Result<String, OutOfMemory> {
+pub fn verdict_text(alloc: Global, verdict: &Verdict) -> Result<String, OutOfMemory>
+    ensures { IfOk result (λ text. string_bytes text ≡ verdict_text (verdict_view verdict.now)) }
+{
     match verdict {
         Verdict::Yes => Ok(String::from_str(alloc, "yes\n")?),
-        Verdict::No(findings) => {
-            let mut text = String::new(alloc);
-            for finding in findings {
-                add_finding(alloc, &mut text, finding)?;
-            }
-            Ok(text)
-        }
+        Verdict::No(findings) => findings_text(alloc, findings),
     }
 }
 
-/// Adds the line of a finding.
-fn add_finding(alloc: Global, text: &mut String, finding: &Finding) -> Result<(), OutOfMemory> {
-    text.push_str("no ")?;
-    text.push_str(&json_text(alloc, &finding.state)?)?;
+/// The lines of findings.
+fn findings_text(alloc: Global, findings: &Vec<Finding>) -> Result<String, OutOfMemory>
+    ensures { IfOk result (λ text. string_bytes text ≡ finding_lines (findings_view findings.now.items)) }
+{
+    let mut text = String::new(alloc);
+    for finding in findings {
+        let line = finding_text(alloc, finding)?;
+        text.push_str(&line)?;
+    }
+    Ok(text)
+}
+
+/// The line of a finding.
+fn finding_text(alloc: Global, finding: &Finding) -> Result<String, OutOfMemory>
+    ensures { IfOk result (λ text. string_bytes text ≡ finding_line (finding_view finding.now)) }
+{
+    let mut text = String::from_str(alloc, "no ")?;
+    let state = json_text(alloc, &finding.state)?;
+    text.push_str(&state)?;
     text.push_str(" ")?;
     text.push_str(&finding.field)?;
     text.push_str(" ")?;
     text.push_str(finding.fault.name())?;
     text.push_str("\n")?;
-    Ok(())
+    Ok(text)
 }
 
 /// The exit status of the program and the line on standard error, with its break, empty where there is none.
 ///
 /// Status 0 is a yes, 1 a no, 2 a text that is refused or too long, 5 want of memory or a reader or writer that failed.
-pub fn closing(alloc: Global, closing: &Closing) -> Result<(u8, String), OutOfMemory> {
+pub fn closing(alloc: Global, closing: &Closing) -> Result<(u8, String), OutOfMemory>
+    ensures status { IfOk result (λ end. end.0 ≡ closing_status (closing_view closing.now)) }
+    ensures line { IfOk result (λ end. string_bytes end.1 ≡ closing_line (closing_view closing.now)) }
+{
     match closing {
-        Closing::Verdict(Verdict::Yes) => Ok((0, String::new(alloc))),
-        Closing::Verdict(Verdict::No(_)) => Ok((1, String::new(alloc))),
-        Closing::Fault(RunFault::Text(refusal)) => refusal_closing(alloc, refusal),
-        Closing::Fault(RunFault::TooLong) => Ok((2, String::from_str(alloc, "text too long\n")?)),
-        Closing::Fault(RunFault::Read) => Ok((5, String::from_str(alloc, "read failed\n")?)),
-        Closing::Fault(RunFault::Write) => Ok((5, String::from_str(alloc, "write failed\n")?)),
-        Closing::Fault(RunFault::OutOfMemory) => {
-            Ok((5, String::from_str(alloc, "out of memory\n")?))
-        }
+        Closing::Verdict(verdict) => Ok((status_of(verdict), String::new(alloc))),
+        Closing::Fault(fault) => fault_closing(alloc, fault),
     }
 }
 
-/// The exit status and the line for a refused text.
-fn refusal_closing(alloc: Global, refusal: &TextRefusal) -> Result<(u8, String), OutOfMemory> {
-    if let TextFault::OutOfMemory = refusal.fault {
-        return Ok((5, String::from_str(alloc, "out of memory\n")?));
+/// The exit status of a verdict.
+fn status_of(verdict: &Verdict) -> u8
+    ensures { result ≡ verdict_status (verdict_view verdict.now) }
+{
+    match verdict {
+        Verdict::Yes => 0,
+        Verdict::No(_) => 1,
     }
-    let mut line = String::from_str(alloc, "refused ")?;
-    line.push_str(refusal.which.name())?;
-    line.push_str(" ")?;
-    add_fault(alloc, &mut line, &refusal.fault)?;
-    line.push_str("\n")?;
-    Ok((2, line))
 }
 
-/// Adds what is wrong with a text.
-fn add_fault(alloc: Global, line: &mut String, fault: &TextFault) -> Result<(), OutOfMemory> {
+/// The exit status and the line of a call that failed.
+fn fault_closing(alloc: Global, fault: &RunFault) -> Result<(u8, String), OutOfMemory>
+    ensures status { IfOk result (λ end. end.0 ≡ fault_status (run_fault_view fault.now)) }
+    ensures line { IfOk result (λ end. string_bytes end.1 ≡ fault_line (run_fault_view fault.now)) }
+{
     match fault {
-        TextFault::Tree(refusal) => line.push_str(tree_fault_name(refusal))?,
-        TextFault::Def(refusal) => add_def_refusal(alloc, line, refusal)?,
-        TextFault::Record(refusal) => add_record_refusal(alloc, line, refusal)?,
-        TextFault::BadAnswer(position) => {
-            line.push_str("BadAnswer ")?;
-            line.push_str(&position.to_string(alloc)?)?;
-        }
-        TextFault::OutOfMemory => line.push_str("OutOfMemory")?,
+        RunFault::Text(refusal) => refusal_closing(alloc, refusal.which, &refusal.fault),
+        RunFault::TooLong => Ok((2, String::from_str(alloc, "text too long\n")?)),
+        RunFault::Read => Ok((5, String::from_str(alloc, "read failed\n")?)),
+        RunFault::Write => Ok((5, String::from_str(alloc, "write failed\n")?)),
+        RunFault::OutOfMemory => memory_closing(alloc),
     }
-    Ok(())
 }
 
-/// Adds why a definition is refused.
-fn add_def_refusal(
+/// The exit status and the line of want of memory.
+fn memory_closing(alloc: Global) -> Result<(u8, String), OutOfMemory>
+    ensures status { IfOk result (λ end. end.0 ≡ 5) }
+    ensures line { IfOk result (λ end. string_bytes end.1 ≡ out_of_memory) }
+{
+    Ok((5, String::from_str(alloc, "out of memory\n")?))
+}
+
+/// The exit status and the line of a refused text.
+fn refusal_closing(
     alloc: Global,
-    line: &mut String,
-    refusal: &DefRefusal,
-) -> Result<(), OutOfMemory> {
-    line.push_str(refusal.fault.name())?;
-    add_place(alloc, line, &refusal.state, &refusal.field)
-}
-
-/// Adds why declared shapes or a certificate are refused.
-fn add_record_refusal(
-    alloc: Global,
-    line: &mut String,
-    refusal: &RecordRefusal,
-) -> Result<(), OutOfMemory> {
-    line.push_str(refusal.fault.name())?;
-    add_place(alloc, line, &refusal.name, &refusal.field)
-}
-
-/// Adds where something is wrong: a name as a JSON text, and the field where it isn't empty.
-fn add_place(alloc: Global, line: &mut String, name: &str, field: &str) -> Result<(), OutOfMemory> {
-    line.push_str(" ")?;
-    line.push_str(&json_text(alloc, name)?)?;
-    if !field.is_empty() {
-        line.push_str(" ")?;
-        line.push_str(field)?;
+    which: Which,
+    fault: &TextFault,
+) -> Result<(u8, String), OutOfMemory>
+    ensures status { IfOk result (λ end. end.0 ≡ refusal_status (text_fault_view fault.now)) }
+    ensures line { IfOk result (λ end. string_bytes end.1 ≡ refusal_line (which_view which) (text_fault_view fault.now)) }
+{
+    match fault {
+        TextFault::Tree(refusal) => tree_closing(alloc, which, refusal),
+        TextFault::Def(refusal) => def_closing(alloc, which, refusal),
+        TextFault::Record(refusal) => record_closing(alloc, which, refusal),
+        TextFault::BadAnswer(position) => answer_closing(alloc, which, *position),
+        TextFault::OutOfMemory => memory_closing(alloc),
     }
-    Ok(())
 }
 
-/// The name of what keeps a text from being a tree.
-fn tree_fault_name(refusal: &TreeRefusal) -> &'static str {
+/// The exit status and the line of a text that is no JSON, or has a number that isn't whole.
+fn tree_closing(
+    alloc: Global,
+    which: Which,
+    refusal: &TreeRefusal,
+) -> Result<(u8, String), OutOfMemory>
+    ensures status { IfOk result (λ end. end.0 ≡ refusal_status (tree_refusal_view refusal.now)) }
+    ensures line { IfOk result (λ end. string_bytes end.1 ≡ refusal_line (which_view which) (tree_refusal_view refusal.now)) }
+{
     match refusal {
-        TreeRefusal::NotJson => "NotJson",
-        TreeRefusal::NotWhole => "NotWhole",
-        TreeRefusal::OutOfMemory => "OutOfMemory",
+        TreeRefusal::NotJson => Ok((2, refusal_text(alloc, which, "NotJson", "")?)),
+        TreeRefusal::NotWhole => Ok((2, refusal_text(alloc, which, "NotWhole", "")?)),
+        TreeRefusal::OutOfMemory => memory_closing(alloc),
     }
+}
+
+/// The exit status and the line of a refused definition.
+fn def_closing(
+    alloc: Global,
+    which: Which,
+    refusal: &DefRefusal,
+) -> Result<(u8, String), OutOfMemory>
+    ensures status { IfOk result (λ end. end.0 ≡ refusal_status (def_refusal_view refusal.now)) }
+    ensures line { IfOk result (λ end. string_bytes end.1 ≡ refusal_line (which_view which) (def_refusal_view refusal.now)) }
+{
+    if refusal.fault == DefFault::OutOfMemory {
+        return memory_closing(alloc);
+    }
+    let place = place_text(alloc, &refusal.state, &refusal.field)?;
+    Ok((2, refusal_text(alloc, which, refusal.fault.name(), &place)?))
+}
+
+/// The exit status and the line of refused declared shapes or a refused certificate.
+fn record_closing(
+    alloc: Global,
+    which: Which,
+    refusal: &RecordRefusal,
+) -> Result<(u8, String), OutOfMemory>
+    ensures status { IfOk result (λ end. end.0 ≡ refusal_status (record_refusal_view refusal.now)) }
+    ensures line { IfOk result (λ end. string_bytes end.1 ≡ refusal_line (which_view which) (record_refusal_view refusal.now)) }
+{
+    match refusal.fault {
+        RecordFault::OutOfMemory | RecordFault::BadShape(ShapeRefusal::OutOfMemory) => {
+            return memory_closing(alloc);
+        }
+        _ => {}
+    }
+    let place = place_text(alloc, &refusal.name, &refusal.field)?;
+    Ok((2, refusal_text(alloc, which, refusal.fault.name(), &place)?))
+}
+
+/// The exit status and the line of an answer that is none.
+fn answer_closing(alloc: Global, which: Which, position: usize) -> Result<(u8, String), OutOfMemory>
+    ensures status { IfOk result (λ end. end.0 ≡ 2) }
+    ensures line { IfOk result (λ end. string_bytes end.1 ≡ refusal_text (which_view which) (codes "BadAnswer") (codes " " ++ decimal position)) }
+{
+    let mut place = String::from_str(alloc, " ")?;
+    let digits = position.to_string(alloc)?;
+    place.push_str(&digits)?;
+    Ok((2, refusal_text(alloc, which, "BadAnswer", &place)?))
+}
+
+/// The line of a refused text: what is wrong, and where.
+fn refusal_text(
+    alloc: Global,
+    which: Which,
+    fault: &str,
+    place: &str,
+) -> Result<String, OutOfMemory>
+    ensures { IfOk result (λ text. string_bytes text ≡ refusal_text (which_view which) fault.now place.now) }
+{
+    let mut text = String::from_str(alloc, "refused ")?;
+    text.push_str(which.name())?;
+    text.push_str(" ")?;
+    text.push_str(fault)?;
+    text.push_str(place)?;
+    text.push_str("\n")?;
+    Ok(text)
+}
+
+/// Where something is wrong: a name as a JSON text, and the field where it isn't empty.
+fn place_text(alloc: Global, name: &str, field: &str) -> Result<String, OutOfMemory>
+    ensures { IfOk result (λ text. string_bytes text ≡ place_text name.now field.now) }
+{
+    let mut text = String::from_str(alloc, " ")?;
+    let name = json_text(alloc, name)?;
+    text.push_str(&name)?;
+    if !field.is_empty() {
+        text.push_str(" ")?;
+        text.push_str(field)?;
+    }
+    Ok(text)
 }
 
 /// A text as JSON.
-fn json_text(alloc: Global, text: &str) -> Result<String, OutOfMemory> {
-    to_text(alloc, &Tree::Text(String::from_str(alloc, text)?))
+fn json_text(alloc: Global, text: &str) -> Result<String, OutOfMemory>
+    ensures { IfOk result (λ quoted. string_bytes quoted ≡ quoted_name text.now) }
+{
+    let tree = Tree::Text(String::from_str(alloc, text)?);
+    to_text(alloc, &tree)
 }

@@ -1,5 +1,7 @@
 //! Why a text is refused, and how a call over a reader and a writer can fail.
 
+ghost use Rattle.std.specs.Prelude.{◌≡◌, IfSome};
+
 use asl_shape::ShapeRefusal;
 use asl_tree::TreeRefusal;
 use std::alloc::Global;
@@ -49,8 +51,13 @@ pub enum DefFault {
 }
 
 impl DefFault {
+    ghost use Rattle.asl_model.specs.Printed.{definition_fault_name};
+    ghost use Rattle.asl_tool.specs.View.{def_fault_view};
+
     /// The fault's name.
-    pub(crate) fn name(self) -> &'static str {
+    pub(crate) fn name(self) -> &'static str
+        ensures { IfSome (def_fault_view self) (λ fault. result.now ≡ definition_fault_name fault) }
+    {
         match self {
             DefFault::NotObject => "NotObject",
             DefFault::MissingField => "MissingField",
@@ -129,8 +136,13 @@ pub enum RecordFault {
 }
 
 impl RecordFault {
+    ghost use Rattle.asl_model.specs.Printed.{record_fault_name};
+    ghost use Rattle.asl_tool.specs.View.{record_fault_view};
+
     /// The fault's name.
-    pub(crate) fn name(&self) -> &'static str {
+    pub(crate) fn name(&self) -> &'static str
+        ensures { IfSome (record_fault_view self.now) (λ fault. result.now ≡ record_fault_name fault) }
+    {
         match self {
             RecordFault::NotObject => "NotObject",
             RecordFault::MissingField => "MissingField",
@@ -180,8 +192,13 @@ pub enum Which {
 }
 
 impl Which {
+    ghost use Rattle.asl_model.specs.Printed.{which_name};
+    ghost use Rattle.asl_tool.specs.View.{which_view};
+
     /// The text's name.
-    pub(crate) fn name(self) -> &'static str {
+    pub(crate) fn name(self) -> &'static str
+        ensures { result.now ≡ which_name (which_view self) }
+    {
         match self {
             Which::Definition => "definition",
             Which::Declared => "declared",

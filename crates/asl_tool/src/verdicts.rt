@@ -1,5 +1,7 @@
 //! What the checker answers.
 
+ghost use Rattle.std.specs.Prelude.{◌≡◌};
+
 /// What is wrong with a certificate, in the order in which the rules are looked at.
 #[derive(Clone, Copy, Debug, PartialEq, Eq)]
 pub enum FindingFault {
@@ -55,8 +57,13 @@ pub enum Verdict {
 }
 
 impl FindingFault {
+    ghost use Rattle.asl_model.specs.Printed.{finding_name};
+    ghost use Rattle.asl_tool.specs.View.{finding_fault_view};
+
     /// The fault's name.
-    pub(crate) fn name(self) -> &'static str {
+    pub(crate) fn name(self) -> &'static str
+        ensures { result.now ≡ finding_name (finding_fault_view self) }
+    {
         match self {
             FindingFault::NotCertified => "NotCertified",
             FindingFault::NotAState => "NotAState",

@@ -1,9 +1,15 @@
 //! From the three texts, or a source's first three lines, to a verdict.
 
+ghost use Rattle.std.specs.Prelude.{IsTrue, IfOk, IfErr, OnOk};
+ghost use Rattle.std.specs.Io.KnownBytes.{Appends};
+ghost use Rattle.asl_model.specs.Printed.{verdict_text};
+ghost use Rattle.asl_tool.specs.Lines.{NoLineIsLong};
+ghost use Rattle.asl_tool.specs.View.{verdict_view};
+ghost use Rattle.asl_tool.specs.Writing.{CheckFaultStands};
+
 use crate::checker::check;
-use crate::chunks::Chunk;
 use crate::definition::{Machine, read_machine};
-use crate::lines::next_line;
+use crate::lines::read_lines;
 use crate::printing::verdict_text;
 use crate::records::{Certificate, Declared, read_certificate, read_declared, tree_fault};
 use crate::refusals::{DefFault, RunFault, TextFault, TextRefusal, Which};
@@ -50,12 +56,23 @@ pub fn check_lines<R: Source, W: Sink>(
     alloc: Global,
     source: &mut R,
     sink: &mut W,
-) -> Result<Verdict, RunFault> {
-    let mut chunk = Chunk::new();
-    let definition = next_line(alloc, source, &mut chunk)?;
-    let declared = next_line(alloc, source, &mut chunk)?;
-    let certificate = next_line(alloc, source, &mut chunk)?;
-    let verdict = match verify_texts(alloc, &definition, &declared, &certificate) {
+) -> Result<Verdict, RunFault>
+    ensures written { IfOk result (λ verdict. Appends (W.contents sink.old) (W.contents sink.new) (verdict_text (verdict_view verdict))) }
+    ensures short { OnOk result (NoLineIsLong (R.remaining source.old)) }
+    ensures fault { IfErr result (λ fault. CheckFaultStands (R.remaining source.old) (R.failed source.new) (W.contents sink.old) (W.contents sink.new) (W.failed sink.new) fault) }
+    ensures lasting_read { IsTrue (R.failed source.old) → IsTrue (R.failed source.new) }
+    ensures lasting_write { IsTrue (W.failed sink.old) → IsTrue (W.failed sink.new) }
+{
+    let lines = match read_lines(alloc, source) {
+        Ok(lines) => lines,
+        Err(fault) => return Err(fault),
+    };
+    let verdict = match verify_texts(
+        alloc,
+        &lines.definition,
+        &lines.declared,
+        &lines.certificate,
+    ) {
         Ok(verdict) => verdict,
         Err(refusal) => return Err(RunFault::Text(refusal)),
     };

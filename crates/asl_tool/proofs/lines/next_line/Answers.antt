@@ -2,7 +2,8 @@ use Rattle.std.proofs.Common.{◌≡◌, ◌+◌, ◌++◌, ◌≤◌, ◌<◌, 
 use Rattle.std.proofs.lemmas.List.{length-take-le, length-append}
 use Rattle.std.specs.Io.KnownBytes.{prepend_known}
 use Rattle.asl_tool.specs.Chunk.{pending}
-use Rattle.asl_tool.specs.Lines.{line_of, TakesLine, HasLongerLine}
+use Rattle.asl_model.specs.Printed.{first_line}
+use Rattle.asl_tool.specs.Lines.{TakesLine}
 use Rattle.asl_tool.proofs.LineSteps.{LeavesLine, left_by_fill, left_by_piece, taken_by_piece, longer_by_piece}
 use Rattle.asl_tool.proofs.lines.next_line.Goals as goal
 
@@ -14,9 +15,9 @@ returns-then-front-len-clause-fault g c =
     let rest = g.S.Source.remaining c.fill.new.source in
     let line = c.pieces.line.items in
     let left = left_by_fill old mid (prepend_known p rest) line c.pieces.invariant.taken c.fill.ensures.same in
-    let count : c.front_of_line-front.result ≡ length (line_of p) = c.front_of_line-front.ensures.count ∙ ap (λ (v : List ℕ). length (line_of v)) c.rest-rest.ensures in
+    let count : c.front_of_line-front.result ≡ length (first_line p) = c.front_of_line-front.ensures.count ∙ ap (λ (v : List ℕ). length (first_line v)) c.rest-rest.ensures in
     let over : 16777216 < c.front_of_line-front.result + length line = omega arith in
-    longer_by_piece old rest line p c.front_of_line-front.result 16777216 count over left
+    longer_by_piece old rest line p c.front_of_line-front.result count over left
 
 pub slice_bounds-extend_from_slice-end : goal.slice_bounds-extend_from_slice-end
 slice_bounds-extend_from_slice-end g c =
@@ -36,7 +37,7 @@ returns-then-ends-clause-line g c =
     let rest = g.S.Source.remaining c.fill.new.source in
     let line = c.pieces.line.items in
     let left = left_by_fill old mid (prepend_known p rest) line c.pieces.invariant.taken c.fill.ensures.same in
-    let count : n ≡ length (line_of p) = c.front_of_line-front.ensures.count ∙ ap (λ (v : List ℕ). length (line_of v)) c.rest-rest.ensures in
+    let count : n ≡ length (first_line p) = c.front_of_line-front.ensures.count ∙ ap (λ (v : List ℕ). length (first_line v)) c.rest-rest.ensures in
     let inside : n < length p = let P : List ℕ → Type 0 = λ v. n < length v in subst P c.rest-rest.ensures c.if-ends.true in
     let extended : c.extend_from_slice.new.self.items ≡ line ++ take n p = c.in-Ok-extend_from_slice.ensures.items ∙ ap (λ (v : List ℕ). line ++ take n v) c.rest-rest.ensures in
     let passed : pending c.take-then-ends.new.self ≡ drop 1 (drop n p) = c.take-then-ends.ensures ∙ ap (λ (v : List ℕ). drop 1 v) c.take.ensures in
@@ -53,7 +54,7 @@ pieces-preserved g c =
     let rest = g.S.Source.remaining c.fill.new.source in
     let line = c.pieces.line.items in
     let left = left_by_fill old mid (prepend_known p rest) line c.pieces.invariant.taken c.fill.ensures.same in
-    let count : n ≡ length (line_of p) = c.front_of_line-front.ensures.count ∙ ap (λ (v : List ℕ). length (line_of v)) c.rest-rest.ensures in
+    let count : n ≡ length (first_line p) = c.front_of_line-front.ensures.count ∙ ap (λ (v : List ℕ). length (first_line v)) c.rest-rest.ensures in
     let whole : length p ≤ n = let P : List ℕ → Type 0 = λ v. length v ≤ n in subst P c.rest-rest.ensures c.if-ends.false in
     let extended : c.extend_from_slice.new.self.items ≡ line ++ take n p = c.in-Ok-extend_from_slice.ensures.items ∙ ap (λ (v : List ℕ). line ++ take n v) c.rest-rest.ensures in
     let P : List ℕ → Type 0 = λ v. LeavesLine old (prepend_known (pending c.take.new.self) rest) v in

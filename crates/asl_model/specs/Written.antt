@@ -1,0 +1,101 @@
+-- How shapes, declared shapes and certificates are written: one spelling of each (the profile's own choice), with the
+-- names of each object in byte order.
+use Rattle.std.specs.Prelude.{ℕ, pos, List, [], ◌∷◌, Bool, true, false, not, if◌then◌else◌, Option, Some, None, codes}
+use Rattle.asl_model.specs.Tree.{Tree, Boolean, Integer, Text, Array, Object, Trees, NoTrees, AndTree, Fields, NoFields, AndField}
+use Rattle.asl_model.specs.Shape.{Shape, Any, Never, NullShape, BooleanShape, IntegerShape, StringShape, ArrayShape, ObjectShape, Shapes, NoShapes, AndShape, FieldShapes, NoFieldShapes, AndFieldShape}
+use Rattle.asl_model.specs.ShapeOrder.{is_any_shape}
+use Rattle.asl_model.specs.ShapeFlow.{how_many_shapes}
+use Rattle.asl_model.specs.Certificate.{TaskShapes, Declared, StateShapes, Certificate}
+
+-- the fields with one more in front, where the test holds
+abbrev pub field_if : Bool → List ℕ → Tree → Fields → Fields
+field_if wanted n t fs = if wanted then AndField n t fs else fs
+
+abbrev pub type_field : List ℕ → Fields
+type_field word = AndField (codes "type") (Text word) NoFields
+
+-- ---- shapes
+
+abbrev pub some_shapes : Shapes → Bool
+some_shapes NoShapes = false
+some_shapes (AndShape s others) = true
+
+abbrev pub some_fields : FieldShapes → Bool
+some_fields NoFieldShapes = false
+some_fields (AndFieldShape n needed s shapes) = true
+
+abbrev pub needed_names : FieldShapes → List (List ℕ)
+needed_names NoFieldShapes = []
+needed_names (AndFieldShape n needed s shapes) = if needed then n ∷ needed_names shapes else needed_names shapes
+
+abbrev pub some_names : List (List ℕ) → Bool
+some_names [] = false
+some_names (n ∷ ns) = true
+
+abbrev pub as_texts : List (List ℕ) → Trees
+as_texts [] = NoTrees
+as_texts (n ∷ ns) = AndTree (Text n) (as_texts ns)
+
+-- an array's keywords: `items` where it isn't Any, `minItems` and `prefixItems` where there are any
+abbrev pub array_fields : Bool → Bool → Tree → ℕ → Tree → Fields
+array_fields has_items has_first items number first =
+    field_if has_items (codes "items") items
+    (field_if has_first (codes "minItems") (Integer (pos number))
+    (field_if has_first (codes "prefixItems") first (type_field (codes "array"))))
+
+-- an object's: `additionalProperties` where there are no others, `properties` and `required` where there are any
+abbrev pub object_fields : Bool → Bool → Bool → Tree → Trees → Fields
+object_fields extra has_fields has_needed properties names =
+    field_if (not extra) (codes "additionalProperties") (Boolean false)
+    (field_if has_fields (codes "properties") properties
+    (field_if has_needed (codes "required") (Array names) (type_field (codes "object"))))
+
+abbrev mutual
+  pub written_shape : Shape → Tree
+  written_shape Any = Boolean true
+  written_shape Never = Boolean false
+  written_shape NullShape = Object (type_field (codes "null"))
+  written_shape BooleanShape = Object (type_field (codes "boolean"))
+  written_shape IntegerShape = Object (type_field (codes "integer"))
+  written_shape StringShape = Object (type_field (codes "string"))
+  written_shape (ArrayShape first rest) = Object (array_fields (not (is_any_shape rest)) (some_shapes first) (written_shape rest) (how_many_shapes first) (Array (written_shapes first)))
+  written_shape (ObjectShape shapes extra) = Object (object_fields extra (some_fields shapes) (some_names (needed_names shapes)) (Object (written_fields shapes)) (as_texts (needed_names shapes)))
+
+  pub written_shapes : Shapes → Trees
+  written_shapes NoShapes = NoTrees
+  written_shapes (AndShape s others) = AndTree (written_shape s) (written_shapes others)
+
+  pub written_fields : FieldShapes → Fields
+  written_fields NoFieldShapes = NoFields
+  written_fields (AndFieldShape n needed s shapes) = AndField n (written_shape s) (written_fields shapes)
+
+-- ---- declared shapes and certificates
+
+abbrev pub written_list : List Shape → Trees
+written_list [] = NoTrees
+written_list (s ∷ further) = AndTree (written_shape s) (written_list further)
+
+abbrev pub written_entries : {A : Type 0} → (A → Tree) → List (List ℕ × A) → Fields
+written_entries f [] = NoFields
+written_entries f (entry ∷ entries) = AndField entry.0 (f entry.1) (written_entries f entries)
+
+abbrev pub written_task : TaskShapes → Tree
+written_task task = Object (AndField (codes "gives") (written_shape task.gives) (AndField (codes "takes") (written_shape task.takes) NoFields))
+
+abbrev pub written_declared : Declared → Tree
+written_declared declared = Object (AndField (codes "input") (written_shape declared.input) (AndField (codes "tasks") (Object (written_entries written_task declared.tasks)) NoFields))
+
+-- `branches` where there are any, and `item` where there is one
+abbrev pub with_branches : List Shape → Fields → Fields
+with_branches [] fs = fs
+with_branches (s ∷ further) fs = AndField (codes "branches") (Array (written_list (s ∷ further))) fs
+
+abbrev pub with_item : Option Shape → Fields → Fields
+with_item None fs = fs
+with_item (Some s) fs = AndField (codes "item") (written_shape s) fs
+
+abbrev pub written_state : StateShapes → Tree
+written_state shapes = Object (with_branches shapes.branches (AndField (codes "input") (written_shape shapes.input) (with_item shapes.item (AndField (codes "output") (written_shape shapes.output) NoFields))))
+
+abbrev pub written_certificate : Certificate → Tree
+written_certificate certificate = Object (AndField (codes "output") (written_shape certificate.output) (AndField (codes "states") (Object (written_entries written_state certificate.states)) (AndField (codes "version") (Integer (pos 1)) NoFields)))

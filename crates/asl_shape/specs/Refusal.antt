@@ -1,0 +1,18 @@
+-- What a refusal tells of the tree that was to be read as a shape.
+use Rattle.std.specs.Prelude.{List, Option, Some, None, IfSome}
+use Rattle.std.specs.List.{Contains}
+use Rattle.asl_model.specs.ShapeSpelling as model
+use Rattle.asl_shape.specs.declared.ShapeRefusal.{ShapeRefusal}
+use Rattle.asl_shape.specs.declared.ShapeRefusal.TheVariants.{NotAShape, Keyword, BadType, MinItems, OutOfMemory}
+
+-- the fault that the refusal names; want of memory names none
+abbrev pub fault_named : ShapeRefusal → Option model.ShapeFault
+fault_named NotAShape = Some model.NotAShape
+fault_named Keyword = Some model.Keyword
+fault_named BadType = Some model.BadType
+fault_named MinItems = Some model.MinItems
+fault_named OutOfMemory = None
+
+-- the refusal names one of the faults, or want of memory
+pub record Tells (refusal : ShapeRefusal) (faults : List model.ShapeFault) : Type 0 where
+  pub listed : IfSome (fault_named refusal) (Contains faults)
