@@ -7,9 +7,9 @@ use Rattle.asl_model.specs.Intrinsic.{InInput, InItem, ItemIndex, CallOf, States
 use Rattle.asl_model.specs.Template.{Template, FromPath, FromCall, ObjectTemplate, NoFieldTemplates, AndFieldTemplate}
 use Rattle.asl_model.specs.Test.{Test, And, Or, Compare, StringIs, NumericIs, Equals, LessThan, Constant, IsPresent, Tests, NoTests, AndTest}
 use Rattle.asl_model.specs.Machine.{Settings, SecondsPath, Scope, ScopeOf, NoStates, AndState, StateOf, Pass, Task, Choice, Wait, Succeed, Parallel, Map, NoScopes, AndScope}
-use Rattle.asl_model.specs.Shape.{Shape, Any, Never, IntegerShape, StringShape, ArrayShape, ObjectShape, NoShapes, AndShape, FieldShapes, NoFieldShapes, AndFieldShape}
-use Rattle.asl_model.specs.ShapeOrder.{join}
-use Rattle.asl_model.specs.ShapeFlow.{look, put, template_shape, rule_shape, leave, MayFail}
+use Rattle.asl_model.specs.Shape.{Shape, Any, Never, BooleanShape, IntegerShape, StringShape, ArrayShape, ObjectShape, NoShapes, AndShape, FieldShapes, NoFieldShapes, AndFieldShape}
+use Rattle.asl_model.specs.ShapeOrder.{sub, join}
+use Rattle.asl_model.specs.ShapeFlow.{look, put, template_shape, rule_shape, leave, MayBeMissing, MayFail}
 use Rattle.asl_model.specs.Certificate.{TaskShapes, Declared, StateShapes, Certificate}
 use Rattle.asl_model.specs.Finding.{Finding, FindingFault, NotCertified, NotAState, TaskUndeclared, TaskUnknown, StartInput, PathMayBeMissing, WrongKind, ResultMayNotFit, IntrinsicMayFail, NoDefault, PayloadNotTaken, OutputNotCertified, NextInput, ScopeOutput, BranchInput, CatchInput, findings}
 
@@ -46,6 +46,106 @@ put_in_open = refl
 put_in_optional : put (Name (codes "a") ∷ Name (codes "b") ∷ []) IntegerShape (closed (optional (codes "a") (closed (needed (codes "c") StringShape NoFieldShapes)) NoFieldShapes)) ≡ Ok (closed (needed (codes "a") (closed (needed (codes "b") IntegerShape (optional (codes "c") StringShape NoFieldShapes))) NoFieldShapes))
 put_in_optional = refl
 
+-- a needed field `a` that no tree can have
+abbrev impossible : Shape
+impossible = closed (needed (codes "a") Never NoFieldShapes)
+
+-- the arrays whose first elements have these two shapes, and the further ones that
+abbrev pair : Shape → Shape → Shape → Shape
+pair s t rest = ArrayShape (AndShape s (AndShape t NoShapes)) rest
+
+abbrev one_then : Shape → Shape → Shape
+one_then s rest = ArrayShape (AndShape s NoShapes) rest
+
+abbrev each : Shape → Shape
+each rest = ArrayShape NoShapes rest
+
+-- what has no tree is inside everything
+sub_of_impossible : sub impossible IntegerShape ≡ true
+sub_of_impossible = refl
+
+sub_of_any : sub Any (each Any) ≡ false
+sub_of_any = refl
+
+-- an optional field that only the second mentions: the first can't have it, or may have it with any shape
+sub_closed_optional : sub (closed NoFieldShapes) (closed (optional (codes "a") IntegerShape NoFieldShapes)) ≡ true
+sub_closed_optional = refl
+
+sub_open_any : sub (opened NoFieldShapes) (opened (optional (codes "a") Any NoFieldShapes)) ≡ true
+sub_open_any = refl
+
+sub_open_optional : sub (opened NoFieldShapes) (opened (optional (codes "a") IntegerShape NoFieldShapes)) ≡ false
+sub_open_optional = refl
+
+-- a field that only the first mentions: the second may have others, or no tree has the field
+sub_forgets : sub (closed (needed (codes "a") IntegerShape NoFieldShapes)) (opened NoFieldShapes) ≡ true
+sub_forgets = refl
+
+sub_forbidden : sub (closed (optional (codes "a") IntegerShape NoFieldShapes)) (closed NoFieldShapes) ≡ false
+sub_forbidden = refl
+
+sub_never_there : sub (closed (optional (codes "a") Never NoFieldShapes)) (closed NoFieldShapes) ≡ true
+sub_never_there = refl
+
+sub_needed : sub (closed (optional (codes "a") IntegerShape NoFieldShapes)) (closed (needed (codes "a") IntegerShape NoFieldShapes)) ≡ false
+sub_needed = refl
+
+-- arrays: further elements of the second stand for first ones of the first, and not the other way round
+sub_pair_each : sub (pair IntegerShape IntegerShape Never) (each IntegerShape) ≡ true
+sub_pair_each = refl
+
+sub_each_one : sub (each IntegerShape) (one_then IntegerShape IntegerShape) ≡ false
+sub_each_one = refl
+
+sub_further : sub (one_then IntegerShape StringShape) (one_then IntegerShape IntegerShape) ≡ false
+sub_further = refl
+
+-- joins of arrays: place by place, and the further places with both shapes of further elements
+join_of_arrays : join (pair IntegerShape StringShape Never) (one_then BooleanShape Never) ≡ one_then Any StringShape
+join_of_arrays = refl
+
+join_of_lists : join (each IntegerShape) (each StringShape) ≡ each Any
+join_of_lists = refl
+
+join_with_impossible : join impossible IntegerShape ≡ IntegerShape
+join_with_impossible = refl
+
+join_of_impossible : join impossible Never ≡ Never
+join_of_impossible = refl
+
+-- a field of one object alone is optional where the other can't have it, and dropped where it may
+join_needs_both : join (closed (needed (codes "a") IntegerShape (needed (codes "b") IntegerShape NoFieldShapes))) (closed (optional (codes "b") IntegerShape (needed (codes "c") StringShape NoFieldShapes))) ≡ closed (optional (codes "a") IntegerShape (optional (codes "b") IntegerShape (optional (codes "c") StringShape NoFieldShapes)))
+join_needs_both = refl
+
+join_drops : join (closed (needed (codes "a") IntegerShape NoFieldShapes)) (opened NoFieldShapes) ≡ opened NoFieldShapes
+join_drops = refl
+
+-- paths into arrays
+look_at_place : look (Index 1 ∷ []) (pair IntegerShape StringShape Any) ≡ Ok StringShape
+look_at_place = refl
+
+look_past_places : look (Name (codes "a") ∷ Index 2 ∷ []) (closed (needed (codes "a") (pair IntegerShape StringShape Any) NoFieldShapes)) ≡ Err 1
+look_past_places = refl
+
+look_in_impossible : look (Name (codes "b") ∷ []) impossible ≡ Ok Never
+look_in_impossible = refl
+
+put_in_place_of : put (Index 0 ∷ []) StringShape (one_then IntegerShape Any) ≡ Ok (one_then StringShape Any)
+put_in_place_of = refl
+
+put_builds_no_array : put (Name (codes "a") ∷ Index 0 ∷ []) StringShape (closed NoFieldShapes) ≡ Err 1
+put_builds_no_array = refl
+
+put_in_number : put (Name (codes "a") ∷ []) StringShape IntegerShape ≡ Err 0
+put_in_number = refl
+
+put_impossible : put (Name (codes "a") ∷ []) impossible IntegerShape ≡ Ok Never
+put_impossible = refl
+
+-- an open object may be given any one field
+put_one_in_open : put (Name (codes "a") ∷ []) StringShape (opened NoFieldShapes) ≡ Ok (opened (needed (codes "a") StringShape NoFieldShapes))
+put_one_in_open = refl
+
 -- Rules
 
 abbrev k : List Segment
@@ -63,6 +163,23 @@ present_in_open = refl
 
 or_keeps : rule_shape (Or (AndTest (IsPresent k true) (AndTest (IsPresent (Name (codes "j") ∷ []) true) NoTests))) with_k ≡ Some with_k
 or_keeps = refl
+
+-- a place that has a shape is narrowed, one that only further elements have stays, and a text has none
+present_at_place : rule_shape (IsPresent (Index 0 ∷ Name (codes "k") ∷ []) true) (one_then with_k Any) ≡ Some (one_then (opened (needed (codes "k") StringShape NoFieldShapes)) Any)
+present_at_place = refl
+
+present_further : rule_shape (IsPresent (Index 1 ∷ []) true) (one_then IntegerShape Any) ≡ Some (one_then IntegerShape Any)
+present_further = refl
+
+present_in_text : rule_shape (IsPresent k true) StringShape ≡ Some Never
+present_in_text = refl
+
+absent_keeps : rule_shape (IsPresent k false) with_k ≡ Some with_k
+absent_keeps = refl
+
+-- a field that can't have a value stays one, of a shape without a tree
+present_impossible : rule_shape (IsPresent (Name (codes "k") ∷ Name (codes "j") ∷ []) true) (opened (optional (codes "k") StringShape NoFieldShapes)) ≡ Some (opened (needed (codes "k") Never NoFieldShapes))
+present_impossible = refl
 
 abbrev k_is_x : Test
 k_is_x = Compare k (StringIs Equals) (Constant (Text (codes "x")))
@@ -84,6 +201,29 @@ format_of_input = FromCall (CallOf StatesFormat (AndArgument (TextArgument (reco
 
 template_of_list : template_shape (ObjectTemplate (AndFieldTemplate (codes "x") format_of_input NoFieldTemplates)) (ArrayShape NoShapes Any) None ≡ Err ((codes "x", MayFail) ∷ [])
 template_of_list = refl
+
+-- the length of an array, and of what may be none
+abbrev length_of_input : Template
+length_of_input = ObjectTemplate (AndFieldTemplate (codes "n") (FromCall (CallOf StatesArrayLength (AndArgument (PathArgument (InInput [])) NoArguments))) NoFieldTemplates)
+
+length_of_list : template_shape length_of_input (each Any) None ≡ Ok (closed (needed (codes "n") IntegerShape NoFieldShapes))
+length_of_list = refl
+
+length_of_object : template_shape length_of_input (closed NoFieldShapes) None ≡ Err ((codes "n", MayFail) ∷ [])
+length_of_object = refl
+
+-- an item's number and value, with an item and without one
+abbrev item_and_number : Template
+item_and_number = ObjectTemplate (AndFieldTemplate (codes "i") (FromPath ItemIndex) (AndFieldTemplate (codes "v") (FromPath (InItem (Name (codes "a") ∷ []))) NoFieldTemplates))
+
+template_with_item : template_shape item_and_number Any (Some (closed (needed (codes "a") StringShape NoFieldShapes))) ≡ Ok (closed (needed (codes "i") IntegerShape (needed (codes "v") StringShape NoFieldShapes)))
+template_with_item = refl
+
+template_missing_item : template_shape item_and_number Any (Some (closed NoFieldShapes)) ≡ Err ((codes "v", MayBeMissing) ∷ [])
+template_missing_item = refl
+
+template_without_item : template_shape item_and_number Any None ≡ Err ((codes "i", MayFail) ∷ (codes "v", MayFail) ∷ [])
+template_without_item = refl
 
 -- Machines
 
@@ -120,6 +260,19 @@ of_integers = declared_of IntegerShape []
 
 leave_of_pass : leave ending (Pass None) IntegerShape IntegerShape ≡ Ok IntegerShape
 leave_of_pass = refl
+
+-- nothing comes of a raw input or a result without a tree, whatever the paths are
+abbrev null_paths : Settings
+null_paths = record { input_path = None; parameters = None; result_selector = None; result_path = None; output_path = None; next = None; retriers = []; catchers = [] }
+
+leave_of_nothing : leave null_paths (Pass None) IntegerShape impossible ≡ Ok Never
+leave_of_nothing = refl
+
+leave_to_nothing : leave null_paths (Task (codes "r")) impossible IntegerShape ≡ Ok Never
+leave_to_nothing = refl
+
+leave_nulls : leave null_paths (Pass None) IntegerShape StringShape ≡ Ok (closed NoFieldShapes)
+leave_nulls = refl
 
 pass_yes : findings one_pass of_integers (certificate_of IntegerShape (entry (codes "A") IntegerShape IntegerShape ∷ [])) ≡ []
 pass_yes = refl

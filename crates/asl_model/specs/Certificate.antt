@@ -292,6 +292,11 @@ abbrev pub NoTurnRaises : List Turn → Type 0
 NoTurnRaises [] = Unit {0}
 NoTurnRaises (turn ∷ turns) = NoneRaises (entries_of turn.taken) × NoTurnRaises turns
 
+-- a history tells no data-flow fault
+abbrev pub TellsNoFault : List (List ℕ × Entry) → Type 0
+TellsNoFault [] = Unit {0}
+TellsNoFault (told ∷ further) = RaisesNothing told.1 × TellsNoFault further
+
 -- every entry of every turn is as certified
 abbrev pub TurnsAreAsCertified : Declared → Certificate → Scope → List Turn → Type 0
 TurnsAreAsCertified declared certificate machine [] = Unit {0}

@@ -69,6 +69,7 @@ abbrev pub breach_unless_sub : List ℕ → FindingFault → Shape → Option Sh
 breach_unless_sub field fault s None = []
 breach_unless_sub field fault s (Some expected) = breach_unless (sub s expected) field fault
 
+-- what may stop a flow, as a broken rule
 abbrev pub breach_of : FlowFault → Breach
 breach_of (MissingAt field) = record { field = field; fault = PathMayBeMissing }
 breach_of (FailsAt field) = record { field = field; fault = IntrinsicMayFail }
@@ -143,10 +144,12 @@ pass_result (Some t) s = literal t
 abbrev pub child_breaches : (List ℕ → Option Shape) → List ℕ → Scope → Shape → List Breach
 child_breaches inputs field scope input = breach_unless_sub field BranchInput input (inputs (start_of scope))
 
+-- the branches' input, compared with that of each start state
 abbrev pub branch_breaches : (List ℕ → Option Shape) → Scopes → Shape → List Breach
 branch_breaches inputs NoScopes input = []
 branch_breaches inputs (AndScope scope others) input = child_breaches inputs (codes "Branches") scope input ++ branch_breaches inputs others input
 
+-- the shapes, as those of the first elements of an array
 abbrev pub shapes_of : List Shape → Shapes
 shapes_of [] = NoShapes
 shapes_of (s ∷ further) = AndShape s (shapes_of further)
@@ -187,6 +190,7 @@ abbrev pub with_elements : (Shapes × Shape → List Breach) → Option (Shapes 
 with_elements go_on None = breach_unless false (codes "ItemsPath") WrongKind
 with_elements go_on (Some elements) = go_on elements
 
+-- goes on with the shapes of the elements, or tells that the path may name nothing
 abbrev pub with_items : (Shapes × Shape → List Breach) → Result Shape ℕ → List Breach
 with_items go_on (Ok s) = with_elements go_on (elements_of s)
 with_items go_on (Err at) = breach_unless false (codes "ItemsPath") PathMayBeMissing
@@ -207,6 +211,7 @@ abbrev pub rules_breaches : (List ℕ → Option Shape) → StateShapes → Sett
 rules_breaches inputs entry settings kind [] s = []
 rules_breaches inputs entry settings kind (rule ∷ rules) s = rule_breaches inputs entry settings kind rule.next (rule_shape rule.test s) ++ rules_breaches inputs entry settings kind rules s
 
+-- the output that goes to `Default`, or that there is none
 abbrev pub default_breaches : (List ℕ → Option Shape) → StateShapes → Settings → Kind → Option (List ℕ) → Shape → List Breach
 default_breaches inputs entry settings kind None s = breach_unless false (codes "Default") NoDefault
 default_breaches inputs entry settings kind (Some next) s = chosen_breaches inputs entry settings kind (codes "Default") next s
@@ -227,6 +232,7 @@ abbrev pub caught_breaches : (List ℕ → Option Shape) → List ℕ → Result
 caught_breaches inputs next (Ok s) = breach_unless_sub (codes "Catch") CatchInput s (inputs next)
 caught_breaches inputs next (Err at) = breach_unless false (codes "Catch") ResultMayNotFit
 
+-- so for each of the state's catchers
 abbrev pub catcher_breaches : (List ℕ → Option Shape) → Shape → List Catcher → List Breach
 catcher_breaches inputs input [] = []
 catcher_breaches inputs input (catcher ∷ catchers) = caught_breaches inputs catcher.next (error_placed_shape catcher.result_path input) ++ catcher_breaches inputs input catchers
@@ -269,13 +275,16 @@ abbrev mutual
   pub scope_findings : Scope → Scope → Declared → Certificate → Option Shape → List Finding
   scope_findings (ScopeOf start held) machine declared certificate end = states_findings held machine declared certificate end
 
+  -- so for each of the states
   pub states_findings : States → Scope → Declared → Certificate → Option Shape → List Finding
   states_findings NoStates machine declared certificate end = []
   states_findings (AndState n state others) machine declared certificate end = state_findings state machine declared certificate end n ++ states_findings others machine declared certificate end
 
+  -- at a state of that name, and in its own scopes
   pub state_findings : State → Scope → Declared → Certificate → Option Shape → List ℕ → List Finding
   state_findings (StateOf settings kind) machine declared certificate end n = found_at n (state_breaches machine declared certificate end n settings kind) ++ children_findings kind machine declared certificate n
 
+  -- in the scopes of a state of that name: a Parallel's branches, a Map's processor
   pub children_findings : Kind → Scope → Declared → Certificate → List ℕ → List Finding
   children_findings (Pass result) machine declared certificate n = []
   children_findings (Task resource) machine declared certificate n = []

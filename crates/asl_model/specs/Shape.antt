@@ -15,6 +15,7 @@ mutual
     -- the mentioned fields, and whether there may be others
     ObjectShape : FieldShapes → Bool → Shape
 
+  -- shapes in order, each of one place
   pub data Shapes : Type 0 where
     NoShapes : Shapes
     AndShape : Shape → Shapes → Shapes
@@ -42,6 +43,7 @@ object_where test (Text s) = false
 object_where test (Array ts) = false
 object_where test (Object fs) = test fs
 
+-- the tree is null
 abbrev pub is_null : Tree → Bool
 is_null Null = true
 is_null (Boolean b) = false
@@ -50,6 +52,7 @@ is_null (Text s) = false
 is_null (Array ts) = false
 is_null (Object fs) = false
 
+-- the tree is a truth value
 abbrev pub is_boolean : Tree → Bool
 is_boolean Null = false
 is_boolean (Boolean b) = true
@@ -58,6 +61,7 @@ is_boolean (Text s) = false
 is_boolean (Array ts) = false
 is_boolean (Object fs) = false
 
+-- the tree is a whole number
 abbrev pub is_integer : Tree → Bool
 is_integer Null = false
 is_integer (Boolean b) = false
@@ -66,6 +70,7 @@ is_integer (Text s) = false
 is_integer (Array ts) = false
 is_integer (Object fs) = false
 
+-- the tree is a text
 abbrev pub is_text : Tree → Bool
 is_text Null = false
 is_text (Boolean b) = false
@@ -142,10 +147,12 @@ abbrev mutual
   IsProperShape (ArrayShape first rest) = AreProperShapes first × IsProperShape rest
   IsProperShape (ObjectShape shapes extra) = AreProperFields shapes
 
+  -- each of them is proper
   pub AreProperShapes : Shapes → Type 0
   AreProperShapes NoShapes = Unit {0}
   AreProperShapes (AndShape s others) = IsProperShape s × AreProperShapes others
 
+  -- names are UTF-8 and stand in byte order, and shapes are proper
   pub AreProperFields : FieldShapes → Type 0
   AreProperFields NoFieldShapes = Unit {0}
   AreProperFields (AndFieldShape n needed s shapes) = IsUtf8 n × IsTrue (before_mentions n shapes) × IsProperShape s × AreProperFields shapes

@@ -150,10 +150,12 @@ abbrev mutual
   literal (Array ts) = ArrayShape (literals ts) Never
   literal (Object fs) = ObjectShape (literal_fields fs) false
 
+  -- the shapes of the elements, place by place
   pub literals : Trees → Shapes
   literals NoTrees = NoShapes
   literals (AndTree t ts) = AndShape (literal t) (literals ts)
 
+  -- each field is needed, with its shape
   pub literal_fields : Fields → FieldShapes
   literal_fields NoFields = NoFieldShapes
   literal_fields (AndField n t fs) = set_mention n true (literal t) (literal_fields fs)
@@ -193,13 +195,16 @@ unless_doubtful (Err doubt) = None
 abbrev pub is_formattable : Shape → Bool
 is_formattable s = not (inhabited s) || is_null_shape s || is_boolean_shape s || is_integer_shape s || is_string_shape s
 
+-- each of the arguments can be put in a text, or never comes
 abbrev pub all_formattable : Shapes → Bool
 all_formattable NoShapes = true
 all_formattable (AndShape s others) = is_formattable s && all_formattable others
 
+-- the shape is one of arrays
 abbrev pub is_array_shape : Shape → Bool
 is_array_shape s = array_shape_where (λ first rest. true) s
 
+-- how many shapes there are
 abbrev pub how_many_shapes : Shapes → ℕ
 how_many_shapes NoShapes = 0
 how_many_shapes (AndShape s others) = suc (how_many_shapes others)
@@ -210,11 +215,12 @@ and_argument None others = None
 and_argument (Some s) None = None
 and_argument (Some s) (Some others) = Some (AndShape s others)
 
+-- `States.Array`: the array of its arguments
 abbrev pub array_of : Option Shapes → Option Shape
 array_of None = None
 array_of (Some shapes) = Some (ArrayShape shapes Never)
 
--- the length of one argument, which is an array or never comes
+-- `States.ArrayLength`: the length of one argument, which is an array or never comes
 abbrev pub number_of : Option Shapes → Option Shape
 number_of None = None
 number_of (Some NoShapes) = None
@@ -226,7 +232,7 @@ abbrev pub fits_holes : Option Pieces → Shape → Shapes → Bool
 fits_holes None s others = not (inhabited s)
 fits_holes (Some pieces) s others = length pieces.after_holes == how_many_shapes others
 
--- a text and what fills its holes, for the pieces of the first argument where that is a literal text
+-- `States.Format`: a text and what fills its holes, for the pieces of the first argument where that is a literal text
 abbrev pub format_of : Option Pieces → Option Shapes → Option Shape
 format_of literal_text None = None
 format_of literal_text (Some NoShapes) = None
@@ -243,6 +249,7 @@ abbrev mutual
   pub call_shape : Call → Shape → Option Shape → Option Shape
   call_shape (CallOf function arguments) input item = value_shape function (literal_pieces arguments) (argument_shapes arguments input item)
 
+  -- the shape of an argument's value; None: it may fail
   pub argument_shape : Argument → Shape → Option Shape → Option Shape
   argument_shape NullArgument input item = Some NullShape
   argument_shape (BooleanArgument b) input item = Some BooleanShape
@@ -251,6 +258,7 @@ abbrev mutual
   argument_shape (PathArgument reference) input item = unless_doubtful (reference_shape reference input item)
   argument_shape (CallArgument call) input item = call_shape call input item
 
+  -- the shapes of all arguments; None: one may fail
   pub argument_shapes : Arguments → Shape → Option Shape → Option Shapes
   argument_shapes NoArguments input item = Some NoShapes
   argument_shapes (AndArgument argument others) input item = and_argument (argument_shape argument input item) (argument_shapes others input item)
@@ -279,10 +287,12 @@ abbrev mutual
   doubts (ArrayTemplate elements) field input item = element_doubts elements field input item
   doubts (ObjectTemplate fields) field input item = field_doubts fields input item
 
+  -- those of the elements, in order
   pub element_doubts : Templates → List ℕ → Shape → Option Shape → List (List ℕ × Doubt)
   element_doubts NoTemplates field input item = []
   element_doubts (AndTemplate template others) field input item = doubts template field input item ++ element_doubts others field input item
 
+  -- those of the fields, each under its own name
   pub field_doubts : FieldTemplates → Shape → Option Shape → List (List ℕ × Doubt)
   field_doubts NoFieldTemplates input item = []
   field_doubts (AndFieldTemplate n template others) input item = doubts template n input item ++ field_doubts others input item
@@ -296,10 +306,12 @@ abbrev mutual
   filled_shape (ArrayTemplate elements) input item = ArrayShape (filled_elements elements input item) Never
   filled_shape (ObjectTemplate fields) input item = ObjectShape (filled_fields fields input item) false
 
+  -- the shapes of the elements
   pub filled_elements : Templates → Shape → Option Shape → Shapes
   filled_elements NoTemplates input item = NoShapes
   filled_elements (AndTemplate template others) input item = AndShape (filled_shape template input item) (filled_elements others input item)
 
+  -- each field is needed, with the shape of its value
   pub filled_fields : FieldTemplates → Shape → Option Shape → FieldShapes
   filled_fields NoFieldTemplates input item = NoFieldShapes
   filled_fields (AndFieldTemplate n template others) input item = set_mention n true (filled_shape template input item) (filled_fields others input item)
@@ -405,6 +417,7 @@ pub data FlowFault : Type 0 where
 abbrev pub Flow : Type 0
 Flow = Result Shape (List FlowFault)
 
+-- goes on with the shape, unless there are faults
 abbrev pub flow_then : (Shape → Flow) → Flow → Flow
 flow_then go_on (Ok s) = go_on s
 flow_then go_on (Err faults) = Err faults
@@ -414,6 +427,7 @@ abbrev pub fault_of : List ℕ → Doubt → FlowFault
 fault_of field MayBeMissing = MissingAt field
 fault_of field MayFail = FailsAt field
 
+-- all of a template's doubts as faults at its field
 abbrev pub faults_of : List ℕ → List (List ℕ × Doubt) → List FlowFault
 faults_of field found = map (λ d. fault_of field d.1) found
 
@@ -427,6 +441,7 @@ abbrev pub through_template : List ℕ → Option Template → Shape → Flow
 through_template field None s = Ok s
 through_template field (Some template) s = template_flow field (template_shape template s None)
 
+-- what the path names, or a fault at its field
 abbrev pub path_flow : List ℕ → Result Shape ℕ → Flow
 path_flow field (Ok s) = Ok s
 path_flow field (Err at) = Err (MissingAt field ∷ [])
@@ -440,6 +455,7 @@ abbrev pub through_path : List ℕ → Option (List Segment) → Shape → Flow
 through_path field None s = Ok (if inhabited s then empty_object else Never)
 through_path field (Some path) s = path_flow field (look path s)
 
+-- what is placed, or a fault at its field
 abbrev pub placing_flow : List ℕ → Result Shape ℕ → Flow
 placing_flow field (Ok s) = Ok s
 placing_flow field (Err at) = Err (MisfitAt field ∷ [])
@@ -467,6 +483,7 @@ pub data Leaving : Type 0 where
   WithInput : Leaving
   Nothing : Leaving
 
+-- what leaves a state, by its type
 abbrev pub leaving : Kind → Leaving
 leaving (Pass result) = WithResult
 leaving (Task resource) = WithResult
@@ -477,6 +494,7 @@ leaving (Fail error cause) = Nothing
 leaving (Parallel branches) = WithResult
 leaving (Map items selector processor) = WithResult
 
+-- the shape of the output, by what leaves
 abbrev pub leave_by : Leaving → Settings → Shape → Shape → Flow
 leave_by WithResult settings raw work = result_leaves settings raw work
 leave_by WithInput settings raw work = if inhabited raw then output_flow settings work else Ok Never

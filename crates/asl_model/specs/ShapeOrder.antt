@@ -1,4 +1,4 @@
--- When one shape is inside another, and the least shape above two that this profile computes. JSON Schema has no
+-- When one shape is inside another, and a shape that two are inside. JSON Schema has no
 -- word for either: both are the profile's own. The first is only a test that is enough: where it is true, every tree
 -- of the one shape has the other.
 use Rattle.std.specs.Prelude.{ℕ, zero, suc, max, List, Bool, true, false, ◌&&◌, ◌||◌, not, Option, Some, None, bytes_eq, if◌then◌else◌}
@@ -10,6 +10,7 @@ abbrev pub mention_of : List ℕ → FieldShapes → Option (Bool × Shape)
 mention_of n NoFieldShapes = None
 mention_of n (AndFieldShape m needed s shapes) = if bytes_eq m n then Some (needed, s) else mention_of n shapes
 
+-- the shape is Any
 abbrev pub is_any_shape : Shape → Bool
 is_any_shape Any = true
 is_any_shape Never = false
@@ -20,6 +21,7 @@ is_any_shape StringShape = false
 is_any_shape (ArrayShape first rest) = false
 is_any_shape (ObjectShape shapes extra) = false
 
+-- the shape is that of null
 abbrev pub is_null_shape : Shape → Bool
 is_null_shape Any = false
 is_null_shape Never = false
@@ -30,6 +32,7 @@ is_null_shape StringShape = false
 is_null_shape (ArrayShape first rest) = false
 is_null_shape (ObjectShape shapes extra) = false
 
+-- the shape is that of truth values
 abbrev pub is_boolean_shape : Shape → Bool
 is_boolean_shape Any = false
 is_boolean_shape Never = false
@@ -40,6 +43,7 @@ is_boolean_shape StringShape = false
 is_boolean_shape (ArrayShape first rest) = false
 is_boolean_shape (ObjectShape shapes extra) = false
 
+-- the shape is that of whole numbers
 abbrev pub is_integer_shape : Shape → Bool
 is_integer_shape Any = false
 is_integer_shape Never = false
@@ -50,6 +54,7 @@ is_integer_shape StringShape = false
 is_integer_shape (ArrayShape first rest) = false
 is_integer_shape (ObjectShape shapes extra) = false
 
+-- the shape is that of texts
 abbrev pub is_string_shape : Shape → Bool
 is_string_shape Any = false
 is_string_shape Never = false
@@ -156,10 +161,12 @@ abbrev mutual
   depth (ArrayShape first rest) = suc (max (depth_of_elements first) (depth rest))
   depth (ObjectShape shapes extra) = suc (depth_of_fields shapes)
 
+  -- the depth of the deepest one
   pub depth_of_elements : Shapes → ℕ
   depth_of_elements NoShapes = 0
   depth_of_elements (AndShape s others) = max (depth s) (depth_of_elements others)
 
+  -- the depth of the deepest field's shape
   pub depth_of_fields : FieldShapes → ℕ
   depth_of_fields NoFieldShapes = 0
   depth_of_fields (AndFieldShape n needed s shapes) = max (depth s) (depth_of_fields shapes)

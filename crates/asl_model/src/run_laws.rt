@@ -8,8 +8,8 @@ ghost use Rattle.asl_model.specs.Intrinsic.{Item, Pieces, cut_at_holes, ArePiece
 ghost use Rattle.asl_model.specs.Template.{Template, template_value, IsInOrder, TellsLeastFailure};
 ghost use Rattle.asl_model.specs.Test.{PatternPart, is_cut_by, IsCutBy};
 ghost use Rattle.asl_model.specs.Machine.{Scope};
-ghost use Rattle.asl_model.specs.Run.{Activity, Action, Event, Step, activity_at, step_at, start, want_of, enabled, AreApart, Commute, Enables, AreInLexicographicOrder};
-ghost use Rattle.asl_model.specs.Certificate.{Declared, Certificate, IsClosed, Obeys, RunIsAsCertified, ActivitiesAreAsCertified, MovesOn, Works, Nests, IsKeptBy};
+ghost use Rattle.asl_model.specs.Run.{Activity, Action, Event, Step, activity_at, step_at, run_of, trace, want_of, enabled, AreApart, Commute, Enables, AreInLexicographicOrder};
+ghost use Rattle.asl_model.specs.Certificate.{Declared, Certificate, IsClosed, Obeys, TellsNoFault, RunIsAsCertified, ActivitiesAreAsCertified, MovesOn, Works, Nests, IsKeptBy};
 
 /// Closed runs never fault: where a certificate is closed for a machine and declared shapes, then for every input and
 /// every list of events that obey them, no turn raises a data-flow fault, and each state's input, each payload, each
@@ -17,6 +17,11 @@ ghost use Rattle.asl_model.specs.Certificate.{Declared, Certificate, IsClosed, O
 /// and iterations in any order; each answer that is taken is a failure, or has its declared shape.
 pub fn closed_runs_never_fault()
     ensures { (declared : Declared) (certificate : Certificate) (machine : Scope) → IsClosed declared certificate machine → (input : Tree) (events : List Event) → Obeys declared machine input events → RunIsAsCertified declared certificate machine input events }
+{}
+
+/// Closed runs tell no fault: under the same premises the history of the run has no entry of a data-flow fault.
+pub fn closed_runs_tell_no_fault()
+    ensures { (declared : Declared) (certificate : Certificate) (machine : Scope) → IsClosed declared certificate machine → (input : Tree) (events : List Event) → Obeys declared machine input events → TellsNoFault (trace (run_of machine input events)) }
 {}
 
 /// Every activity of an obeying run is as certified, at every nesting depth: each Ready, Waiting and Split has a raw
