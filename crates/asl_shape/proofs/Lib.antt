@@ -1,8 +1,11 @@
 pub mod Bounds
+pub mod Keywords
 pub mod Lookups
 pub mod Orders
 pub mod Places
 pub mod Requiring
+pub mod Spellings
 pub mod Telling
+pub mod Unders
 pub mod Views
 pub mod Witnesses

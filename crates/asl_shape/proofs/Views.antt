@@ -11,6 +11,7 @@ use Rattle.asl_tree.specs.declared.Tree.TheVariants as TreeVariants
 use Rattle.asl_tree.specs.View as tree_view
 use Rattle.asl_shape.specs.declared.shape.Field.{Field}
 use Rattle.asl_shape.specs.declared.shape.Shape.{Shape}
+use Rattle.asl_shape.specs.declared.shape.Shape as shape
 use Rattle.asl_shape.specs.declared.shape.Shape.TheFolds.{fold-roll-Shape, fold-Field, fold_out-Field}
 use Rattle.asl_shape.specs.declared.shape.Shape.TheOpen
 use Rattle.asl_shape.specs.declared.shape.Shape.TheVariants
@@ -34,3 +35,7 @@ view_object fields extra =
 pub view_array : (elements : Vec tree.Tree Global) → tree_view.view (tree.List elements) ≡ trees.Array (tree_view.elements_view elements.items)
 view_array elements =
     ap tree_view.view (sym (TreeVariants.rolls-List elements)) ∙ fold-roll-Tree trees.Tree tree_view.view_step (TreeOpen.List elements)
+
+pub view_any : view shape.Any ≡ model.Any
+view_any =
+    ap view (sym TheVariants.rolls-Any) ∙ fold-roll-Shape model.Shape (Bool × model.Shape) shape_step field_step TheOpen.Any

@@ -1,14 +1,16 @@
 // Reading a shape from the tree that spells it.
 ghost use Rattle.asl_model.specs.ShapeSpelling as model;
-ghost use Rattle.asl_shape.specs.Required.{is_needed};
+ghost use Rattle.asl_model.specs.Tree as json;
+ghost use Rattle.asl_model.specs.Tree.{count, field_named};
+ghost use Rattle.asl_shape.specs.Required.{NoneNeeded, are_new, is_needed};
 ghost use Rattle.asl_shape.specs.Refusal.{Tells};
-ghost use Rattle.asl_shape.specs.View.{view, fields_view};
+ghost use Rattle.asl_shape.specs.View.{view, shapes_view, fields_view};
 ghost use Rattle.asl_shape.specs.Words.{word_view};
 ghost use Rattle.asl_tree.specs.View as trees;
 ghost use Rattle.std.specs.List.{Contains};
 ghost use Rattle.std.specs.Ordering.{int_eq};
 ghost use Rattle.asl_shape.specs.declared.ShapeRefusal.{ShapeRefusal};
-ghost use Rattle.std.specs.Prelude.{◌≡◌, [], IsTrue, not, map, string_bytes, IfOk, IfErr, option_map, Some, pos, true, false};
+ghost use Rattle.std.specs.Prelude.{◌≡◌, ◌&&◌, [], IsTrue, not, map, codes, length, string_bytes, IfOk, IfErr, option_map, Some, Err, pos, true, false};
 
 use crate::ShapeRefusal;
 use crate::shape::{Field, Shape};
@@ -92,12 +94,25 @@ enum TypeWord {
 /// false.
 ///
 /// Where several refusals stand in a tree, the answer is one of them.
-pub fn read(alloc: Global, tree: &Tree) -> Result<Shape, ShapeRefusal> {
+pub fn read(alloc: Global, tree: &Tree) -> Result<Shape, ShapeRefusal>
+    ensures spelled { IfOk result (λ s. model.SpellsShape (trees.view tree.now) (view s)) }
+    ensures not_a_shape { result ≡ Err ShapeRefusal.NotAShape
+        → model.HasShapeFault (trees.view tree.now) model.NotAShape }
+    ensures keyword { result ≡ Err ShapeRefusal.Keyword
+        → model.HasShapeFault (trees.view tree.now) model.Keyword }
+    ensures bad_type { result ≡ Err ShapeRefusal.BadType
+        → model.HasShapeFault (trees.view tree.now) model.BadType }
+    ensures min_items { result ≡ Err ShapeRefusal.MinItems
+        → model.HasShapeFault (trees.view tree.now) model.MinItems }
+{
     read_tree(alloc, tree)
 }
 
 #[cycle(read)]
-fn read_tree(alloc: Global, tree: &Tree) -> Result<Shape, ShapeRefusal> {
+fn read_tree(alloc: Global, tree: &Tree) -> Result<Shape, ShapeRefusal>
+    ensures spelled { IfOk result (λ s. model.SpellsShape (trees.view tree.now) (view s)) }
+    ensures refused { IfErr result (λ e. Tells e (model.shape_faults (trees.view tree.now))) }
+{
     match tree {
         Tree::Bool(true) => Ok(Shape::Any),
         Tree::Bool(false) => Ok(Shape::Never),
@@ -108,8 +123,11 @@ fn read_tree(alloc: Global, tree: &Tree) -> Result<Shape, ShapeRefusal> {
 
 // The shape that an object of keywords spells.
 #[cycle(read)]
-fn read_keywords(alloc: Global, keywords: &BTreeMap<String, Tree>) -> Result<Shape, ShapeRefusal> {
-    match type_word(keywords.get("type")) {
+fn read_keywords(alloc: Global, keywords: &BTreeMap<String, Tree>) -> Result<Shape, ShapeRefusal>
+    ensures spelled { IfOk result (λ s. model.SpellsShape (json.Object (trees.entries_view keywords.now.entries)) (view s)) }
+    ensures refused { IfErr result (λ e. Tells e (model.shape_faults (json.Object (trees.entries_view keywords.now.entries)))) }
+{
+    match type_word(keywords) {
         TypeWord::Object => read_object(alloc, keywords),
         TypeWord::Array => read_array(alloc, keywords),
         TypeWord::Integer => simple(keywords, Shape::Int),
@@ -128,10 +146,11 @@ fn read_keywords(alloc: Global, keywords: &BTreeMap<String, Tree>) -> Result<Sha
     }
 }
 
-fn type_word(value: Option<&Tree>) -> TypeWord
-    ensures { word_view result ≡ model.type_in (option_map (λ t. trees.view t.now) value.entry) }
+#[tactic(auto, using(crate::proofs::Lookups::field_named_lookup_by))]
+fn type_word(keywords: &BTreeMap<String, Tree>) -> TypeWord
+    ensures { word_view result ≡ model.type_of (trees.entries_view keywords.now.entries) }
 {
-    match value {
+    match keywords.get("type") {
         None => TypeWord::Absent,
         Some(value) => type_in(value),
     }
@@ -199,7 +218,11 @@ fn is_among(keyword: &str, known: &[&str]) -> bool
 }
 
 // The simple shape, if each keyword belongs to a type without keywords of its own.
-fn simple(keywords: &BTreeMap<String, Tree>, shape: Shape) -> Result<Shape, ShapeRefusal> {
+fn simple(keywords: &BTreeMap<String, Tree>, shape: Shape) -> Result<Shape, ShapeRefusal>
+    ensures right { IfOk result (λ s. s ≡ shape) }
+    ensures known { IfOk result (λ _. model.foreign_faults model.Keyword model.simple_keywords (trees.entries_view keywords.now.entries) ≡ []) }
+    ensures refused { IfErr result (λ e. Tells e (model.foreign_faults model.Keyword model.simple_keywords (trees.entries_view keywords.now.entries))) }
+{
     if all_among(keywords, &SIMPLE_KEYWORDS) {
         Ok(shape)
     } else {
@@ -207,14 +230,18 @@ fn simple(keywords: &BTreeMap<String, Tree>, shape: Shape) -> Result<Shape, Shap
     }
 }
 
+#[tactic(auto, using(crate::proofs::Telling::told_left, crate::proofs::Telling::told_right))]
 #[cycle(read)]
-fn read_array(alloc: Global, keywords: &BTreeMap<String, Tree>) -> Result<Shape, ShapeRefusal> {
+fn read_array(alloc: Global, keywords: &BTreeMap<String, Tree>) -> Result<Shape, ShapeRefusal>
+    ensures spelled { IfOk result (λ s. model.type_of (trees.entries_view keywords.now.entries) ≡ model.OfArray → model.SpellsShape (json.Object (trees.entries_view keywords.now.entries)) (view s)) }
+    ensures refused { IfErr result (λ e. model.type_of (trees.entries_view keywords.now.entries) ≡ model.OfArray → Tells e (model.shape_faults (json.Object (trees.entries_view keywords.now.entries)))) }
+{
     if !all_among(keywords, &ARRAY_KEYWORDS) {
         return Err(ShapeRefusal::Keyword);
     }
     let first = read_prefix_items(alloc, keywords)?;
     let rest = read_items(alloc, keywords)?;
-    check_min_items(keywords.get("minItems"), first.len())?;
+    check_min_items(keywords, first.len())?;
     Ok(Shape::List {
         first,
         rest: Box::new(alloc, rest)?,
@@ -222,11 +249,17 @@ fn read_array(alloc: Global, keywords: &BTreeMap<String, Tree>) -> Result<Shape,
 }
 
 // The shapes that `prefixItems` spells.
+#[tactic(auto, using(crate::proofs::Lookups::field_named_lookup_by, crate::proofs::Unders::shapes_under_field_named, crate::proofs::Unders::shapes_faults_under_field_named))]
 #[cycle(read)]
 fn read_prefix_items(
     alloc: Global,
     keywords: &BTreeMap<String, Tree>,
-) -> Result<Vec<Shape>, ShapeRefusal> {
+) -> Result<Vec<Shape>, ShapeRefusal>
+    ensures right { IfOk result (λ _. model.shapes_faults_under (codes "prefixItems") (trees.entries_view keywords.now.entries) ≡ []) }
+    ensures shapes { IfOk result (λ v. shapes_view v.items ≡ model.shapes_under (codes "prefixItems") (trees.entries_view keywords.now.entries)) }
+    ensures count { IfOk result (λ v. length v.items ≡ model.elements_in (field_named (codes "prefixItems") (trees.entries_view keywords.now.entries))) }
+    ensures refused { IfErr result (λ e. Tells e (model.shapes_faults_under (codes "prefixItems") (trees.entries_view keywords.now.entries))) }
+{
     match keywords.get("prefixItems") {
         None => Ok(Vec::new(alloc)),
         Some(value) => read_shapes(alloc, value),
@@ -234,7 +267,12 @@ fn read_prefix_items(
 }
 
 #[cycle(read)]
-fn read_shapes(alloc: Global, value: &Tree) -> Result<Vec<Shape>, ShapeRefusal> {
+fn read_shapes(alloc: Global, value: &Tree) -> Result<Vec<Shape>, ShapeRefusal>
+    ensures right { IfOk result (λ _. model.shapes_faults (trees.view value.now) ≡ []) }
+    ensures shapes { IfOk result (λ v. shapes_view v.items ≡ model.shapes_of (trees.view value.now)) }
+    ensures count { IfOk result (λ v. length v.items ≡ model.elements_in (Some (trees.view value.now))) }
+    ensures refused { IfErr result (λ e. Tells e (model.shapes_faults (trees.view value.now))) }
+{
     match value {
         Tree::List(elements) => read_elements(alloc, elements),
         Tree::Null | Tree::Bool(_) | Tree::Int(_) | Tree::Text(_) | Tree::Object(_) => {
@@ -243,8 +281,14 @@ fn read_shapes(alloc: Global, value: &Tree) -> Result<Vec<Shape>, ShapeRefusal> 
     }
 }
 
+#[tactic(auto, using(crate::proofs::Spellings::shapes_read, crate::proofs::Spellings::count_read, crate::proofs::Telling::told_left))]
 #[cycle(read)]
-fn read_elements(alloc: Global, elements: &[Tree]) -> Result<Vec<Shape>, ShapeRefusal> {
+fn read_elements(alloc: Global, elements: &[Tree]) -> Result<Vec<Shape>, ShapeRefusal>
+    ensures right { IfOk result (λ _. model.element_faults (trees.elements_view elements.now) ≡ []) }
+    ensures shapes { IfOk result (λ v. shapes_view v.items ≡ model.element_shapes (trees.elements_view elements.now)) }
+    ensures count { IfOk result (λ v. length v.items ≡ count (trees.elements_view elements.now)) }
+    ensures refused { IfErr result (λ e. Tells e (model.element_faults (trees.elements_view elements.now))) }
+{
     let mut shapes = Vec::with_capacity(alloc, elements.len())?;
     for element in elements {
         shapes.push(read_tree(alloc, element)?)?;
@@ -253,8 +297,13 @@ fn read_elements(alloc: Global, elements: &[Tree]) -> Result<Vec<Shape>, ShapeRe
 }
 
 // The shape that `items` spells.
+#[tactic(auto, using(crate::proofs::Lookups::field_named_lookup_by, crate::proofs::Unders::shape_under_field_named, crate::proofs::Unders::shape_faults_under_field_named))]
 #[cycle(read)]
-fn read_items(alloc: Global, keywords: &BTreeMap<String, Tree>) -> Result<Shape, ShapeRefusal> {
+fn read_items(alloc: Global, keywords: &BTreeMap<String, Tree>) -> Result<Shape, ShapeRefusal>
+    ensures right { IfOk result (λ _. model.shape_faults_under (codes "items") (trees.entries_view keywords.now.entries) ≡ []) }
+    ensures shape { IfOk result (λ s. view s ≡ model.shape_under (codes "items") (trees.entries_view keywords.now.entries)) }
+    ensures refused { IfErr result (λ e. Tells e (model.shape_faults_under (codes "items") (trees.entries_view keywords.now.entries))) }
+{
     match keywords.get("items") {
         None => Ok(Shape::Any),
         Some(tree) => read_tree(alloc, tree),
@@ -262,18 +311,28 @@ fn read_items(alloc: Global, keywords: &BTreeMap<String, Tree>) -> Result<Shape,
 }
 
 // Refuses a `minItems` other than the number of the shapes in `prefixItems`.
-fn check_min_items(value: Option<&Tree>, count: usize) -> Result<(), ShapeRefusal>
+#[tactic(auto, using(crate::proofs::Lookups::field_named_lookup_by))]
+fn check_min_items(keywords: &BTreeMap<String, Tree>, count: usize) -> Result<(), ShapeRefusal>
     ensures right { IfOk result
-        (λ _. model.min_items_faults (option_map (λ t. trees.view t.now) value.entry) count ≡ []) }
+        (λ _. model.min_items_faults (field_named (codes "minItems") (trees.entries_view keywords.now.entries)) count ≡ []) }
     ensures refused { IfErr result
-        (λ e. Tells
-        e
-        (model.min_items_faults (option_map (λ t. trees.view t.now) value.entry) count)) }
+        (λ e. Tells e (model.min_items_faults (field_named (codes "minItems") (trees.entries_view keywords.now.entries)) count)) }
+{
+    match keywords.get("minItems") {
+        None => check_count(0, count),
+        Some(value) => check_stated(value, count),
+    }
+}
+
+fn check_stated(value: &Tree, count: usize) -> Result<(), ShapeRefusal>
+    ensures right { IfOk result
+        (λ _. model.min_items_faults (Some (trees.view value.now)) count ≡ []) }
+    ensures refused { IfErr result
+        (λ e. Tells e (model.min_items_faults (Some (trees.view value.now)) count)) }
 {
     match value {
-        None => check_count(0, count),
-        Some(Tree::Int(stated)) => check_count(*stated, count),
-        Some(Tree::Null | Tree::Bool(_) | Tree::Text(_) | Tree::List(_) | Tree::Object(_)) => {
+        Tree::Int(stated) => check_count(*stated, count),
+        Tree::Null | Tree::Bool(_) | Tree::Text(_) | Tree::List(_) | Tree::Object(_) => {
             Err(ShapeRefusal::NotAShape)
         }
     }
@@ -291,41 +350,58 @@ fn check_count(stated: i64, count: usize) -> Result<(), ShapeRefusal>
     }
 }
 
+#[tactic(auto, using(crate::proofs::Telling::told_left, crate::proofs::Telling::told_right))]
 #[cycle(read)]
-fn read_object(alloc: Global, keywords: &BTreeMap<String, Tree>) -> Result<Shape, ShapeRefusal> {
+fn read_object(alloc: Global, keywords: &BTreeMap<String, Tree>) -> Result<Shape, ShapeRefusal>
+    ensures spelled { IfOk result (λ s. model.type_of (trees.entries_view keywords.now.entries) ≡ model.OfObject → model.SpellsShape (json.Object (trees.entries_view keywords.now.entries)) (view s)) }
+    ensures refused { IfErr result (λ e. model.type_of (trees.entries_view keywords.now.entries) ≡ model.OfObject → Tells e (model.shape_faults (json.Object (trees.entries_view keywords.now.entries)))) }
+{
     if !all_among(keywords, &OBJECT_KEYWORDS) {
         return Err(ShapeRefusal::Keyword);
     }
-    let extra = read_additional(keywords.get("additionalProperties"))?;
+    let extra = read_additional(keywords)?;
     let mut fields = read_properties(alloc, keywords)?;
-    read_required(keywords.get("required"), extra, &mut fields)?;
+    read_required(keywords, extra, &mut fields)?;
     Ok(Shape::Object { fields, extra })
 }
 
 // Whether other fields may be there, as `additionalProperties` says.
-fn read_additional(value: Option<&Tree>) -> Result<bool, ShapeRefusal>
-    ensures right { IfOk result
-        (λ _. model.extra_faults (option_map (λ t. trees.view t.now) value.entry) ≡ []) }
-    ensures extra { IfOk result
-        (λ extra. extra ≡ model.extra_in (option_map (λ t. trees.view t.now) value.entry)) }
-    ensures refused { IfErr result
-        (λ e. Tells e (model.extra_faults (option_map (λ t. trees.view t.now) value.entry))) }
+#[tactic(auto, using(crate::proofs::Lookups::field_named_lookup_by))]
+fn read_additional(keywords: &BTreeMap<String, Tree>) -> Result<bool, ShapeRefusal>
+    ensures right { IfOk result (λ _. model.extra_faults (field_named (codes "additionalProperties") (trees.entries_view keywords.now.entries)) ≡ []) }
+    ensures extra { IfOk result (λ extra. extra ≡ model.extra_in (field_named (codes "additionalProperties") (trees.entries_view keywords.now.entries))) }
+    ensures refused { IfErr result (λ e. Tells e (model.extra_faults (field_named (codes "additionalProperties") (trees.entries_view keywords.now.entries)))) }
+{
+    match keywords.get("additionalProperties") {
+        None => Ok(true),
+        Some(value) => truth_value(value),
+    }
+}
+
+fn truth_value(value: &Tree) -> Result<bool, ShapeRefusal>
+    ensures right { IfOk result (λ _. model.extra_faults (Some (trees.view value.now)) ≡ []) }
+    ensures extra { IfOk result (λ extra. extra ≡ model.extra_in (Some (trees.view value.now))) }
+    ensures refused { IfErr result (λ e. Tells e (model.extra_faults (Some (trees.view value.now)))) }
 {
     match value {
-        None => Ok(true),
-        Some(Tree::Bool(extra)) => Ok(*extra),
-        Some(Tree::Null | Tree::Int(_) | Tree::Text(_) | Tree::List(_) | Tree::Object(_)) => {
+        Tree::Bool(extra) => Ok(*extra),
+        Tree::Null | Tree::Int(_) | Tree::Text(_) | Tree::List(_) | Tree::Object(_) => {
             Err(ShapeRefusal::NotAShape)
         }
     }
 }
 
 // The fields that `properties` mentions, none of them needed.
+#[tactic(auto, using(crate::proofs::Lookups::field_named_lookup_by, crate::proofs::Unders::properties_under_field_named, crate::proofs::Unders::properties_faults_under_field_named))]
 #[cycle(read)]
 fn read_properties(
     alloc: Global,
     keywords: &BTreeMap<String, Tree>,
-) -> Result<BTreeMap<String, Field>, ShapeRefusal> {
+) -> Result<BTreeMap<String, Field>, ShapeRefusal>
+    ensures right { IfOk result (λ _. model.properties_faults_under (codes "properties") (trees.entries_view keywords.now.entries) ≡ []) }
+    ensures fields { IfOk result (λ m. fields_view m.entries ≡ model.properties_under (codes "properties") (trees.entries_view keywords.now.entries)) }
+    ensures refused { IfErr result (λ e. Tells e (model.properties_faults_under (codes "properties") (trees.entries_view keywords.now.entries))) }
+{
     match keywords.get("properties") {
         None => Ok(BTreeMap::new(alloc)),
         Some(value) => read_fields(alloc, value),
@@ -333,7 +409,11 @@ fn read_properties(
 }
 
 #[cycle(read)]
-fn read_fields(alloc: Global, value: &Tree) -> Result<BTreeMap<String, Field>, ShapeRefusal> {
+fn read_fields(alloc: Global, value: &Tree) -> Result<BTreeMap<String, Field>, ShapeRefusal>
+    ensures right { IfOk result (λ _. model.properties_faults (trees.view value.now) ≡ []) }
+    ensures fields { IfOk result (λ m. fields_view m.entries ≡ model.properties_of (trees.view value.now)) }
+    ensures refused { IfErr result (λ e. Tells e (model.properties_faults (trees.view value.now))) }
+{
     match value {
         Tree::Object(members) => read_members(alloc, members),
         Tree::Null | Tree::Bool(_) | Tree::Int(_) | Tree::Text(_) | Tree::List(_) => {
@@ -346,7 +426,11 @@ fn read_fields(alloc: Global, value: &Tree) -> Result<BTreeMap<String, Field>, S
 fn read_members(
     alloc: Global,
     members: &BTreeMap<String, Tree>,
-) -> Result<BTreeMap<String, Field>, ShapeRefusal> {
+) -> Result<BTreeMap<String, Field>, ShapeRefusal>
+    ensures right { IfOk result (λ _. model.field_faults (trees.entries_view members.now.entries) ≡ []) }
+    ensures fields { IfOk result (λ m. fields_view m.entries ≡ model.field_shapes (trees.entries_view members.now.entries)) }
+    ensures refused { IfErr result (λ e. Tells e (model.field_faults (trees.entries_view members.now.entries))) }
+{
     let mut fields = BTreeMap::new(alloc);
     for (name, member) in members.iter() {
         let name = name.clone()?;
@@ -361,15 +445,39 @@ fn read_members(
 }
 
 // Makes the fields needed that `required` names; those that aren't mentioned are added.
+#[tactic(auto, using(crate::proofs::Lookups::field_named_lookup_by))]
 fn read_required(
-    value: Option<&Tree>,
+    keywords: &BTreeMap<String, Tree>,
     extra: bool,
     fields: &mut BTreeMap<String, Field>,
-) -> Result<(), ShapeRefusal> {
-    match value {
+) -> Result<(), ShapeRefusal>
+    ensures right { IfOk result (λ _. NoneNeeded (fields_view fields.old.entries) → model.required_faults (field_named (codes "required") (trees.entries_view keywords.now.entries)) ≡ []) }
+    ensures needed { IfOk result
+        (λ _. fields_view fields.new.entries
+        ≡ model.with_all_needed extra (model.required_in (field_named (codes "required") (trees.entries_view keywords.now.entries))) (fields_view fields.old.entries)) }
+    ensures refused { IfErr result (λ e. NoneNeeded (fields_view fields.old.entries) → Tells e (model.required_faults (field_named (codes "required") (trees.entries_view keywords.now.entries)))) }
+{
+    match keywords.get("required") {
         None => Ok(()),
-        Some(Tree::List(names)) => require_all(names, extra, fields),
-        Some(Tree::Null | Tree::Bool(_) | Tree::Int(_) | Tree::Text(_) | Tree::Object(_)) => {
+        Some(value) => require_list(value, extra, fields),
+    }
+}
+
+#[tactic(auto, using(crate::proofs::Spellings::required_right, crate::proofs::Spellings::required_refused))]
+fn require_list(
+    value: &Tree,
+    extra: bool,
+    fields: &mut BTreeMap<String, Field>,
+) -> Result<(), ShapeRefusal>
+    ensures right { IfOk result (λ _. NoneNeeded (fields_view fields.old.entries) → model.required_faults (Some (trees.view value.now)) ≡ []) }
+    ensures needed { IfOk result
+        (λ _. fields_view fields.new.entries
+        ≡ model.with_all_needed extra (model.required_in (Some (trees.view value.now))) (fields_view fields.old.entries)) }
+    ensures refused { IfErr result (λ e. NoneNeeded (fields_view fields.old.entries) → Tells e (model.required_faults (Some (trees.view value.now)))) }
+{
+    match value {
+        Tree::List(names) => require_all(names, extra, fields),
+        Tree::Null | Tree::Bool(_) | Tree::Int(_) | Tree::Text(_) | Tree::Object(_) => {
             Err(ShapeRefusal::NotAShape)
         }
     }
@@ -379,7 +487,15 @@ fn require_all(
     names: &[Tree],
     extra: bool,
     fields: &mut BTreeMap<String, Field>,
-) -> Result<(), ShapeRefusal> {
+) -> Result<(), ShapeRefusal>
+    ensures right { IfOk result
+        (λ _. (model.are_texts (trees.elements_view names.now) && are_new (model.texts_among (trees.elements_view names.now)) (fields_view fields.old.entries)) ≡ true) }
+    ensures needed { IfOk result
+        (λ _. fields_view fields.new.entries
+        ≡ model.with_all_needed extra (model.texts_among (trees.elements_view names.now)) (fields_view fields.old.entries)) }
+    ensures refused { IfErr result
+        (λ e. Tells e (model.unless (model.are_texts (trees.elements_view names.now) && are_new (model.texts_among (trees.elements_view names.now)) (fields_view fields.old.entries)) model.NotAShape)) }
+{
     for name in names {
         match name {
             Tree::Text(name) => require(name, extra, fields)?,

@@ -1,3 +1,4 @@
 pub mod LineSteps
+pub mod ShapeParts
 pub mod Slices
 pub mod WriteSteps

@@ -1,9 +1,10 @@
 //! Checking a certificate against a machine and its declared shapes.
 
 use crate::definition::{After, Machine, Paths, State};
+use crate::looking::look;
 use crate::records::{Certificate, Declared, StateShapes};
 use crate::verdicts::{Finding, FindingFault, Verdict};
-use asl_path::{RefPath, Segment};
+use asl_path::RefPath;
 use asl_shape::{Shape, inhabited, sub};
 use asl_tree::OutOfMemory;
 use std::alloc::Global;
@@ -170,11 +171,11 @@ impl Checker<'_> {
         paths: &Paths,
         shapes: &'s StateShapes,
     ) -> Result<&'s Shape, Broken> {
-        let effective = match look(&shapes.input, &paths.input, self.nothing) {
+        let effective = match through_path(&shapes.input, &paths.input, self.nothing) {
             Some(effective) => effective,
             None => return Err(breach("InputPath", FindingFault::PathMayBeMissing)),
         };
-        match look(effective, &paths.output, self.nothing) {
+        match through_path(effective, &paths.output, self.nothing) {
             Some(output) if sub(output, &shapes.output) => Ok(output),
             Some(_) => Err(breach("OutputPath", FindingFault::OutputNotCertified)),
             None => Err(breach("OutputPath", FindingFault::PathMayBeMissing)),
@@ -201,59 +202,16 @@ impl Checker<'_> {
     }
 }
 
-/// The shape of what a path names in each tree of an inhabited shape, where it names something in each of them. No path
-/// is null, which gives `{}`.
-fn look<'s>(shape: &'s Shape, path: &Option<RefPath>, nothing: &'s Shape) -> Option<&'s Shape> {
-    let path = match path {
-        Some(path) => path,
-        None => return Some(nothing),
-    };
-    let mut node = shape;
-    for segment in path.segments() {
-        node = child(node, segment)?;
-    }
-    Some(node)
-}
-
-/// The shape of what one segment names in each tree of an inhabited shape.
-fn child<'s>(shape: &'s Shape, segment: &Segment) -> Option<&'s Shape> {
-    match segment {
-        Segment::Name(name) => needed_field(shape, name),
-        Segment::Index(index) => first_place(shape, *index),
-    }
-}
-
-/// The shape of a needed field.
-fn needed_field<'s>(shape: &'s Shape, name: &str) -> Option<&'s Shape> {
-    match shape {
-        Shape::Object { fields, extra: _ } => match fields.get(name) {
-            Some(field) if field.needed => Some(&field.shape),
-            Some(_) | None => None,
-        },
-        Shape::Any
-        | Shape::Never
-        | Shape::Null
-        | Shape::Bool
-        | Shape::Int
-        | Shape::Text
-        | Shape::List { first: _, rest: _ } => None,
-    }
-}
-
-/// The shape of the place at an index, where each list of the shape has it.
-fn first_place<'s>(shape: &'s Shape, index: u32) -> Option<&'s Shape> {
-    match shape {
-        Shape::List { first, rest: _ } => first.get(index as usize),
-        Shape::Any
-        | Shape::Never
-        | Shape::Null
-        | Shape::Bool
-        | Shape::Int
-        | Shape::Text
-        | Shape::Object {
-            fields: _,
-            extra: _,
-        } => None,
+/// The shape of what a path of a state leads to in the trees of an inhabited shape, none where it may name nothing. A
+/// null path gives `{}`, whose shape is `nothing`.
+fn through_path<'s>(
+    shape: &'s Shape,
+    path: &Option<RefPath>,
+    nothing: &'s Shape,
+) -> Option<&'s Shape> {
+    match path {
+        Some(path) => look(shape, path),
+        None => Some(nothing),
     }
 }
 

@@ -10,6 +10,7 @@ mod chunks;
 mod definition;
 mod endings;
 mod lines;
+mod looking;
 mod printing;
 mod records;
 mod refusals;
