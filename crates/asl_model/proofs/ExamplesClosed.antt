@@ -224,3 +224,7 @@ undeclared_task closed = false_true ((closed.tasks (codes "A")).1 refl)
 
 start_not_inside : IsClosed (record { input = Any; tasks = [] }) integers_out passing → ⊥
 start_not_inside closed = false_true (closed.start Null refl)
+
+-- a task that isn't declared may answer what it likes, and takes every payload
+undeclared_answer_obeys : Obeys (record { input = Any; tasks = [] }) (one_task (codes "A")) Null (at [] Move ∷ at [] (Gives (whole 7)) ∷ [])
+undeclared_answer_obeys = record { has_input = refl; answers = (tt, (refl, tt)) }

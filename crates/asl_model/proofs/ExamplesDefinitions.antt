@@ -1,11 +1,13 @@
 -- Worked examples of definitions: the machine that a text stands for, and one value for each fault.
-use Rattle.std.specs.Prelude.{◌≡◌, ℕ, zero, suc, pos, List, [], ◌∷◌, ◌++◌, Option, Some, None, option_map, codes, refl}
+use Rattle.std.specs.Prelude.{◌≡◌, ℕ, zero, suc, pos, List, [], ◌∷◌, ◌++◌, true, false, Option, Some, None, option_map, codes, refl}
 use Rattle.serde_json.specs.Read.{read}
 use Rattle.serde_json.proofs.OnLiterals.{serde_json_on_literals}
 use Rattle.asl_model.specs.Tree.{Null, Integer, Array, NoTrees, AndTree}
 use Rattle.asl_model.specs.Path.{Name, Index}
-use Rattle.asl_model.specs.Template.{Literal, ObjectTemplate, NoFieldTemplates, AndFieldTemplate}
-use Rattle.asl_model.specs.Machine.{Settings, Seconds, Scope, ScopeOf, NoStates, AndState, StateOf, Pass, Task, Wait, Succeed, Fail, Parallel, Map, NoScopes, AndScope}
+use Rattle.asl_model.specs.Intrinsic.{InInput}
+use Rattle.asl_model.specs.Test.{NullKind, IsOfKind, IsPresent}
+use Rattle.asl_model.specs.Template.{Literal, FromPath, ObjectTemplate, NoFieldTemplates, AndFieldTemplate}
+use Rattle.asl_model.specs.Machine.{Settings, Seconds, SecondsPath, Timestamp, TimestampPath, Scope, ScopeOf, NoStates, AndState, StateOf, Pass, Task, Choice, Wait, Succeed, Fail, Parallel, Map, NoScopes, AndScope}
 use Rattle.asl_model.specs.DefinitionTable.{DefFault, NotObject, MissingField, WrongKind, UnknownField, LeftOut, UnknownType, NameTooLong, DuplicateName, NoSuchState, NextOrEnd, BadPath, BadTemplate, BadRule, BadErrorEquals, EmptyList, HeartbeatNotSmaller, NotWhole}
 use Rattle.asl_model.specs.StandsFor.{Complaint, complaints, scope_of, characters}
 
@@ -322,3 +324,49 @@ nested_scopes : machine_in (machine (codes "\"A\":{\"Type\":\"Parallel\",\"Branc
 )
 unfolding serde_json_on_literals machine_in machine bare
 nested_scopes = refl
+
+-- a Choice with `Default` and without
+a_choice : machine_in (machine (codes "\"A\":{\"Type\":\"Choice\",\"Choices\":[{\"Variable\":\"$.k\",\"IsNull\":true,\"Next\":\"B\"}],\"Default\":\"C\"},\"B\":{\"Type\":\"Succeed\"},\"C\":{\"Type\":\"Choice\",\"Choices\":[{\"Variable\":\"$\",\"IsPresent\":false,\"Next\":\"B\"}]}")) ≡ Some (
+  ScopeOf (codes "A")
+      (AndState (codes "A") (StateOf (bare None) (Choice (record { test = IsOfKind (Name (codes "k") ∷ []) NullKind true; next = codes "B" } ∷ []) (Some (codes "C"))))
+      (AndState (codes "B") (StateOf (bare None) Succeed)
+      (AndState (codes "C") (StateOf (bare None) (Choice (record { test = IsPresent [] false; next = codes "B" } ∷ []) None)) NoStates))),
+  [],
+)
+unfolding serde_json_on_literals machine_in machine bare
+a_choice = refl
+
+default_to_nowhere : complaints_in (machine (codes "\"A\":{\"Type\":\"Choice\",\"Choices\":[{\"Variable\":\"$\",\"IsNull\":true,\"Next\":\"A\"}],\"Default\":\"Z\"}")) ≡ only NoSuchState (codes "A") (codes "Default")
+unfolding serde_json_on_literals complaints_in machine only
+default_to_nowhere = refl
+
+-- a Wait by a path to seconds, a timestamp, and a path to a timestamp
+waits : machine_in (machine (codes "\"A\":{\"Type\":\"Wait\",\"SecondsPath\":\"$.s\",\"Next\":\"B\"},\"B\":{\"Type\":\"Wait\",\"Timestamp\":\"t\",\"Next\":\"C\"},\"C\":{\"Type\":\"Wait\",\"TimestampPath\":\"$.t\",\"End\":true}")) ≡ Some (
+  ScopeOf (codes "A")
+      (AndState (codes "A") (StateOf (bare (Some (codes "B"))) (Wait (SecondsPath (Name (codes "s") ∷ []))))
+      (AndState (codes "B") (StateOf (bare (Some (codes "C"))) (Wait (Timestamp (codes "t"))))
+      (AndState (codes "C") (StateOf (bare None) (Wait (TimestampPath (Name (codes "t") ∷ [])))) NoStates))),
+  [],
+)
+unfolding serde_json_on_literals machine_in machine bare
+waits = refl
+
+catch_all_not_last : complaints_in (machine (codes "\"A\":{\"Type\":\"Task\",\"Resource\":\"r\",\"End\":true,\"Catch\":[{\"ErrorEquals\":[\"States.ALL\"],\"Next\":\"A\"},{\"ErrorEquals\":[\"E\"],\"Next\":\"A\"}]}")) ≡ only BadErrorEquals (codes "A") (codes "Catch")
+unfolding serde_json_on_literals complaints_in machine only
+catch_all_not_last = refl
+
+catch_all_not_alone : complaints_in (machine (codes "\"A\":{\"Type\":\"Task\",\"Resource\":\"r\",\"End\":true,\"Catch\":[{\"ErrorEquals\":[\"E\",\"States.ALL\"],\"Next\":\"A\"}]}")) ≡ only BadErrorEquals (codes "A") (codes "Catch")
+unfolding serde_json_on_literals complaints_in machine only
+catch_all_not_alone = refl
+
+-- a catcher's `ResultPath` that is `null`, and one that isn't given; a Task's `Parameters`
+two_catchers : machine_in (machine (codes "\"A\":{\"Type\":\"Task\",\"Resource\":\"r\",\"Parameters\":{\"x.$\":\"$.k\"},\"Catch\":[{\"ErrorEquals\":[\"E\"],\"ResultPath\":null,\"Next\":\"A\"},{\"ErrorEquals\":[\"States.ALL\"],\"Next\":\"A\"}],\"End\":true}")) ≡ Some (
+  ScopeOf (codes "A") (AndState (codes "A")
+      (StateOf (record (bare None) {
+        parameters = Some (ObjectTemplate (AndFieldTemplate (codes "x") (FromPath (InInput (Name (codes "k") ∷ []))) NoFieldTemplates));
+        catchers = record { error_equals = codes "E" ∷ []; result_path = None; next = codes "A" } ∷ record { error_equals = codes "States.ALL" ∷ []; result_path = Some []; next = codes "A" } ∷ [];
+      }) (Task (codes "r"))) NoStates),
+  [],
+)
+unfolding serde_json_on_literals machine_in machine bare
+two_catchers = refl

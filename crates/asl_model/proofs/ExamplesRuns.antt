@@ -321,3 +321,52 @@ done_takes_nothing = refl
 
 waiting_stays : step beside (left beside Null both_asked) (at (0 ∷ []) Move) ≡ None
 waiting_stays = refl
+
+-- a caught error leaves no counts behind: the catcher's state begins anew
+abbrev pub spent_and_caught : Activity
+spent_and_caught = left (retrying_with (retrier (codes "x") ∷ [])) (Object NoFields) (at [] Move ∷ at [] (FailsTask (codes "x") []) ∷ at [] Move ∷ at [] (FailsTask (codes "x") []) ∷ [])
+
+catch_forgets_counts : spent_and_caught ≡ Ready (codes "E") (one (codes "err") (Object (fields_of ((codes "Cause", Text []) ∷ (codes "Error", Text (codes "x")) ∷ [])))) []
+catch_forgets_counts = refl
+
+-- a Parallel whose failed join is caught: its branches are gone, and an answer that comes later isn't taken
+abbrev pub beside_caught : Scope
+beside_caught = ScopeOf (codes "P") (AndState (codes "E") (StateOf ends Succeed) (AndState (codes "P") (StateOf (record ends { catchers = catcher [] ∷ [] }) (Parallel (AndScope (one_task (codes "T0")) (AndScope (one_task (codes "T1")) NoScopes)))) NoStates))
+
+abbrev pub after_caught_join : Activity
+after_caught_join = left beside_caught Null (at [] Move ∷ at (0 ∷ []) Move ∷ at (1 ∷ []) Move ∷ at (1 ∷ []) (FailsTask (codes "F") (codes "c")) ∷ at [] Move ∷ [])
+
+join_is_caught : after_caught_join ≡ Ready (codes "E") (Object (fields_of ((codes "Cause", Text (codes "c")) ∷ (codes "Error", Text (codes "States.BranchFailed")) ∷ []))) []
+join_is_caught = refl
+
+branches_are_gone : activity_at (0 ∷ []) after_caught_join ≡ None
+branches_are_gone = refl
+
+late_answer : step beside_caught after_caught_join (at (0 ∷ []) (Gives Null)) ≡ None
+late_answer = refl
+
+-- `ItemSelector` looks into the Map's effective input; items, branches and rules are taken from it too
+abbrev pub inside_a : Settings
+inside_a = record ends { input_path = Some (Name (codes "a") ∷ []) }
+
+abbrev pub selects_beside : Template
+selects_beside = ObjectTemplate (AndFieldTemplate (codes "k") (FromPath (InInput (Name (codes "k") ∷ []))) (AndFieldTemplate (codes "v") (FromPath (InItem [])) NoFieldTemplates))
+
+abbrev pub list_beside_k : Tree
+list_beside_k = one (codes "a") (Object (fields_of ((codes "k", whole 7) ∷ (codes "l", Array (trees_of (whole 1 ∷ []))) ∷ [])))
+
+selector_looks_into_input : activity_at (0 ∷ []) (left (only inside_a (Map (Name (codes "l") ∷ []) (Some selects_beside) passing)) list_beside_k (at [] Move ∷ [])) ≡ Some (Ready (codes "A") (Object (fields_of ((codes "k", whole 7) ∷ (codes "v", whole 1) ∷ []))) [])
+selector_looks_into_input = refl
+
+branch_gets_effective_input : activity_at (0 ∷ []) (left (only inside_a (Parallel (AndScope passing NoScopes))) (one (codes "a") (whole 1)) (at [] Move ∷ [])) ≡ Some (Ready (codes "A") (whole 1) [])
+branch_gets_effective_input = refl
+
+rules_look_into_effective_input : left (only inside_a (Choice (below_number 5 (codes "B") ∷ []) None)) (one (codes "a") (whole 3)) (at [] Move ∷ []) ≡ Ready (codes "B") (whole 3) []
+rules_look_into_effective_input = refl
+
+-- a Wait's output is its effective input, not what it waits for; a Pass with `Result` looks at `Parameters` all the same
+wait_keeps_input : left (only ends (Wait (SecondsPath (Name (codes "s") ∷ [])))) (one (codes "s") (whole 1)) (at [] Move ∷ []) ≡ Done (one (codes "s") (whole 1))
+wait_keeps_input = refl
+
+result_needs_parameters : told (only (record ends { parameters = Some missing_field }) (Pass (Some (whole 7)))) Null (at [] Move ∷ []) ≡ raises Null ParameterPathFailure (codes "Parameters")
+result_needs_parameters = refl

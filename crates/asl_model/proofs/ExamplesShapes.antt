@@ -1,13 +1,13 @@
 -- Worked examples of shapes: joins, what paths find, what is placed, templates, rules, outputs, and the findings of
 -- worked machines.
-use Rattle.std.specs.Prelude.{◌≡◌, ℕ, pos, List, [], ◌∷◌, true, false, Option, Some, None, Ok, Err, codes, refl}
-use Rattle.asl_model.specs.Tree.{Integer, Text}
+use Rattle.std.specs.Prelude.{◌≡◌, ℕ, pos, List, [], ◌∷◌, map, Bool, true, false, Option, Some, None, Ok, Err, codes, refl}
+use Rattle.asl_model.specs.Tree.{Tree, Null, Boolean, Integer, Text, Array, Object, trees_of, fields_of}
 use Rattle.asl_model.specs.Path.{Segment, Name, Index}
 use Rattle.asl_model.specs.Intrinsic.{InInput, InItem, ItemIndex, CallOf, StatesFormat, StatesArrayLength, TextArgument, PathArgument, NoArguments, AndArgument}
 use Rattle.asl_model.specs.Template.{Template, FromPath, FromCall, ObjectTemplate, NoFieldTemplates, AndFieldTemplate}
 use Rattle.asl_model.specs.Test.{Test, And, Or, Compare, StringIs, NumericIs, Equals, LessThan, Constant, IsPresent, Tests, NoTests, AndTest}
 use Rattle.asl_model.specs.Machine.{Settings, SecondsPath, Scope, ScopeOf, NoStates, AndState, StateOf, Pass, Task, Choice, Wait, Succeed, Parallel, Map, NoScopes, AndScope}
-use Rattle.asl_model.specs.Shape.{Shape, Any, Never, BooleanShape, IntegerShape, StringShape, ArrayShape, ObjectShape, NoShapes, AndShape, FieldShapes, NoFieldShapes, AndFieldShape}
+use Rattle.asl_model.specs.Shape.{Shape, Any, Never, NullShape, BooleanShape, IntegerShape, StringShape, ArrayShape, ObjectShape, NoShapes, AndShape, FieldShapes, NoFieldShapes, AndFieldShape, has}
 use Rattle.asl_model.specs.ShapeOrder.{sub, join}
 use Rattle.asl_model.specs.ShapeFlow.{look, put, template_shape, rule_shape, leave, MayBeMissing, MayFail}
 use Rattle.asl_model.specs.Certificate.{TaskShapes, Declared, StateShapes, Certificate}
@@ -427,3 +427,49 @@ map_no_item = refl
 
 map_item : mapping_findings (Some Never) ≡ finding (codes "Q") (codes "End") ScopeOutput ∷ []
 map_item = refl
+
+-- Membership
+
+abbrev fields : List (List ℕ × Tree) → Tree
+fields fs = Object (fields_of fs)
+
+abbrev elements : List Tree → Tree
+elements ts = Array (trees_of ts)
+
+abbrev seven : Tree
+seven = Integer (pos 7)
+
+abbrev text : Tree
+text = Text (codes "x")
+
+-- there are as many elements as first shapes, or more, and each has its own shape
+first_elements : map (has (pair IntegerShape StringShape Never)) (elements (seven ∷ text ∷ []) ∷ elements (seven ∷ []) ∷ elements [] ∷ elements (text ∷ seven ∷ []) ∷ elements (seven ∷ text ∷ text ∷ []) ∷ seven ∷ [])
+    ≡ true ∷ false ∷ false ∷ false ∷ false ∷ false ∷ []
+first_elements = refl
+
+-- each further element has the shape of the rest
+further_elements : map (has (one_then IntegerShape StringShape)) (elements (seven ∷ []) ∷ elements (seven ∷ text ∷ text ∷ []) ∷ elements (seven ∷ text ∷ seven ∷ []) ∷ elements (seven ∷ seven ∷ text ∷ []) ∷ [])
+    ≡ true ∷ true ∷ false ∷ false ∷ []
+further_elements = refl
+
+-- a needed field is there, an optional one may be missing, and each that is there has its shape
+abbrev a_and_maybe_b : Bool → Shape
+a_and_maybe_b extra = ObjectShape (needed (codes "a") IntegerShape (optional (codes "b") StringShape NoFieldShapes)) extra
+
+fields_in_closed : map (has (a_and_maybe_b false)) (fields ((codes "a", seven) ∷ (codes "b", text) ∷ []) ∷ fields ((codes "a", seven) ∷ []) ∷ fields ((codes "b", text) ∷ []) ∷ fields ((codes "a", text) ∷ []) ∷ fields ((codes "a", seven) ∷ (codes "b", seven) ∷ []) ∷ fields ((codes "a", seven) ∷ (codes "c", seven) ∷ []) ∷ elements [] ∷ [])
+    ≡ true ∷ true ∷ false ∷ false ∷ false ∷ false ∷ false ∷ []
+fields_in_closed = refl
+
+-- an open shape allows further fields; those that it mentions keep their shapes
+fields_in_open : map (has (a_and_maybe_b true)) (fields ((codes "a", seven) ∷ (codes "c", seven) ∷ []) ∷ fields ((codes "a", seven) ∷ (codes "b", seven) ∷ []) ∷ fields ((codes "c", seven) ∷ []) ∷ [])
+    ≡ true ∷ false ∷ false ∷ []
+fields_in_open = refl
+
+-- of a field that is mentioned twice each mention counts
+mentioned_twice : map (has (closed (optional (codes "a") IntegerShape (needed (codes "a") Any NoFieldShapes)))) (fields ((codes "a", seven) ∷ []) ∷ fields ((codes "a", text) ∷ []) ∷ fields [] ∷ [])
+    ≡ true ∷ false ∷ false ∷ []
+mentioned_twice = refl
+
+-- the shapes of one kind, `Any` and `Never`
+kinds_of_trees : (map (has BooleanShape) (Boolean false ∷ Null ∷ []) ≡ true ∷ false ∷ []) × (map (has NullShape) (Null ∷ Boolean false ∷ []) ≡ true ∷ false ∷ []) × (map (has IntegerShape) (seven ∷ text ∷ []) ≡ true ∷ false ∷ []) × (map (has StringShape) (text ∷ seven ∷ []) ≡ true ∷ false ∷ []) × (map (has Any) (Null ∷ elements [] ∷ fields [] ∷ []) ≡ true ∷ true ∷ true ∷ []) × (map (has Never) (Null ∷ elements [] ∷ fields [] ∷ []) ≡ false ∷ false ∷ false ∷ [])
+kinds_of_trees = (refl, refl, refl, refl, refl, refl)

@@ -96,3 +96,12 @@ extra_as_object = refl
 deep_inside : faults_in (codes "{\"type\":\"object\",\"properties\":{\"a\":{\"type\":\"array\",\"items\":{\"type\":\"number\"}}}}") ≡ Some (BadType ∷ [])
 unfolding serde_json_on_literals faults_in
 deep_inside = refl
+
+-- a shape with `items`; notes that say nothing of values are read past
+further_items : (shape_in (codes "{\"type\":\"array\",\"prefixItems\":[true],\"minItems\":1,\"items\":{\"type\":\"string\"},\"title\":\"t\",\"description\":\"d\",\"default\":[]}") ≡ Some (ArrayShape (AndShape Any NoShapes) StringShape)) × (faults_in (codes "{\"type\":\"array\",\"prefixItems\":[true],\"minItems\":1,\"items\":{\"type\":\"string\"},\"title\":\"t\",\"description\":\"d\",\"default\":[]}") ≡ Some [])
+unfolding serde_json_on_literals shape_in faults_in
+further_items = (refl, refl)
+
+all_notes : faults_in (codes "{\"type\":\"string\",\"$schema\":1,\"$id\":1,\"$comment\":1,\"title\":1,\"description\":1,\"default\":1,\"examples\":1}") ≡ Some []
+unfolding serde_json_on_literals faults_in
+all_notes = refl

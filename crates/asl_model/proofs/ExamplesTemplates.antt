@@ -1,10 +1,10 @@
 -- Worked placings, calls, templates and patterns, computed.
 use Rattle.std.proofs.Common.{◌≡◌, map, Bool, refl, ℕ, List, [], ◌∷◌, true, false, pos, negsuc, Option, Some, None, Ok, Err, codes}
-use Rattle.asl_model.specs.Tree.{Tree, Null, Boolean, Integer, Text, Array, Object, NoFields, AndField, trees_of, fields_of}
+use Rattle.asl_model.specs.Tree.{Tree, Null, Boolean, Integer, Text, Array, Object, NoTrees, NoFields, AndField, trees_of, fields_of}
 use Rattle.asl_model.specs.Path.{Segment, Name, Index}
 use Rattle.asl_model.specs.Placing.{placed}
 use Rattle.asl_model.specs.Faults.{ParameterPathFailure}
-use Rattle.asl_model.specs.Intrinsic.{InInput, Call, CallOf, StatesArray, StatesArrayLength, StatesFormat, Argument, NullArgument, BooleanArgument, IntegerArgument, TextArgument, PathArgument, CallArgument, Arguments, NoArguments, AndArgument, call_value}
+use Rattle.asl_model.specs.Intrinsic.{InInput, ItemIndex, InItem, Call, CallOf, StatesArray, StatesArrayLength, StatesFormat, Argument, NullArgument, BooleanArgument, IntegerArgument, TextArgument, PathArgument, CallArgument, Arguments, NoArguments, AndArgument, call_value}
 use Rattle.asl_model.specs.Template.{Literal, FromPath, FromCall, ArrayTemplate, ObjectTemplate, NoTemplates, AndTemplate, NoFieldTemplates, AndFieldTemplate, template_value}
 use Rattle.asl_model.specs.Test.{Relation, Equals, LessThan, GreaterThan, LessThanEquals, GreaterThanEquals, StringIs, NumericIs, BooleanEquals, Constant, AtPath, NullKind, NumericKind, StringKind, BooleanKind, ByteOf, Star, PatternPart, is_cut_by, Test, And, Or, Not, Compare, StringMatches, IsOfKind, IsPresent, Tests, NoTests, AndTest, truth}
 
@@ -170,3 +170,42 @@ disjunctions = refl
 negations : answers (Not (number_is Equals 3) ∷ Not (number_is Equals 4) ∷ Not undecided ∷ [])
     ≡ Some false ∷ Some true ∷ None ∷ []
 negations = refl
+
+-- `States.ArrayLength` takes one argument
+length_of_two_arguments : called (CallOf StatesArrayLength (with_arguments (PathArgument (InInput []) ∷ PathArgument (InInput []) ∷ []))) (Array NoTrees) ≡ None
+length_of_two_arguments = refl
+
+length_of_one_argument : called (CallOf StatesArrayLength (with_arguments (PathArgument (InInput []) ∷ []))) (Array NoTrees) ≡ Some (whole 0)
+length_of_one_argument = refl
+
+length_of_no_argument : called (CallOf StatesArrayLength NoArguments) (Array NoTrees) ≡ None
+length_of_no_argument = refl
+
+-- an item's number and value, with an item and without one
+abbrev pub number_and_value : Call
+number_and_value = CallOf StatesArray (with_arguments (PathArgument ItemIndex ∷ PathArgument (InItem []) ∷ []))
+
+with_an_item : call_value number_and_value Null (Some (record { number = 3; value = whole 9 })) ≡ Some (Array (trees_of (whole 3 ∷ whole 9 ∷ [])))
+with_an_item = refl
+
+without_an_item : called (CallOf StatesArray (with_arguments (PathArgument ItemIndex ∷ []))) Null ≡ None
+without_an_item = refl
+
+-- a hole takes no array and no object; `{{}}` from a path is a hole between braces
+hole_takes_no_array : called (CallOf StatesFormat (with_arguments (of_braces ∷ PathArgument (InInput []) ∷ []))) (Array NoTrees) ≡ None
+hole_takes_no_array = refl
+
+hole_takes_no_object : called (CallOf StatesFormat (with_arguments (of_braces ∷ PathArgument (InInput []) ∷ []))) (Object NoFields) ≡ None
+hole_takes_no_object = refl
+
+hole_between_braces : called (CallOf StatesFormat (with_arguments (PathArgument (InInput []) ∷ IntegerArgument (pos 1) ∷ []))) (Text (codes "{{}}")) ≡ Some (Text (codes "{1}"))
+hole_between_braces = refl
+
+-- texts compare by bytes: `é` comes behind `z`
+bytes_compare : (truth (Compare [] (StringIs GreaterThan) (Constant (Text (codes "z")))) (Text (195 ∷ 169 ∷ [])) ≡ Some true) × (truth (Compare [] (StringIs LessThan) (Constant (Text (codes "z")))) (Text (195 ∷ 169 ∷ [])) ≡ Some false)
+bytes_compare = (refl, refl)
+
+-- `StringLessThanEquals` and `StringGreaterThanEquals` hold of equal texts; `StringLessThan` and `StringGreaterThan` don't
+equal_texts_compare : answers (text_is LessThanEquals (codes "b") ∷ text_is GreaterThanEquals (codes "b") ∷ text_is LessThan (codes "b") ∷ text_is GreaterThan (codes "b") ∷ [])
+    ≡ Some true ∷ Some true ∷ Some false ∷ Some false ∷ []
+equal_texts_compare = refl
