@@ -27,6 +27,7 @@ pub mod ReadingLaws
 pub mod ReadingLookups
 pub mod ReadingRules
 pub mod ReadingSteps
+pub mod ReadingTemplates
 pub mod RunApart
 pub mod RunDecimals
 pub mod RunEnabled

@@ -1,5 +1,5 @@
 -- A text spells at most one path, and is not refused beside it; the printed form of a path spells it.
-use Rattle.std.proofs.Common.{◌≡◌, ◌-◌, ◌<◌, ◌≤◌, List, [], ◌∷◌, ℕ, zero, suc, length, take, drop, Bool, true, false, ◌==◌, Option, Some, None, if◌then◌else◌, option_map, option_and_then, IsFalse, refl, ap, ap₂, sym, subst, ◌∙◌, arith, length-drop, ◌⊎◌, inl, inr}
+use Rattle.std.proofs.Common.{◌≡◌, ◌↔◌, ◌-◌, ◌<◌, ◌≤◌, List, [], ◌∷◌, ℕ, zero, suc, length, take, drop, Bool, true, false, ◌==◌, Option, Some, None, if◌then◌else◌, option_map, option_and_then, IsFalse, refl, ap, ap₂, sym, subst, ◌∙◌, arith, length-drop, ◌⊎◌, inl, inr}
 use Rattle.std.specs.Char.{is_ascii_digit}
 use Rattle.std.proofs.lemmas.Bool.{eqb-true, ne_eqb, true≢false, false≢true}
 use Rattle.std.proofs.lemmas.Option.{none-some, same_Some}
@@ -87,6 +87,9 @@ path_of-Spells text p h =
 
 pub Spells-path_of : (text : List ℕ) (p : List Segment) → Spells text p → path_of text ≡ Some p
 Spells-path_of text p s = subst (λ t. path_of t ≡ Some p) (sym s.dollar) (begun_read (length s.segments) p s.segments s.all (omega arith))
+
+pub path_of-is-Spells : (text : List ℕ) (p : List Segment) → (path_of text ≡ Some p) ↔ Spells text p
+path_of-is-Spells text p = (path_of-Spells text p, Spells-path_of text p)
 
 pub one_path : (text : List ℕ) (p q : List Segment) → Spells text p → Spells text q → p ≡ q
 one_path text p q s t = one_value p q (Spells-path_of text p s) (Spells-path_of text q t)

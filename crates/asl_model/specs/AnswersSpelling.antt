@@ -21,6 +21,7 @@ abbrev pub optional_text : Option Tree → Option (List ℕ)
 optional_text None = Some []
 optional_text (Some t) = as_text t
 
+-- the failure that a tree stands for
 abbrev pub failing : Tree → Option Action
 failing Null = None
 failing (Boolean b) = None
@@ -62,6 +63,7 @@ elements_in (Text s) = None
 elements_in (Array ts) = Some ts
 elements_in (Object fs) = None
 
+-- the answers of a list, none of anything else
 abbrev pub answers_from : Tree → List Action
 answers_from t = unwrap_or (option_map each_answer (elements_in t)) []
 

@@ -20,6 +20,7 @@ behind (b ∷ bs) text = option_and_then (behind bs) (after b text)
 abbrev pub context_of : List ℕ → Option Reference
 context_of text = if bytes_eq text (codes "$$.Map.Item.Index") then Some ItemIndex else option_map InItem (option_and_then (λ rest. segments_of (length rest) rest) (behind (codes "$$.Map.Item.Value") text))
 
+-- the text begins as a context path does
 abbrev pub is_context : List ℕ → Bool
 is_context text = is_some (behind (codes "$$") text)
 
@@ -34,6 +35,7 @@ mutual
   pub data WrittenCall : Type 0 where
     WrittenAs : List ℕ → WrittenArguments → WrittenCall
 
+  -- an argument as it is written
   pub data WrittenArgument : Type 0 where
     WrittenNull : WrittenArgument
     WrittenBoolean : Bool → WrittenArgument
@@ -42,6 +44,7 @@ mutual
     WrittenPath : List ℕ → WrittenArgument
     WrittenNested : WrittenCall → WrittenArgument
 
+  -- the arguments of a call as they are written
   pub data WrittenArguments : Type 0 where
     NoneWritten : WrittenArguments
     AndWritten : WrittenArgument → WrittenArguments → WrittenArguments
@@ -50,21 +53,26 @@ mutual
 abbrev pub Cut : Type 0 → Type 0
 Cut A = Option (A × List ℕ)
 
+-- the text behind its leading spaces
 abbrev pub without_spaces : List ℕ → List ℕ
 without_spaces [] = []
 without_spaces (x ∷ rest) = if x == 32 then without_spaces rest else x ∷ rest
 
+-- a letter or digit, a dot or an underscore
 abbrev pub in_function_name : ℕ → Bool
 in_function_name b = is_ascii_alphanumeric b || b == 46 || b == 95
 
 -- ---- texts
 
+-- one more byte in front of what was cut
 abbrev pub byte_in_front : ℕ → Pieces × List ℕ → Pieces × List ℕ
 byte_in_front b c = (record { first = b ∷ c.0.first; after_holes = c.0.after_holes }, c.1)
 
+-- a hole in front of it
 abbrev pub hole_in_front : Pieces × List ℕ → Pieces × List ℕ
 hole_in_front c = (record { first = []; after_holes = c.0.first ∷ c.0.after_holes }, c.1)
 
+-- the text ends here, and this is left
 abbrev pub end_of_text : List ℕ → Pieces × List ℕ
 end_of_text rest = (record { first = []; after_holes = [] }, rest)
 
@@ -91,6 +99,7 @@ cut_pieces (x ∷ y ∷ rest) =
 abbrev pub is_whole : List ℕ → Bool
 is_whole digits = not (length digits == 0) && (front_length is_ascii_digit digits == length digits) && (length digits == 1 || not (slice_index digits 0 == 48))
 
+-- the number below zero
 abbrev pub negated : ℕ → ℤ
 negated zero = pos 0
 negated (suc n) = negsuc n
@@ -99,9 +108,11 @@ negated (suc n) = negsuc n
 abbrev pub number_of : List ℕ → Option ℤ
 number_of digits = if is_whole digits && nat_lt (digits_value 10 digits) (2 ^ 63) then Some (pos (digits_value 10 digits)) else None
 
+-- the number that digits behind a minus sign spell, where it is in range
 abbrev pub negative_of : List ℕ → Option ℤ
 negative_of digits = if is_whole digits && nat_le (digits_value 10 digits) (2 ^ 63) then Some (negated (digits_value 10 digits)) else None
 
+-- null, a truth value, or a number that isn't negative
 abbrev pub word_of : List ℕ → Option WrittenArgument
 word_of word =
     if bytes_eq word (codes "null") then Some WrittenNull else
@@ -109,25 +120,30 @@ word_of word =
     (if bytes_eq word (codes "false") then Some (WrittenBoolean false) else
     option_map WrittenInteger (number_of word)))
 
+-- the part that was cut, with what is left
 abbrev pub followed_by : {A : Type 0} → List ℕ → A → A × List ℕ
 followed_by rest a = (a, rest)
 
+-- a number behind its minus sign
 abbrev pub cut_negative : List ℕ → Cut WrittenArgument
 cut_negative text = let n = front_length is_ascii_digit text in option_map (λ z. followed_by (drop n text) (WrittenInteger z)) (negative_of (take n text))
 
 -- ---- paths
 
--- the path goes on past a byte, and the quote that is open behind it: 0 is none
+-- the path ends before a byte, where that quote is open: 0 is none
 abbrev pub ends_path : ℕ → ℕ → Bool
 ends_path quote b = quote == 0 && is_one_of (codes ",) ") b
 
+-- the quote that is open behind a byte, 0 where none is
 abbrev pub open_quote : ℕ → ℕ → ℕ
 open_quote quote b = if quote == 0 then (if is_one_of (codes "'\"") b then b else 0) else (if b == quote then 0 else quote)
 
+-- how many bytes belong to the path that a text begins with
 abbrev pub path_length : ℕ → List ℕ → ℕ
 path_length quote [] = 0
 path_length quote (x ∷ rest) = if ends_path quote x then 0 else suc (path_length (open_quote quote x) rest)
 
+-- a path, up to where it ends
 abbrev pub cut_path : List ℕ → Cut WrittenArgument
 cut_path text = let n = path_length 0 text in Some (followed_by (drop n text) (WrittenPath (take n text)))
 
@@ -190,11 +206,13 @@ cut_call (suc n) text =
 abbrev pub whole_call : WrittenCall × List ℕ → Option WrittenCall
 whole_call c = if length c.1 == 0 then Some c.0 else None
 
+-- the call that a whole text writes
 abbrev pub written_call : List ℕ → Option WrittenCall
 written_call text = option_and_then whole_call (cut_call 32 text)
 
 -- ---- what a written call means
 
+-- the function of that name
 abbrev pub function_named : List ℕ → Option Function
 function_named n =
     if bytes_eq n (codes "States.Array") then Some StatesArray else
@@ -206,6 +224,7 @@ abbrev mutual
   pub knows_functions : WrittenCall → Bool
   knows_functions (WrittenAs n arguments) = is_some (function_named n) && know_functions arguments
 
+  -- every function in an argument is one of those served
   pub knows_functions_in : WrittenArgument → Bool
   knows_functions_in WrittenNull = true
   knows_functions_in (WrittenBoolean b) = true
@@ -214,6 +233,7 @@ abbrev mutual
   knows_functions_in (WrittenPath p) = true
   knows_functions_in (WrittenNested c) = knows_functions c
 
+  -- so for the arguments
   pub know_functions : WrittenArguments → Bool
   know_functions NoneWritten = true
   know_functions (AndWritten argument others) = knows_functions_in argument && know_functions others
@@ -223,6 +243,7 @@ abbrev mutual
   pub call_of : Bool → WrittenCall → Option Call
   call_of item (WrittenAs n arguments) = option_and_then (λ f. option_map (CallOf f) (arguments_of item arguments)) (function_named n)
 
+  -- the argument that a written one means; the first argument says whether paths to a Map's item are allowed
   pub argument_of : Bool → WrittenArgument → Option Argument
   argument_of item WrittenNull = Some NullArgument
   argument_of item (WrittenBoolean b) = Some (BooleanArgument b)
@@ -231,6 +252,7 @@ abbrev mutual
   argument_of item (WrittenPath p) = option_map PathArgument (reference_of item p)
   argument_of item (WrittenNested c) = option_map CallArgument (call_of item c)
 
+  -- so for the arguments in order
   pub arguments_of : Bool → WrittenArguments → Option Arguments
   arguments_of item NoneWritten = Some NoArguments
   arguments_of item (AndWritten argument others) = option_and_then (λ a. option_map (AndArgument a) (arguments_of item others)) (argument_of item argument)
@@ -243,10 +265,12 @@ pub data CallFault : Type 0 where
   -- a path that is none, or a context path that isn't allowed
   BadPath : CallFault
 
+-- the call, or that a path in it is refused
 abbrev pub call_or_bad_path : Option Call → Result Call CallFault
 call_or_bad_path None = Err BadPath
 call_or_bad_path (Some c) = Ok c
 
+-- the call that a written one means, or what is wrong with it
 abbrev pub call_or_fault : Bool → Option WrittenCall → Result Call CallFault
 call_or_fault item None = Err Malformed
 call_or_fault item (Some c) = if knows_functions c then call_or_bad_path (call_of item c) else Err UnknownFunction

@@ -73,14 +73,17 @@ pub data Wanted : Type 0 where
   RetriersValue : Wanted
   CatchersValue : Wanted
 
+-- a field that an object may have: what its value is, and whether it has to be there
 pub record Row : Type 0 where
   pub field : List ℕ
   pub wanted : Wanted
   pub required : Bool
 
+-- a field that has to be there
 abbrev required : List ℕ → Wanted → Row
 required field wanted = record { field = field; wanted = wanted; required = true }
 
+-- a field that may be absent
 abbrev optional : List ℕ → Wanted → Row
 optional field wanted = record { field = field; wanted = wanted; required = false }
 
@@ -142,12 +145,14 @@ trouble_rows =
     ∷ optional (codes "Catch") CatchersValue
     ∷ result_rows
 
+-- all fields of a Pass
 abbrev pub pass_rows : List Row
 pass_rows =
     optional (codes "Parameters") TemplateValue
     ∷ optional (codes "Result") AnyValue
     ∷ result_rows
 
+-- of a Task
 abbrev pub task_rows : List Row
 task_rows =
     optional (codes "Parameters") TemplateValue
@@ -156,12 +161,14 @@ task_rows =
     ∷ optional (codes "HeartbeatSeconds") PositiveValue
     ∷ trouble_rows
 
+-- of a Choice
 abbrev pub choice_rows : List Row
 choice_rows =
     required (codes "Choices") RulesValue
     ∷ optional (codes "Default") TextValue
     ∷ path_rows
 
+-- of a Wait
 abbrev pub wait_rows : List Row
 wait_rows =
     optional (codes "Seconds") CountValue
@@ -170,18 +177,21 @@ wait_rows =
     ∷ optional (codes "TimestampPath") PathValue
     ∷ next_rows
 
+-- of a Fail
 abbrev pub fail_rows : List Row
 fail_rows =
     optional (codes "Error") TextValue
     ∷ optional (codes "Cause") TextValue
     ∷ every_state_rows
 
+-- of a Parallel
 abbrev pub parallel_rows : List Row
 parallel_rows =
     optional (codes "Parameters") TemplateValue
     ∷ required (codes "Branches") ScopesValue
     ∷ trouble_rows
 
+-- of a Map, the older names included
 abbrev pub map_rows : List Row
 map_rows =
     optional (codes "ItemProcessor") ScopeValue
@@ -224,6 +234,7 @@ left_out_fields =
 
 -- ---- the types of states
 
+-- the eight types of states
 pub data StateType : Type 0 where
   PassState : StateType
   TaskState : StateType
@@ -234,6 +245,7 @@ pub data StateType : Type 0 where
   ParallelState : StateType
   MapState : StateType
 
+-- the type of that name
 abbrev pub type_named : List ℕ → Option StateType
 type_named s =
     if bytes_eq s (codes "Pass") then Some PassState else
@@ -245,6 +257,7 @@ type_named s =
     (if bytes_eq s (codes "Parallel") then Some ParallelState else
     (if bytes_eq s (codes "Map") then Some MapState else None)))))))
 
+-- the fields that a state of the type may have
 abbrev pub rows_of : StateType → List Row
 rows_of PassState = pass_rows
 rows_of TaskState = task_rows
@@ -270,29 +283,36 @@ unless false fault = fault ∷ []
 abbrev pub as_whole : Data → Option ℤ
 as_whole v = option_and_then as_i64 (as_number v)
 
+-- there is a value, and it passes the test
 abbrev pub passes : {A : Type 0} → (A → Bool) → Option A → Bool
 passes test None = false
 passes test (Some a) = test a
 
+-- what is wrong with a value where a query language is wanted: the one that is read is JSONPath
 abbrev pub language_misfits : Data → Option (List ℕ) → List DefFault
 language_misfits v None = wrong_kind v ∷ []
 language_misfits v (Some s) = unless (bytes_eq s (codes "JSONPath")) LeftOut
 
+-- where a reference path is wanted
 abbrev pub path_misfits : Data → Option (List ℕ) → List DefFault
 path_misfits v None = wrong_kind v ∷ []
 path_misfits v (Some s) = unless (is_some (path_of s)) BadPath
 
+-- where a reference path or null is wanted
 abbrev pub path_or_null_misfits : Data → List DefFault
 path_or_null_misfits v = if is_some (as_null v) then [] else path_misfits v (as_str v)
 
+-- where a template is wanted; the first argument says whether paths to a Map's item are allowed
 abbrev pub template_misfits : Bool → Option Tree → List DefFault
 template_misfits item None = NotWhole ∷ []
 template_misfits item (Some t) = unless (is_some (template_of item t)) BadTemplate
 
+-- where a choice rule is wanted
 abbrev pub rule_misfits : Option Tree → List DefFault
 rule_misfits None = NotWhole ∷ []
 rule_misfits (Some t) = unless (is_some (rule_of t)) BadRule
 
+-- where an object is wanted, whatever is in it
 abbrev pub object_misfits : Data → List DefFault
 object_misfits v = unless (is_some (as_object v)) (wrong_kind v)
 
@@ -308,10 +328,12 @@ abbrev pub some_elements : Items → List DefFault
 some_elements json.no_items = EmptyList ∷ []
 some_elements (json.item v vs) = []
 
+-- what is wrong with each of the elements
 abbrev pub each_element : (Data → List DefFault) → Items → List DefFault
 each_element of_element json.no_items = []
 each_element of_element (json.item v vs) = of_element v ++ each_element of_element vs
 
+-- where a text is wanted
 abbrev pub text_misfits : Data → List DefFault
 text_misfits v = unless (is_some (as_str v)) (wrong_kind v)
 

@@ -48,10 +48,12 @@ abbrev mutual
   value_of (Array ts) = json.array (items_of ts)
   value_of (Object fs) = json.object (members_for fs)
 
+  -- so for the elements
   pub items_of : Trees → Items
   items_of NoTrees = json.no_items
   items_of (AndTree t ts) = json.item (value_of t) (items_of ts)
 
+  -- so for the fields
   pub members_for : Fields → Members
   members_for NoFields = json.no_members
   members_for (AndField n t fs) = json.member n (value_of t) (members_for fs)

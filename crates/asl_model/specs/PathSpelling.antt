@@ -80,6 +80,7 @@ segments_of n [] = Some []
 segments_of zero (x ∷ rest) = None
 segments_of (suc n) (x ∷ rest) = option_and_then (λ c. option_map (λ p. c.0 ∷ p) (segments_of n c.1)) (cut_segment (x ∷ rest))
 
+-- the path that a text spells
 abbrev pub path_of : List ℕ → Option (List Segment)
 path_of text = option_and_then (λ rest. segments_of (length rest) rest) (after 36 text)
 
@@ -106,6 +107,7 @@ pub data PathFault : Type 0 where
   BadSegment : ℕ → PathFault
   LeftOut : ℕ → PathFault
 
+-- why a text spells no path, and at which of its bytes
 abbrev pub IsRefusedPath : List ℕ → PathFault → Type 0
 IsRefusedPath text NoDollar = after 36 text ≡ None
 IsRefusedPath text (BadSegment b) = (rest : List ℕ) × StopsAt text b rest × IsFalse (has_left_out rest)
@@ -127,10 +129,12 @@ abbrev pub printed_segment : Segment → List ℕ
 printed_segment (Name n) = if is_dot_name n then codes "." ++ n else (if has_byte 39 n then codes "[\"" ++ (n ++ codes "\"]") else codes "['" ++ (n ++ codes "']"))
 printed_segment (Index i) = codes "[" ++ (decimal i ++ codes "]")
 
+-- the printed form of each segment, in order
 abbrev pub printed_segments : List Segment → List ℕ
 printed_segments [] = []
 printed_segments (s ∷ p) = printed_segment s ++ printed_segments p
 
+-- the printed form of a path
 abbrev pub printed_path : List Segment → List ℕ
 printed_path p = codes "$" ++ printed_segments p
 
@@ -139,6 +143,7 @@ abbrev pub has_spelling : Segment → Bool
 has_spelling (Name n) = not (has_byte 92 n) && (not (has_byte 39 n) || not (has_byte 34 n))
 has_spelling (Index i) = nat_lt i (2 ^ 32)
 
+-- each segment has a spelling
 abbrev pub have_spellings : List Segment → Bool
 have_spellings [] = true
 have_spellings (s ∷ p) = has_spelling s && have_spellings p

@@ -25,6 +25,7 @@ pub data Verdict : Type 0 where
   Accepted : Verdict
   Rejected : List Finding → Verdict
 
+-- the printed name of a finding
 abbrev pub finding_name : FindingFault → List ℕ
 finding_name finding.NotCertified = codes "NotCertified"
 finding_name finding.NotAState = codes "NotAState"
@@ -47,6 +48,7 @@ finding_name finding.CatchInput = codes "CatchInput"
 abbrev pub finding_line : Finding → List ℕ
 finding_line f = codes "no " ++ (quoted_name f.state ++ (codes " " ++ (f.field ++ (codes " " ++ (finding_name f.fault ++ line_break)))))
 
+-- a line for each finding
 abbrev pub finding_lines : List Finding → List ℕ
 finding_lines [] = []
 finding_lines (f ∷ fs) = finding_line f ++ finding_lines fs
@@ -58,6 +60,7 @@ verdict_text (Rejected fs) = finding_lines fs
 
 -- ---- refused texts
 
+-- the printed name of a text
 abbrev pub which_name : Which → List ℕ
 which_name DefinitionText = codes "definition"
 which_name DeclaredText = codes "declared"
@@ -65,6 +68,7 @@ which_name CertificateText = codes "certificate"
 which_name InputText = codes "input"
 which_name AnswersText = codes "answers"
 
+-- the printed name of a fault of a definition
 abbrev pub definition_fault_name : DefFault → List ℕ
 definition_fault_name definition.NotObject = codes "NotObject"
 definition_fault_name definition.MissingField = codes "MissingField"
@@ -85,6 +89,7 @@ definition_fault_name definition.HeartbeatNotSmaller = codes "HeartbeatNotSmalle
 definition_fault_name definition.TooLarge = codes "TooLarge"
 definition_fault_name definition.NotWhole = codes "NotWhole"
 
+-- of one of a record
 abbrev pub record_fault_name : RecordFault → List ℕ
 record_fault_name records.NotObject = codes "NotObject"
 record_fault_name records.MissingField = codes "MissingField"
@@ -106,6 +111,7 @@ place_text n field = codes " " ++ (quoted_name n ++ field_text field)
 abbrev pub refusal_text : Which → List ℕ → List ℕ → List ℕ
 refusal_text which fault place = codes "refused " ++ (which_name which ++ (codes " " ++ (fault ++ (place ++ line_break))))
 
+-- the line where memory was refused
 abbrev pub out_of_memory : List ℕ
 out_of_memory = codes "out of memory\n"
 
@@ -155,10 +161,12 @@ pub data Closing : Type 0 where
   ClosingNotSettled : Closing
   ClosingFault : CallFault → Closing
 
+-- the exit status with a verdict
 abbrev pub verdict_status : Verdict → ℕ
 verdict_status Accepted = 0
 verdict_status (Rejected fs) = 1
 
+-- the exit status where a call fails
 abbrev pub fault_status : CallFault → ℕ
 fault_status (RefusedText which f) = refusal_status f
 fault_status TooLong = 2
@@ -166,6 +174,7 @@ fault_status ReadFailed = 5
 fault_status WriteFailed = 5
 fault_status OutOfMemory = 5
 
+-- the line on standard error then
 abbrev pub fault_line : CallFault → List ℕ
 fault_line (RefusedText which f) = refusal_line which f
 fault_line TooLong = codes "text too long\n"
@@ -173,6 +182,7 @@ fault_line ReadFailed = codes "read failed\n"
 fault_line WriteFailed = codes "write failed\n"
 fault_line OutOfMemory = out_of_memory
 
+-- the exit status behind a run
 abbrev pub run_status : RunEnd → ℕ
 run_status RunOutput = 0
 run_status RunFailed = 1
@@ -181,6 +191,7 @@ run_status StepsSpent = 4
 run_status InputShape = 3
 run_status (AnswerShape n) = 3
 
+-- the line on standard error behind it
 abbrev pub run_line : RunEnd → List ℕ
 run_line RunOutput = []
 run_line RunFailed = []
@@ -213,6 +224,7 @@ abbrev pub first_line : List ℕ → List ℕ
 first_line [] = []
 first_line (x ∷ rest) = if x == 10 then [] else x ∷ first_line rest
 
+-- what stands behind the first line break
 abbrev pub further_lines : List ℕ → List ℕ
 further_lines [] = []
 further_lines (x ∷ rest) = if x == 10 then rest else further_lines rest
@@ -221,9 +233,11 @@ further_lines (x ∷ rest) = if x == 10 then rest else further_lines rest
 abbrev pub definition_line : List ℕ → List ℕ
 definition_line text = first_line text
 
+-- the second line
 abbrev pub declared_line : List ℕ → List ℕ
 declared_line text = first_line (further_lines text)
 
+-- the third line
 abbrev pub certificate_line : List ℕ → List ℕ
 certificate_line text = first_line (further_lines (further_lines text))
 

@@ -42,26 +42,31 @@ pub data RecordValue : Type 0 where
   -- an object with an entry for each state or task
   EntriesValue : RecordValue
 
+-- a field that an object of a record may have
 pub record RecordRow : Type 0 where
   pub field : List ℕ
   pub value : RecordValue
   pub required : Bool
 
+-- such a field
 abbrev row : List ℕ → RecordValue → Bool → RecordRow
 row field value required = record { field = field; value = value; required = required }
 
+-- the fields of declared shapes
 abbrev pub declared_rows : List RecordRow
 declared_rows =
     row (codes "input") ShapeValue true
     ∷ row (codes "tasks") EntriesValue false
     ∷ []
 
+-- of a declared task
 abbrev pub task_rows : List RecordRow
 task_rows =
     row (codes "takes") ShapeValue false
     ∷ row (codes "gives") ShapeValue true
     ∷ []
 
+-- of a certificate
 abbrev pub certificate_rows : List RecordRow
 certificate_rows =
     row (codes "version") VersionValue true
@@ -69,6 +74,7 @@ certificate_rows =
     ∷ row (codes "states") EntriesValue true
     ∷ []
 
+-- of a state's entry in it
 abbrev pub state_rows : List RecordRow
 state_rows =
     row (codes "input") ShapeValue true
@@ -83,6 +89,7 @@ state_rows =
 abbrev pub shape_misfits : Data → List RecordFault
 shape_misfits v = unwrap_or (option_map (λ t. map BadShape (shape_faults t)) (tree_of v)) []
 
+-- what is wrong with each element that should be a shape
 abbrev pub shapes_misfits : Items → List RecordFault
 shapes_misfits json.no_items = []
 shapes_misfits (json.item v vs) = shape_misfits v ++ shapes_misfits vs
@@ -92,12 +99,14 @@ abbrev pub version_misfits : Option ℤ → List RecordFault
 version_misfits None = []
 version_misfits (Some n) = if int_eq n (pos 1) then [] else BadVersion ∷ []
 
+-- what is wrong with the value of a field
 abbrev pub misfits : RecordValue → Data → List RecordFault
 misfits VersionValue v = unwrap_or (option_map (λ n. version_misfits (as_i64 n)) (as_number v)) (WrongKind ∷ [])
 misfits ShapeValue v = shape_misfits v
 misfits ShapesValue v = unwrap_or (option_map shapes_misfits (as_array v)) (WrongKind ∷ [])
 misfits EntriesValue v = if is_some (as_object v) then [] else WrongKind ∷ []
 
+-- a fault of that field, in the entry of that name
 abbrev complaint : List ℕ → List ℕ → RecordFault → RecordComplaint
 complaint name field fault = record { fault = fault; name = name; field = field }
 
@@ -106,6 +115,7 @@ abbrev pub field_faults : RecordRow → Option Data → List RecordFault
 field_faults row None = if row.required then MissingField ∷ [] else []
 field_faults row (Some v) = misfits row.value v
 
+-- what is wrong with the fields that rows name
 abbrev pub rows_complaints : List ℕ → List RecordRow → Members → List RecordComplaint
 rows_complaints name [] ms = []
 rows_complaints name (row ∷ rows) ms = map (complaint name row.field) (field_faults row (get_member row.field ms)) ++ rows_complaints name rows ms
@@ -128,6 +138,7 @@ object_complaints name rows v = unwrap_or (option_map (λ ms. rows_complaints na
 abbrev pub members_in : Data → Members
 members_in v = unwrap_or (as_object v) json.no_members
 
+-- the members of the object in the field of that name
 abbrev pub members_under : List ℕ → Data → Members
 members_under field v = unwrap_or (option_map members_in (get_member field (members_in v))) json.no_members
 
@@ -140,6 +151,7 @@ entries_complaints rows (json.member n v ms) = object_complaints n rows v ++ ent
 abbrev pub declared_complaints : Data → List RecordComplaint
 declared_complaints v = object_complaints [] declared_rows v ++ entries_complaints task_rows (members_under (codes "tasks") v)
 
+-- and as a certificate
 abbrev pub certificate_complaints : Data → List RecordComplaint
 certificate_complaints v = object_complaints [] certificate_rows v ++ entries_complaints state_rows (members_under (codes "states") v)
 
@@ -153,13 +165,16 @@ shape_from v = unwrap_or (option_map shape_of (tree_of v)) Any
 abbrev pub shape_at : List ℕ → Data → Shape
 shape_at field v = unwrap_or (option_map shape_from (get_member field (members_in v))) Any
 
+-- the shape of each element
 abbrev pub shapes_from : Items → List Shape
 shapes_from json.no_items = []
 shapes_from (json.item v vs) = shape_from v ∷ shapes_from vs
 
+-- the shapes of a declared task; one without `takes` takes everything
 abbrev pub task_from : Data → TaskShapes
 task_from v = record { takes = shape_at (codes "takes") v; gives = shape_at (codes "gives") v }
 
+-- the shapes in a state's entry
 abbrev pub state_from : Data → StateShapes
 state_from v = record {
   input = shape_at (codes "input") v;
@@ -173,9 +188,11 @@ abbrev pub entries_from : {A : Type 0} → (Data → A) → Members → List (Li
 entries_from f json.no_members = []
 entries_from f (json.member n v ms) = (n, f v) ∷ entries_from f ms
 
+-- the declared shapes that a value without a fault stands for
 abbrev pub declared_from : Data → Declared
 declared_from v = record { input = shape_at (codes "input") v; tasks = entries_from task_from (members_under (codes "tasks") v) }
 
+-- the certificate that one stands for
 abbrev pub certificate_from : Data → Certificate
 certificate_from v = record { output = shape_at (codes "output") v; states = entries_from state_from (members_under (codes "states") v) }
 

@@ -25,6 +25,7 @@ pub data RuleFault : Type 0 where
 
 -- ---- operators
 
+-- what a comparison operator of a rule looks for
 pub data Operator : Type 0 where
   -- with a value; with a path to one
   WithValue : Comparison → Operator
@@ -33,6 +34,7 @@ pub data Operator : Type 0 where
   OfKind : ValueKind → Operator
   Presence : Operator
 
+-- the relation that ends an operator's name
 abbrev pub relation_named : List ℕ → Option Relation
 relation_named n =
     if bytes_eq n (codes "Equals") then Some Equals else
@@ -57,6 +59,7 @@ comparison_named n =
 abbrev pub path_comparison_named : List ℕ → Option Comparison
 path_comparison_named n = if bytes_eq (drop (length n - 4) n) (codes "Path") then comparison_named (take (length n - 4) n) else None
 
+-- the kind that an operator asks for
 abbrev pub kind_named : List ℕ → Option ValueKind
 kind_named n =
     if bytes_eq n (codes "IsNull") then Some NullKind else
@@ -64,6 +67,7 @@ kind_named n =
     (if bytes_eq n (codes "IsString") then Some StringKind else
     (if bytes_eq n (codes "IsBoolean") then Some BooleanKind else None)))
 
+-- the operator of that name
 abbrev pub operator_named : List ℕ → Option Operator
 operator_named n =
     or_else (option_map WithValue (comparison_named n))
@@ -114,6 +118,7 @@ abbrev pub main_fields : Fields → List (List ℕ × Tree)
 main_fields NoFields = []
 main_fields (AndField n t fs) = if bytes_eq n (codes "Variable") || (bytes_eq n (codes "Next") || bytes_eq n (codes "Comment")) then main_fields fs else (n, t) ∷ main_fields fs
 
+-- the path in `Variable`
 abbrev pub variable_in : Fields → Option (List Segment)
 variable_in fs = option_and_then path_of (option_and_then as_text (field_named (codes "Variable") fs))
 
@@ -121,6 +126,7 @@ variable_in fs = option_and_then path_of (option_and_then as_text (field_named (
 abbrev pub no_test : Test
 no_test = And NoTests
 
+-- the test, or the one that is always true where there is a fault
 abbrev pub test_or_none : Result Test RuleFault → Test
 test_or_none (Ok test) = test
 test_or_none (Err fault) = no_test
@@ -130,10 +136,12 @@ abbrev pub first_test : List Segment → List (List ℕ × Tree) → Test
 first_test p [] = no_test
 first_test p (f ∷ fs) = test_or_none (named_test p f.0 f.1)
 
+-- the fault, where there is one
 abbrev pub fault_of : Result Test RuleFault → List RuleFault
 fault_of (Ok test) = []
 fault_of (Err fault) = fault ∷ []
 
+-- what is wrong with each of these operators and its value
 abbrev pub operator_faults : List Segment → List (List ℕ × Tree) → List RuleFault
 operator_faults p [] = []
 operator_faults p (f ∷ fs) = fault_of (named_test p f.0 f.1) ++ operator_faults p fs
@@ -144,6 +152,7 @@ one_faults [] = NotARule ∷ []
 one_faults (f ∷ []) = []
 one_faults (f ∷ g ∷ fs) = NotARule ∷ []
 
+-- `Variable` is a reference path
 abbrev pub variable_path_faults : Option (List ℕ) → List RuleFault
 variable_path_faults None = NotARule ∷ []
 variable_path_faults (Some s) = if is_some (path_of s) then [] else BadPath ∷ []
@@ -161,6 +170,7 @@ joined_faults (f ∷ []) ands ors nots =
     (if bytes_eq f.0 (codes "Or") then ors else
     (if bytes_eq f.0 (codes "Not") then nots else NotARule ∷ []))
 
+-- what is wrong with a rule, with `Variable` and without
 abbrev pub test_faults : Option Tree → Fields → List RuleFault → List RuleFault → List RuleFault → List RuleFault
 test_faults None fs ands ors nots = joined_faults (main_fields fs) ands ors nots
 test_faults (Some t) fs ands ors nots = variable_faults t fs
@@ -181,6 +191,7 @@ abbrev pub text_faults : Bool → Option Tree → List RuleFault
 text_faults required None = if required then NotARule ∷ [] else []
 text_faults required (Some t) = if is_some (as_text t) then [] else NotARule ∷ []
 
+-- what is wrong with `Next` and `Comment` at the top
 abbrev pub top_faults : Fields → List RuleFault
 top_faults fs = text_faults true (field_named (codes "Next") fs) ++ text_faults false (field_named (codes "Comment") fs)
 
@@ -196,6 +207,7 @@ abbrev mutual
   test_of (Array ts) = no_test
   test_of (Object fs) = test_by fs (tests_under (codes "And") fs) (tests_under (codes "Or") fs) (test_under (codes "Not") fs)
 
+  -- the test in the field of that name
   pub test_under : List ℕ → Fields → Test
   test_under n NoFields = no_test
   test_under n (AndField m t fs) = elim (bytes_eq m n) [ true ↦ test_of t | false ↦ test_under n fs ]
@@ -205,6 +217,7 @@ abbrev mutual
   tests_under n NoFields = NoTests
   tests_under n (AndField m t fs) = elim (bytes_eq m n) [ true ↦ tests_of t | false ↦ tests_under n fs ]
 
+  -- the tests of a list
   pub tests_of : Tree → Tests
   tests_of Null = NoTests
   tests_of (Boolean b) = NoTests
@@ -213,10 +226,12 @@ abbrev mutual
   tests_of (Array ts) = each_test ts
   tests_of (Object fs) = NoTests
 
+  -- the test of each element
   pub each_test : Trees → Tests
   each_test NoTrees = NoTests
   each_test (AndTree t ts) = AndTest (test_of t) (each_test ts)
 
+-- a list of tests has an element
 abbrev pub some_element : Trees → List RuleFault
 some_element NoTrees = EmptyList ∷ []
 some_element (AndTree t ts) = []
@@ -240,10 +255,12 @@ abbrev mutual
       (elim (bytes_eq n (codes "Or")) [ true ↦ list_faults t | false ↦ list_faults_under (codes "Or") fs ])
       (elim (bytes_eq n (codes "Not")) [ true ↦ nested_faults t | false ↦ nested_faults_under (codes "Not") fs ])
 
+  -- what is wrong with the test in the field of that name
   pub nested_faults_under : List ℕ → Fields → List RuleFault
   nested_faults_under n NoFields = []
   nested_faults_under n (AndField m t fs) = elim (bytes_eq m n) [ true ↦ nested_faults t | false ↦ nested_faults_under n fs ]
 
+  -- what is wrong with the list of tests in the field of that name
   pub list_faults_under : List ℕ → Fields → List RuleFault
   list_faults_under n NoFields = []
   list_faults_under n (AndField m t fs) = elim (bytes_eq m n) [ true ↦ list_faults t | false ↦ list_faults_under n fs ]
@@ -257,6 +274,7 @@ abbrev mutual
   list_faults (Array ts) = some_element ts ++ each_faults ts
   list_faults (Object fs) = NotARule ∷ []
 
+  -- what is wrong with each element
   pub each_faults : Trees → List RuleFault
   each_faults NoTrees = []
   each_faults (AndTree t ts) = nested_faults t ++ each_faults ts
@@ -272,6 +290,7 @@ rule_faults (Text s) = NotARule ∷ []
 rule_faults (Array ts) = NotARule ∷ []
 rule_faults (Object fs) = top_faults fs ++ object_faults fs
 
+-- the text in `Next`
 abbrev pub next_of : Tree → List ℕ
 next_of Null = []
 next_of (Boolean b) = []
@@ -280,9 +299,11 @@ next_of (Text s) = []
 next_of (Array ts) = []
 next_of (Object fs) = unwrap_or (option_and_then as_text (field_named (codes "Next") fs)) []
 
+-- the rule that a tree without a fault spells
 abbrev pub rule_from : Tree → Rule
 rule_from t = record { test = test_of t; next = next_of t }
 
+-- there is no fault
 abbrev pub none_among : List RuleFault → Bool
 none_among [] = true
 none_among (fault ∷ further) = false

@@ -3,6 +3,7 @@ use Rattle.std.specs.Prelude.{ℕ, List, Bool, true, false, ◌&&◌, ◌||◌, 
 use Rattle.asl_model.specs.Tree.{Tree, Null, Boolean, Integer, Text, Array, Object, Trees, NoTrees, AndTree, Fields, NoFields, AndField, field_named, comes_before}
 
 mutual
+  -- what is said of a tree
   pub data Shape : Type 0 where
     Any : Shape
     Never : Shape
@@ -136,7 +137,7 @@ before_mentions n NoFieldShapes = true
 before_mentions n (AndFieldShape m needed s shapes) = comes_before n m
 
 abbrev mutual
-  -- a shape that a JSON text can spell: each object mentions each name once, in byte order, and names are UTF-8
+  -- its names are UTF-8, and each object mentions its names once, in byte order; depth has no limit here
   pub IsProperShape : Shape → Type 0
   IsProperShape Any = Unit {0}
   IsProperShape Never = Unit {0}

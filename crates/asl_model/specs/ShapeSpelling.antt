@@ -32,6 +32,7 @@ are_distinct (n ∷ ns) = not (is_among n ns) && are_distinct ns
 
 -- ---- types and keywords
 
+-- what `type` says
 pub data TypeWord : Type 0 where
   OfObject : TypeWord
   OfArray : TypeWord
@@ -45,6 +46,7 @@ pub data TypeWord : Type 0 where
   NotAType : TypeWord
   NoType : TypeWord
 
+-- the type of that name
 abbrev pub type_word : List ℕ → TypeWord
 type_word s =
     if bytes_eq s (codes "object") then OfObject else
@@ -64,6 +66,7 @@ type_in (Some (Text s)) = type_word s
 type_in (Some (Array ts)) = OtherType
 type_in (Some (Object fs)) = NotAType
 
+-- what the `type` of these fields says
 abbrev pub type_of : Fields → TypeWord
 type_of fs = type_in (field_named (codes "type") fs)
 
@@ -71,12 +74,15 @@ type_of fs = type_in (field_named (codes "type") fs)
 abbrev pub annotations : List (List ℕ)
 annotations = codes "$schema" ∷ codes "$id" ∷ codes "$comment" ∷ codes "title" ∷ codes "description" ∷ codes "default" ∷ codes "examples" ∷ []
 
+-- the keywords of an object shape
 abbrev pub object_keywords : List (List ℕ)
 object_keywords = codes "type" ∷ codes "properties" ∷ codes "required" ∷ codes "additionalProperties" ∷ annotations
 
+-- of an array shape
 abbrev pub array_keywords : List (List ℕ)
 array_keywords = codes "type" ∷ codes "prefixItems" ∷ codes "items" ∷ codes "minItems" ∷ annotations
 
+-- of the other types
 abbrev pub simple_keywords : List (List ℕ)
 simple_keywords = codes "type" ∷ annotations
 
@@ -97,6 +103,7 @@ texts_among (AndTree (Text s) ts) = s ∷ texts_among ts
 texts_among (AndTree (Array us) ts) = texts_among ts
 texts_among (AndTree (Object fs) ts) = texts_among ts
 
+-- the tree is a text
 abbrev pub is_text_value : Tree → Bool
 is_text_value Null = false
 is_text_value (Boolean b) = false
@@ -105,6 +112,7 @@ is_text_value (Text s) = true
 is_text_value (Array ts) = false
 is_text_value (Object fs) = false
 
+-- every element is a text
 abbrev pub are_texts : Trees → Bool
 are_texts NoTrees = true
 are_texts (AndTree t ts) = is_text_value t && are_texts ts
@@ -167,6 +175,7 @@ with_needed extra n (AndFieldShape m needed s shapes) =
     (AndFieldShape m true s shapes)
     (AndFieldShape m needed s (with_needed extra n shapes))
 
+-- the fields with each of these needed
 abbrev pub with_all_needed : Bool → List (List ℕ) → FieldShapes → FieldShapes
 with_all_needed extra [] shapes = shapes
 with_all_needed extra (n ∷ ns) shapes = with_all_needed extra ns (with_needed extra n shapes)
@@ -235,10 +244,12 @@ abbrev mutual
   shapes_of (Array ts) = element_shapes ts
   shapes_of (Object fs) = NoShapes
 
+  -- the shape of each element
   pub element_shapes : Trees → Shapes
   element_shapes NoTrees = NoShapes
   element_shapes (AndTree t ts) = AndShape (shape_of t) (element_shapes ts)
 
+  -- the shapes of the list in the field of that name
   pub shapes_under : List ℕ → Fields → Shapes
   shapes_under n NoFields = NoShapes
   shapes_under n (AndField m t fs) = elim (bytes_eq m n) [ true ↦ shapes_of t | false ↦ shapes_under n fs ]
@@ -252,10 +263,12 @@ abbrev mutual
   properties_of (Array ts) = NoFieldShapes
   properties_of (Object fs) = field_shapes fs
 
+  -- the shape of each field, none of them needed
   pub field_shapes : Fields → FieldShapes
   field_shapes NoFields = NoFieldShapes
   field_shapes (AndField n t fs) = AndFieldShape n false (shape_of t) (field_shapes fs)
 
+  -- so for the object in the field of that name
   pub properties_under : List ℕ → Fields → FieldShapes
   properties_under n NoFields = NoFieldShapes
   properties_under n (AndField m t fs) = elim (bytes_eq m n) [ true ↦ properties_of t | false ↦ properties_under n fs ]
@@ -302,10 +315,12 @@ abbrev mutual
   shapes_faults (Array ts) = element_faults ts
   shapes_faults (Object fs) = NotAShape ∷ []
 
+  -- what is wrong with each element
   pub element_faults : Trees → List ShapeFault
   element_faults NoTrees = []
   element_faults (AndTree t ts) = shape_faults t ++ element_faults ts
 
+  -- with the list in the field of that name
   pub shapes_faults_under : List ℕ → Fields → List ShapeFault
   shapes_faults_under n NoFields = []
   shapes_faults_under n (AndField m t fs) = elim (bytes_eq m n) [ true ↦ shapes_faults t | false ↦ shapes_faults_under n fs ]
@@ -319,10 +334,12 @@ abbrev mutual
   properties_faults (Array ts) = NotAShape ∷ []
   properties_faults (Object fs) = field_faults fs
 
+  -- with each field
   pub field_faults : Fields → List ShapeFault
   field_faults NoFields = []
   field_faults (AndField n t fs) = shape_faults t ++ field_faults fs
 
+  -- with the object in the field of that name
   pub properties_faults_under : List ℕ → Fields → List ShapeFault
   properties_faults_under n NoFields = []
   properties_faults_under n (AndField m t fs) = elim (bytes_eq m n) [ true ↦ properties_faults t | false ↦ properties_faults_under n fs ]

@@ -21,9 +21,11 @@ use Rattle.asl_model.specs.DefinitionTable.{DefFault, NotObject, MissingField, W
 
 -- ---- look-ups in an object
 
+-- the text in a field
 abbrev pub text_at : List ℕ → Members → Option (List ℕ)
 text_at field ms = option_and_then as_str (get_member field ms)
 
+-- the object has the field
 abbrev pub is_given : List ℕ → Members → Bool
 is_given field ms = is_some (get_member field ms)
 
@@ -34,6 +36,7 @@ members_in v = unwrap_or (as_object v) json.no_members
 abbrev pub items_in : Data → Items
 items_in v = unwrap_or (as_array v) json.no_items
 
+-- the elements of the list in a field; none where it is absent or no list
 abbrev pub items_at : List ℕ → Members → Items
 items_at field ms = unwrap_or (option_map items_in (get_member field ms)) json.no_items
 
@@ -42,6 +45,7 @@ abbrev pub listed : Items → List Data
 listed json.no_items = []
 listed (json.item v vs) = v ∷ listed vs
 
+-- the names of the members, in order
 abbrev pub names_of : Members → List (List ℕ)
 names_of json.no_members = []
 names_of (json.member n v ms) = n ∷ names_of ms
@@ -60,6 +64,7 @@ type_of ms = option_and_then type_named (text_at (codes "Type") ms)
 abbrev pub path_in : Data → Option (List Segment)
 path_in v = if is_some (as_null v) then None else Some (unwrap_or (option_and_then path_of (as_str v)) [])
 
+-- a field with a path or null: None is null, and absent it is `$`
 abbrev pub path_or_null_at : List ℕ → Members → Option (List Segment)
 path_or_null_at field ms = unwrap_or (option_map path_in (get_member field ms)) (Some [])
 
@@ -67,6 +72,7 @@ path_or_null_at field ms = unwrap_or (option_map path_in (get_member field ms)) 
 abbrev pub path_at : List ℕ → Members → List Segment
 path_at field ms = unwrap_or (option_and_then path_of (text_at field ms)) []
 
+-- a field with a template; the first argument says whether paths to a Map's item are allowed
 abbrev pub template_at : Bool → List ℕ → Members → Option Template
 template_at item field ms = option_and_then (template_of item) (option_and_then tree_of (get_member field ms))
 
@@ -78,9 +84,11 @@ count_at field default ms = unwrap_or (option_map nat_abs (option_and_then as_wh
 abbrev pub error_names : Members → List (List ℕ)
 error_names ms = filter_map as_str (listed (items_at (codes "ErrorEquals") ms))
 
+-- an element of `Retry`; without `MaxAttempts` it retries three times
 abbrev pub retrier_of : Data → Retrier
 retrier_of v = record { error_equals = error_names (members_in v); max_attempts = count_at (codes "MaxAttempts") 3 (members_in v) }
 
+-- an element of `Catch`; without `ResultPath` the error output replaces the input
 abbrev pub catcher_of : Data → Catcher
 catcher_of v = record {
   error_equals = error_names (members_in v);
@@ -109,6 +117,7 @@ delay_of ms =
     (if is_given (codes "Timestamp") ms then Timestamp (unwrap_or (text_at (codes "Timestamp") ms) []) else
     TimestampPath (path_at (codes "TimestampPath") ms)))
 
+-- the rules in `Choices`
 abbrev pub rules_of : Members → List Rule
 rules_of ms = filter_map (λ v. option_and_then rule_of (tree_of v)) (listed (items_at (codes "Choices") ms))
 
@@ -147,6 +156,7 @@ abbrev mutual
   states_under field json.no_members = NoStates
   states_under field (json.member n v ms) = elim (bytes_eq field n) [ true ↦ states_in v | false ↦ states_under field ms ]
 
+  -- the states in a value of `States`
   pub states_in : Data → States
   states_in json.null = NoStates
   states_in (json.boolean b) = NoStates
@@ -155,10 +165,12 @@ abbrev mutual
   states_in (json.array vs) = NoStates
   states_in (json.object ms) = each_state ms
 
+  -- the state of each member, under its name
   pub each_state : Members → States
   each_state json.no_members = NoStates
   each_state (json.member n v ms) = AndState n (state_of v) (each_state ms)
 
+  -- the state that a value stands for
   pub state_of : Data → State
   state_of json.null = state_by None json.no_members NoScopes empty_scope
   state_of (json.boolean b) = state_by None json.no_members NoScopes empty_scope
@@ -172,6 +184,7 @@ abbrev mutual
   branches_under json.no_members = NoScopes
   branches_under (json.member n v ms) = elim (bytes_eq (codes "Branches") n) [ true ↦ scopes_in v | false ↦ branches_under ms ]
 
+  -- the branches in a list
   pub scopes_in : Data → Scopes
   scopes_in json.null = NoScopes
   scopes_in (json.boolean b) = NoScopes
@@ -180,6 +193,7 @@ abbrev mutual
   scopes_in (json.array vs) = each_scope vs
   scopes_in (json.object ms) = NoScopes
 
+  -- the scope of each element
   pub each_scope : Items → Scopes
   each_scope json.no_items = NoScopes
   each_scope (json.item v vs) = AndScope (scope_of v) (each_scope vs)
@@ -194,13 +208,16 @@ abbrev mutual
   pub all_names : Scope → List (List ℕ)
   all_names (ScopeOf start held) = names_among held
 
+  -- the names of these states, and of those nested in each
   pub names_among : States → List (List ℕ)
   names_among NoStates = []
   names_among (AndState n state others) = n ∷ (names_within state ++ names_among others)
 
+  -- the names of the states nested in a state
   pub names_within : State → List (List ℕ)
   names_within (StateOf settings kind) = nested_names kind
 
+  -- so by the state's type
   pub nested_names : Kind → List (List ℕ)
   nested_names (Pass result) = []
   nested_names (Task resource) = []
@@ -211,6 +228,7 @@ abbrev mutual
   nested_names (Parallel branches) = names_of_scopes branches
   nested_names (Map items selector processor) = all_names processor
 
+  -- the names of all states of these scopes
   pub names_of_scopes : Scopes → List (List ℕ)
   names_of_scopes NoScopes = []
   names_of_scopes (AndScope scope others) = all_names scope ++ names_of_scopes others
@@ -229,9 +247,11 @@ pub record Place : Type 0 where
   pub state : List ℕ
   pub within : Option (List ℕ)
 
+-- the state itself
 abbrev place_of_state : List ℕ → Place
 place_of_state state = record { state = state; within = None }
 
+-- an object in that field of the state
 abbrev place_within : List ℕ → List ℕ → Place
 place_within state field = record { state = state; within = Some field }
 
@@ -261,6 +281,7 @@ abbrev pub told_field : Option (List ℕ) → List ℕ → DefFault → List ℕ
 told_field None field fault = field
 told_field (Some own) field fault = if is_told_by_name fault then field else own
 
+-- a fault of a field of the object that stands there
 abbrev complaint_at : Place → List ℕ → DefFault → Complaint
 complaint_at place field fault = record { fault = fault; state = place.state; field = told_field place.within field fault }
 
@@ -270,14 +291,17 @@ complain_unless right place field fault = if right then [] else complaint_at pla
 
 -- ---- the fields of an object
 
+-- what is wrong with the value of a row, or with its absence
 abbrev pub field_faults : Row → Option Data → List DefFault
 field_faults row None = if row.required then MissingField ∷ [] else []
 field_faults row (Some v) = misfits row.wanted v
 
+-- what is wrong with the fields that rows name
 abbrev pub rows_complaints : Place → List Row → Members → List Complaint
 rows_complaints place [] ms = []
 rows_complaints place (row ∷ rows) ms = map (complaint_at place row.field) (field_faults row (get_member row.field ms)) ++ rows_complaints place rows ms
 
+-- the name is that of a row
 abbrev pub has_row : List ℕ → List Row → Bool
 has_row n [] = false
 has_row n (row ∷ rows) = bytes_eq row.field n || has_row n rows
@@ -289,6 +313,7 @@ foreign_complaints place rows (json.member n v ms) =
     if has_row n rows then foreign_complaints place rows ms else
     complaint_at place n (if is_among n left_out_fields then LeftOut else UnknownField) ∷ foreign_complaints place rows ms
 
+-- what is wrong with the fields of an object, those that it may not have included
 abbrev pub fields_complaints : Place → List Row → Members → List Complaint
 fields_complaints place rows ms = rows_complaints place rows ms ++ foreign_complaints place rows ms
 
@@ -299,6 +324,7 @@ abbrev pub target_complaints : Place → List (List ℕ) → List ℕ → Option
 target_complaints place names field None = []
 target_complaints place names field (Some n) = complain_unless (is_among n names) place field NoSuchState
 
+-- both are true, or both are false
 abbrev same_truth : Bool → Bool → Bool
 same_truth true b = b
 same_truth false b = not b
@@ -324,11 +350,13 @@ smaller None timeout = true
 smaller (Some heartbeat) None = true
 smaller (Some heartbeat) (Some timeout) = int_lt heartbeat timeout
 
+-- `HeartbeatSeconds` is smaller than `TimeoutSeconds` where both are whole numbers
 abbrev pub heartbeat_complaints : Place → Members → List Complaint
 heartbeat_complaints place ms =
     complain_unless (smaller (option_and_then as_whole (get_member (codes "HeartbeatSeconds") ms)) (option_and_then as_whole (get_member (codes "TimeoutSeconds") ms)))
     place (codes "HeartbeatSeconds") HeartbeatNotSmaller
 
+-- the last of the names, the first argument counted in front
 abbrev pub last_of : List ℕ → List (List ℕ) → List ℕ
 last_of n [] = n
 last_of n (m ∷ ms) = last_of m ms
@@ -348,6 +376,7 @@ one_of_complaints place first (n ∷ m ∷ ns) = complaint_at place (last_of m n
 abbrev pub wait_complaints : Place → Members → List Complaint
 wait_complaints place ms = one_of_complaints place (codes "Seconds") (given_among (codes "Seconds" ∷ codes "SecondsPath" ∷ codes "Timestamp" ∷ codes "TimestampPath" ∷ []) ms)
 
+-- exactly one of a Map's `ItemProcessor` and its older name
 abbrev pub processor_complaints : Place → Members → List Complaint
 processor_complaints place ms = one_of_complaints place (codes "ItemProcessor") (given_among (codes "ItemProcessor" ∷ codes "Iterator" ∷ []) ms)
 
@@ -366,6 +395,7 @@ rules_complaints place names (rule ∷ rules) = target_complaints place names (c
 abbrev pub has_proper_names : Members → Bool → Bool
 has_proper_names ms is_last = not (is_among (codes "States.ALL") (error_names ms)) || (is_last && length (error_names ms) == 1)
 
+-- no element follows
 abbrev is_last_before : Items → Bool
 is_last_before json.no_items = true
 is_last_before (json.item v vs) = false
@@ -374,6 +404,7 @@ is_last_before (json.item v vs) = false
 abbrev pub element_complaints : Place → List ℕ → List Row → Data → List Complaint
 element_complaints place field rows v = unwrap_or (option_map (fields_complaints place rows) (as_object v)) (complaint_at place field (wrong_kind v) ∷ [])
 
+-- what is wrong with each element of `Retry`
 abbrev pub retriers_complaints : Place → Items → List Complaint
 retriers_complaints place json.no_items = []
 retriers_complaints place (json.item v vs) =
@@ -381,6 +412,7 @@ retriers_complaints place (json.item v vs) =
     ++ (complain_unless (has_proper_names (members_in v) (is_last_before vs)) place (codes "Retry") BadErrorEquals
     ++ retriers_complaints place vs)
 
+-- with each of `Catch`, whose `Next` is a state of the same scope
 abbrev pub catchers_complaints : Place → List (List ℕ) → Items → List Complaint
 catchers_complaints place names json.no_items = []
 catchers_complaints place names (json.item v vs) =
@@ -389,6 +421,7 @@ catchers_complaints place names (json.item v vs) =
     ++ (target_complaints place names (codes "Catch") (text_at (codes "Next") (members_in v))
     ++ catchers_complaints place names vs))
 
+-- with both
 abbrev pub trouble_complaints : List ℕ → List (List ℕ) → Members → List Complaint
 trouble_complaints state names ms =
     retriers_complaints (place_within state (codes "Retry")) (items_at (codes "Retry") ms)
@@ -461,6 +494,7 @@ abbrev mutual
   states_complaints_under names json.no_members = []
   states_complaints_under names (json.member n v ms) = elim (bytes_eq (codes "States") n) [ true ↦ states_complaints names v | false ↦ states_complaints_under names ms ]
 
+  -- what is wrong with a value of `States`
   pub states_complaints : List (List ℕ) → Data → List Complaint
   states_complaints names json.null = []
   states_complaints names (json.boolean b) = []
@@ -469,10 +503,12 @@ abbrev mutual
   states_complaints names (json.array vs) = []
   states_complaints names (json.object ms) = each_state_complaints names ms
 
+  -- with the name of each member, and with it as a state
   pub each_state_complaints : List (List ℕ) → Members → List Complaint
   each_state_complaints names json.no_members = []
   each_state_complaints names (json.member n v ms) = name_complaints n ++ (state_complaints names n v ++ each_state_complaints names ms)
 
+  -- with a value as a state
   pub state_complaints : List (List ℕ) → List ℕ → Data → List Complaint
   state_complaints names state json.null = complaint_at (place_of_state state) [] NotObject ∷ []
   state_complaints names state (json.boolean b) = complaint_at (place_of_state state) [] NotObject ∷ []
@@ -486,6 +522,7 @@ abbrev mutual
   branches_complaints_under state json.no_members = []
   branches_complaints_under state (json.member n v ms) = elim (bytes_eq (codes "Branches") n) [ true ↦ branches_complaints state v | false ↦ branches_complaints_under state ms ]
 
+  -- with the scopes in a list
   pub branches_complaints : List ℕ → Data → List Complaint
   branches_complaints state json.null = []
   branches_complaints state (json.boolean b) = []
@@ -494,6 +531,7 @@ abbrev mutual
   branches_complaints state (json.array vs) = each_branch_complaints state vs
   branches_complaints state (json.object ms) = []
 
+  -- with each element as a scope
   pub each_branch_complaints : List ℕ → Items → List Complaint
   each_branch_complaints state json.no_items = []
   each_branch_complaints state (json.item v vs) =
@@ -517,6 +555,7 @@ duplicate_complaints (n ∷ ns) = if is_among n ns then complaint_at (place_of_s
 abbrev pub number_complaints : List (List ℕ) → List Complaint
 number_complaints names = complain_unless (not (nat_lt 10000 (length names))) (place_of_state []) (codes "States") TooLarge
 
+-- a definition is an object
 abbrev pub no_object_complaints : Data → List Complaint
 no_object_complaints v = complain_unless (is_some (as_object v)) (place_of_state []) [] NotObject
 

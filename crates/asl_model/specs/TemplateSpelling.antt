@@ -33,6 +33,7 @@ renamed n = if is_marked n then take (length n - 2) n else n
 
 -- ---- the values of marked fields
 
+-- the text begins with `$`
 abbrev pub begins_path : List ℕ → Bool
 begins_path s = slice_index s 0 == 36
 
@@ -41,9 +42,11 @@ abbrev pub call_or_null : Result Call CallFault → Template
 call_or_null (Ok c) = FromCall c
 call_or_null (Err fault) = Literal Null
 
+-- what the text of a field whose name ends in `.$` stands for: a path or a call
 abbrev pub marked_text : Bool → List ℕ → Template
 marked_text item s = if begins_path s then unwrap_or (option_map FromPath (reference_of item s)) (Literal Null) else call_or_null (call_from item s)
 
+-- what the value of such a field stands for
 abbrev pub marked_value : Bool → Tree → Template
 marked_value item Null = Literal Null
 marked_value item (Boolean b) = Literal Null
@@ -52,16 +55,19 @@ marked_value item (Text s) = marked_text item s
 marked_value item (Array ts) = Literal Null
 marked_value item (Object fs) = Literal Null
 
+-- the fault of a call, where it has one
 abbrev pub unless_call : Result Call CallFault → List TemplateFault
 unless_call (Ok c) = []
 unless_call (Err fault) = BadIntrinsic ∷ []
 
+-- what is wrong with the text of such a field
 abbrev pub marked_text_faults : Bool → List ℕ → List TemplateFault
 marked_text_faults item s =
     if begins_path s
     then (if is_some (reference_of item s) then [] else (if is_context s then LeftOutContext ∷ [] else BadPath ∷ []))
     else unless_call (call_from item s)
 
+-- with its value, which has to be a text
 abbrev pub marked_faults : Bool → Tree → List TemplateFault
 marked_faults item Null = NotText ∷ []
 marked_faults item (Boolean b) = NotText ∷ []
@@ -87,10 +93,12 @@ abbrev mutual
   part_of item (Array ts) = ArrayTemplate (parts_of item ts)
   part_of item (Object fs) = ObjectTemplate (fields_of item fs)
 
+  -- so for the elements
   pub parts_of : Bool → Trees → Templates
   parts_of item NoTrees = NoTemplates
   parts_of item (AndTree t ts) = AndTemplate (part_of item t) (parts_of item ts)
 
+  -- so for the fields, each under its name without `.$`
   pub fields_of : Bool → Fields → FieldTemplates
   fields_of item NoFields = NoFieldTemplates
   fields_of item (AndField n t fs) = with_field (renamed n) (elim (is_marked n) [ true ↦ marked_value item t | false ↦ part_of item t ]) (fields_of item fs)
@@ -100,10 +108,12 @@ abbrev pub renamed_names : Fields → List (List ℕ)
 renamed_names NoFields = []
 renamed_names (AndField n t fs) = renamed n ∷ renamed_names fs
 
+-- no two fields have one name once `.$` is taken away
 abbrev pub duplicate_faults : Fields → List TemplateFault
 duplicate_faults fs = if are_distinct (renamed_names fs) then [] else DuplicateAfterStrip ∷ []
 
 abbrev mutual
+  -- what is wrong inside a template
   pub part_faults : Bool → Tree → List TemplateFault
   part_faults item Null = []
   part_faults item (Boolean b) = []
@@ -112,10 +122,12 @@ abbrev mutual
   part_faults item (Array ts) = parts_faults item ts
   part_faults item (Object fs) = duplicate_faults fs ++ fields_faults item fs
 
+  -- with each element
   pub parts_faults : Bool → Trees → List TemplateFault
   parts_faults item NoTrees = []
   parts_faults item (AndTree t ts) = part_faults item t ++ parts_faults item ts
 
+  -- with each field
   pub fields_faults : Bool → Fields → List TemplateFault
   fields_faults item NoFields = []
   fields_faults item (AndField n t fs) = (elim (is_marked n) [ true ↦ marked_faults item t | false ↦ part_faults item t ]) ++ fields_faults item fs
@@ -129,6 +141,7 @@ template_faults item (Text s) = NotObject ∷ []
 template_faults item (Array ts) = NotObject ∷ []
 template_faults item (Object fs) = part_faults item (Object fs)
 
+-- there is no fault
 abbrev pub none_among : List TemplateFault → Bool
 none_among [] = true
 none_among (fault ∷ further) = false

@@ -33,6 +33,7 @@ pub data Which : Type 0 where
   InputText : Which
   AnswersText : Which
 
+-- why a text has no meaning
 pub data TextFault : Type 0 where
   -- it is no JSON text
   NotJson : TextFault

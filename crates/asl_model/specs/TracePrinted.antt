@@ -15,9 +15,11 @@ numbers (i ∷ place) = AndTree (Integer (pos i)) (numbers place)
 abbrev at_place : List ℕ → Fields → Tree
 at_place place fs = Object (AndField (codes "at") (Array (numbers place)) fs)
 
+-- the fields with a text in front
 abbrev with_text : List ℕ → List ℕ → Fields → Fields
 with_text field s fs = AndField field (Text s) fs
 
+-- with a number in front
 abbrev with_number : List ℕ → ℕ → Fields → Fields
 with_number field n fs = AndField field (Integer (pos n)) fs
 
@@ -25,9 +27,11 @@ with_number field n fs = AndField field (Integer (pos n)) fs
 abbrev kind_of_entry : List ℕ → Fields → Fields
 kind_of_entry kind fs = with_text (codes "entry") kind fs
 
+-- the field `state`
 abbrev of_state : List ℕ → Fields
 of_state n = with_text (codes "state") n NoFields
 
+-- the entry for the end of a scope
 abbrev pub outcome_tree : List ℕ → Outcome → Tree
 outcome_tree place (Output output) = at_place place (kind_of_entry (codes "Ended") (AndField (codes "output") output NoFields))
 outcome_tree place (FailedWith error cause) = at_place place (with_text (codes "cause") cause (kind_of_entry (codes "Ended") (with_text (codes "error") error NoFields)))
@@ -44,6 +48,7 @@ entry_tree place (Retried n retrier) = at_place place (kind_of_entry (codes "Ret
 entry_tree place (Caught n catcher next) = at_place place (with_number (codes "catcher") catcher (kind_of_entry (codes "Caught") (with_text (codes "next") next (of_state n))))
 entry_tree place (Ended outcome) = outcome_tree place outcome
 
+-- the line of an entry
 abbrev pub entry_line : List ℕ × Entry → List ℕ
 entry_line e = compact_text (entry_tree e.0 e.1) ++ line_break
 

@@ -61,7 +61,7 @@ before_fields n NoFields = true
 before_fields n (AndField m t fs) = comes_before n m
 
 abbrev mutual
-  -- a tree that a JSON text can be: its texts are UTF-8, and each object has its names once, in byte order
+  -- its texts are UTF-8, and each object has its names once, in byte order; numbers and depth have no limit here
   pub IsProper : Tree → Type 0
   IsProper Null = Unit {0}
   IsProper (Boolean b) = Unit {0}

@@ -11,27 +11,33 @@ use Rattle.asl_model.specs.Certificate.{TaskShapes, Declared, StateShapes, Certi
 abbrev pub field_if : Bool → List ℕ → Tree → Fields → Fields
 field_if wanted n t fs = if wanted then AndField n t fs else fs
 
+-- the field `type` alone
 abbrev pub type_field : List ℕ → Fields
 type_field word = AndField (codes "type") (Text word) NoFields
 
 -- ---- shapes
 
+-- there is a shape
 abbrev pub some_shapes : Shapes → Bool
 some_shapes NoShapes = false
 some_shapes (AndShape s others) = true
 
+-- some field is mentioned
 abbrev pub some_fields : FieldShapes → Bool
 some_fields NoFieldShapes = false
 some_fields (AndFieldShape n needed s shapes) = true
 
+-- the names of the needed fields, in order
 abbrev pub needed_names : FieldShapes → List (List ℕ)
 needed_names NoFieldShapes = []
 needed_names (AndFieldShape n needed s shapes) = if needed then n ∷ needed_names shapes else needed_names shapes
 
+-- there is a name
 abbrev pub some_names : List (List ℕ) → Bool
 some_names [] = false
 some_names (n ∷ ns) = true
 
+-- the names as texts
 abbrev pub as_texts : List (List ℕ) → Trees
 as_texts [] = NoTrees
 as_texts (n ∷ ns) = AndTree (Text n) (as_texts ns)
@@ -51,6 +57,7 @@ object_fields extra has_fields has_needed properties names =
     (field_if has_needed (codes "required") (Array names) (type_field (codes "object"))))
 
 abbrev mutual
+  -- the tree that is written for a shape
   pub written_shape : Shape → Tree
   written_shape Any = Boolean true
   written_shape Never = Boolean false
@@ -61,27 +68,33 @@ abbrev mutual
   written_shape (ArrayShape first rest) = Object (array_fields (not (is_any_shape rest)) (some_shapes first) (written_shape rest) (how_many_shapes first) (Array (written_shapes first)))
   written_shape (ObjectShape shapes extra) = Object (object_fields extra (some_fields shapes) (some_names (needed_names shapes)) (Object (written_fields shapes)) (as_texts (needed_names shapes)))
 
+  -- for each of the shapes
   pub written_shapes : Shapes → Trees
   written_shapes NoShapes = NoTrees
   written_shapes (AndShape s others) = AndTree (written_shape s) (written_shapes others)
 
+  -- for each mentioned field
   pub written_fields : FieldShapes → Fields
   written_fields NoFieldShapes = NoFields
   written_fields (AndFieldShape n needed s shapes) = AndField n (written_shape s) (written_fields shapes)
 
 -- ---- declared shapes and certificates
 
+-- for each shape of a list
 abbrev pub written_list : List Shape → Trees
 written_list [] = NoTrees
 written_list (s ∷ further) = AndTree (written_shape s) (written_list further)
 
+-- an entry under each name, in the same order
 abbrev pub written_entries : {A : Type 0} → (A → Tree) → List (List ℕ × A) → Fields
 written_entries f [] = NoFields
 written_entries f (entry ∷ entries) = AndField entry.0 (f entry.1) (written_entries f entries)
 
+-- the entry of a declared task
 abbrev pub written_task : TaskShapes → Tree
 written_task task = Object (AndField (codes "gives") (written_shape task.gives) (AndField (codes "takes") (written_shape task.takes) NoFields))
 
+-- the tree of declared shapes
 abbrev pub written_declared : Declared → Tree
 written_declared declared = Object (AndField (codes "input") (written_shape declared.input) (AndField (codes "tasks") (Object (written_entries written_task declared.tasks)) NoFields))
 
@@ -90,12 +103,15 @@ abbrev pub with_branches : List Shape → Fields → Fields
 with_branches [] fs = fs
 with_branches (s ∷ further) fs = AndField (codes "branches") (Array (written_list (s ∷ further))) fs
 
+-- `item` where there is one
 abbrev pub with_item : Option Shape → Fields → Fields
 with_item None fs = fs
 with_item (Some s) fs = AndField (codes "item") (written_shape s) fs
 
+-- a state's entry in a certificate
 abbrev pub written_state : StateShapes → Tree
 written_state shapes = Object (with_branches shapes.branches (AndField (codes "input") (written_shape shapes.input) (with_item shapes.item (AndField (codes "output") (written_shape shapes.output) NoFields))))
 
+-- the tree of a certificate
 abbrev pub written_certificate : Certificate → Tree
 written_certificate certificate = Object (AndField (codes "output") (written_shape certificate.output) (AndField (codes "states") (Object (written_entries written_state certificate.states)) (AndField (codes "version") (Integer (pos 1)) NoFields)))

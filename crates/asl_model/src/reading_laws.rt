@@ -7,12 +7,12 @@ ghost use Rattle.asl_model.specs.Tree.{Tree};
 ghost use Rattle.asl_model.specs.Path.{Segment};
 ghost use Rattle.asl_model.specs.Shape.{Shape, IsProperShape};
 ghost use Rattle.asl_model.specs.Written.{written_shape};
-ghost use Rattle.asl_model.specs.Template.{Template};
+ghost use Rattle.asl_model.specs.Template.{Template, IsInOrder};
 ghost use Rattle.asl_model.specs.Test.{Rule};
 ghost use Rattle.asl_model.specs.Machine.{Scope};
 ghost use Rattle.asl_model.specs.Certificate.{Declared, Certificate};
 ghost use Rattle.asl_model.specs.Json.{ReadsAsValue, ReadsAsTree};
-ghost use Rattle.asl_model.specs.PathSpelling.{Spells, PathFault, IsRefusedPath, printed_path, have_spellings};
+ghost use Rattle.asl_model.specs.PathSpelling.{path_of, Spells, PathFault, IsRefusedPath, printed_path, have_spellings};
 ghost use Rattle.asl_model.specs.ShapeSpelling.{SpellsShape, ShapeFault, HasShapeFault};
 ghost use Rattle.asl_model.specs.TemplateSpelling.{TemplateFault, template_of, SpellsTemplate, HasTemplateFault};
 ghost use Rattle.asl_model.specs.RuleSpelling.{RuleFault, rule_of, SpellsRule, HasRuleFault};
@@ -65,6 +65,11 @@ pub fn trees_spell_one_template()
     ensures read { (item : Bool) (t : Tree) (p : Template) → (template_of item t ≡ Some p) ↔ SpellsTemplate item t p }
 {}
 
+/// A template that a tree spells stands in order: at every depth each object has its names once, in byte order.
+pub fn templates_as_read_stand_in_order()
+    ensures { (item : Bool) (t : Tree) (p : Template) → SpellsTemplate item t p → IsInOrder p }
+{}
+
 /// A tree spells at most one choice rule, and either spells one or has a fault.
 pub fn trees_spell_one_rule()
     ensures rule { (t : Tree) (a b : Rule) → SpellsRule t a → SpellsRule t b → a ≡ b }
@@ -87,10 +92,12 @@ pub fn texts_have_a_meaning_or_a_fault()
     ensures shape { (t : Tree) → ((a : Shape) × SpellsShape t a) ⊎ ((f : ShapeFault) × HasShapeFault t f) }
 {}
 
-/// Each text spells a reference path or is refused, in one way.
+/// Each text spells a reference path or is refused, in one way. The function that reads paths gives exactly the path that
+/// a text spells.
 pub fn texts_spell_paths_or_are_refused()
     ensures either { (text : List ℕ) → ((p : List Segment) × Spells text p) ⊎ ((f : PathFault) × IsRefusedPath text f) }
     ensures one_refusal { (text : List ℕ) (f g : PathFault) → IsRefusedPath text f → IsRefusedPath text g → f ≡ g }
+    ensures read { (text : List ℕ) (p : List Segment) → (path_of text ≡ Some p) ↔ Spells text p }
 {}
 
 /// The printed form of a path spells it, if any text does. Such paths are those whose segments have a spelling each.

@@ -25,7 +25,8 @@ pub fn uninhabited_means_no_tree()
     ensures none { (s : Shape) → IsTrue (not (inhabited s)) → (t : Tree) → Has s t → ⊥ }
 {}
 
-/// A proper shape that is inhabited has a proper tree: one that a JSON text can be.
+/// A proper shape that is inhabited has a proper tree: its texts are UTF-8, and each object has its names once, in byte
+/// order.
 pub fn inhabited_means_some_tree()
     ensures some { (s : Shape) → IsProperShape s → IsTrue (inhabited s) → (t : Tree) × IsProper t × Has s t }
 {}
