@@ -77,6 +77,9 @@ refused_two_dollars = (codes "$.x", stops_at_once (codes "$$.x") refl refl refl 
 refused_quote_inside : IsRefusedPath (codes "$['it's']") (BadSegment 1)
 refused_quote_inside = (codes "['it's']", stops_at_once (codes "$['it's']") refl refl refl refl, refl)
 
+refused_backslash_inside : IsRefusedPath (codes "$['a\\b']") (BadSegment 1)
+refused_backslash_inside = (codes "['a\\b']", stops_at_once (codes "$['a\\b']") refl refl refl refl, refl)
+
 refused_zeros : IsRefusedPath (codes "$[00]") (BadSegment 1)
 refused_zeros = (codes "[00]", stops_at_once (codes "$[00]") refl refl refl refl, refl)
 

@@ -1,5 +1,5 @@
 -- Worked examples of what is printed.
-use Rattle.std.specs.Prelude.{◌≡◌, [], ◌∷◌, codes, refl}
+use Rattle.std.specs.Prelude.{◌≡◌, [], ◌∷◌, map, codes, refl}
 use Rattle.std.specs.Fmt.{digits}
 use Rattle.serde_json.proofs.OnLiterals.{serde_json_on_literals}
 use Rattle.asl_model.specs.Finding as finding
@@ -7,7 +7,7 @@ use Rattle.asl_model.specs.Records as records
 use Rattle.asl_model.specs.DefinitionTable as definition
 use Rattle.asl_model.specs.ShapeSpelling.{BadType}
 use Rattle.asl_model.specs.Texts.{DefinitionText, DeclaredText, CertificateText, AnswersText, NotJson, BadDefinition, BadRecord, BadAnswer, NoMemory}
-use Rattle.asl_model.specs.Printed.{Accepted, Rejected, verdict_text, refusal_line, refusal_status, ClosingRun, AnswerShape, closing_line, closing_status, definition_line, declared_line, certificate_line}
+use Rattle.asl_model.specs.Printed.{Accepted, Rejected, verdict_text, refusal_line, refusal_status, ClosingVerdict, ClosingRun, ClosingCertificate, ClosingNotSettled, ClosingFault, RefusedText, TooLong, ReadFailed, WriteFailed, OutOfMemory, RunOutput, RunFailed, NoAnswer, StepsSpent, InputShape, AnswerShape, closing_line, closing_status, definition_line, declared_line, certificate_line}
 
 yes_line : verdict_text Accepted ≡ codes "yes\n"
 yes_line = refl
@@ -51,3 +51,8 @@ missing_lines = (refl, refl, refl)
 
 carriage_return_belongs_to_the_line : definition_line (codes "a\r\nb") ≡ codes "a\r"
 carriage_return_belongs_to_the_line = refl
+
+-- the exit status of each end
+statuses : map closing_status (ClosingVerdict Accepted ∷ ClosingVerdict (Rejected []) ∷ ClosingCertificate ∷ ClosingNotSettled ∷ ClosingRun RunOutput ∷ ClosingRun RunFailed ∷ ClosingRun NoAnswer ∷ ClosingRun StepsSpent ∷ ClosingRun InputShape ∷ ClosingFault TooLong ∷ ClosingFault ReadFailed ∷ ClosingFault WriteFailed ∷ ClosingFault OutOfMemory ∷ ClosingFault (RefusedText DefinitionText NotJson) ∷ ClosingFault (RefusedText DefinitionText NoMemory) ∷ [])
+    ≡ 0 ∷ 1 ∷ 0 ∷ 1 ∷ 0 ∷ 1 ∷ 4 ∷ 4 ∷ 3 ∷ 2 ∷ 5 ∷ 5 ∷ 5 ∷ 2 ∷ 5 ∷ []
+statuses = refl

@@ -1,12 +1,12 @@
 -- Worked examples of the spelling of choice rules.
-use Rattle.std.specs.Prelude.{◌≡◌, ℕ, pos, List, [], ◌∷◌, true, false, Option, Some, option_map, option_and_then, codes, refl}
+use Rattle.std.specs.Prelude.{◌≡◌, ℕ, pos, List, [], ◌∷◌, map, true, false, Option, Some, None, option_map, option_and_then, codes, refl}
 use Rattle.serde_json.specs.Read.{read}
 use Rattle.serde_json.proofs.OnLiterals.{serde_json_on_literals}
 use Rattle.asl_model.specs.Tree.{Text, Integer}
 use Rattle.asl_model.specs.Path.{Name}
-use Rattle.asl_model.specs.Test.{Equals, LessThan, GreaterThanEquals, StringIs, NumericIs, BooleanEquals, Constant, AtPath, NullKind, ByteOf, Star, And, Or, Not, Compare, StringMatches, IsOfKind, IsPresent, NoTests, AndTest, Rule}
+use Rattle.asl_model.specs.Test.{Equals, LessThan, GreaterThan, LessThanEquals, GreaterThanEquals, StringIs, NumericIs, BooleanEquals, Constant, AtPath, NullKind, NumericKind, StringKind, BooleanKind, ByteOf, Star, And, Or, Not, Compare, StringMatches, IsOfKind, IsPresent, NoTests, AndTest, Rule}
 use Rattle.asl_model.specs.Json.{tree_of}
-use Rattle.asl_model.specs.RuleSpelling.{rule_of, rule_faults, RuleFault, NotARule, UnknownOperator, BadOperand, BadPath, BadPattern, EmptyList, NextInside}
+use Rattle.asl_model.specs.RuleSpelling.{operator_named, WithValue, WithPath, Matching, OfKind, Presence, rule_of, rule_faults, RuleFault, NotARule, UnknownOperator, BadOperand, BadPath, BadPattern, EmptyList, NextInside}
 
 rule_in : List ℕ → Option Rule
 rule_in text = option_and_then rule_of (option_and_then tree_of (read text))
@@ -125,3 +125,12 @@ and_and_or = refl
 no_object : faults_in (codes "7") ≡ Some (NotARule ∷ [])
 unfolding serde_json_on_literals faults_in
 no_object = refl
+
+-- every operator by its name
+operators : map operator_named (codes "StringEquals" ∷ codes "StringLessThan" ∷ codes "StringGreaterThan" ∷ codes "StringLessThanEquals" ∷ codes "StringGreaterThanEquals" ∷ codes "NumericEquals" ∷ codes "NumericLessThan" ∷ codes "NumericGreaterThan" ∷ codes "NumericLessThanEquals" ∷ codes "NumericGreaterThanEquals" ∷ codes "BooleanEquals" ∷ codes "StringMatches" ∷ codes "IsPresent" ∷ [])
+    ≡ Some (WithValue (StringIs Equals)) ∷ Some (WithValue (StringIs LessThan)) ∷ Some (WithValue (StringIs GreaterThan)) ∷ Some (WithValue (StringIs LessThanEquals)) ∷ Some (WithValue (StringIs GreaterThanEquals)) ∷ Some (WithValue (NumericIs Equals)) ∷ Some (WithValue (NumericIs LessThan)) ∷ Some (WithValue (NumericIs GreaterThan)) ∷ Some (WithValue (NumericIs LessThanEquals)) ∷ Some (WithValue (NumericIs GreaterThanEquals)) ∷ Some (WithValue BooleanEquals) ∷ Some Matching ∷ Some Presence ∷ []
+operators = refl
+
+kinds_and_others : map operator_named (codes "IsNull" ∷ codes "IsNumeric" ∷ codes "IsString" ∷ codes "IsBoolean" ∷ codes "IsTimestamp" ∷ codes "TimestampEquals" ∷ codes "BooleanLessThan" ∷ codes "StringEqualsPath" ∷ [])
+    ≡ Some (OfKind NullKind) ∷ Some (OfKind NumericKind) ∷ Some (OfKind StringKind) ∷ Some (OfKind BooleanKind) ∷ None ∷ None ∷ None ∷ Some (WithPath (StringIs Equals)) ∷ []
+kinds_and_others = refl

@@ -1,5 +1,5 @@
 -- A template that a tree spells stands in order: fields are put in byte order one by one, and no two of one name.
-use Rattle.std.proofs.Common.{◌≡◌, ℕ, List, [], ◌∷◌, ◌++◌, Bool, true, false, ◌&&◌, ◌||◌, not, if◌then◌else◌, IsTrue, Option, Some, None, option_map, unwrap_or, Result, Ok, Err, bytes_eq, refl, sym, ap, subst, ◌∙◌, is_eq, Ordering, Less, Equal, Greater}
+use Rattle.std.proofs.Common.{◌≡◌, ℕ, List, [], ◌∷◌, Bool, true, false, ◌||◌, not, if◌then◌else◌, IsTrue, Option, Some, None, option_map, unwrap_or, Result, Ok, Err, bytes_eq, refl, sym, ap, subst, ◌∙◌, is_eq, Ordering, Less, Equal, Greater}
 use Rattle.std.specs.Ordering.{nat_cmp, match_ordering, ordering_reverse}
 use Rattle.std.specs.Cmp.Lexicographic.{slice_cmp}
 use Rattle.std.proofs.lemmas.Bool.{and_parts, and_from, false≢true, true≢false}
@@ -7,10 +7,10 @@ use Rattle.std.proofs.lemmas.Cmp.{nat_list_cmp_total}
 use Rattle.std.proofs.lemmas.Map.Text.{is_eq-slice_cmp}
 use Rattle.asl_model.specs.Tree.{Tree, Null, Boolean, Integer, Text, Array, Object, Trees, NoTrees, AndTree, Fields, NoFields, AndField, comes_before}
 use Rattle.asl_model.specs.Intrinsic.{Reference, Call}
-use Rattle.asl_model.specs.Template.{Template, Literal, FromPath, FromCall, ArrayTemplate, ObjectTemplate, Templates, NoTemplates, AndTemplate, FieldTemplates, NoFieldTemplates, AndFieldTemplate, before_each, IsInOrder, AreInOrder, HasFieldsInOrder}
+use Rattle.asl_model.specs.Template.{Template, Literal, FromPath, FieldTemplates, NoFieldTemplates, AndFieldTemplate, before_each, IsInOrder, AreInOrder, HasFieldsInOrder}
 use Rattle.asl_model.specs.ShapeSpelling.{is_among, are_distinct}
 use Rattle.asl_model.specs.CallSpelling.{CallFault, call_from, reference_of}
-use Rattle.asl_model.specs.TemplateSpelling.{TemplateFault, NotObject, DuplicateAfterStrip, is_marked, renamed, renamed_names, begins_path, call_or_null, marked_text, marked_value, with_field, part_of, parts_of, fields_of, part_faults, parts_faults, fields_faults, duplicate_faults, template_faults, marked_faults, SpellsTemplate}
+use Rattle.asl_model.specs.TemplateSpelling.{TemplateFault, NotObject, DuplicateAfterStrip, is_marked, renamed, renamed_names, begins_path, call_or_null, marked_value, with_field, part_of, parts_of, fields_of, part_faults, parts_faults, fields_faults, duplicate_faults, template_faults, marked_faults, SpellsTemplate}
 use Rattle.asl_model.proofs.FindingScopes.{append-none}
 use Rattle.asl_model.proofs.ShapeWitness.{comes_before-trans}
 

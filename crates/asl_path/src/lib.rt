@@ -1,4 +1,4 @@
-//! Reference paths (States Language, "Reference Paths"): reading them, and finding what they name.
+//! Reference paths (States Language, "Reference Paths"): reading and writing them, and finding what they name.
 //!
 //! A [`RefPath`] is made by [`parse`] alone, so each of its names has a spelling; [`find`] lends the node of a tree
 //! that a path names.
@@ -13,12 +13,16 @@ use std::marker::Model;
 mod cutting;
 mod finding;
 mod parsing;
+mod placing;
+mod printing;
 mod scanning;
 #[cfg(test)]
 mod tests;
 
 pub use finding::find;
 pub use parsing::parse;
+pub use placing::{PlaceRefusal, place};
+pub use printing::print;
 
 /// One step of a path.
 #[derive(Debug, PartialEq, Drop)]
@@ -50,11 +54,14 @@ impl Model for RefPath {
 }
 
 impl RefPath {
+    ghost use Rattle.std.specs.Prelude.{IsTrue};
+    ghost use Rattle.asl_model.specs.PathSpelling.{have_spellings};
     ghost use Rattle.asl_path.specs.View.{segments_view};
 
-    /// The path's steps, in order.
+    /// The path's steps, in order. Each has a spelling.
     pub fn segments(&self) -> &[Segment]
-        ensures { segments_view result.now ≡ self.now }
+        ensures steps { segments_view result.now ≡ self.now }
+        ensures spelled { IsTrue (have_spellings self.now) }
     {
         &self.segments
     }

@@ -1,5 +1,5 @@
 //! Vectors for paths, and each call once with ample memory.
-use crate::{PathRefusal, RefPath, find, parse};
+use crate::{PathRefusal, RefPath, find, parse, place, print};
 use asl_tree::{Tree, read, to_text};
 use std::alloc::Global;
 use std::test::Fail;
@@ -17,6 +17,23 @@ fn named(alloc: Global, tree: &Tree, text: &str) -> Result<String, Fail> {
     match find(tree, &parse(alloc, text)?) {
         Some(node) => Ok(to_text(alloc, node)?),
         None => Ok(String::from_str(alloc, "nothing")?),
+    }
+}
+
+/// The text of what placing 9 at the path gives, or the refusal with both trees.
+fn with_nine(alloc: Global, tree: &[u8], text: &str) -> Result<String, Fail> {
+    match place(
+        alloc,
+        read(alloc, tree)?,
+        &parse(alloc, text)?,
+        Tree::Int(9),
+    ) {
+        Ok(whole) => Ok(to_text(alloc, &whole)?),
+        Err((refusal, whole, value)) => {
+            let whole = to_text(alloc, &whole)?;
+            let value = to_text(alloc, &value)?;
+            Ok(format!(in alloc; "{refusal:?} {whole} {value}")?)
+        }
     }
 }
 
@@ -71,6 +88,36 @@ fn paths(rt: HostRuntime) -> Result<(), Fail> {
     ];
     for (text, wanted) in nodes {
         let answer = named(alloc, &tree, text)?;
+        assert_eq!(rt; answer.as_str(), wanted, "at {text}");
+    }
+
+    let forms = [
+        ("$", "$"),
+        ("$['a b'].c[0]", "$['a b'].c[0]"),
+        ("$['x']", "$.x"),
+        (r#"$["it's"]"#, r#"$["it's"]"#),
+        (r#"$["x y"]['']"#, "$['x y']['']"),
+        ("$['é'][4294967295]", "$.é[4294967295]"),
+    ];
+    for (text, wanted) in forms {
+        let answer = print(alloc, &parse(alloc, text)?)?;
+        assert_eq!(rt; answer.as_str(), wanted, "at {text}");
+    }
+    let placings = [
+        ("$", "9"),
+        ("$.a", r#"{"a":9}"#),
+        ("$.a[1]", r#"{"a":[1,9]}"#),
+        ("$.c", r#"{"a":[1,2],"c":9}"#),
+        ("$.b.c", r#"{"a":[1,2],"b":{"c":9}}"#),
+        ("$.a[2]", r#"CannotPlace {"a":[1,2]} 9"#),
+        ("$.b[0]", r#"CannotPlace {"a":[1,2]} 9"#),
+        ("$.b.c[0]", r#"CannotPlace {"a":[1,2]} 9"#),
+        ("$.a.b", r#"CannotPlace {"a":[1,2]} 9"#),
+        ("$[0]", r#"CannotPlace {"a":[1,2]} 9"#),
+        ("$.a[0].b", r#"CannotPlace {"a":[1,2]} 9"#),
+    ];
+    for (text, wanted) in placings {
+        let answer = with_nine(alloc, br#"{"a":[1,2]}"#, text)?;
         assert_eq!(rt; answer.as_str(), wanted, "at {text}");
     }
     Ok(())

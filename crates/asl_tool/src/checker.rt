@@ -1,4 +1,11 @@
 //! Checking a certificate against a machine and its declared shapes.
+ghost use Rattle.std.specs.Prelude.{◌≡◌, ◌++◌, IfOk, IsTrue, Some, codes, option_map};
+ghost use Rattle.asl_model.specs.Shape as model;
+ghost use Rattle.asl_model.specs.Finding.{OutputNotCertified, breach_unless_sub, breaches_then};
+ghost use Rattle.asl_model.specs.ShapeFlow.{flow_then, empty_object, through_path as path_flow_of};
+ghost use Rattle.asl_shape.specs.View.{view};
+ghost use Rattle.asl_tool.specs.Checking.{Flows, Told, broken_view, shape_or_breach};
+ghost use Rattle.asl_tool.specs.View.{finding_fault_view};
 
 use crate::definition::{After, Machine, Paths, State};
 use crate::looking::look;
@@ -20,13 +27,14 @@ struct Broken {
 /// The first broken rule of each name that has one.
 type BrokenRules = BTreeMap<String, Broken>;
 
-/// What is checked, with the shape of `{}`, which a null path gives.
+/// What is checked, with the shape of `{}`, which a null path gives, and the shape of no tree.
 #[derive(Clone, Copy)]
 struct Checker<'c> {
     machine: &'c Machine,
     declared: &'c Declared,
     certificate: &'c Certificate,
     nothing: &'c Shape,
+    never: &'c Shape,
 }
 
 /// Checks the certificate: Yes where no rule is broken, else No with the first broken rule of each name that has one.
@@ -45,6 +53,7 @@ pub(crate) fn check(
         declared,
         certificate,
         nothing: &nothing,
+        never: &Shape::Never,
     };
     let mut broken = BTreeMap::new(alloc);
     checker.check_states(alloc, &mut broken)?;
@@ -83,7 +92,9 @@ fn verdict_on(alloc: Global, broken: BrokenRules) -> Result<Verdict, OutOfMemory
 
 impl Checker<'_> {
     /// Adds the first broken rule of each state.
-    fn check_states(&self, alloc: Global, broken: &mut BrokenRules) -> Result<(), OutOfMemory> {
+    fn check_states(&self, alloc: Global, broken: &mut BrokenRules) -> Result<(), OutOfMemory>
+        requires { view self.now.nothing.now ≡ empty_object }
+    {
         for (name, state) in self.machine.states.iter() {
             if let Some(rule) = self.broken_rule(name, state) {
                 note(alloc, broken, name, rule)?;
@@ -125,7 +136,9 @@ impl Checker<'_> {
     }
 
     /// The first broken rule of a state, in the order of the rules.
-    fn broken_rule(&self, name: &String, state: &State) -> Option<Broken> {
+    fn broken_rule(&self, name: &String, state: &State) -> Option<Broken>
+        requires { view self.now.nothing.now ≡ empty_object }
+    {
         let shapes = match self.certificate.states.get(name) {
             Some(shapes) => shapes,
             None => return Some(breach("states", FindingFault::NotCertified)),
@@ -141,81 +154,145 @@ impl Checker<'_> {
         }
         match state {
             State::Pass { paths, after } => self.broken_by_pass(paths, after, shapes),
-            State::Succeed { paths } => self.broken_by_succeed(paths, shapes),
+            State::Succeed { paths } => self.broken_by_end(paths, shapes, "Type"),
             State::Fail { error: _, cause: _ } => None,
         }
     }
 
     /// The first broken rule on what a Pass state makes of its input.
-    fn broken_by_pass(&self, paths: &Paths, after: &After, shapes: &StateShapes) -> Option<Broken> {
-        match self.output_of(paths, shapes) {
-            Ok(output) => match after {
-                After::Next(next) => self.broken_by_next(output, next),
-                After::End => self.broken_by_end(output, "End"),
-            },
-            Err(rule) => Some(rule),
+    fn broken_by_pass(&self, paths: &Paths, after: &After, shapes: &StateShapes) -> Option<Broken>
+        requires inhabited { IsTrue (model.inhabited (view shapes.now.input)) }
+        requires nothing { view self.now.nothing.now ≡ empty_object }
+    {
+        match after {
+            After::Next(next) => {
+                let expected = self.input_to_compare(next);
+                self.broken_by_paths(paths, shapes, expected, "Next", FindingFault::NextInput)
+            }
+            After::End => self.broken_by_end(paths, shapes, "End"),
         }
     }
 
-    /// The first broken rule on what a Succeed state makes of its input.
-    fn broken_by_succeed(&self, paths: &Paths, shapes: &StateShapes) -> Option<Broken> {
-        match self.output_of(paths, shapes) {
-            Ok(output) => self.broken_by_end(output, "Type"),
-            Err(rule) => Some(rule),
+    /// The input that is compared with what goes on to a name: a state's certified one, if any; what is no state takes
+    /// no tree.
+    fn input_to_compare(&self, name: &String) -> Option<&Shape> {
+        match self.certificate.states.get(name) {
+            Some(shapes) => Some(&shapes.input),
+            None if self.machine.states.contains_key(name) => None,
+            None => Some(self.never),
         }
+    }
+
+    /// The first broken rule of a state that a scope may end with, told of its output at that field.
+    fn broken_by_end(
+        &self,
+        paths: &Paths,
+        shapes: &StateShapes,
+        field: &'static str,
+    ) -> Option<Broken>
+        requires inhabited { IsTrue (model.inhabited (view shapes.now.input)) }
+        requires nothing { view self.now.nothing.now ≡ empty_object }
+    {
+        self.broken_by_paths(
+            paths,
+            shapes,
+            Some(&self.certificate.output),
+            field,
+            FindingFault::ScopeOutput,
+        )
     }
 
     /// The shape of the output of a state that hands its effective input on.
-    fn output_of<'s>(
-        &'s self,
+    fn output_of<'s>(&'s self, paths: &Paths, input: &'s Shape) -> Result<&'s Shape, Broken>
+        requires inhabited { IsTrue (model.inhabited (view input.now)) }
+        requires nothing { view self.now.nothing.now ≡ empty_object }
+        ensures { Flows (flow_then (path_flow_of (codes "OutputPath") paths.now.output) (path_flow_of (codes "InputPath") paths.now.input (view input.now))) (shape_or_breach result) }
+    {
+        match through_path(input, &paths.input, self.nothing, "InputPath") {
+            Ok(effective) => through_path(effective, &paths.output, self.nothing, "OutputPath"),
+            Err(rule) => Err(rule),
+        }
+    }
+
+    /// The first broken rule on the way of a state's input to its output, and on that output, which is compared with the
+    /// certified one and with what is expected where it goes.
+    fn broken_by_paths(
+        &self,
         paths: &Paths,
-        shapes: &'s StateShapes,
-    ) -> Result<&'s Shape, Broken> {
-        let effective = match through_path(&shapes.input, &paths.input, self.nothing) {
-            Some(effective) => effective,
-            None => return Err(breach("InputPath", FindingFault::PathMayBeMissing)),
-        };
-        match through_path(effective, &paths.output, self.nothing) {
-            Some(output) if sub(output, &shapes.output) => Ok(output),
-            Some(_) => Err(breach("OutputPath", FindingFault::OutputNotCertified)),
-            None => Err(breach("OutputPath", FindingFault::PathMayBeMissing)),
-        }
-    }
-
-    /// The broken rule on an output that goes on to the state of this name.
-    fn broken_by_next(&self, output: &Shape, next: &String) -> Option<Broken> {
-        match self.certificate.states.get(next) {
-            Some(target) if !sub(output, &target.input) => {
-                Some(breach("Next", FindingFault::NextInput))
-            }
-            Some(_) | None => None,
-        }
-    }
-
-    /// The broken rule on an output that the machine ends with.
-    fn broken_by_end(&self, output: &Shape, field: &'static str) -> Option<Broken> {
-        if sub(output, &self.certificate.output) {
-            None
-        } else {
-            Some(breach(field, FindingFault::ScopeOutput))
+        shapes: &StateShapes,
+        expected: Option<&Shape>,
+        field: &'static str,
+        fault: FindingFault,
+    ) -> Option<Broken>
+        requires inhabited { IsTrue (model.inhabited (view shapes.now.input)) }
+        requires nothing { view self.now.nothing.now ≡ empty_object }
+        ensures { Told (breaches_then (λ s. breach_unless_sub (codes "OutputPath") OutputNotCertified s (Some (view shapes.now.output)) ++ breach_unless_sub field.now (finding_fault_view fault) s (option_map (λ s. view s.now) expected.entry))
+            (flow_then (path_flow_of (codes "OutputPath") paths.now.output) (path_flow_of (codes "InputPath") paths.now.input (view shapes.now.input)))) (option_map broken_view result) }
+    {
+        match self.output_of(paths, &shapes.input) {
+            Ok(output) => broken_by_output(output, &shapes.output, expected, field, fault),
+            Err(rule) => Some(rule),
         }
     }
 }
 
-/// The shape of what a path of a state leads to in the trees of an inhabited shape, none where it may name nothing. A
-/// null path gives `{}`, whose shape is `nothing`.
+/// The first broken rule on an output, which is compared with the certified one and with what is expected where it goes.
+fn broken_by_output(
+    output: &Shape,
+    certified: &Shape,
+    expected: Option<&Shape>,
+    field: &'static str,
+    fault: FindingFault,
+) -> Option<Broken>
+    ensures { Told (breach_unless_sub (codes "OutputPath") OutputNotCertified (view output.now) (Some (view certified.now)) ++ breach_unless_sub field.now (finding_fault_view fault) (view output.now) (option_map (λ s. view s.now) expected.entry)) (option_map broken_view result) }
+{
+    if sub(output, certified) {
+        broken_unless_sub(output, expected, field, fault)
+    } else {
+        Some(breach("OutputPath", FindingFault::OutputNotCertified))
+    }
+}
+
+/// The broken rule where a shape isn't inside what is expected, if anything is.
+fn broken_unless_sub(
+    shape: &Shape,
+    expected: Option<&Shape>,
+    field: &'static str,
+    fault: FindingFault,
+) -> Option<Broken>
+    ensures { Told (breach_unless_sub field.now (finding_fault_view fault) (view shape.now) (option_map (λ s. view s.now) expected.entry)) (option_map broken_view result) }
+{
+    match expected {
+        Some(expected) if !sub(shape, expected) => Some(breach(field, fault)),
+        Some(_) | None => None,
+    }
+}
+
+/// The shape of what a path names in each tree of an inhabited shape, where it names something in each of them. No path
+/// is null, which gives `{}`.
 fn through_path<'s>(
     shape: &'s Shape,
     path: &Option<RefPath>,
     nothing: &'s Shape,
-) -> Option<&'s Shape> {
+    field: &'static str,
+) -> Result<&'s Shape, Broken>
+    requires inhabited { IsTrue (model.inhabited (view shape.now)) }
+    requires nothing { view nothing.now ≡ empty_object }
+    ensures comes_to { Flows (path_flow_of field.now path.now (view shape.now)) (shape_or_breach result) }
+    ensures inhabited { IfOk result (λ s. IsTrue (model.inhabited (view s.now))) }
+{
     match path {
-        Some(path) => look(shape, path),
-        None => Some(nothing),
+        Some(path) => match look(shape, path) {
+            Some(found) => Ok(found),
+            None => Err(breach(field, FindingFault::PathMayBeMissing)),
+        },
+        None => Ok(nothing),
     }
 }
 
 /// A broken rule.
-fn breach(field: &'static str, fault: FindingFault) -> Broken {
+fn breach(field: &'static str, fault: FindingFault) -> Broken
+    ensures { broken_view result ≡ record { field = field.now; fault = finding_fault_view fault } }
+{
     Broken { field, fault }
 }

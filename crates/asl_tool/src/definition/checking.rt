@@ -1,8 +1,17 @@
 // Checking the rules of a definition.
 
+ghost use Rattle.std.specs.Prelude.{◌≡◌, ◌++◌, IfSome, Some, codes, is_some};
+ghost use Rattle.serde_json.specs.Find.{get};
+ghost use Rattle.serde_json.specs.View.{view};
+ghost use Rattle.asl_model.specs.DefinitionTable as model;
+ghost use Rattle.asl_model.specs.StandsFor.{members_in, name_complaints, names_of, fields_complaints, rows_complaints, foreign_complaints, target_complaints, next_complaints, type_complaints, state_complaints, text_at, characters as model_characters};
+ghost use Rattle.asl_model.specs.ShapeSpelling.{is_among};
+ghost use Rattle.asl_tool.specs.View.{def_fault_view};
+ghost use Rattle.asl_tool.specs.Definition.{wanted_view, row_view, rows_view, told, IsVerdict, own_place, field_complaints, way_complaints, end_of, type_view, type_told, told_of, untyped_complaints, unserved_state};
+
+use super::building::{read_path, state_type, text_of};
 use super::table::{self, Row, StateType, Wanted};
 use crate::refusals::DefFault;
-use asl_path::PathRefusal;
 use serde_json::Value;
 use std::alloc::Global;
 
@@ -19,7 +28,11 @@ pub(super) fn check_machine<'a>(alloc: Global, machine: &'a Value) -> Result<(),
     check_object(alloc, "", machine, &table::MACHINE)?;
     let states = match machine.get("States") {
         Some(states) => states,
-        None => return complain(DefFault::MissingField, "", "States"),
+        None => return Err(Complaint {
+            fault: DefFault::MissingField,
+            state: "",
+            field: "States",
+        }),
     };
     check_states(alloc, states)?;
     check_target("", "StartAt", machine, states)
@@ -29,16 +42,36 @@ pub(super) fn check_machine<'a>(alloc: Global, machine: &'a Value) -> Result<(),
 fn check_states<'a>(alloc: Global, states: &'a Value) -> Result<(), Complaint<'a>> {
     let members = match states.as_object() {
         Some(members) => members,
-        None => return complain(DefFault::WrongKind, "", "States"),
+        None => return Err(Complaint {
+            fault: DefFault::WrongKind,
+            state: "",
+            field: "States",
+        }),
     };
     if members.len() > table::MOST_STATES {
-        return complain(DefFault::TooLarge, "", "States");
+        return Err(Complaint {
+            fault: DefFault::TooLarge,
+            state: "",
+            field: "States",
+        });
     }
     for (name, state) in members.iter() {
-        if characters(name) > table::LONGEST_NAME {
-            return complain(DefFault::NameTooLong, name, "States");
-        }
+        check_name(name)?;
         check_state(alloc, name, state, states)?;
+    }
+    Ok(())
+}
+
+/// Checks that the name of a state isn't too long.
+fn check_name<'a>(name: &'a str) -> Result<(), Complaint<'a>>
+    ensures { IsVerdict (name_complaints name.now) result }
+{
+    if characters(name) > table::LONGEST_NAME {
+        return Err(Complaint {
+            fault: DefFault::NameTooLong,
+            state: name,
+            field: "States",
+        });
     }
     Ok(())
 }
@@ -49,22 +82,9 @@ fn check_state<'a>(
     name: &'a str,
     state: &'a Value,
     states: &Value,
-) -> Result<(), Complaint<'a>> {
-    let state_type = type_of(name, state)?;
-    check_object(alloc, name, state, state_type.rows())?;
-    match state_type {
-        StateType::Pass => {
-            if state.get("Next").is_some() == ends(state) {
-                return complain(DefFault::NextOrEnd, name, "Next");
-            }
-            check_target(name, "Next", state, states)
-        }
-        StateType::Succeed | StateType::Fail => Ok(()),
-    }
-}
-
-/// The type of a state.
-fn type_of<'a>(name: &'a str, state: &'a Value) -> Result<StateType, Complaint<'a>> {
+) -> Result<(), Complaint<'a>>
+    ensures { IsVerdict (state_complaints (names_of (members_in (view states.now))) name.now (view state.now) ++ unserved_state name.now (members_in (view state.now))) result }
+{
     if !state.is_object() {
         return Err(Complaint {
             fault: DefFault::NotObject,
@@ -72,33 +92,93 @@ fn type_of<'a>(name: &'a str, state: &'a Value) -> Result<StateType, Complaint<'
             field: "",
         });
     }
-    let value = match state.get("Type") {
-        Some(value) => value,
-        None => return Err(Complaint {
-            fault: DefFault::MissingField,
+    match state_type(state) {
+        Some(state_type) => check_typed(alloc, name, state, states, state_type),
+        None => check_untyped(alloc, name, state),
+    }
+}
+
+/// Finds a broken rule of a state of that type.
+fn check_typed<'a>(
+    alloc: Global,
+    name: &'a str,
+    state: &'a Value,
+    states: &Value,
+    state_type: StateType,
+) -> Result<(), Complaint<'a>>
+    ensures { IsVerdict (told_of state_type (names_of (members_in (view states.now))) name.now (members_in (view state.now))) result }
+{
+    match check_fields(alloc, name, state, state_type.rows()) {
+        Ok(()) => check_type_rules(name, state, states, state_type),
+        Err(complaint) => Err(complaint),
+    }
+}
+
+/// Checks the rules on several fields of a state of that type.
+fn check_type_rules<'a>(
+    name: &'a str,
+    state: &Value,
+    states: &Value,
+    state_type: StateType,
+) -> Result<(), Complaint<'a>>
+    ensures { IsVerdict (type_complaints (type_view state_type) name.now (names_of (members_in (view states.now))) (members_in (view state.now))) result }
+{
+    match state_type {
+        StateType::Pass => check_next(name, state, states),
+        StateType::Succeed | StateType::Fail => Ok(()),
+    }
+}
+
+/// Finds what is wrong with a state whose type isn't read.
+fn check_untyped<'a>(alloc: Global, name: &'a str, state: &Value) -> Result<(), Complaint<'a>>
+    ensures { IsVerdict (untyped_complaints name.now (members_in (view state.now))) result }
+{
+    match check_rows(alloc, name, state, table::every_state()) {
+        Ok(()) => check_no_type(name, state),
+        Err(complaint) => Err(complaint),
+    }
+}
+
+/// Tells a text in `Type`, which is that of no type that is read.
+fn check_no_type<'a>(name: &'a str, state: &Value) -> Result<(), Complaint<'a>>
+    ensures { IsVerdict (type_told name.now (text_at (codes "Type") (members_in (view state.now)))) result }
+{
+    match text_of(state, "Type") {
+        Some(_) => Err(Complaint {
+            fault: DefFault::UnknownType,
             state: name,
             field: "Type",
         }),
-    };
-    let fault = match value.as_str() {
-        Some(text) => match StateType::named(text) {
-            Some(state_type) => return Ok(state_type),
-            None => DefFault::UnknownType,
-        },
-        None => wrong_kind(value),
-    };
-    Err(Complaint {
-        fault,
-        state: name,
-        field: "Type",
-    })
+        None => Ok(()),
+    }
 }
 
-/// Whether a state has `"End": true`.
-pub(super) fn ends(state: &Value) -> bool {
-    match state.get("End") {
-        Some(end) => end.as_bool() == Some(true),
-        None => false,
+/// Checks that a state goes on in one way: that it has exactly one of `Next` and `"End": true`. An `End` of another kind
+/// isn't told here.
+fn check_way<'a>(name: &'a str, state: &Value) -> Result<(), Complaint<'a>>
+    ensures { IsVerdict (way_complaints name.now (is_some (get (codes "Next") (view state.now))) (end_of (get (codes "End") (view state.now)))) result }
+{
+    let end = match state.get("End") {
+        Some(end) => end.as_bool(),
+        None => Some(false),
+    };
+    match end {
+        Some(ends) if state.get("Next").is_some() == ends => Err(Complaint {
+            fault: DefFault::NextOrEnd,
+            state: name,
+            field: "Next",
+        }),
+        _ => Ok(()),
+    }
+}
+
+/// Checks where a state goes on to.
+fn check_next<'a>(name: &'a str, state: &Value, states: &Value) -> Result<(), Complaint<'a>>
+    ensures { IsVerdict (next_complaints (own_place name.now) (names_of (members_in (view states.now))) (members_in (view state.now))) result }
+{
+    match check_way(name, state) {
+        Ok(()) => check_target(name, "Next", state, states),
+        Err(complaint) => Err(complaint),
     }
 }
 
@@ -108,16 +188,29 @@ fn check_target<'a>(
     field: &'static str,
     object: &Value,
     states: &Value,
-) -> Result<(), Complaint<'a>> {
-    match object.get(field).and_then(Value::as_str) {
+) -> Result<(), Complaint<'a>>
+    ensures { IsVerdict (target_complaints (own_place state.now) (names_of (members_in (view states.now))) field.now (text_at field.now (members_in (view object.now)))) result }
+{
+    match text_of(object, field) {
         Some(target) => {
-            if states.get(target).is_none() {
-                return complain(DefFault::NoSuchState, state, field);
+            if !names_state(states, target) {
+                return Err(Complaint {
+                    fault: DefFault::NoSuchState,
+                    state,
+                    field,
+                });
             }
             Ok(())
         }
         None => Ok(()),
     }
+}
+
+/// Whether one of the states has that name.
+fn names_state(states: &Value, name: &str) -> bool
+    ensures { result ≡ is_among name.now (names_of (members_in (view states.now))) }
+{
+    states.get(name).is_some()
 }
 
 /// Finds a field that breaks a rule of its object, where there is one.
@@ -128,12 +221,46 @@ fn check_object<'a>(
     rows: &'static [Row],
 ) -> Result<(), Complaint<'a>> {
     if !object.is_object() {
-        return complain(DefFault::NotObject, state, "");
+        return Err(Complaint {
+            fault: DefFault::NotObject,
+            state,
+            field: "",
+        });
     }
+    check_fields(alloc, state, object, rows)
+}
+
+/// Checks the fields of an object: the value of each, and that there is no other.
+fn check_fields<'a>(
+    alloc: Global,
+    state: &'a str,
+    object: &'a Value,
+    rows: &'static [Row],
+) -> Result<(), Complaint<'a>>
+    ensures { IsVerdict (fields_complaints (own_place state.now) (rows_view rows.now) (members_in (view object.now))) result }
+{
+    match check_rows(alloc, state, object, rows) {
+        Ok(()) => check_names(state, object, rows),
+        Err(complaint) => Err(complaint),
+    }
+}
+
+/// Checks the values of all fields that have a row.
+fn check_rows<'a>(
+    alloc: Global,
+    state: &'a str,
+    object: &Value,
+    rows: &'static [Row],
+) -> Result<(), Complaint<'a>>
+    ensures { IsVerdict (rows_complaints (own_place state.now) (rows_view rows.now) (members_in (view object.now))) result }
+{
     for row in rows {
-        check_field(alloc, state, object, row)?;
+        match check_field(alloc, state, object, row) {
+            Ok(()) => {}
+            Err(complaint) => return Err(complaint),
+        }
     }
-    check_names(state, object, rows)
+    Ok(())
 }
 
 /// Checks the value of one field.
@@ -142,14 +269,24 @@ fn check_field<'a>(
     state: &'a str,
     object: &Value,
     row: &'static Row,
-) -> Result<(), Complaint<'a>> {
+) -> Result<(), Complaint<'a>>
+    ensures { IsVerdict (field_complaints state.now (row_view row.now) (get row.now.name.now (view object.now))) result }
+{
     let fault = match object.get(row.name) {
         Some(value) => misfit(alloc, row.wanted, value),
-        None if row.required => Some(DefFault::MissingField),
-        None => None,
+        None => {
+            if !row.required {
+                return Ok(());
+            }
+            Some(DefFault::MissingField)
+        }
     };
     match fault {
-        Some(fault) => complain(fault, state, row.name),
+        Some(fault) => Err(Complaint {
+            fault,
+            state,
+            field: row.name,
+        }),
         None => Ok(()),
     }
 }
@@ -159,22 +296,29 @@ fn check_names<'a>(
     state: &'a str,
     object: &'a Value,
     rows: &'static [Row],
-) -> Result<(), Complaint<'a>> {
-    if let Some(members) = object.as_object() {
-        for name in members.keys() {
-            if table::is_left_out(name) {
-                return complain(DefFault::LeftOut, state, name);
-            }
-            if !rows.iter().any(|row| row.name == name.as_str()) {
-                return complain(DefFault::UnknownField, state, name);
-            }
+) -> Result<(), Complaint<'a>>
+    ensures { IsVerdict (foreign_complaints (own_place state.now) (rows_view rows.now) (members_in (view object.now))) result }
+{
+    let members = match object.as_object() {
+        Some(members) => members,
+        None => return Ok(()),
+    };
+    for (name, _) in members.iter() {
+        if !table::has_row(rows, name) {
+            return Err(Complaint {
+                fault: table::foreign(name),
+                state,
+                field: name,
+            });
         }
     }
     Ok(())
 }
 
 /// What is wrong with a field's value.
-fn misfit(alloc: Global, wanted: Wanted, value: &Value) -> Option<DefFault> {
+fn misfit(alloc: Global, wanted: Wanted, value: &Value) -> Option<DefFault>
+    ensures { IfSome (told result) (λ faults. faults ≡ model.misfits (wanted_view wanted) (view value.now)) }
+{
     match wanted {
         Wanted::Text => unless(value.is_string(), value),
         Wanted::Positive => unless(value.as_i64().is_some_and(|number| number > 0), value),
@@ -186,12 +330,16 @@ fn misfit(alloc: Global, wanted: Wanted, value: &Value) -> Option<DefFault> {
 }
 
 /// A value of the wrong kind, unless it is right.
-fn unless(right: bool, value: &Value) -> Option<DefFault> {
+fn unless(right: bool, value: &Value) -> Option<DefFault>
+    ensures { told result ≡ Some (model.unless right (model.wrong_kind (view value.now))) }
+{
     if right { None } else { Some(wrong_kind(value)) }
 }
 
 /// A value of the wrong kind: a number that isn't whole is told as such.
-fn wrong_kind(value: &Value) -> DefFault {
+fn wrong_kind(value: &Value) -> DefFault
+    ensures { def_fault_view result ≡ Some (model.wrong_kind (view value.now)) }
+{
     if value.is_number() && value.as_i64().is_none() {
         DefFault::NotWhole
     } else {
@@ -200,19 +348,26 @@ fn wrong_kind(value: &Value) -> DefFault {
 }
 
 /// What is wrong with a reference path or null.
-fn path_misfit(alloc: Global, value: &Value) -> Option<DefFault> {
+fn path_misfit(alloc: Global, value: &Value) -> Option<DefFault>
+    ensures { IfSome (told result) (λ faults. faults ≡ model.path_or_null_misfits (view value.now)) }
+{
+    if value.is_null() {
+        return None;
+    }
     match value.as_str() {
-        Some(text) => match asl_path::parse(alloc, text) {
-            Ok(_) => None,
-            Err(PathRefusal::OutOfMemory) => Some(DefFault::OutOfMemory),
-            Err(_) => Some(DefFault::BadPath),
+        Some(text) => match read_path(alloc, text) {
+            Ok(Some(_)) => None,
+            Ok(None) => Some(DefFault::BadPath),
+            Err(_) => Some(DefFault::OutOfMemory),
         },
-        None => unless(value.is_null(), value),
+        None => Some(wrong_kind(value)),
     }
 }
 
 /// What is wrong with the name of a query language.
-fn language_misfit(value: &Value) -> Option<DefFault> {
+fn language_misfit(value: &Value) -> Option<DefFault>
+    ensures { told result ≡ Some (model.misfits model.LanguageValue (view value.now)) }
+{
     match value.as_str() {
         Some("JSONPath") => None,
         Some(_) => Some(DefFault::LeftOut),
@@ -221,18 +376,11 @@ fn language_misfit(value: &Value) -> Option<DefFault> {
 }
 
 /// How many Unicode characters a text has: as many as bytes that don't continue one.
-fn characters(text: &str) -> usize {
+fn characters(text: &str) -> usize
+    ensures { result ≡ model_characters text.now }
+{
     text.as_bytes()
         .iter()
         .filter(|byte| **byte / 64 != 2)
         .count()
-}
-
-/// A complaint as an answer.
-fn complain<'a>(fault: DefFault, state: &'a str, field: &'a str) -> Result<(), Complaint<'a>> {
-    Err(Complaint {
-        fault,
-        state,
-        field,
-    })
 }

@@ -1,5 +1,14 @@
 // The fields of a machine and of its states, a row a field (States Language, "Top-level fields", "State Types").
 
+ghost use Rattle.std.specs.Prelude.{◌≡◌, Some, option_and_then, map, if◌then◌else◌};
+ghost use Rattle.asl_model.specs.DefinitionTable.{type_named, every_state_rows, left_out_fields, LeftOut, UnknownField};
+ghost use Rattle.asl_model.specs.ShapeSpelling.{is_among};
+ghost use Rattle.asl_model.specs.StandsFor.{has_row as model_has_row};
+ghost use Rattle.asl_tool.specs.View.{def_fault_view};
+ghost use Rattle.asl_tool.specs.Definition.{served, served_rows, rows_view};
+
+use crate::refusals::DefFault;
+
 /// What the value of a field has to be.
 #[derive(Clone, Copy, Debug, PartialEq, Eq)]
 pub(super) enum Wanted {
@@ -40,6 +49,16 @@ pub(super) const LONGEST_NAME: usize = 80;
 /// The fields of the machine itself.
 pub(super) const MACHINE: [Row; 6] = [
     Row {
+        name: "Version",
+        wanted: Wanted::Text,
+        required: false,
+    },
+    Row {
+        name: "TimeoutSeconds",
+        wanted: Wanted::Positive,
+        required: false,
+    },
+    Row {
         name: "StartAt",
         wanted: Wanted::Text,
         required: true,
@@ -55,16 +74,6 @@ pub(super) const MACHINE: [Row; 6] = [
         required: false,
     },
     Row {
-        name: "Version",
-        wanted: Wanted::Text,
-        required: false,
-    },
-    Row {
-        name: "TimeoutSeconds",
-        wanted: Wanted::Positive,
-        required: false,
-    },
-    Row {
         name: "QueryLanguage",
         wanted: Wanted::Language,
         required: false,
@@ -73,31 +82,6 @@ pub(super) const MACHINE: [Row; 6] = [
 
 /// The fields of a Pass state.
 const PASS: [Row; 7] = [
-    Row {
-        name: "Type",
-        wanted: Wanted::Text,
-        required: true,
-    },
-    Row {
-        name: "Comment",
-        wanted: Wanted::Text,
-        required: false,
-    },
-    Row {
-        name: "QueryLanguage",
-        wanted: Wanted::Language,
-        required: false,
-    },
-    Row {
-        name: "InputPath",
-        wanted: Wanted::Path,
-        required: false,
-    },
-    Row {
-        name: "OutputPath",
-        wanted: Wanted::Path,
-        required: false,
-    },
     Row {
         name: "Next",
         wanted: Wanted::Text,
@@ -108,25 +92,6 @@ const PASS: [Row; 7] = [
         wanted: Wanted::Flag,
         required: false,
     },
-];
-
-/// The fields of a Succeed state.
-const SUCCEED: [Row; 5] = [
-    Row {
-        name: "Type",
-        wanted: Wanted::Text,
-        required: true,
-    },
-    Row {
-        name: "Comment",
-        wanted: Wanted::Text,
-        required: false,
-    },
-    Row {
-        name: "QueryLanguage",
-        wanted: Wanted::Language,
-        required: false,
-    },
     Row {
         name: "InputPath",
         wanted: Wanted::Path,
@@ -137,10 +102,6 @@ const SUCCEED: [Row; 5] = [
         wanted: Wanted::Path,
         required: false,
     },
-];
-
-/// The fields of a Fail state.
-const FAIL: [Row; 5] = [
     Row {
         name: "Type",
         wanted: Wanted::Text,
@@ -156,6 +117,58 @@ const FAIL: [Row; 5] = [
         wanted: Wanted::Language,
         required: false,
     },
+];
+
+/// The fields of a state of any type.
+const EVERY_STATE: [Row; 3] = [
+    Row {
+        name: "Type",
+        wanted: Wanted::Text,
+        required: true,
+    },
+    Row {
+        name: "Comment",
+        wanted: Wanted::Text,
+        required: false,
+    },
+    Row {
+        name: "QueryLanguage",
+        wanted: Wanted::Language,
+        required: false,
+    },
+];
+
+/// The fields of a Succeed state.
+const SUCCEED: [Row; 5] = [
+    Row {
+        name: "InputPath",
+        wanted: Wanted::Path,
+        required: false,
+    },
+    Row {
+        name: "OutputPath",
+        wanted: Wanted::Path,
+        required: false,
+    },
+    Row {
+        name: "Type",
+        wanted: Wanted::Text,
+        required: true,
+    },
+    Row {
+        name: "Comment",
+        wanted: Wanted::Text,
+        required: false,
+    },
+    Row {
+        name: "QueryLanguage",
+        wanted: Wanted::Language,
+        required: false,
+    },
+];
+
+/// The fields of a Fail state.
+const FAIL: [Row; 5] = [
     Row {
         name: "Error",
         wanted: Wanted::Text,
@@ -164,6 +177,21 @@ const FAIL: [Row; 5] = [
     Row {
         name: "Cause",
         wanted: Wanted::Text,
+        required: false,
+    },
+    Row {
+        name: "Type",
+        wanted: Wanted::Text,
+        required: true,
+    },
+    Row {
+        name: "Comment",
+        wanted: Wanted::Text,
+        required: false,
+    },
+    Row {
+        name: "QueryLanguage",
+        wanted: Wanted::Language,
         required: false,
     },
 ];
@@ -193,7 +221,9 @@ const LEFT_OUT: [&str; 19] = [
 
 impl StateType {
     /// The type of this name.
-    pub(super) fn named(name: &str) -> Option<StateType> {
+    pub(super) fn named(name: &str) -> Option<StateType>
+        ensures { result ≡ option_and_then served (type_named name.now) }
+    {
         match name {
             "Pass" => Some(StateType::Pass),
             "Succeed" => Some(StateType::Succeed),
@@ -203,7 +233,9 @@ impl StateType {
     }
 
     /// The fields of a state of this type.
-    pub(super) fn rows(self) -> &'static [Row] {
+    pub(super) fn rows(self) -> &'static [Row]
+        ensures { rows_view result.now ≡ served_rows self }
+    {
         match self {
             StateType::Pass => &PASS,
             StateType::Succeed => &SUCCEED,
@@ -212,7 +244,51 @@ impl StateType {
     }
 }
 
+/// The fields of a state of any type.
+pub(super) fn every_state() -> &'static [Row]
+    ensures { rows_view result.now ≡ every_state_rows }
+{
+    &EVERY_STATE
+}
+
+/// Whether one of the rows is of the field of this name.
+pub(super) fn has_row(rows: &[Row], name: &str) -> bool
+    ensures { result ≡ model_has_row name.now (rows_view rows.now) }
+{
+    for row in rows {
+        if row.name == name {
+            return true;
+        }
+    }
+    false
+}
+
+/// What is wrong with a field that has no row: it is left out, or unknown.
+pub(super) fn foreign(name: &str) -> DefFault
+    ensures { def_fault_view result ≡ Some (if is_among name.now left_out_fields then LeftOut else UnknownField) }
+{
+    if is_left_out(name) {
+        DefFault::LeftOut
+    } else {
+        DefFault::UnknownField
+    }
+}
+
 /// Whether a field of this name belongs to a part of the language that is left out.
-pub(super) fn is_left_out(name: &str) -> bool {
-    LEFT_OUT.iter().any(|left_out| *left_out == name)
+fn is_left_out(name: &str) -> bool
+    ensures { result ≡ is_among name.now left_out_fields }
+{
+    is_one_of(&LEFT_OUT, name)
+}
+
+/// Whether one of the texts is that name.
+fn is_one_of(texts: &[&str], name: &str) -> bool
+    ensures { result ≡ is_among name.now (map (λ text. text.now) texts.now) }
+{
+    for text in texts {
+        if *text == name {
+            return true;
+        }
+    }
+    false
 }
