@@ -47,6 +47,7 @@ pub mod ShapeLook
 pub mod ShapePut
 pub mod ShapeRule
 pub mod ShapeTemplate
+pub mod ShapeValid
 pub mod ShapeWitness
 pub mod SpellingLookups
 pub mod SpellingWritten

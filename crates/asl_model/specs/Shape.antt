@@ -1,5 +1,5 @@
 -- Shapes, and which trees have them (a subset of JSON Schema 2020-12, Core and Validation).
-use Rattle.std.specs.Prelude.{ℕ, List, Bool, true, false, ◌&&◌, ◌||◌, not, IsTrue, IsUtf8, Option, Some, None, bytes_eq}
+use Rattle.std.specs.Prelude.{◌≡◌, ℕ, ℤ, List, Bool, true, false, ◌&&◌, ◌||◌, not, IsTrue, IsUtf8, Option, Some, None, bytes_eq}
 use Rattle.asl_model.specs.Tree.{Tree, Null, Boolean, Integer, Text, Array, Object, Trees, NoTrees, AndTree, Fields, NoFields, AndField, field_named, comes_before}
 
 mutual
@@ -130,6 +130,42 @@ Has s t = IsTrue (has s t)
 -- every tree of the first shape has the second
 abbrev pub Inside : Shape → Shape → Type 0
 Inside a b = (t : Tree) → Has a t → Has b t
+
+-- the name is that of a mentioned field
+pub data IsMentioned : List ℕ → FieldShapes → Type 0 where
+  mentioned_first : {n : List ℕ} {needed : Bool} {s : Shape} {shapes : FieldShapes} → IsMentioned n (AndFieldShape n needed s shapes)
+  mentioned_later : {n m : List ℕ} {needed : Bool} {s : Shape} {shapes : FieldShapes} → IsMentioned n shapes → IsMentioned n (AndFieldShape m needed s shapes)
+
+-- the name of each field is mentioned
+pub data AreMentioned : Fields → FieldShapes → Type 0 where
+  none_to_mention : {shapes : FieldShapes} → AreMentioned NoFields shapes
+  and_mentioned : {n : List ℕ} {t : Tree} {fs : Fields} {shapes : FieldShapes} → IsMentioned n shapes → AreMentioned fs shapes → AreMentioned (AndField n t fs) shapes
+
+mutual
+  -- The tree is valid against the shape. Every tree is against Any, and none against Never; a tree of one of the four
+  -- simple kinds is against the shape of that kind; an array whose elements are, against theirs; an object whose
+  -- mentioned fields are, against theirs, where it may have other fields or has none. There is no other case.
+  pub data IsValid : Shape → Tree → Type 0 where
+    any_is_valid : {t : Tree} → IsValid Any t
+    null_is_valid : IsValid NullShape Null
+    boolean_is_valid : {b : Bool} → IsValid BooleanShape (Boolean b)
+    integer_is_valid : {n : ℤ} → IsValid IntegerShape (Integer n)
+    string_is_valid : {s : List ℕ} → IsValid StringShape (Text s)
+    array_is_valid : {first : Shapes} {rest : Shape} {ts : Trees} → HasValidElements first rest ts → IsValid (ArrayShape first rest) (Array ts)
+    open_object_is_valid : {shapes : FieldShapes} {fs : Fields} → HasValidFields shapes fs → IsValid (ObjectShape shapes true) (Object fs)
+    closed_object_is_valid : {shapes : FieldShapes} {fs : Fields} → HasValidFields shapes fs → AreMentioned fs shapes → IsValid (ObjectShape shapes false) (Object fs)
+
+  -- each of the first elements is there and valid against its own shape, and each further one against that of the rest
+  pub data HasValidElements : Shapes → Shape → Trees → Type 0 where
+    no_further_element : {rest : Shape} → HasValidElements NoShapes rest NoTrees
+    further_element_is_valid : {rest : Shape} {t : Tree} {ts : Trees} → IsValid rest t → HasValidElements NoShapes rest ts → HasValidElements NoShapes rest (AndTree t ts)
+    first_element_is_valid : {s : Shape} {others : Shapes} {rest : Shape} {t : Tree} {ts : Trees} → IsValid s t → HasValidElements others rest ts → HasValidElements (AndShape s others) rest (AndTree t ts)
+
+  -- each mentioned field is valid against its shape where it is there; one that isn't there isn't needed
+  pub data HasValidFields : FieldShapes → Fields → Type 0 where
+    no_field_mentioned : {fs : Fields} → HasValidFields NoFieldShapes fs
+    present_field_is_valid : {n : List ℕ} {needed : Bool} {s : Shape} {shapes : FieldShapes} {fs : Fields} {t : Tree} → field_named n fs ≡ Some t → IsValid s t → HasValidFields shapes fs → HasValidFields (AndFieldShape n needed s shapes) fs
+    absent_field_is_valid : {n : List ℕ} {s : Shape} {shapes : FieldShapes} {fs : Fields} → field_named n fs ≡ None → HasValidFields shapes fs → HasValidFields (AndFieldShape n false s shapes) fs
 
 -- the name comes before that of the first mention
 abbrev pub before_mentions : List ℕ → FieldShapes → Bool

@@ -1,6 +1,6 @@
 //! Laws about shapes: each is the contract of a public function with an empty body.
 
-ghost use Rattle.std.specs.Prelude.{◌≡◌, Bool, IsTrue, List, [], Ok, Option, Some, not};
+ghost use Rattle.std.specs.Prelude.{◌≡◌, ◌↔◌, Bool, IsTrue, List, [], Ok, Option, Some, not};
 ghost use Rattle.asl_model.specs.Tree.{Tree, IsProper};
 ghost use Rattle.asl_model.specs.Path.{Segment, Names};
 ghost use Rattle.asl_model.specs.Placing.{Places};
@@ -9,11 +9,16 @@ ghost use Rattle.asl_model.specs.Template.{Template, template_value};
 ghost use Rattle.asl_model.specs.Test.{Test, truth};
 ghost use Rattle.asl_model.specs.Machine.{Kind, Scope, Settings};
 ghost use Rattle.asl_model.specs.Flow.{at_output_path, output_of};
-ghost use Rattle.asl_model.specs.Shape.{Shape, Has, Inside, IsProperShape, inhabited};
+ghost use Rattle.asl_model.specs.Shape.{Shape, has, IsValid, Has, Inside, IsProperShape, inhabited};
 ghost use Rattle.asl_model.specs.ShapeOrder.{sub, join};
 ghost use Rattle.asl_model.specs.ShapeFlow.{look, put, ItemHas, template_shape, rule_shape, leave, leaving, WithInput, WithResult};
 ghost use Rattle.asl_model.specs.Certificate.{Certificate, Declared, IsClosed};
 ghost use Rattle.asl_model.specs.Finding.{findings};
+
+/// The test of membership in a shape is true exactly where the tree is valid against it.
+pub fn has_is_exactly_valid()
+    ensures exactly { (s : Shape) (t : Tree) → IsValid s t ↔ IsTrue (has s t) }
+{}
 
 /// Where the comparison of two shapes is true, every tree of the first has the second.
 pub fn sub_means_inside()
