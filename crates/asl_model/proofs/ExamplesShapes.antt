@@ -6,7 +6,7 @@ use Rattle.asl_model.specs.Path.{Segment, Name, Index}
 use Rattle.asl_model.specs.Intrinsic.{InInput, InItem, ItemIndex, CallOf, StatesFormat, StatesArrayLength, TextArgument, PathArgument, NoArguments, AndArgument}
 use Rattle.asl_model.specs.Template.{Template, FromPath, FromCall, ObjectTemplate, NoFieldTemplates, AndFieldTemplate}
 use Rattle.asl_model.specs.Test.{Test, And, Or, Compare, StringIs, NumericIs, Equals, LessThan, Constant, IsPresent, Tests, NoTests, AndTest}
-use Rattle.asl_model.specs.Machine.{Settings, SecondsPath, Scope, ScopeOf, NoStates, AndState, StateOf, Pass, Task, Choice, Wait, Succeed, Parallel, Map, NoScopes, AndScope}
+use Rattle.asl_model.specs.Machine.{Kind, Settings, SecondsPath, Scope, ScopeOf, NoStates, AndState, StateOf, Pass, Task, Choice, Wait, Succeed, Parallel, Map, NoScopes, AndScope}
 use Rattle.asl_model.specs.Shape.{Shape, Any, Never, NullShape, BooleanShape, IntegerShape, StringShape, ArrayShape, ObjectShape, NoShapes, AndShape, FieldShapes, NoFieldShapes, AndFieldShape, has}
 use Rattle.asl_model.specs.ShapeOrder.{sub, join}
 use Rattle.asl_model.specs.ShapeFlow.{look, put, template_shape, rule_shape, leave, MayBeMissing, MayFail}
@@ -382,6 +382,38 @@ keeps_input = record { input_path = Some []; parameters = None; result_selector 
 task_payload : findings (ScopeOf (codes "A") (AndState (codes "A") (StateOf keeps_input (Task (codes "r"))) NoStates)) (declared_of IntegerShape (task (codes "A") StringShape Any ∷ [])) (certificate_of IntegerShape (entry (codes "A") IntegerShape IntegerShape ∷ [])) ≡ finding (codes "A") (codes "Parameters") PayloadNotTaken ∷ []
 task_payload = refl
 
+-- A finding stands whatever other findings stand: what a Task gives, a literal and the list of a Parallel's answers are
+-- compared also where `Parameters` or `InputPath` may name nothing, and a missing `Default` is told too.
+
+-- a state of that type whose `Parameters` looks up a field, with the entry of a state that has no children
+abbrev looking_up : Kind → Scope
+looking_up kind = ScopeOf (codes "A") (AndState (codes "A") (StateOf (record { input_path = Some []; parameters = Some (ObjectTemplate (AndFieldTemplate (codes "x") (FromPath (InInput k)) NoFieldTemplates)); result_selector = None; result_path = Some []; output_path = Some []; next = None; retriers = []; catchers = [] }) kind) NoStates)
+
+-- its findings where the input has no such field and the output is certified as a text
+abbrev looking_up_findings : Kind → List (List ℕ × TaskShapes) → List Finding
+looking_up_findings kind tasks = findings (looking_up kind) (declared_of (closed NoFieldShapes) tasks) (certificate_of StringShape (entry (codes "A") (closed NoFieldShapes) StringShape ∷ []))
+
+-- what may be missing, and an output that isn't as certified, at the end of the scope
+abbrev missing_and_not_certified : List Finding
+missing_and_not_certified = finding (codes "A") (codes "Parameters") PathMayBeMissing ∷ finding (codes "A") (codes "OutputPath") OutputNotCertified ∷ finding (codes "A") (codes "End") ScopeOutput ∷ []
+
+task_missing_and_not_certified : looking_up_findings (Task (codes "r")) (task (codes "A") Any IntegerShape ∷ []) ≡ missing_and_not_certified
+task_missing_and_not_certified = refl
+
+literal_missing_and_not_certified : looking_up_findings (Pass (Some (Integer (pos 7)))) [] ≡ missing_and_not_certified
+literal_missing_and_not_certified = refl
+
+parallel_missing_and_not_certified : looking_up_findings (Parallel NoScopes) [] ≡ missing_and_not_certified
+parallel_missing_and_not_certified = refl
+
+-- the output of a Pass without a literal is what may be missing
+input_missing : looking_up_findings (Pass None) [] ≡ finding (codes "A") (codes "Parameters") PathMayBeMissing ∷ []
+input_missing = refl
+
+-- a Choice without rules and without `Default`, whose `InputPath` may name nothing
+no_default_missing : findings (ScopeOf (codes "A") (AndState (codes "A") (StateOf (record { input_path = Some k; parameters = None; result_selector = None; result_path = Some []; output_path = Some []; next = None; retriers = []; catchers = [] }) (Choice [] None)) NoStates)) of_integers (certificate_of Any (entry (codes "A") IntegerShape Any ∷ [])) ≡ finding (codes "A") (codes "InputPath") PathMayBeMissing ∷ finding (codes "A") (codes "Default") NoDefault ∷ []
+no_default_missing = refl
+
 -- a Task that catches all errors for a Pass
 abbrev catching : Scope
 catching = ScopeOf (codes "T") (AndState (codes "E") (StateOf ending (Pass None)) (AndState (codes "T") (StateOf (record { input_path = Some []; parameters = None; result_selector = None; result_path = Some []; output_path = Some []; next = None; retriers = []; catchers = record { error_equals = codes "States.ALL" ∷ []; result_path = Some []; next = codes "E" } ∷ [] }) (Task (codes "r"))) NoStates))
@@ -427,6 +459,10 @@ map_no_item = refl
 
 map_item : mapping_findings (Some Never) ≡ finding (codes "Q") (codes "End") ScopeOutput ∷ []
 map_item = refl
+
+-- a Map whose `ItemSelector` may find nothing; the list of its children's answers isn't as certified either
+selector_missing : findings (ScopeOf (codes "M") (AndState (codes "M") (StateOf ending (Map [] (Some (ObjectTemplate (AndFieldTemplate (codes "x") (FromPath (InInput k)) NoFieldTemplates))) (one_task (codes "Q")))) NoStates)) (declared_of integers (task (codes "Q") Any StringShape ∷ [])) (certificate_of Any ((codes "M", record { input = integers; output = StringShape; branches = []; item = Some StringShape }) ∷ entry (codes "Q") Any StringShape ∷ [])) ≡ finding (codes "M") (codes "ItemSelector") PathMayBeMissing ∷ finding (codes "M") (codes "OutputPath") OutputNotCertified ∷ []
+selector_missing = refl
 
 -- Membership
 

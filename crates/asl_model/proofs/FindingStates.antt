@@ -1,6 +1,6 @@
 -- Where no rule is broken at a state, the certificate is closed at it, whatever its type.
 use Rattle.std.proofs.Common.{◌≡◌, ℕ, suc, List, [], ◌∷◌, ◌++◌, length, Bool, true, false, Option, Some, None, Result, Ok, Err, refl, sym, ap, subst, arith}
-use Rattle.std.specs.Prelude.{IsTrue, is_some, unwrap_or, codes, if◌then◌else◌}
+use Rattle.std.specs.Prelude.{IsTrue, is_some, codes, if◌then◌else◌}
 use Rattle.std.proofs.lemmas.Bool.{and_parts, and_from, false≢true}
 use Rattle.asl_model.specs.Tree.{Tree, Integer, Text, Array, Trees, NoTrees, AndTree, count}
 use Rattle.asl_model.specs.Path.{Segment}
@@ -12,9 +12,9 @@ use Rattle.asl_model.specs.Flow.{effective_input, at_output_path, output_of, Wor
 use Rattle.asl_model.specs.Run.{error_output, error_placed}
 use Rattle.asl_model.specs.Shape.{Shape, Any, Never, NullShape, BooleanShape, IntegerShape, StringShape, ArrayShape, ObjectShape, Shapes, NoShapes, AndShape, Has, has, elements_have, each_element, inhabited}
 use Rattle.asl_model.specs.ShapeOrder.{sub, join, joined_with_each, is_integer_shape, is_string_shape}
-use Rattle.asl_model.specs.ShapeFlow.{look, put, template_shape, rule_shape, Flow, template_flow, output_flow, result_leaves}
+use Rattle.asl_model.specs.ShapeFlow.{look, put, literal, template_shape, rule_shape, Flow, template_flow, output_flow, result_leaves}
 use Rattle.asl_model.specs.Certificate.{Declared, StateShapes, Certificate, certified, certified_input, certified_output, input_among, output_among, branches_in, is_map, shape_at, branch_end, item_end, or_never, takes_of, gives_of, EachHas, OutputFits, WorkFits, CaughtFits, CatchersFit, HasEntry, IsClosedAt}
-use Rattle.asl_model.specs.Finding.{FindingFault, Breach, NotCertified, BranchInput, NextInput, ScopeOutput, OutputNotCertified, PayloadNotTaken, CatchInput, breach_unless, breach_unless_sub, breach_of, breaches_then, input_of_entry, input_to_compare, effective_flow, next_breaches, end_breaches, output_breaches, kind_breaches, delay_breaches, pass_result, child_breaches, branch_breaches, shapes_of, element_shape, item_flow, at_each_place, map_result, elements_of, with_elements, with_items, chosen_breaches, rule_breaches, rules_breaches, default_breaches, error_output_shape, error_placed_shape, caught_breaches, catcher_breaches, result_breaches, map_breaches, work_breaches, flow_breaches, state_breaches, scope_findings}
+use Rattle.asl_model.specs.Finding.{FindingFault, Breach, NotCertified, BranchInput, NextInput, ScopeOutput, OutputNotCertified, PayloadNotTaken, CatchInput, breach_unless, breach_unless_sub, breach_of, breaches_then, input_of_entry, input_to_compare, effective_flow, next_breaches, end_breaches, output_breaches, kind_breaches, delay_breaches, child_breaches, branch_breaches, shapes_of, element_shape, item_flow, at_each_place, map_result, elements_of, with_elements, with_items, chosen_breaches, rule_breaches, rules_breaches, default_breaches, error_output_shape, error_placed_shape, caught_breaches, catcher_breaches, result_breaches, map_breaches, work_breaches, settled_breaches, flow_breaches, state_breaches, scope_findings}
 use Rattle.asl_model.proofs.FindingScopes.{append-none, none-unless, flow-none, has-entry, state-certified}
 use Rattle.asl_model.proofs.ShapeInhabited.{has-inhabited}
 use Rattle.asl_model.proofs.ShapeInside.{sub-inside, only_integer, only_string}
@@ -65,10 +65,6 @@ delay-fits (TimestampPath path) s u e m =
     let given = look-gives path s kind.0 u kind.1 m in
     let text = text-there (codes "TimestampPath") given.0 (subst (λ (z : Shape). Has z given.0) (only_string kind.0 kind.2) given.2) in
     (text.0, rw (given.1) (text.1))
-
-pass-has : (result : Option Tree) (s : Shape) (u : Tree) → Has s u → Has (pass_result result s) (unwrap_or result u)
-pass-has None s u m = m
-pass-has (Some t) s u m = literal-has_itself t
 
 -- Lists of outputs
 
@@ -219,10 +215,10 @@ module _ (declared : Declared) (certificate : Certificate) (inputs : List ℕ �
       one-chosen : (field next : List ℕ) (s : Shape) (v u : Tree) → chosen_breaches inputs entry settings (Choice all fallback) field next s ≡ [] → Has entry.input v → Has s u → OutputFits certificate end n (Some next) (at_output_path settings u)
       one-chosen field next s v u e h m = passed-fits settings (Some next) (next_breaches inputs entry.output field next) s v u (λ output w. next-fits field next output w) e h m
 
-      by-rules : (rules : List Rule) (default : Option (List ℕ)) (s : Shape) (v u : Tree) → rules_breaches inputs entry settings (Choice all fallback) rules s ≡ [] → default_breaches inputs entry settings (Choice all fallback) default s ≡ [] → Has entry.input v → Has s u → (next : List ℕ) × (chosen rules default u ≡ Ok next) × OutputFits certificate end n (Some next) (at_output_path settings u)
-      by-rules [] None s v u e f h m = absurd (cc)
-      by-rules [] (Some next) s v u e f h m = (next, refl, one-chosen (codes "Default") next s v u f h m)
-      by-rules (rule ∷ rules) default s v u e f h m = go (rule_shape rule.test s) refl parts.0 (by-rules rules default s v u parts.1 f h m)
+      by-rules : (rules : List Rule) (default : Option (List ℕ)) (s : Shape) (v u : Tree) → rules_breaches inputs entry settings (Choice all fallback) rules s ≡ [] → default_breaches inputs entry settings (Choice all fallback) default s ≡ [] → IsTrue (is_some default) → Has entry.input v → Has s u → (next : List ℕ) × (chosen rules default u ≡ Ok next) × OutputFits certificate end n (Some next) (at_output_path settings u)
+      by-rules [] None s v u e f there h m = absurd (false≢true there)
+      by-rules [] (Some next) s v u e f there h m = (next, refl, one-chosen (codes "Default") next s v u f h m)
+      by-rules (rule ∷ rules) default s v u e f there h m = go (rule_shape rule.test s) refl parts.0 (by-rules rules default s v u parts.1 f there h m)
         where
           parts : (rule_breaches inputs entry settings (Choice all fallback) rule.next (rule_shape rule.test s) ≡ []) × (rules_breaches inputs entry settings (Choice all fallback) rules s ≡ [])
           parts = append-none (rule_breaches inputs entry settings (Choice all fallback) rule.next (rule_shape rule.test s)) (rules_breaches inputs entry settings (Choice all fallback) rules s) e
@@ -238,24 +234,26 @@ module _ (declared : Declared) (certificate : Certificate) (inputs : List ℕ �
               by-truth r truth_known.0 truth_known.1 truth_known.2 e' below
 
     -- what the first move comes to, for an effective input
-    work-fits : (kind : Kind) (settings : Settings) (s : Shape) (v u : Tree) → length entry.branches ≡ branches_in kind → is_some entry.item ≡ is_map kind → work_breaches declared inputs (Some end) n entry settings kind s ≡ [] → effective_input settings v ≡ Ok u → Has s u → Has entry.input v → WorkFits declared certificate end n (StateOf settings kind) v (work_of kind settings v)
-    work-fits (Pass result) settings s v u long item e eff m h = rw eff (result-fits settings (pass_result result s) v (unwrap_or result u) e h (pass-has result s u m))
-    work-fits (Task resource) settings s v u long item e eff m h =
-        let parts = append-none (breach_unless_sub (codes "Parameters") PayloadNotTaken s (Some (takes_of declared n))) (result_breaches inputs (Some end) entry settings (Task resource) (gives_of declared n)) e in
-        rw eff (sub-none (codes "Parameters") PayloadNotTaken s (takes_of declared n) parts.0 u m, λ answer given. result-fits settings (gives_of declared n) v answer parts.1 h given)
-    work-fits (Choice rules default) settings s v u long item e eff m h =
+    work-fits : (kind : Kind) (settings : Settings) (s : Shape) (v u : Tree) → length entry.branches ≡ branches_in kind → is_some entry.item ≡ is_map kind → work_breaches declared inputs (Some end) n entry settings kind s ≡ [] → settled_breaches declared inputs (Some end) n entry settings kind ≡ [] → effective_input settings v ≡ Ok u → Has s u → Has entry.input v → WorkFits declared certificate end n (StateOf settings kind) v (work_of kind settings v)
+    work-fits (Pass None) settings s v u long item e f eff m h = rw eff (result-fits settings s v u e h m)
+    work-fits (Pass (Some t)) settings s v u long item e f eff m h = rw eff (result-fits settings (literal t) v t f h (literal-has_itself t))
+    work-fits (Task resource) settings s v u long item e f eff m h = rw eff (sub-none (codes "Parameters") PayloadNotTaken s (takes_of declared n) e u m, λ answer given. result-fits settings (gives_of declared n) v answer f h given)
+    work-fits (Choice rules default) settings s v u long item e f eff m h =
         let parts = append-none (rules_breaches inputs entry settings (Choice rules default) rules s) (default_breaches inputs entry settings (Choice rules default) default s) e in
-        let next = by-rules settings rules default rules default s v u parts.0 parts.1 h m in
+        let next = by-rules settings rules default rules default s v u parts.0 parts.1 (has_default default f) h m in
         rw (eff, next.1) (next.2)
-    work-fits (Wait delay) settings s v u long item e eff m h =
+      where
+        has_default : (fallback : Option (List ℕ)) → settled_breaches declared inputs (Some end) n entry settings (Choice rules fallback) ≡ [] → IsTrue (is_some fallback)
+        has_default None f' = absurd (cc)
+        has_default (Some next) f' = refl
+    work-fits (Wait delay) settings s v u long item e f eff m h =
         let parts = append-none (delay_breaches delay s) (result_breaches inputs (Some end) entry settings (Wait delay) s) e in
         let waits = delay-fits delay s u parts.0 m in
         rw (eff, waits.1) (passed-fits settings settings.next (output_breaches inputs entry.output (Some end) settings.next) s v u (λ output w. output-fits settings.next output w) parts.1 h m)
-    work-fits Succeed settings s v u long item e eff m h = rw eff (passed-fits settings None (end_breaches entry.output (codes "Type") (Some end)) s v u (λ output w. end-fits (codes "Type") output w) e h m)
-    work-fits (Fail error cause) settings s v u long item e eff m h = tt
-    work-fits (Parallel branches) settings s v u long item e eff m h =
-        let parts = append-none (branch_breaches inputs branches s) (result_breaches inputs (Some end) entry settings (Parallel branches) (ArrayShape (shapes_of entry.branches) Never)) e in
-        rw eff (each-branch branches s u parts.0 m, λ outputs same each. result-fits settings (ArrayShape (shapes_of entry.branches) Never) v (Array outputs) parts.1 h (branches-have entry.branches outputs (as_many outputs same) (subst (λ (o : Option StateShapes). EachHas (λ i. or_never (branch_end i o)) outputs) at each)))
+    work-fits Succeed settings s v u long item e f eff m h = rw eff (passed-fits settings None (end_breaches entry.output (codes "Type") (Some end)) s v u (λ output w. end-fits (codes "Type") output w) e h m)
+    work-fits (Fail error cause) settings s v u long item e f eff m h = tt
+    work-fits (Parallel branches) settings s v u long item e f eff m h =
+        rw eff (each-branch branches s u e m, λ outputs same each. result-fits settings (ArrayShape (shapes_of entry.branches) Never) v (Array outputs) f h (branches-have entry.branches outputs (as_many outputs same) (subst (λ (o : Option StateShapes). EachHas (λ i. or_never (branch_end i o)) outputs) at each)))
       where
         inputs-count : (branches' : Scopes) (u' : Tree) → count (branch_inputs branches' u') ≡ how_many branches'
         inputs-count NoScopes u' = refl
@@ -265,7 +263,7 @@ module _ (declared : Declared) (certificate : Certificate) (inputs : List ℕ �
         as_many outputs same =
             let of_branches : count (branch_inputs branches u) ≡ how_many branches = inputs-count branches u in
             omega arith
-    work-fits (Map items selector processor) settings s v u long item e eff m h =
+    work-fits (Map items selector processor) settings s v u long item e f eff m h =
         let parts = items-parts (λ elements. breaches_then (child_breaches inputs (codes "ItemProcessor") processor) (item_flow selector s (element_shape elements.0 elements.1)) ++ map_breaches inputs (Some end) entry settings (Map items selector processor) entry.item elements) (look items s) e in
         let both = append-none (breaches_then (child_breaches inputs (codes "ItemProcessor") processor) (item_flow selector s (element_shape parts.0 parts.1))) (map_breaches inputs (Some end) entry settings (Map items selector processor) entry.item (parts.0, parts.1)) parts.3 in
         let list = items-there items s parts.0 parts.1 u parts.2 m in
@@ -294,7 +292,7 @@ inputs-fit machine declared certificate none n field fault s e v m = go (certifi
 
 -- the certificate is closed at a state at which no rule is broken
 pub state-closed : (machine : Scope) (declared : Declared) (certificate : Certificate) (end : Shape) (n : List ℕ) (settings : Settings) (kind : Kind) → scope_findings machine machine declared certificate (Some certificate.output) ≡ [] → state_breaches machine declared certificate (Some end) n settings kind ≡ [] → IsClosedAt declared certificate end n (StateOf settings kind)
-state-closed machine declared certificate end n settings kind none e = record { entry = there; work = λ v h. works v (member v h); catchers = λ v h. catchers-fit declared certificate inputs fit settings.catchers there.shapes.input v (parts v (member v h)).1 (member v h) }
+state-closed machine declared certificate end n settings kind none e = record { entry = there; work = λ v h. works v (member v h); catchers = λ v h. catchers-fit declared certificate inputs fit settings.catchers there.shapes.input v (parts v (member v h)).2 (member v h) }
   where
     inputs : List ℕ → Option Shape
     inputs = input_to_compare machine certificate
@@ -308,13 +306,28 @@ state-closed machine declared certificate end n settings kind none e = record { 
     member : (v : Tree) → Has (certified_input certificate n) v → Has there.shapes.input v
     member v h = subst (λ (o : Option StateShapes). Has (input_among o) v) there.stands h
 
-    parts : (v : Tree) → Has there.shapes.input v → (breaches_then (work_breaches declared inputs (Some end) n there.shapes settings kind) (effective_flow settings there.shapes.input) ≡ []) × (catcher_breaches inputs there.shapes.input settings.catchers ≡ [])
+    -- the broken rules on what comes of the effective input
+    worked : List Breach
+    worked = breaches_then (work_breaches declared inputs (Some end) n there.shapes settings kind) (effective_flow settings there.shapes.input)
+
+    -- those that need no effective input
+    settled : List Breach
+    settled = settled_breaches declared inputs (Some end) n there.shapes settings kind
+
+    -- those of the catchers
+    caught : List Breach
+    caught = catcher_breaches inputs there.shapes.input settings.catchers
+
+    parts : (v : Tree) → Has there.shapes.input v → (worked ≡ []) × (settled ≡ []) × (caught ≡ [])
     parts v h =
         let flow : flow_breaches declared inputs (Some end) n settings kind (Some there.shapes) ≡ [] = subst (λ (o : Option StateShapes). flow_breaches declared inputs (Some end) n settings kind o ≡ []) there.stands (flow-none machine declared certificate (Some end) n settings kind e) in
-        append-none (breaches_then (work_breaches declared inputs (Some end) n there.shapes settings kind) (effective_flow settings there.shapes.input)) (catcher_breaches inputs there.shapes.input settings.catchers) (rw (has-inhabited there.shapes.input v h) at flow)
+        let first = append-none worked (settled ++ caught) (rw (has-inhabited there.shapes.input v h) at flow) in
+        let further = append-none settled caught first.1 in
+        (first.0, further.0, further.1)
 
     works : (v : Tree) → Has there.shapes.input v → WorkFits declared certificate end n (StateOf settings kind) v (first_move (StateOf settings kind) v)
     works v h =
-        let effective = then-none (work_breaches declared inputs (Some end) n there.shapes settings kind) (effective_flow settings there.shapes.input) (effective-told settings there.shapes.input) (parts v h).0 in
+        let none_broken = parts v h in
+        let effective = then-none (work_breaches declared inputs (Some end) n there.shapes settings kind) (effective_flow settings there.shapes.input) (effective-told settings there.shapes.input) none_broken.0 in
         let given = effective-gives settings there.shapes.input effective.0 v effective.1 h in
-        work-fits declared certificate inputs fit end n there.shapes there.stands kind settings effective.0 v given.0 there.branches there.item effective.2 given.1 given.2 h
+        work-fits declared certificate inputs fit end n there.shapes there.stands kind settings effective.0 v given.0 there.branches there.item effective.2 none_broken.1 given.1 given.2 h

@@ -1,7 +1,6 @@
 -- What a checker may tell: every rule of a certificate that is broken, as computed lists (the profile's own). A
 -- finding stands where it is in the list of all; which one of a state is told is the checker's choice.
 use Rattle.std.specs.Prelude.{ℕ, suc, ◌==◌, List, [], ◌∷◌, ◌++◌, length, map, Bool, true, false, ◌&&◌, ◌||◌, not, Option, Some, None, Result, Ok, Err, Contains, is_some, is_none, codes, if◌then◌else◌}
-use Rattle.asl_model.specs.Tree.{Tree}
 use Rattle.asl_model.specs.Path.{Segment}
 use Rattle.asl_model.specs.Template.{Template}
 use Rattle.asl_model.specs.Test.{Rule}
@@ -135,11 +134,6 @@ delay_breaches (SecondsPath path) s = kind_breaches (codes "SecondsPath") is_int
 delay_breaches (Timestamp t) s = []
 delay_breaches (TimestampPath path) s = kind_breaches (codes "TimestampPath") is_string_shape (look path s)
 
--- the result of a Pass: its literal, or the effective input
-abbrev pub pass_result : Option Tree → Shape → Shape
-pass_result None s = s
-pass_result (Some t) s = literal t
-
 -- a child's input, compared with that of its start state
 abbrev pub child_breaches : (List ℕ → Option Shape) → List ℕ → Scope → Shape → List Breach
 child_breaches inputs field scope input = breach_unless_sub field BranchInput input (inputs (start_of scope))
@@ -211,9 +205,9 @@ abbrev pub rules_breaches : (List ℕ → Option Shape) → StateShapes → Sett
 rules_breaches inputs entry settings kind [] s = []
 rules_breaches inputs entry settings kind (rule ∷ rules) s = rule_breaches inputs entry settings kind rule.next (rule_shape rule.test s) ++ rules_breaches inputs entry settings kind rules s
 
--- the output that goes to `Default`, or that there is none
+-- the output that goes to `Default`, where there is one
 abbrev pub default_breaches : (List ℕ → Option Shape) → StateShapes → Settings → Kind → Option (List ℕ) → Shape → List Breach
-default_breaches inputs entry settings kind None s = breach_unless false (codes "Default") NoDefault
+default_breaches inputs entry settings kind None s = []
 default_breaches inputs entry settings kind (Some next) s = chosen_breaches inputs entry settings kind (codes "Default") next s
 
 -- Catchers
@@ -248,21 +242,37 @@ abbrev pub map_breaches : (List ℕ → Option Shape) → Option Shape → State
 map_breaches inputs end entry settings kind None elements = []
 map_breaches inputs end entry settings kind (Some item) elements = result_breaches inputs end entry settings kind (map_result item elements.0 elements.1)
 
--- what follows for an effective input of that shape, by the state's type
+-- the rules on what comes of an effective input of that shape, by the state's type
 abbrev pub work_breaches : Declared → (List ℕ → Option Shape) → Option Shape → List ℕ → StateShapes → Settings → Kind → Shape → List Breach
-work_breaches declared inputs end n entry settings (Pass result) s = result_breaches inputs end entry settings (Pass result) (pass_result result s)
-work_breaches declared inputs end n entry settings (Task resource) s = breach_unless_sub (codes "Parameters") PayloadNotTaken s (Some (takes_of declared n)) ++ result_breaches inputs end entry settings (Task resource) (gives_of declared n)
+work_breaches declared inputs end n entry settings (Pass None) s = result_breaches inputs end entry settings (Pass None) s
+work_breaches declared inputs end n entry settings (Pass (Some t)) s = []
+work_breaches declared inputs end n entry settings (Task resource) s = breach_unless_sub (codes "Parameters") PayloadNotTaken s (Some (takes_of declared n))
 work_breaches declared inputs end n entry settings (Choice rules default) s = rules_breaches inputs entry settings (Choice rules default) rules s ++ default_breaches inputs entry settings (Choice rules default) default s
 work_breaches declared inputs end n entry settings (Wait delay) s = delay_breaches delay s ++ result_breaches inputs end entry settings (Wait delay) s
 work_breaches declared inputs end n entry settings Succeed s = breaches_then (end_breaches entry.output (codes "Type") end) (leave settings Succeed entry.input s)
 work_breaches declared inputs end n entry settings (Fail error cause) s = []
-work_breaches declared inputs end n entry settings (Parallel branches) s = branch_breaches inputs branches s ++ result_breaches inputs end entry settings (Parallel branches) (ArrayShape (shapes_of entry.branches) Never)
+work_breaches declared inputs end n entry settings (Parallel branches) s = branch_breaches inputs branches s
 work_breaches declared inputs end n entry settings (Map items selector processor) s = with_items (λ elements. breaches_then (child_breaches inputs (codes "ItemProcessor") processor) (item_flow selector s (element_shape elements.0 elements.1)) ++ map_breaches inputs end entry settings (Map items selector processor) entry.item elements) (look items s)
 
--- the rules of a state that has an entry: none further where its certified input isn't inhabited
+-- the rules that need no effective input, by the state's type: on a result that is a literal, declared of the task or
+-- certified of the branches, and on a Choice without `Default`
+abbrev pub settled_breaches : Declared → (List ℕ → Option Shape) → Option Shape → List ℕ → StateShapes → Settings → Kind → List Breach
+settled_breaches declared inputs end n entry settings (Pass None) = []
+settled_breaches declared inputs end n entry settings (Pass (Some t)) = result_breaches inputs end entry settings (Pass (Some t)) (literal t)
+settled_breaches declared inputs end n entry settings (Task resource) = result_breaches inputs end entry settings (Task resource) (gives_of declared n)
+settled_breaches declared inputs end n entry settings (Choice rules None) = breach_unless false (codes "Default") NoDefault
+settled_breaches declared inputs end n entry settings (Choice rules (Some next)) = []
+settled_breaches declared inputs end n entry settings (Wait delay) = []
+settled_breaches declared inputs end n entry settings Succeed = []
+settled_breaches declared inputs end n entry settings (Fail error cause) = []
+settled_breaches declared inputs end n entry settings (Parallel branches) = result_breaches inputs end entry settings (Parallel branches) (ArrayShape (shapes_of entry.branches) Never)
+settled_breaches declared inputs end n entry settings (Map items selector processor) = []
+
+-- The rules of a state that has an entry: none further where its certified input isn't inhabited. A rule is passed over
+-- only where another broken one leaves it without a shape to look at.
 abbrev pub flow_breaches : Declared → (List ℕ → Option Shape) → Option Shape → List ℕ → Settings → Kind → Option StateShapes → List Breach
 flow_breaches declared inputs end n settings kind None = []
-flow_breaches declared inputs end n settings kind (Some entry) = if inhabited entry.input then breaches_then (work_breaches declared inputs end n entry settings kind) (effective_flow settings entry.input) ++ catcher_breaches inputs entry.input settings.catchers else []
+flow_breaches declared inputs end n settings kind (Some entry) = if inhabited entry.input then breaches_then (work_breaches declared inputs end n entry settings kind) (effective_flow settings entry.input) ++ (settled_breaches declared inputs end n entry settings kind ++ catcher_breaches inputs entry.input settings.catchers) else []
 
 -- every rule that is broken at a state, by its name, in a scope with that shape of its end
 abbrev pub state_breaches : Scope → Declared → Certificate → Option Shape → List ℕ → Settings → Kind → List Breach
