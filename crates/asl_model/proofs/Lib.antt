@@ -38,6 +38,7 @@ pub mod RunOrder
 pub mod RunPatterns
 pub mod RunPieces
 pub mod RunTemplates
+pub mod RunTrouble
 pub mod ShapeFields
 pub mod ShapeInhabited
 pub mod ShapeInside

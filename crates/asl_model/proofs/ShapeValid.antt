@@ -8,10 +8,12 @@ use Rattle.asl_model.specs.Shape.{Shape, Any, Never, NullShape, BooleanShape, In
 
 -- ---- mentions
 
+-- a mentioned name is found
 mention_found : {n : List ℕ} {shapes : FieldShapes} → IsMentioned n shapes → IsTrue (mentions n shapes)
 mention_found (mentioned_first {n = n} {shapes = shapes}) = or_left (bytes_eq n n) (mentions n shapes) ((bytes_eq-Decides n n).1 refl)
 mention_found (mentioned_later {n = n} {m = m} {shapes = shapes} h) = or_right (bytes_eq m n) (mentions n shapes) (mention_found h)
 
+-- a name that is found is mentioned
 found_mention : (n : List ℕ) (shapes : FieldShapes) → IsTrue (mentions n shapes) → IsMentioned n shapes
 found_mention n NoFieldShapes h = absurd (false≢true h)
 found_mention n (AndFieldShape m needed s shapes) h = go (or_cases (bytes_eq m n) (mentions n shapes) h) (found_mention n shapes)
@@ -20,10 +22,12 @@ found_mention n (AndFieldShape m needed s shapes) h = go (or_cases (bytes_eq m n
     go (inl same) later = subst (λ k. IsMentioned k (AndFieldShape m needed s shapes)) ((bytes_eq-Decides m n).0 same) mentioned_first
     go (inr there) later = mentioned_later (later there)
 
+-- so for each field of an object
 mentions_found : {fs : Fields} {shapes : FieldShapes} → AreMentioned fs shapes → IsTrue (all_mentioned shapes fs)
 mentions_found none_to_mention = refl
 mentions_found (and_mentioned {n = n} {fs = fs} {shapes = shapes} h further) = and_from (mentions n shapes) (all_mentioned shapes fs) (mention_found h) (mentions_found further)
 
+-- and the other way round
 found_mentions : (fs : Fields) (shapes : FieldShapes) → IsTrue (all_mentioned shapes fs) → AreMentioned fs shapes
 found_mentions NoFields shapes h = none_to_mention
 found_mentions (AndField n t fs) shapes h =
@@ -101,5 +105,6 @@ mutual
       let both = and_parts (there_and needed (has s) (field_named n fs)) (fields_have shapes fs) h in
       field_valid n needed s shapes fs (field_named n fs) refl both.0 (has_valid s) (fields_valid shapes fs both.1)
 
+-- both ways
 pub valid_exactly : (s : Shape) (t : Tree) → IsValid s t ↔ Has s t
 valid_exactly s t = (valid_has, has_valid s t)

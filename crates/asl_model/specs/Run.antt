@@ -2,11 +2,11 @@
 -- "Fallback States"). The profile chooses: an event is one move of one activity or one answer to one waiting task;
 -- events of different branches and iterations come in any order; waiting takes no time; an error name that isn't
 -- `States.ALL` matches itself alone.
-use Rattle.std.specs.Prelude.{◌≡◌, ◌≢◌, ◌⊎◌, ◌<◌, ℕ, zero, suc, List, [], ◌∷◌, ◌++◌, map, Bool, false, ◌||◌, nat_lt, bytes_eq, if◌then◌else◌, Option, Some, None, option_and_then, Result, Ok, Err, codes}
+use Rattle.std.specs.Prelude.{◌≡◌, ◌≢◌, ◌⊎◌, ◌<◌, ◌≤◌, ℕ, zero, suc, List, [], ◌∷◌, ◌++◌, map, Bool, false, ◌||◌, nat_lt, bytes_eq, if◌then◌else◌, Option, Some, None, option_and_then, Result, Ok, Err, codes}
 use Rattle.std.specs.Option.{option_map}
 use Rattle.asl_model.specs.Tree.{Tree, Text, Array, Object, Trees, NoTrees, AndTree, NoFields, AndField}
 use Rattle.asl_model.specs.Path.{Segment}
-use Rattle.asl_model.specs.Placing.{placed}
+use Rattle.asl_model.specs.Placing.{placed, Places}
 use Rattle.asl_model.specs.Faults.{ResultPathMatchFailure, Fault, error_name}
 use Rattle.asl_model.specs.Machine.{Retrier, Catcher, Settings, Scope, State, Kind, Pass, Task, Choice, Wait, Succeed, Fail, Parallel, Map, settings_of, kind_of, start_of, state_named, child_scope, empty_scope}
 use Rattle.asl_model.specs.Flow.{Work, Finishes, Leaves, FailsWith, Asks, Splits, Raises, at_output_path, output_of, first_move}
@@ -151,6 +151,50 @@ unless_retrying (Some i) otherwise = Retries i
 -- what comes of an error: a retrier that retries, else the first catcher that takes it, else the state fails
 abbrev pub trouble_of : Settings → Tree → List ℕ → List ℕ → List ℕ → Trouble
 trouble_of settings raw counts error cause = unless_retrying (retrying 0 settings.retriers counts error) (caught_by (catching 0 settings.catchers error) raw error cause)
+
+-- the error's name appears in an `ErrorEquals`: as itself, or by `States.ALL`, which stands for every name
+pub data AppearsIn : List ℕ → List (List ℕ) → Type 0 where
+  appears_as_itself : {error : List ℕ} {others : List (List ℕ)} → AppearsIn error (error ∷ others)
+  appears_by_wildcard : {error : List ℕ} {others : List (List ℕ)} → AppearsIn error (codes "States.ALL" ∷ others)
+  appears_later : {error n : List ℕ} {others : List (List ℕ)} → AppearsIn error others → AppearsIn error (n ∷ others)
+
+-- the retrier takes the error
+abbrev pub RetrierTakes : List ℕ → Retrier → Type 0
+RetrierTakes error retrier = AppearsIn error retrier.error_equals
+
+-- the catcher takes the error
+abbrev pub CatcherTakes : List ℕ → Catcher → Type 0
+CatcherTakes error catcher = AppearsIn error catcher.error_equals
+
+-- the first of a list of which something holds, and its number, counted from 0
+pub data IsFirst {A : Type 0} (P : A → Type 0) : List A → ℕ → A → Type 0 where
+  first_is_this : {a : A} {others : List A} → P a → IsFirst P (a ∷ others) 0 a
+  first_is_later : {a b : A} {others : List A} {i : ℕ} → (P b → ⊥) → IsFirst P others i a → IsFirst P (b ∷ others) (suc i) a
+
+-- it holds of none of the list
+pub data HoldsOfNone {A : Type 0} (P : A → Type 0) : List A → Type 0 where
+  none_is_left : HoldsOfNone P []
+  nor_of_this : {b : A} {others : List A} → (P b → ⊥) → HoldsOfNone P others → HoldsOfNone P (b ∷ others)
+
+-- an error isn't retried: no retrier takes it, or the first that does has no attempt left
+pub data IsNotRetried (retriers : List Retrier) (counts : List ℕ) (error : List ℕ) : Type 0 where
+  no_retrier_takes : HoldsOfNone (RetrierTakes error) retriers → IsNotRetried retriers counts error
+  no_attempt_is_left : {i : ℕ} {retrier : Retrier} → IsFirst (RetrierTakes error) retriers i retrier → retrier.max_attempts ≤ count_at i counts → IsNotRetried retriers counts error
+
+-- what a catcher hands to its next state: the raw input with the error output placed at its `ResultPath`; where that
+-- is null, the raw input itself
+pub data HandsOn : Option (List Segment) → Tree → Tree → Tree → Type 0 where
+  hands_on_raw : {raw output : Tree} → HandsOn None raw output raw
+  hands_on_placed : {p : List Segment} {raw output input : Tree} → Places p output raw input → HandsOn (Some p) raw output input
+
+-- What comes of an error in a state with that raw input and those counts. The first retrier that takes it retries,
+-- where it has an attempt left. Otherwise the first catcher that takes it hands on what it places, or nothing can be
+-- placed there; where no catcher takes it, the state fails. There is no other case.
+pub data ComesTo (settings : Settings) (raw : Tree) (counts : List ℕ) (error cause : List ℕ) : Trouble → Type 0 where
+  is_retried : {i : ℕ} {retrier : Retrier} → IsFirst (RetrierTakes error) settings.retriers i retrier → count_at i counts < retrier.max_attempts → ComesTo settings raw counts error cause (Retries i)
+  is_caught : {i : ℕ} {catcher : Catcher} {input : Tree} → IsNotRetried settings.retriers counts error → IsFirst (CatcherTakes error) settings.catchers i catcher → HandsOn catcher.result_path raw (error_output error cause) input → ComesTo settings raw counts error cause (Catches i catcher.next input)
+  is_no_fit : {i : ℕ} {catcher : Catcher} → IsNotRetried settings.retriers counts error → IsFirst (CatcherTakes error) settings.catchers i catcher → ((input : Tree) → HandsOn catcher.result_path raw (error_output error cause) input → ⊥) → ComesTo settings raw counts error cause Misfits
+  is_not_caught : IsNotRetried settings.retriers counts error → HoldsOfNone (CatcherTakes error) settings.catchers → ComesTo settings raw counts error cause Escapes
 
 -- the step that comes of an error in state n
 abbrev pub by_trouble : List ℕ → Tree → List ℕ → List ℕ → List ℕ → Trouble → Step

@@ -1,14 +1,14 @@
 //! Laws about runs. Each function here does nothing: its contract is the law.
 
-ghost use Rattle.std.specs.Prelude.{◌≡◌, ◌↔◌, ℕ, List, Option, Some, is_some, IsTrue};
+ghost use Rattle.std.specs.Prelude.{◌≡◌, ◌≢◌, ◌↔◌, ℕ, suc, List, Option, Some, is_some, IsTrue};
 ghost use Rattle.asl_model.specs.Tree.{Tree};
 ghost use Rattle.asl_model.specs.Path.{Segment, named_by, Names};
 ghost use Rattle.asl_model.specs.Placing.{placed, Places};
 ghost use Rattle.asl_model.specs.Intrinsic.{Item, Pieces, cut_at_holes, ArePiecesOf};
 ghost use Rattle.asl_model.specs.Template.{Template, template_value, IsInOrder, TellsLeastFailure};
 ghost use Rattle.asl_model.specs.Test.{PatternPart, is_cut_by, IsCutBy};
-ghost use Rattle.asl_model.specs.Machine.{Scope};
-ghost use Rattle.asl_model.specs.Run.{Activity, Action, Event, Step, activity_at, step_at, run_of, trace, want_of, enabled, AreApart, Commute, Enables, AreInLexicographicOrder};
+ghost use Rattle.asl_model.specs.Machine.{Scope, Settings};
+ghost use Rattle.asl_model.specs.Run.{Activity, Action, Event, Step, activity_at, step_at, run_of, trace, want_of, enabled, count_at, one_higher, Trouble, trouble_of, ComesTo, AreApart, Commute, Enables, AreInLexicographicOrder};
 ghost use Rattle.asl_model.specs.Certificate.{Declared, Certificate, IsClosed, Obeys, TellsNoFault, RunIsAsCertified, ActivitiesAreAsCertified, MovesOn, Works, Nests, IsKeptBy};
 
 /// Closed runs never fault: where a certificate is closed for a machine and declared shapes, then for every input and
@@ -92,4 +92,16 @@ pub fn cutting_gives_exactly_the_pieces()
 /// filled, where no place fails.
 pub fn template_faults_are_those_of_the_least_place()
     ensures { (input : Tree) (item : Option Item) (t : Template) → IsInOrder t → TellsLeastFailure input item t (template_value t input item) }
+{}
+
+/// What comes of an error in a state is exactly what the rules of retriers and catchers say: it is retried, or caught,
+/// or its error output can't be placed, or the state fails.
+pub fn trouble_is_exactly_what_comes()
+    ensures { (settings : Settings) (raw : Tree) (counts error cause : List ℕ) (t : Trouble) → ComesTo settings raw counts error cause t ↔ trouble_of settings raw counts error cause ≡ t }
+{}
+
+/// Each retrier counts its own attempts: a retry makes its count one higher, and leaves the others.
+pub fn each_retrier_counts_its_own_attempts()
+    ensures own { (i : ℕ) (counts : List ℕ) → count_at i (one_higher i counts) ≡ suc (count_at i counts) }
+    ensures others { (i j : ℕ) (counts : List ℕ) → i ≢ j → count_at j (one_higher i counts) ≡ count_at j counts }
 {}
