@@ -1,9 +1,3 @@
-pub mod CheckerFlows
-pub mod DefinitionLookups
-pub mod DefinitionServed
-pub mod DefinitionStates
-pub mod DefinitionVerdicts
 pub mod LineSteps
-pub mod ShapeParts
 pub mod Slices
 pub mod WriteSteps

@@ -1,7 +1,7 @@
 //! How a run of the program ends.
 
 use crate::refusals::RunFault;
-use crate::verdicts::Verdict;
+use asl_check::Verdict;
 
 /// What a run of the program ends with.
 #[derive(Debug, Drop)]

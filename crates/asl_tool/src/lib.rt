@@ -5,28 +5,23 @@
 //! [`closing`] says how a program ends that did so.
 #![tactic(auto)]
 
-mod checker;
 mod chunks;
-mod definition;
 mod endings;
 mod lines;
-mod looking;
 mod printing;
-mod records;
 mod refusals;
 mod sinks;
 mod sources;
 #[cfg(test)]
 mod tests;
-mod verdicts;
 mod verifying;
 
+pub use asl_check::{Finding, FindingFault, Verdict};
+pub use asl_machine::{DefFault, DefRefusal};
+pub use asl_records::{RecordFault, RecordRefusal};
 pub use endings::Closing;
 pub use printing::{closing, verdict_text};
-pub use refusals::{
-    DefFault, DefRefusal, RecordFault, RecordRefusal, RunFault, TextFault, TextRefusal, Which,
-};
+pub use refusals::{RunFault, TextFault, TextRefusal, Which};
 pub use sinks::{Sink, ToWrite};
 pub use sources::{Failed, FromRead, Source};
-pub use verdicts::{Finding, FindingFault, Verdict};
 pub use verifying::{check_lines, verify_texts};

@@ -2,13 +2,14 @@
 
 ghost use Rattle.std.specs.Prelude.{◌≡◌, ◌++◌, IfOk, string_bytes, codes, decimal};
 ghost use Rattle.asl_model.specs.Printed.{quoted_name, finding_line, finding_lines, verdict_text, verdict_status, place_text, refusal_text, refusal_line, refusal_status, out_of_memory, fault_line, fault_status, closing_line, closing_status};
-ghost use Rattle.asl_tool.specs.View.{finding_view, findings_view, verdict_view, which_view, tree_refusal_view, def_refusal_view, record_refusal_view, text_fault_view, run_fault_view, closing_view};
+ghost use Rattle.asl_check.specs.View.{finding_view, findings_view, verdict_view};
+ghost use Rattle.asl_tool.specs.View.{which_view, tree_refusal_view, def_refusal_view, record_refusal_view, text_fault_view, run_fault_view, closing_view};
 
 use crate::endings::Closing;
-use crate::refusals::{
-    DefFault, DefRefusal, RecordFault, RecordRefusal, RunFault, TextFault, Which,
-};
-use crate::verdicts::{Finding, Verdict};
+use crate::refusals::{RunFault, TextFault, Which};
+use asl_check::{Finding, Verdict};
+use asl_machine::{DefFault, DefRefusal};
+use asl_records::{RecordFault, RecordRefusal};
 use asl_shape::ShapeRefusal;
 use asl_tree::{OutOfMemory, Tree, TreeRefusal, to_text};
 use std::alloc::Global;

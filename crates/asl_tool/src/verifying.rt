@@ -4,18 +4,18 @@ ghost use Rattle.std.specs.Prelude.{IsTrue, IfOk, IfErr, OnOk};
 ghost use Rattle.std.specs.Io.KnownBytes.{Appends};
 ghost use Rattle.asl_model.specs.Printed.{verdict_text};
 ghost use Rattle.asl_tool.specs.Lines.{NoLineIsLong};
-ghost use Rattle.asl_tool.specs.View.{verdict_view};
+ghost use Rattle.asl_check.specs.View.{verdict_view};
 ghost use Rattle.asl_tool.specs.Writing.{CheckFaultStands};
 
-use crate::checker::check;
-use crate::definition::{Machine, read_machine};
 use crate::lines::read_lines;
 use crate::printing::verdict_text;
-use crate::records::{Certificate, Declared, read_certificate, read_declared, tree_fault};
-use crate::refusals::{DefFault, RunFault, TextFault, TextRefusal, Which};
+use crate::refusals::{RunFault, TextFault, TextRefusal, Which};
 use crate::sinks::{Sink, write_all};
 use crate::sources::Source;
-use crate::verdicts::Verdict;
+use asl_check::{Verdict, check};
+use asl_machine::{DefFault, Machine};
+use asl_records::{Certificate, Declared, ReadFault, read_certificate, read_declared};
+use asl_tree::TreeRefusal;
 use serde_json::Value;
 use std::alloc::Global;
 
@@ -89,7 +89,7 @@ pub fn check_lines<R: Source, W: Sink>(
 /// The machine that a text stands for.
 fn machine_text(alloc: Global, text: &[u8]) -> Result<Machine, TextFault> {
     let value = json_value(alloc, text)?;
-    match read_machine(alloc, &value) {
+    match asl_machine::read(alloc, &value) {
         Ok(machine) => Ok(machine),
         Err(refusal) => match refusal.fault {
             DefFault::OutOfMemory => Err(TextFault::OutOfMemory),
@@ -100,12 +100,18 @@ fn machine_text(alloc: Global, text: &[u8]) -> Result<Machine, TextFault> {
 
 /// The declared shapes that a text stands for.
 fn declared_text(alloc: Global, text: &[u8]) -> Result<Declared, TextFault> {
-    read_declared(alloc, json_value(alloc, text)?)
+    match read_declared(alloc, json_value(alloc, text)?) {
+        Ok(declared) => Ok(declared),
+        Err(fault) => Err(record_fault(fault)),
+    }
 }
 
 /// The certificate that a text stands for.
 fn certificate_text(alloc: Global, text: &[u8]) -> Result<Certificate, TextFault> {
-    read_certificate(alloc, json_value(alloc, text)?)
+    match read_certificate(alloc, json_value(alloc, text)?) {
+        Ok(certificate) => Ok(certificate),
+        Err(fault) => Err(record_fault(fault)),
+    }
 }
 
 /// The JSON value that a text reads as.
@@ -113,6 +119,24 @@ fn json_value(alloc: Global, text: &[u8]) -> Result<Value, TextFault> {
     match asl_tree::read_value(alloc, text) {
         Ok(value) => Ok(value),
         Err(refusal) => Err(tree_fault(refusal)),
+    }
+}
+
+/// What is wrong with a text that isn't the tree it should be.
+fn tree_fault(refusal: TreeRefusal) -> TextFault {
+    match refusal {
+        TreeRefusal::OutOfMemory => TextFault::OutOfMemory,
+        TreeRefusal::NotJson => TextFault::Tree(TreeRefusal::NotJson),
+        TreeRefusal::NotWhole => TextFault::Tree(TreeRefusal::NotWhole),
+    }
+}
+
+/// What is wrong with a text that isn't the record it should be.
+fn record_fault(fault: ReadFault) -> TextFault {
+    match fault {
+        ReadFault::NotWhole => TextFault::Tree(TreeRefusal::NotWhole),
+        ReadFault::Record(refusal) => TextFault::Record(refusal),
+        ReadFault::OutOfMemory => TextFault::OutOfMemory,
     }
 }
 

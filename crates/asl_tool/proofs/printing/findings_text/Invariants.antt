@@ -1,6 +1,6 @@
 use Rattle.std.proofs.Common.{◌≡◌, ◌++◌, drop, string_bytes}
 use Rattle.asl_model.specs.Printed.{finding_lines}
-use Rattle.asl_tool.specs.View.{findings_view}
+use Rattle.asl_check.specs.View.{findings_view}
 use Rattle.asl_tool.proofs.printing.findings_text.Given as goal
 
 -- the lines of all findings are those so far and those of the findings left

@@ -1,0 +1,3 @@
+pub mod Checking
+pub mod Looking
+pub mod View

@@ -1,0 +1,9 @@
+//! Checking a certificate of shapes against a machine and its declared shapes.
+#![tactic(auto)]
+
+mod checker;
+mod looking;
+mod verdicts;
+
+pub use checker::check;
+pub use verdicts::{Finding, FindingFault, Verdict};

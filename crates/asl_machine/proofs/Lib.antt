@@ -1,0 +1,4 @@
+pub mod Lookups
+pub mod Served
+pub mod States
+pub mod Verdicts

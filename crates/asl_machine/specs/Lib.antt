@@ -1,0 +1,3 @@
+pub mod Definition
+pub mod Machine
+pub mod View

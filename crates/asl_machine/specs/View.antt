@@ -1,0 +1,27 @@
+-- What the faults of a definition stand for in the definitions.
+use Rattle.std.specs.Prelude.{Option, Some, None}
+use Rattle.asl_model.specs.DefinitionTable as definition
+use Rattle.asl_machine.specs.declared.refusals.DefFault.{DefFault}
+use Rattle.asl_machine.specs.declared.refusals.DefFault.TheVariants as def
+
+-- the fault of a definition; none is want of memory
+abbrev pub def_fault_view : DefFault → Option definition.DefFault
+def_fault_view def.NotObject = Some definition.NotObject
+def_fault_view def.MissingField = Some definition.MissingField
+def_fault_view def.WrongKind = Some definition.WrongKind
+def_fault_view def.UnknownField = Some definition.UnknownField
+def_fault_view def.LeftOut = Some definition.LeftOut
+def_fault_view def.UnknownType = Some definition.UnknownType
+def_fault_view def.NameTooLong = Some definition.NameTooLong
+def_fault_view def.DuplicateName = Some definition.DuplicateName
+def_fault_view def.NoSuchState = Some definition.NoSuchState
+def_fault_view def.NextOrEnd = Some definition.NextOrEnd
+def_fault_view def.BadPath = Some definition.BadPath
+def_fault_view def.BadTemplate = Some definition.BadTemplate
+def_fault_view def.BadRule = Some definition.BadRule
+def_fault_view def.BadErrorEquals = Some definition.BadErrorEquals
+def_fault_view def.EmptyList = Some definition.EmptyList
+def_fault_view def.HeartbeatNotSmaller = Some definition.HeartbeatNotSmaller
+def_fault_view def.TooLarge = Some definition.TooLarge
+def_fault_view def.OutOfMemory = None
+def_fault_view def.NotWhole = Some definition.NotWhole

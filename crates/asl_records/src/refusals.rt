@@ -1,0 +1,82 @@
+// Why declared shapes or a certificate are refused.
+
+ghost use Rattle.std.specs.Prelude.{◌≡◌, IfSome};
+
+use asl_shape::ShapeRefusal;
+use std::alloc::Global;
+
+/// What is wrong with declared shapes or a certificate.
+#[derive(Debug, PartialEq, Drop)]
+pub enum RecordFault {
+    /// The record or one of its entries is no object.
+    NotObject,
+    /// A field that is required isn't there.
+    MissingField,
+    /// There is no such field.
+    UnknownField,
+    /// A field has a value of another kind.
+    WrongKind,
+    /// A shape is none.
+    BadShape(ShapeRefusal),
+    /// The certificate has another version.
+    BadVersion,
+    /// There was no memory to tell.
+    OutOfMemory,
+}
+
+impl RecordFault {
+    ghost use Rattle.asl_model.specs.Printed.{record_fault_name};
+    ghost use Rattle.asl_records.specs.View.{record_fault_view};
+
+    /// The fault's name, as it is printed.
+    pub fn name(&self) -> &'static str
+        ensures { IfSome (record_fault_view self.now) (λ fault. result.now ≡ record_fault_name fault) }
+    {
+        match self {
+            RecordFault::NotObject => "NotObject",
+            RecordFault::MissingField => "MissingField",
+            RecordFault::UnknownField => "UnknownField",
+            RecordFault::WrongKind => "WrongKind",
+            RecordFault::BadShape(_) => "BadShape",
+            RecordFault::BadVersion => "BadVersion",
+            RecordFault::OutOfMemory => "OutOfMemory",
+        }
+    }
+}
+
+/// Why declared shapes or a certificate are refused: the fault, the name of its entry, empty for the record itself, and
+/// the field.
+#[derive(Debug, PartialEq, Drop)]
+pub struct RecordRefusal {
+    pub fault: RecordFault,
+    pub name: String,
+    pub field: String,
+}
+
+impl RecordRefusal {
+    /// A fault at an entry and a field. Where there is no memory for their names, that is what is told.
+    pub(crate) fn new(alloc: Global, fault: RecordFault, name: &str, field: &str) -> RecordRefusal {
+        match (
+            String::from_str(alloc, name),
+            String::from_str(alloc, field),
+        ) {
+            (Ok(name), Ok(field)) => RecordRefusal { fault, name, field },
+            _ => RecordRefusal {
+                fault: RecordFault::OutOfMemory,
+                name: String::new(alloc),
+                field: String::new(alloc),
+            },
+        }
+    }
+}
+
+/// Why a JSON value is read as no declared shapes or no certificate.
+#[derive(Debug, PartialEq, Drop)]
+pub enum ReadFault {
+    /// A number in it isn't whole, or is out of range.
+    NotWhole,
+    /// A rule of records is broken.
+    Record(RecordRefusal),
+    /// There was no memory to read it. No other fault says so.
+    OutOfMemory,
+}
