@@ -1,7 +1,7 @@
 -- What findings and verdicts stand for in the definitions.
 use Rattle.std.specs.Prelude.{List, map, string_bytes}
 use Rattle.asl_model.specs.Finding as finding
-use Rattle.asl_model.specs.Printed as printed
+use Rattle.asl_model.specs.Verdict as verdicts
 use Rattle.asl_check.specs.declared.verdicts.FindingFault.{FindingFault}
 use Rattle.asl_check.specs.declared.verdicts.FindingFault.TheVariants as found
 use Rattle.asl_check.specs.declared.verdicts.Finding.{Finding}
@@ -35,6 +35,6 @@ abbrev pub findings_view : List Finding → List finding.Finding
 findings_view fs = map finding_view fs
 
 -- a verdict
-abbrev pub verdict_view : Verdict → printed.Verdict
-verdict_view verdict.Yes = printed.Accepted
-verdict_view (verdict.No fs) = printed.Rejected (findings_view fs.items)
+abbrev pub verdict_view : Verdict → verdicts.Verdict
+verdict_view verdict.Yes = verdicts.Accepted
+verdict_view (verdict.No fs) = verdicts.Rejected (findings_view fs.items)

@@ -7,7 +7,8 @@ use Rattle.asl_model.specs.Records as records
 use Rattle.asl_model.specs.DefinitionTable as definition
 use Rattle.asl_model.specs.ShapeSpelling.{BadType}
 use Rattle.asl_model.specs.Texts.{DefinitionText, DeclaredText, CertificateText, AnswersText, NotJson, BadDefinition, BadRecord, BadAnswer, NoMemory}
-use Rattle.asl_model.specs.Printed.{Accepted, Rejected, verdict_text, refusal_line, refusal_status, ClosingVerdict, ClosingRun, ClosingCertificate, ClosingNotSettled, ClosingFault, RefusedText, TooLong, ReadFailed, WriteFailed, OutOfMemory, RunOutput, RunFailed, NoAnswer, StepsSpent, InputShape, AnswerShape, closing_line, closing_status, definition_line, declared_line, certificate_line}
+use Rattle.asl_model.specs.Verdict.{Accepted, Rejected}
+use Rattle.asl_model.specs.Printed.{verdict_text, refusal_line, refusal_status, ClosingVerdict, ClosingRun, ClosingCertificate, ClosingNotSettled, ClosingFault, RefusedText, TooLong, ReadFailed, WriteFailed, OutOfMemory, RunOutput, RunFailed, NoAnswer, StepsSpent, InputShape, AnswerShape, closing_line, closing_status, definition_line, declared_line, certificate_line}
 
 yes_line : verdict_text Accepted ≡ codes "yes\n"
 yes_line = refl

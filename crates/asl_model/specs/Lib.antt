@@ -26,4 +26,5 @@ pub mod Test
 pub mod Texts
 pub mod TracePrinted
 pub mod Tree
+pub mod Verdict
 pub mod Written

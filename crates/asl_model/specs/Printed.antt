@@ -4,6 +4,7 @@ use Rattle.asl_model.specs.Tree.{Text}
 use Rattle.asl_model.specs.Json.{compact_text}
 use Rattle.asl_model.specs.Finding as finding
 use Rattle.asl_model.specs.Finding.{Finding, FindingFault}
+use Rattle.asl_model.specs.Verdict.{Verdict, Accepted, Rejected}
 use Rattle.asl_model.specs.Records as records
 use Rattle.asl_model.specs.Records.{RecordFault, RecordComplaint}
 use Rattle.asl_model.specs.DefinitionTable as definition
@@ -19,11 +20,6 @@ abbrev pub quoted_name : List ℕ → List ℕ
 quoted_name n = compact_text (Text n)
 
 -- ---- verdicts
-
--- yes, or the findings
-pub data Verdict : Type 0 where
-  Accepted : Verdict
-  Rejected : List Finding → Verdict
 
 -- the printed name of a finding
 abbrev pub finding_name : FindingFault → List ℕ

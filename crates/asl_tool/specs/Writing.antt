@@ -1,7 +1,8 @@
 -- What a write of several steps leaves.
 use Rattle.std.specs.Prelude.{◌≡◌, ℕ, List, ◌++◌, Option, Bool, IsTrue}
 use Rattle.std.specs.Io.KnownBytes.{Appends, Keeps}
-use Rattle.asl_model.specs.Printed.{Verdict, verdict_text}
+use Rattle.asl_model.specs.Verdict.{Verdict}
+use Rattle.asl_model.specs.Printed.{verdict_text}
 use Rattle.asl_tool.specs.Lines.{SomeLineIsLong, NoLineIsLong}
 use Rattle.asl_tool.specs.declared.refusals.RunFault.{RunFault}
 use Rattle.asl_tool.specs.declared.refusals.RunFault.TheVariants as run
