@@ -1,11 +1,42 @@
--- What the faults of declared shapes and certificates stand for in the definitions.
-use Rattle.std.specs.Prelude.{Option, Some, None, option_map}
+-- What declared shapes, certificates and their faults stand for in the definitions.
+use Rattle.std.specs.Prelude.{ℕ, List, [], map, Option, Some, None, option_map, String, string_bytes}
+use Rattle.std.specs.declared.alloc.Global.{Global}
+use Rattle.asl_model.specs.Certificate as model
 use Rattle.asl_model.specs.Records as records
 use Rattle.asl_model.specs.ShapeSpelling as shapes
 use Rattle.asl_shape.specs.declared.ShapeRefusal.{ShapeRefusal}
 use Rattle.asl_shape.specs.declared.ShapeRefusal.TheVariants as shape
+use Rattle.asl_shape.specs.View.{view}
+use Rattle.asl_records.specs.declared.records.Declared.{Declared}
+use Rattle.asl_records.specs.declared.records.TaskShapes.{TaskShapes}
+use Rattle.asl_records.specs.declared.records.Certificate.{Certificate}
+use Rattle.asl_records.specs.declared.records.StateShapes.{StateShapes}
 use Rattle.asl_records.specs.declared.refusals.RecordFault.{RecordFault}
 use Rattle.asl_records.specs.declared.refusals.RecordFault.TheVariants as kept
+
+-- the shapes of a task
+abbrev pub task_view : TaskShapes → model.TaskShapes
+task_view task = record { takes = view task.takes; gives = view task.gives }
+
+-- the tasks of a map, in the order of their names
+abbrev pub tasks_view : List (String Global × TaskShapes) → List (List ℕ × model.TaskShapes)
+tasks_view entries = map (λ entry. (string_bytes entry.0, task_view entry.1)) entries
+
+-- what is declared
+abbrev pub declared_view : Declared → model.Declared
+declared_view declared = record { input = view declared.input; tasks = tasks_view declared.tasks.entries }
+
+-- what is certified of a state; none of the types that are served has branches or items
+abbrev pub entry_view : StateShapes → model.StateShapes
+entry_view entry = record { input = view entry.input; output = view entry.output; branches = []; item = None }
+
+-- the entries of a map, in the order of their names
+abbrev pub entries_view : List (String Global × StateShapes) → List (List ℕ × model.StateShapes)
+entries_view entries = map (λ entry. (string_bytes entry.0, entry_view entry.1)) entries
+
+-- a certificate
+abbrev pub certificate_view : Certificate → model.Certificate
+certificate_view certificate = record { output = view certificate.output; states = entries_view certificate.states.entries }
 
 -- the fault of a shape's spelling; none is want of memory
 abbrev pub shape_refusal_view : ShapeRefusal → Option shapes.ShapeFault
