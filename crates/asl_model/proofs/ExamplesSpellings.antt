@@ -3,6 +3,7 @@ use Rattle.std.specs.Prelude.{◌≡◌, List, [], ◌∷◌, ℕ, true, false, 
 use Rattle.serde_json.specs.Read.{read}
 use Rattle.serde_json.proofs.OnLiterals.{serde_json_on_literals}
 use Rattle.asl_model.specs.Json.{tree_of}
+use Rattle.asl_model.specs.Tree.{Boolean, Text, Array, Object, NoTrees, AndTree, NoFields, AndField}
 use Rattle.asl_model.specs.Shape.{Shape, Any, Never, IntegerShape, StringShape, ArrayShape, ObjectShape, NoShapes, AndShape, NoFieldShapes, AndFieldShape}
 use Rattle.asl_model.specs.ShapeSpelling.{shape_of, shape_faults, ShapeFault, NotAShape, Keyword, BadType, MinItems}
 
@@ -36,6 +37,11 @@ a_list_is_right = refl
 needed_but_closed : shape_in (codes "{\"type\":\"object\",\"required\":[\"a\"],\"additionalProperties\":false}") ≡ Some (ObjectShape (AndFieldShape (codes "a") true Never NoFieldShapes) false)
 unfolding serde_json_on_literals shape_in
 needed_but_closed = refl
+
+-- Properties out of byte order, which no text reads as: a needed field that is mentioned is needed where it stands, and one
+-- that isn't comes in front of the first greater name.
+out_of_order : shape_of (Object (AndField (codes "type") (Text (codes "object")) (AndField (codes "required") (Array (AndTree (Text (codes "a")) (AndTree (Text (codes "b")) NoTrees))) (AndField (codes "properties") (Object (AndField (codes "c") (Boolean true) (AndField (codes "a") (Boolean false) NoFields))) NoFields)))) ≡ ObjectShape (AndFieldShape (codes "b") true Any (AndFieldShape (codes "c") false Any (AndFieldShape (codes "a") true Never NoFieldShapes))) true
+out_of_order = refl
 
 too_few_items : faults_in (codes "{\"type\":\"array\",\"prefixItems\":[true],\"minItems\":0}") ≡ Some (MinItems ∷ [])
 unfolding serde_json_on_literals faults_in

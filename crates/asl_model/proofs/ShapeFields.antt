@@ -5,8 +5,8 @@ use Rattle.std.proofs.lemmas.Bool.{and_parts, and_from, false≢true}
 use Rattle.std.proofs.lemmas.Slice.Eq.{bytes_eq-Decides}
 use Rattle.asl_model.specs.Tree.{Tree, Fields, NoFields, AndField, field_named, comes_before}
 use Rattle.asl_model.specs.Placing.{set_field, insert_field, without_field}
-use Rattle.asl_model.specs.Shape.{Shape, FieldShapes, NoFieldShapes, AndFieldShape, Has, has, fields_have, there_and, mentions, all_mentioned}
-use Rattle.asl_model.specs.ShapeOrder.{set_mention, insert_mention, without_mention, with_mention_unless}
+use Rattle.asl_model.specs.Shape.{Shape, FieldShapes, NoFieldShapes, AndFieldShape, Has, has, fields_have, there_and, mentions, all_mentioned, insert_mention}
+use Rattle.asl_model.specs.ShapeOrder.{set_mention, without_mention, with_mention_unless}
 use Rattle.asl_model.proofs.ShapeInside.{all_mentioned-from, there-mentioned}
 
 -- The fields of an object with one set

@@ -4,10 +4,10 @@ use Rattle.std.specs.Ordering.{nat_cmp, match_ordering, int_eq, ordering_reverse
 use Rattle.std.specs.Cmp.Lexicographic.{slice_cmp}
 use Rattle.std.proofs.lemmas.Bool.{and_from, or_from, not_from_false, false≢true}
 use Rattle.std.proofs.lemmas.Bool.Decides.{Decides-int_eq}
-use Rattle.std.proofs.lemmas.Cmp.{nat_list_cmp_total, tied_itself}
+use Rattle.std.proofs.lemmas.Cmp.{nat_list_cmp_total, nat_list_eq_equiv}
 use Rattle.asl_model.specs.Tree.{Tree, Integer, Array, Object, Trees, comes_before, count}
-use Rattle.asl_model.specs.Shape.{Shape, Any, Never, NullShape, BooleanShape, IntegerShape, StringShape, ArrayShape, ObjectShape, Shapes, NoShapes, AndShape, FieldShapes, NoFieldShapes, AndFieldShape, before_mentions, IsProperShape, AreProperShapes, AreProperFields}
-use Rattle.asl_model.specs.ShapeSpelling.{shape_of, shapes_of, element_shapes, properties_of, field_shapes, shape_faults, shapes_faults, element_faults, properties_faults, field_faults, min_items_faults, elements_in, required_faults, texts_among, are_texts, are_distinct, is_among, with_needed, with_all_needed, unless, NotAShape, MinItems, SpellsShape}
+use Rattle.asl_model.specs.Shape.{Shape, Any, Never, NullShape, BooleanShape, IntegerShape, StringShape, ArrayShape, ObjectShape, Shapes, NoShapes, AndShape, FieldShapes, NoFieldShapes, AndFieldShape, mentions, before_mentions, insert_mention, IsProperShape, AreProperShapes, AreProperFields}
+use Rattle.asl_model.specs.ShapeSpelling.{shape_of, shapes_of, element_shapes, properties_of, field_shapes, shape_faults, shapes_faults, element_faults, properties_faults, field_faults, min_items_faults, elements_in, required_faults, texts_among, are_texts, are_distinct, is_among, with_mention_needed, with_needed, with_all_needed, unless, NotAShape, MinItems, SpellsShape}
 use Rattle.asl_model.specs.ShapeOrder.{is_any_shape}
 use Rattle.asl_model.specs.ShapeFlow.{how_many_shapes}
 use Rattle.asl_model.specs.Written.{some_shapes, some_fields, needed_names, some_names, as_texts, array_fields, object_fields, written_shape, written_shapes, written_fields}
@@ -116,14 +116,23 @@ before_needed n (AndFieldShape m false s shapes) h p = before_needed n shapes (b
 
 -- ---- needed names
 
+front_in_both : (n : List ℕ) (b : Bool) (s : Shape) (test : Bool) (these others : FieldShapes) → (if test then AndFieldShape n b s these else AndFieldShape n b s others) ≡ AndFieldShape n b s (if test then these else others)
+front_in_both n b s true these others = refl
+front_in_both n b s false these others = refl
+
+-- a mention stays in front of the needed fields whose names come behind
+past_one : (extra : Bool) (n : List ℕ) (b : Bool) (s : Shape) (m : List ℕ) (shapes : FieldShapes) → IsTrue (comes_before n m) → with_needed extra m (AndFieldShape n b s shapes) ≡ AndFieldShape n b s (with_needed extra m shapes)
+past_one extra n b s m shapes h =
+    rw (comes_before-other n m h, greater m n h) (front_in_both n b s (mentions m shapes) (with_mention_needed m shapes) (insert_mention m true (if extra then Any else Never) shapes))
+
+-- so does one in front of several of them
 past : (extra : Bool) (n : List ℕ) (b : Bool) (s : Shape) (ns : List (List ℕ)) (shapes : FieldShapes) → ComesBeforeAll n ns → with_all_needed extra ns (AndFieldShape n b s shapes) ≡ AndFieldShape n b s (with_all_needed extra ns shapes)
 past extra n b s [] shapes h = refl
-past extra n b s (m ∷ ns) shapes h =
-    ap (λ o. with_all_needed extra ns (match_ordering o (AndFieldShape m true (if extra then Any else Never) (AndFieldShape n b s shapes)) (AndFieldShape n true s shapes) (AndFieldShape n b s (with_needed extra m shapes)))) (greater m n h.0)
-    ∙ past extra n b s ns (with_needed extra m shapes) h.1
+past extra n b s (m ∷ ns) shapes h = ap (with_all_needed extra ns) (past_one extra n b s m shapes h.0) ∙ past extra n b s ns (with_needed extra m shapes) h.1
 
+-- a field that isn't needed becomes so where it stands
 own : (extra : Bool) (n : List ℕ) (s : Shape) (shapes : FieldShapes) → with_needed extra n (AndFieldShape n false s shapes) ≡ AndFieldShape n true s shapes
-own extra n s shapes = ap (λ o. match_ordering o (AndFieldShape n true (if extra then Any else Never) (AndFieldShape n false s shapes)) (AndFieldShape n true s shapes) (AndFieldShape n false s (with_needed extra n shapes))) (tied_itself nat_list_cmp_total n)
+own extra n s shapes = rw (nat_list_eq_equiv.refl n) refl
 
 restored : (extra : Bool) (shapes : FieldShapes) → AreProperFields shapes → with_all_needed extra (needed_names shapes) (unneeded shapes) ≡ shapes
 restored extra NoFieldShapes p = refl

@@ -1,5 +1,5 @@
 -- Shapes, and which trees have them (a subset of JSON Schema 2020-12, Core and Validation).
-use Rattle.std.specs.Prelude.{◌≡◌, ℕ, ℤ, List, Bool, true, false, ◌&&◌, ◌||◌, not, IsTrue, IsUtf8, Option, Some, None, bytes_eq}
+use Rattle.std.specs.Prelude.{◌≡◌, ℕ, ℤ, List, Bool, true, false, ◌&&◌, ◌||◌, not, IsTrue, IsUtf8, Option, Some, None, bytes_eq, if◌then◌else◌}
 use Rattle.asl_model.specs.Tree.{Tree, Null, Boolean, Integer, Text, Array, Object, Trees, NoTrees, AndTree, Fields, NoFields, AndField, field_named, comes_before}
 
 mutual
@@ -171,6 +171,11 @@ mutual
 abbrev pub before_mentions : List ℕ → FieldShapes → Bool
 before_mentions n NoFieldShapes = true
 before_mentions n (AndFieldShape m needed s shapes) = comes_before n m
+
+-- the mentions with one more, in front of the first whose name comes behind
+abbrev pub insert_mention : List ℕ → Bool → Shape → FieldShapes → FieldShapes
+insert_mention n needed s NoFieldShapes = AndFieldShape n needed s NoFieldShapes
+insert_mention n needed s (AndFieldShape m other t shapes) = if comes_before n m then AndFieldShape n needed s (AndFieldShape m other t shapes) else AndFieldShape m other t (insert_mention n needed s shapes)
 
 abbrev mutual
   -- its names are UTF-8, and each object mentions its names once, in byte order; depth has no limit here

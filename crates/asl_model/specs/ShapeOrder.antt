@@ -2,8 +2,7 @@
 -- word for either: both are the profile's own. The first is only a test that is enough: where it is true, every tree
 -- of the one shape has the other.
 use Rattle.std.specs.Prelude.{ℕ, zero, suc, max, List, Bool, true, false, ◌&&◌, ◌||◌, not, Option, Some, None, bytes_eq, if◌then◌else◌}
-use Rattle.asl_model.specs.Shape.{Shape, Any, Never, NullShape, BooleanShape, IntegerShape, StringShape, ArrayShape, ObjectShape, Shapes, NoShapes, AndShape, FieldShapes, NoFieldShapes, AndFieldShape, inhabited, mentions}
-use Rattle.asl_model.specs.Tree.{comes_before}
+use Rattle.asl_model.specs.Shape.{Shape, Any, Never, NullShape, BooleanShape, IntegerShape, StringShape, ArrayShape, ObjectShape, Shapes, NoShapes, AndShape, FieldShapes, NoFieldShapes, AndFieldShape, inhabited, mentions, insert_mention}
 
 -- the first mention of a field: whether it is needed, and its shape
 abbrev pub mention_of : List ℕ → FieldShapes → Option (Bool × Shape)
@@ -139,11 +138,6 @@ with_mention_unless false m needed s shapes = AndFieldShape m needed s shapes
 abbrev pub without_mention : List ℕ → FieldShapes → FieldShapes
 without_mention n NoFieldShapes = NoFieldShapes
 without_mention n (AndFieldShape m needed s shapes) = with_mention_unless (bytes_eq m n) m needed s (without_mention n shapes)
-
--- the mentions with one more, in front of the first whose name comes behind
-abbrev pub insert_mention : List ℕ → Bool → Shape → FieldShapes → FieldShapes
-insert_mention n needed s NoFieldShapes = AndFieldShape n needed s NoFieldShapes
-insert_mention n needed s (AndFieldShape m other t shapes) = if comes_before n m then AndFieldShape n needed s (AndFieldShape m other t shapes) else AndFieldShape m other t (insert_mention n needed s shapes)
 
 -- the mentions with this one in place of all others of its name
 abbrev pub set_mention : List ℕ → Bool → Shape → FieldShapes → FieldShapes

@@ -3,11 +3,10 @@
 -- Every tree has here a shape, with defaults where something is wrong, and a list of all that is wrong with it. It
 -- spells its shape where that list is empty.
 use Rattle.std.specs.Prelude.{◌≡◌, ℕ, pos, List, [], ◌∷◌, ◌++◌, Bool, true, false, not, ◌&&◌, ◌||◌, if◌then◌else◌, Option, Some, None, bytes_eq, codes}
-use Rattle.std.specs.Ordering.{nat_cmp, match_ordering, int_eq}
-use Rattle.std.specs.Cmp.Lexicographic.{slice_cmp}
+use Rattle.std.specs.Ordering.{int_eq}
 use Rattle.std.specs.List.{Contains}
 use Rattle.asl_model.specs.Tree.{Tree, Null, Boolean, Integer, Text, Array, Object, Trees, NoTrees, AndTree, Fields, NoFields, AndField, count, field_named}
-use Rattle.asl_model.specs.Shape.{Shape, Any, Never, NullShape, BooleanShape, IntegerShape, StringShape, ArrayShape, ObjectShape, Shapes, NoShapes, AndShape, FieldShapes, NoFieldShapes, AndFieldShape}
+use Rattle.asl_model.specs.Shape.{Shape, Any, Never, NullShape, BooleanShape, IntegerShape, StringShape, ArrayShape, ObjectShape, Shapes, NoShapes, AndShape, FieldShapes, NoFieldShapes, AndFieldShape, mentions, insert_mention}
 
 -- what can be wrong with a spelling
 pub data ShapeFault : Type 0 where
@@ -166,14 +165,14 @@ extra_faults (Some (Object fs)) = NotAShape ∷ []
 abbrev pub unmentioned : Bool → Shape
 unmentioned extra = if extra then Any else Never
 
--- the fields, in byte order, with that one needed
+-- the fields, with the first mention of that name needed
+abbrev pub with_mention_needed : List ℕ → FieldShapes → FieldShapes
+with_mention_needed n NoFieldShapes = NoFieldShapes
+with_mention_needed n (AndFieldShape m needed s shapes) = if bytes_eq m n then AndFieldShape m true s shapes else AndFieldShape m needed s (with_mention_needed n shapes)
+
+-- the fields, with that one needed: where it is mentioned, or else as one more at its place in byte order
 abbrev pub with_needed : Bool → List ℕ → FieldShapes → FieldShapes
-with_needed extra n NoFieldShapes = AndFieldShape n true (unmentioned extra) NoFieldShapes
-with_needed extra n (AndFieldShape m needed s shapes) =
-    match_ordering (slice_cmp nat_cmp n m)
-    (AndFieldShape n true (unmentioned extra) (AndFieldShape m needed s shapes))
-    (AndFieldShape m true s shapes)
-    (AndFieldShape m needed s (with_needed extra n shapes))
+with_needed extra n shapes = if mentions n shapes then with_mention_needed n shapes else insert_mention n true (unmentioned extra) shapes
 
 -- the fields with each of these needed
 abbrev pub with_all_needed : Bool → List (List ℕ) → FieldShapes → FieldShapes

@@ -1,5 +1,5 @@
 -- A map's look-up by a key finds what the fields, or the mentions, that the map shows have under that name.
-use Rattle.std.proofs.Common.{◌≡◌, ℕ, Bool, true, false, cond, List, [], ◌∷◌, Option, Some, None, String, string_bytes, option_map, is_some, ◌||◌, bytes_eq, refl, ◌∙◌, sym}
+use Rattle.std.proofs.Common.{◌≡◌, ℕ, Bool, true, false, cond, List, [], ◌∷◌, Option, Some, String, string_bytes, option_map, is_some, ◌||◌, bytes_eq, refl, ◌∙◌, sym}
 use Rattle.std.specs.declared.alloc.Global.{Global}
 use Rattle.std.specs.BTreeMap.{is_at}
 use Rattle.std.specs.Cmp.Lexicographic.{slice_cmp}

@@ -1,5 +1,5 @@
 -- A map's names are in order, and what is known of its fields one by one is known of all.
-use Rattle.std.proofs.Common.{◌≡◌, ℕ, List, [], ◌∷◌, Bool, true, false, refl, String, string_bytes}
+use Rattle.std.proofs.Common.{List, [], ◌∷◌, Bool, refl, String}
 use Rattle.std.specs.Prelude.{IsTrue}
 use Rattle.std.specs.declared.alloc.Global.{Global}
 use Rattle.std.specs.List.Sorted.{IsStrictlySortedBy}

@@ -1,5 +1,5 @@
 -- Reading the elements of a list and the fields of an object as shapes, one after another.
-use Rattle.std.proofs.Common.{◌≡◌, ℕ, suc, List, [], ◌∷◌, ◌++◌, Bool, true, false, cond, bytes_eq, ◌&&◌, Some, Result, Ok, Err, Vec, map, length, take, Ordering, Less, Equal, Greater, String, string_bytes, refl, sym, ap, ◌∙◌}
+use Rattle.std.proofs.Common.{◌≡◌, ℕ, suc, List, [], ◌∷◌, ◌++◌, Bool, true, false, cond, bytes_eq, ◌&&◌, Some, Result, Ok, Err, Vec, map, length, Ordering, Less, Equal, Greater, String, string_bytes, refl, sym, ap, ◌∙◌}
 use Rattle.std.specs.Prelude.{IfOk, IfErr}
 use Rattle.std.specs.declared.alloc.Global.{Global}
 use Rattle.std.specs.BTreeMap.{insert_entry}

@@ -1,5 +1,5 @@
 -- What a refusal tells of one of two lists of faults, it tells of both.
-use Rattle.std.proofs.Common.{◌≡◌, List, ◌++◌, Option, Some, None, subst, sym}
+use Rattle.std.proofs.Common.{◌≡◌, List, ◌++◌, Option, Some, None, subst}
 use Rattle.std.specs.Prelude.{IfSome}
 use Rattle.std.specs.List.{Contains}
 use Rattle.std.proofs.lemmas.List.Elements.{Contains-append_left, Contains-append_right}

@@ -1,5 +1,5 @@
 -- The shape of the model that a shape shows.
-use Rattle.std.specs.Prelude.{ℕ, List, [], ◌∷◌, Bool, String, map, string_bytes}
+use Rattle.std.specs.Prelude.{List, [], ◌∷◌, Bool, String, map, string_bytes}
 use Rattle.std.specs.declared.alloc.Global.{Global}
 use Rattle.asl_model.specs.Shape as model
 use Rattle.asl_shape.specs.declared.shape.Shape.{Shape, fold-Shape}

@@ -1,4 +1,4 @@
-use Rattle.std.proofs.Common.{◌≡◌, true, false, refl, sym, ◌∙◌, ◌||◌, not}
+use Rattle.std.proofs.Common.{◌≡◌, true, false, refl, sym, ◌∙◌}
 use Rattle.asl_model.specs.Shape as shape
 use Rattle.asl_model.specs.ShapeOrder as model
 use Rattle.asl_shape.specs.View.{view, shapes_view}

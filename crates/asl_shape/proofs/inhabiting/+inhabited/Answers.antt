@@ -1,8 +1,3 @@
-use Rattle.std.proofs.Common.{rules, ◌≡◌, IsTrue, not, ℕ, ◌+◌, ◌-◌, ◌*◌, ◌<◌, ◌≤◌, length, ◌/◌, ◌%◌, Bool, true, false, nat_eq, nat_lt, List, [], ◌∷◌, ◌++◌, slice_index_or, slice_set, bit_and, bit_or, Fits, w8, w32, w64, Bor, MutBor}
-use Rattle.asl_model.specs.Shape as model
-use Rattle.asl_model.specs.Tree.{Tree, IsProper}
-use Rattle.asl_shape.specs.Known.{AreInOrder, Orderly, AllOrderly, NeededOrderly}
-use Rattle.asl_shape.specs.View.{view, shapes_view, fields_view}
 use Rattle.asl_shape.proofs.Orders.{in_order, object_orderly}
 use Rattle.asl_shape.proofs.inhabiting.+inhabited.Goals as goal
 

@@ -1,6 +1,6 @@
-use Rattle.std.proofs.Common.{rules, arith, ◌≡◌, ◌≤◌, true, IsTrue, length, drop, take, ℕ, ◌+◌, ◌-◌, ◌*◌, ◌<◌, ◌/◌, ◌%◌, Bool, false, nat_eq, nat_lt, List, [], ◌∷◌, ◌++◌, slice_index_or, slice_set, bit_and, bit_or, Fits, w8, w32, w64, Bor, MutBor, sym, refl, ◌∙◌}
+use Rattle.std.proofs.Common.{arith, ◌≡◌, true, length, drop, take, ◌-◌, false, sym, refl, ◌∙◌}
 use Rattle.asl_model.specs.Shape as model
-use Rattle.asl_shape.specs.View.{view, shapes_view, fields_view}
+use Rattle.asl_shape.specs.View.{view, shapes_view}
 use Rattle.asl_tree.specs.View as trees
 use Rattle.asl_shape.proofs.Places.{none_left, further_same, list_has}
 use Rattle.asl_shape.proofs.membership.+has.Goals as goal

@@ -1,7 +1,6 @@
-use Rattle.std.proofs.Common.{◌≡◌, drop, true}
-use Rattle.std.specs.Slice.Iter.{iter_rest}
+use Rattle.std.proofs.Common.{◌≡◌}
 use Rattle.asl_model.specs.Shape as model
-use Rattle.asl_shape.specs.View.{view, shapes_view, fields_view}
+use Rattle.asl_shape.specs.View.{fields_view}
 use Rattle.asl_tree.specs.View as trees
 use Rattle.asl_shape.proofs.membership.all_mentioned.Given as goal
 

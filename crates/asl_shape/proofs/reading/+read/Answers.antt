@@ -1,4 +1,4 @@
-use Rattle.std.proofs.Common.{◌≡◌, true, false, not, ap, sym, refl, subst, ◌∙◌, ◌+◌, List, [], ◌∷◌, ◌++◌, append_assoc, length, map, take, drop, String, None, option_map, unwrap_or, codes, arith}
+use Rattle.std.proofs.Common.{◌≡◌, true, false, not, ap, sym, refl, subst, ◌∙◌, ◌+◌, [], ◌∷◌, ◌++◌, append_assoc, length, map, drop, String, None, option_map, unwrap_or, codes, arith}
 use Rattle.std.specs.declared.alloc.Global.{Global}
 use Rattle.std.specs.List.Sorted.{IsStrictlySortedBy}
 use Rattle.std.specs.Map.{keys_of}

@@ -11,7 +11,7 @@ use Rattle.asl_shape.proofs.reading.require.Goals as goal
 pub returns-in-Some-clause-needed : goal.returns-in-Some-clause-needed
 returns-in-Some-clause-needed c =
     let w = roll-Field (record { needed = true; shape = c.in-Some.field.now.shape }) in
-    ap fields_view (c.get_mut.follows.holds w).0 ∙ needed_found c.args.extra c.args.name.now c.in-Some.field.now w c.args.fields.now.entries c.get_mut.ensures.ordered refl refl (sym c.in-Some.ensures.value)
+    ap fields_view (c.get_mut.follows.holds w).0 ∙ needed_found c.args.extra c.args.name.now c.in-Some.field.now w c.args.fields.now.entries refl refl (sym c.in-Some.ensures.value)
 
 pub returns-clause-needed : goal.returns-clause-needed
 returns-clause-needed c =
