@@ -1,7 +1,8 @@
 //! JSON trees with whole numbers, and their texts.
 //!
 //! A [`Tree`] is any JSON value whose numbers are whole and fit an `i64` (RFC 8259; States Language, "Data").
-//! [`read`] makes one of a text, [`to_text`] writes it as compact JSON, [`copy`] and [`same`] copy and compare.
+//! [`read`] makes one of a text, [`to_text`] writes it as compact JSON, [`copy`] and [`same`] copy and compare,
+//! [`is_whole`] tests whether a JSON value is one.
 #![tactic(auto)]
 
 ghost use Rattle.std.specs.Prelude.{◌≡◌};
@@ -14,11 +15,13 @@ mod copying;
 mod reading;
 #[cfg(test)]
 mod tests;
+mod wholeness;
 mod writing;
 
 pub use comparing::same;
 pub use copying::copy;
 pub use reading::{from_value, read, read_value};
+pub use wholeness::is_whole;
 pub use writing::to_text;
 
 /// A JSON value whose numbers are whole.
