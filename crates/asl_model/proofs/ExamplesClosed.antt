@@ -6,7 +6,7 @@ use Rattle.asl_model.specs.Shape.{Shape, Any, Never, IntegerShape, StringShape, 
 use Rattle.asl_model.specs.Flow.{first_move}
 use Rattle.asl_model.specs.Machine.{Scope, ScopeOf, AndState, NoStates, StateOf, Pass, Task, Parallel, AndScope, NoScopes}
 use Rattle.asl_model.specs.Run.{Event, run_of, Move, Gives, Entered, Asked, Left, Ended, Output}
-use Rattle.asl_model.specs.Certificate.{TaskShapes, Declared, StateShapes, Certificate, under, or_never, shape_at, EachHas, WorkFits, IsClosedAt, whole_machine, IsClosed, Obeys, NoTurnRaises, TurnsAreAsCertified, RunIsAsCertified}
+use Rattle.asl_model.specs.Certificate.{TaskShapes, Declared, StateShapes, Certificate, under, or_never, branch_shape, EachHas, WorkFits, IsClosedAt, whole_machine, IsClosed, Obeys, NoTurnRaises, TurnsAreAsCertified, RunIsAsCertified}
 use Rattle.asl_model.proofs.RunOptions.{false_true, none_some}
 use Rattle.asl_model.proofs.ClosedScopes.{closed_at_each}
 use Rattle.asl_model.proofs.RunLaws.{never_fault}
@@ -79,7 +79,7 @@ second_at : IsClosedAt two_tasks second_certified StringShape (codes "N") (State
 second_at = record { entry = record { shapes = plain integer_and_text StringShape; stands = refl; branches = refl; item = refl }; work = second_fits; catchers = λ v h. tt }
 
 -- two outputs of the branches' shapes are a list of the shape
-two_fit : (outputs : Trees) → count outputs ≡ 2 → EachHas (λ i. or_never (shape_at i (IntegerShape ∷ StringShape ∷ []))) outputs → Has integer_and_text (Array outputs)
+two_fit : (outputs : Trees) → count outputs ≡ 2 → EachHas (λ i. or_never (branch_shape i (IntegerShape ∷ StringShape ∷ []))) outputs → Has integer_and_text (Array outputs)
 two_fit NoTrees e h = absurd (cc)
 two_fit (AndTree t NoTrees) e h = absurd (cc)
 two_fit (AndTree t (AndTree u NoTrees)) e h = pass (is_integer t) (is_text u) h.0 h.1.0

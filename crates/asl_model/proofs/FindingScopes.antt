@@ -6,7 +6,7 @@ use Rattle.std.proofs.lemmas.Slice.Eq.{bytes_eq-Decides}
 use Rattle.std.proofs.Common.{⊎_elim}
 use Rattle.asl_model.specs.Machine.{Settings, Scope, ScopeOf, States, NoStates, AndState, State, StateOf, Kind, Pass, Task, Choice, Wait, Succeed, Fail, Parallel, Map, Scopes, NoScopes, AndScope, settings_of, kind_of, state_named, state_among, scope_at, child_scope, empty_scope, how_many, is_task, names_state, names_task, some_state, some_of_states, some_inside, some_in_kind, some_in_scopes}
 use Rattle.asl_model.specs.Shape.{Shape}
-use Rattle.asl_model.specs.Certificate.{TaskShapes, Declared, StateShapes, Certificate, under, certified, branch_end, item_end, child_end, shape_at, or_never, branches_in, is_map, HasEntry, IsScope, whole_machine, child_of_state}
+use Rattle.asl_model.specs.Certificate.{TaskShapes, Declared, StateShapes, Certificate, under, certified, branch_end, item_end, child_end, branch_shape, or_never, branches_in, is_map, HasEntry, IsScope, whole_machine, child_of_state}
 use Rattle.asl_model.specs.Finding.{FindingFault, Breach, found_at, breach_unless, is_certified, entry_breaches, input_to_compare, flow_breaches, state_breaches, scope_findings, states_findings, state_findings, children_findings, branches_findings, unknown_entries, unknown_tasks, NotCertified, NotAState, TaskUndeclared, TaskUnknown}
 
 -- Lists without an element
@@ -178,7 +178,7 @@ branch-none machine declared certificate n (AndScope scope others) zero k j at e
 branch-none machine declared certificate n (AndScope scope others) (suc i) k j at e = branch-none machine declared certificate n others i (suc k) j (omega arith) (append-none (scope_findings scope machine declared certificate (branch_end k (certified certificate n))) (branches_findings others machine declared certificate n (suc k)) e).1
 
 -- a branch without a shape isn't there
-past-branches : (shapes : List Shape) (branches : Scopes) (i : ℕ) → length shapes ≡ how_many branches → shape_at i shapes ≡ None → scope_at i branches ≡ empty_scope
+past-branches : (shapes : List Shape) (branches : Scopes) (i : ℕ) → length shapes ≡ how_many branches → branch_shape i shapes ≡ None → scope_at i branches ≡ empty_scope
 past-branches shapes NoScopes i same none = refl
 past-branches [] (AndScope scope others) i same none = absurd (omega arith)
 past-branches (s ∷ shapes) (AndScope scope others) zero same none = absurd (cc)

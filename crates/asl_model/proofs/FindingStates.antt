@@ -8,13 +8,13 @@ use Rattle.asl_model.specs.Placing.{placed}
 use Rattle.asl_model.specs.Template.{Template}
 use Rattle.asl_model.specs.Test.{Rule, truth}
 use Rattle.asl_model.specs.Machine.{Catcher, Settings, Delay, Seconds, SecondsPath, Timestamp, TimestampPath, Scope, StateOf, Kind, Pass, Task, Choice, Wait, Succeed, Fail, Parallel, Map, Scopes, NoScopes, AndScope, start_of, scope_at, how_many, names_state}
-use Rattle.asl_model.specs.Flow.{effective_input, at_output_path, output_of, Work, works_on, Splits, chosen, by_truth, delay_of, branch_inputs, item_input, item_inputs, items_of, work_of, first_move}
+use Rattle.asl_model.specs.Flow.{effective_input, at_output_path, output_of, Work, works_on, Splits, chosen, by_truth, delay_in, branch_inputs, item_input, item_inputs, map_items, work_of, first_move}
 use Rattle.asl_model.specs.Run.{error_output, error_placed}
 use Rattle.asl_model.specs.Shape.{Shape, Any, Never, NullShape, BooleanShape, IntegerShape, StringShape, ArrayShape, ObjectShape, Shapes, NoShapes, AndShape, Has, has, elements_have, each_element, inhabited}
 use Rattle.asl_model.specs.ShapeOrder.{sub, join, joined_with_each, is_integer_shape, is_string_shape}
 use Rattle.asl_model.specs.ShapeFlow.{look, put, literal, template_shape, rule_shape, Flow, template_flow, output_flow, result_leaves}
-use Rattle.asl_model.specs.Certificate.{Declared, StateShapes, Certificate, certified, certified_input, certified_output, input_among, output_among, branches_in, is_map, shape_at, branch_end, item_end, or_never, takes_of, gives_of, EachHas, OutputFits, WorkFits, CaughtFits, CatchersFit, HasEntry, IsClosedAt}
-use Rattle.asl_model.specs.Finding.{FindingFault, Breach, NotCertified, BranchInput, NextInput, ScopeOutput, OutputNotCertified, PayloadNotTaken, CatchInput, breach_unless, breach_unless_sub, breach_of, breaches_then, input_of_entry, input_to_compare, effective_flow, next_breaches, end_breaches, output_breaches, kind_breaches, delay_breaches, child_breaches, branch_breaches, shapes_of, element_shape, item_flow, at_each_place, map_result, elements_of, with_elements, with_items, chosen_breaches, rule_breaches, rules_breaches, default_breaches, error_output_shape, error_placed_shape, caught_breaches, catcher_breaches, result_breaches, map_breaches, work_breaches, settled_breaches, flow_breaches, state_breaches, scope_findings}
+use Rattle.asl_model.specs.Certificate.{Declared, StateShapes, Certificate, certified, certified_input, certified_output, input_among, output_among, branches_in, is_map, branch_shape, branch_end, item_end, or_never, takes_of, gives_of, EachHas, OutputFits, WorkFits, CaughtFits, CatchersFit, HasEntry, IsClosedAt}
+use Rattle.asl_model.specs.Finding.{FindingFault, Breach, NotCertified, BranchInput, NextInput, ScopeOutput, OutputNotCertified, PayloadNotTaken, CatchInput, breach_unless, breach_unless_sub, breach_of, breaches_then, input_of_entry, input_to_compare, effective_flow, next_breaches, end_breaches, output_breaches, kind_breaches, delay_breaches, child_breaches, branch_breaches, as_first_elements, element_shape, item_flow, at_each_place, map_result, array_parts, with_elements, with_items, chosen_breaches, rule_breaches, rules_breaches, default_breaches, error_output_shape, error_placed_shape, caught_breaches, catcher_breaches, result_breaches, map_breaches, work_breaches, settled_breaches, flow_breaches, state_breaches, scope_findings}
 use Rattle.asl_model.proofs.FindingScopes.{append-none, none-unless, flow-none, has-entry, state-certified}
 use Rattle.asl_model.proofs.ShapeInhabited.{has-inhabited}
 use Rattle.asl_model.proofs.ShapeInside.{sub-inside, only_integer, only_string}
@@ -52,7 +52,7 @@ kind-none : (field : List ℕ) (test : Shape → Bool) (result : Result Shape �
 kind-none field test (Ok t) e = (t, refl, none-unless (test t) field Rattle.asl_model.specs.Finding.WrongKind e)
 kind-none field test (Err at) e = absurd (cc)
 
-delay-fits : (delay : Delay) (s : Shape) (u : Tree) → delay_breaches delay s ≡ [] → Has s u → (t : Tree) × (delay_of delay u ≡ Ok t)
+delay-fits : (delay : Delay) (s : Shape) (u : Tree) → delay_breaches delay s ≡ [] → Has s u → (t : Tree) × (delay_in delay u ≡ Ok t)
 delay-fits (Seconds k) s u e m = (u, refl)
 delay-fits (SecondsPath path) s u e m =
     let kind = kind-none (codes "SecondsPath") is_integer_shape (look path s) e in
@@ -68,11 +68,11 @@ delay-fits (TimestampPath path) s u e m =
 
 -- Lists of outputs
 
-branches-have : (all : List Shape) (outputs : Trees) → count outputs ≡ length all → EachHas (λ i. or_never (shape_at i all)) outputs → IsTrue (elements_have (shapes_of all) (has Never) outputs)
+branches-have : (all : List Shape) (outputs : Trees) → count outputs ≡ length all → EachHas (λ i. or_never (branch_shape i all)) outputs → IsTrue (elements_have (as_first_elements all) (has Never) outputs)
 branches-have [] NoTrees same each = refl
 branches-have [] (AndTree t ts) same each = absurd (omega arith)
 branches-have (s ∷ further) NoTrees same each = absurd (omega arith)
-branches-have (s ∷ further) (AndTree t ts) same each = and_from (has s t) (elements_have (shapes_of further) (has Never) ts) each.0 (branches-have further ts (omega arith) each.1)
+branches-have (s ∷ further) (AndTree t ts) same each = and_from (has s t) (elements_have (as_first_elements further) (has Never) ts) each.0 (branches-have further ts (omega arith) each.1)
 
 each-item : (item : Shape) (outputs : Trees) → EachHas (λ i. item) outputs → IsTrue (each_element (has item) outputs)
 each-item item NoTrees each = refl
@@ -104,7 +104,7 @@ array-tree : (field : List ℕ) (first : Shapes) (rest : Shape) (w : Tree) → H
 array-tree field first rest (Array ts) m = (ts, refl, m)
 array-tree field first rest w m = absurd (false≢true m)
 
-items-there : (items : List Segment) (s : Shape) (first : Shapes) (rest : Shape) (u : Tree) → look items s ≡ Ok (ArrayShape first rest) → Has s u → (ts : Trees) × (items_of items u ≡ Ok ts) × IsTrue (elements_have first (has rest) ts)
+items-there : (items : List Segment) (s : Shape) (first : Shapes) (rest : Shape) (u : Tree) → look items s ≡ Ok (ArrayShape first rest) → Has s u → (ts : Trees) × (map_items items u ≡ Ok ts) × IsTrue (elements_have first (has rest) ts)
 items-there items s first rest u e m =
     let given = look-gives items s (ArrayShape first rest) u e m in
     let list = array-tree (codes "ItemsPath") first rest given.0 given.2 in
@@ -253,7 +253,7 @@ module _ (declared : Declared) (certificate : Certificate) (inputs : List ℕ �
     work-fits Succeed settings s v u long item e f eff m h = rw eff (passed-fits settings None (end_breaches entry.output (codes "Type") (Some end)) s v u (λ output w. end-fits (codes "Type") output w) e h m)
     work-fits (Fail error cause) settings s v u long item e f eff m h = tt
     work-fits (Parallel branches) settings s v u long item e f eff m h =
-        rw eff (each-branch branches s u e m, λ outputs same each. result-fits settings (ArrayShape (shapes_of entry.branches) Never) v (Array outputs) f h (branches-have entry.branches outputs (as_many outputs same) (subst (λ (o : Option StateShapes). EachHas (λ i. or_never (branch_end i o)) outputs) at each)))
+        rw eff (each-branch branches s u e m, λ outputs same each. result-fits settings (ArrayShape (as_first_elements entry.branches) Never) v (Array outputs) f h (branches-have entry.branches outputs (as_many outputs same) (subst (λ (o : Option StateShapes). EachHas (λ i. or_never (branch_end i o)) outputs) at each)))
       where
         inputs-count : (branches' : Scopes) (u' : Tree) → count (branch_inputs branches' u') ≡ how_many branches'
         inputs-count NoScopes u' = refl

@@ -10,7 +10,7 @@ use Rattle.asl_model.specs.Intrinsic.{Reference, Call}
 use Rattle.asl_model.specs.Template.{Template, Literal, FromPath, FieldTemplates, NoFieldTemplates, AndFieldTemplate, before_each, IsInOrder, AreInOrder, HasFieldsInOrder}
 use Rattle.asl_model.specs.ShapeSpelling.{is_among, are_distinct}
 use Rattle.asl_model.specs.CallSpelling.{CallFault, call_from, reference_of}
-use Rattle.asl_model.specs.TemplateSpelling.{TemplateFault, NotObject, DuplicateAfterStrip, is_marked, renamed, renamed_names, begins_path, call_or_null, marked_value, with_field, part_of, parts_of, fields_of, part_faults, parts_faults, fields_faults, duplicate_faults, template_faults, marked_faults, SpellsTemplate}
+use Rattle.asl_model.specs.TemplateSpelling.{TemplateFault, NotObject, DuplicateAfterStrip, is_marked, renamed, renamed_names, begins_path, call_or_null, marked_value, with_field, part_of, parts_of, field_templates_of, part_faults, parts_faults, fields_faults, duplicate_faults, template_faults, marked_faults, SpellsTemplate}
 use Rattle.asl_model.proofs.FindingScopes.{append-none}
 use Rattle.asl_model.proofs.ShapeWitness.{comes_before-trans}
 
@@ -76,11 +76,11 @@ ordered_with n q (AndFieldTemplate m u others) absent value h = go (comes_before
 
 -- ---- what is read
 
-absent_as_read : (item : Bool) (k : List ℕ) (fs : Fields) → is_among k (renamed_names fs) ≡ false → Absent k (fields_of item fs)
+absent_as_read : (item : Bool) (k : List ℕ) (fs : Fields) → is_among k (renamed_names fs) ≡ false → Absent k (field_templates_of item fs)
 absent_as_read item k NoFields h = tt
 absent_as_read item k (AndField n t fs) h =
     let parts = neither (bytes_eq (renamed n) k) (is_among k (renamed_names fs)) h in
-    absent_with k (renamed n) (elim (is_marked n) [ true ↦ marked_value item t | false ↦ part_of item t ]) (fields_of item fs) parts.0 (absent_as_read item k fs parts.1)
+    absent_with k (renamed n) (elim (is_marked n) [ true ↦ marked_value item t | false ↦ part_of item t ]) (field_templates_of item fs) parts.0 (absent_as_read item k fs parts.1)
 
 call_in_order : (c : Result Call CallFault) → IsInOrder (call_or_null c)
 call_in_order (Ok c) = tt
@@ -131,12 +131,12 @@ mutual
       let parts = append-none (part_faults item t) (parts_faults item ts) h in
       (part_in_order item t parts.0, parts_in_order item ts parts.1)
 
-  fields_in_order : (item : Bool) (fs : Fields) → are_distinct (renamed_names fs) ≡ true → fields_faults item fs ≡ [] → HasFieldsInOrder (fields_of item fs)
+  fields_in_order : (item : Bool) (fs : Fields) → are_distinct (renamed_names fs) ≡ true → fields_faults item fs ≡ [] → HasFieldsInOrder (field_templates_of item fs)
   fields_in_order item NoFields distinct h = tt
   fields_in_order item (AndField n t fs) distinct h =
       let names = and_parts (not (is_among (renamed n) (renamed_names fs))) (are_distinct (renamed_names fs)) distinct in
       let faults = append-none (elim (is_marked n) [ true ↦ marked_faults item t | false ↦ part_faults item t ]) (fields_faults item fs) h in
-      ordered_with (renamed n) (elim (is_marked n) [ true ↦ marked_value item t | false ↦ part_of item t ]) (fields_of item fs)
+      ordered_with (renamed n) (elim (is_marked n) [ true ↦ marked_value item t | false ↦ part_of item t ]) (field_templates_of item fs)
       (absent_as_read item (renamed n) fs (not_true (is_among (renamed n) (renamed_names fs)) names.0))
       (value_in_order item t (is_marked n) (λ e. part_in_order item t e) faults.0)
       (fields_in_order item fs names.1 faults.1)

@@ -7,7 +7,7 @@ use Rattle.asl_model.specs.Faults.{Fault}
 use Rattle.asl_model.specs.Machine.{Catcher, Settings, Scope, State, settings_of, kind_of, start_of, state_named, child_scope}
 use Rattle.asl_model.specs.Flow.{Work, Finishes, Leaves, FailsWith, Asks, Splits, Raises, at_output_path, output_of, first_move}
 use Rattle.asl_model.specs.Run.{Activity, Ready, Waiting, Split, Done, Failed, Activities, NoActivities, AndActivity, Action, Move, Gives, FailsTask, Event, Entry, Entered, TaskFailed, BranchFailed, Step, Trouble, Retries, Catches, Misfits, Escapes, Joining, AllDone, OneFailed, StillRunning, entry_then, caught_input, caught_as, caught_by, catching, takes_error, retrying, unless_retrying, trouble_of, by_trouble, troubled, leaves_for, leaves_with, started, by_work, done_before, running_before, joining, join_error, joins, moves_ready, moves_waiting, moves_split, acts, scope_under, scope_below, child_at, set_child, within, step_at, step, run, start, after_step, last_activity, entries_of, activity_at}
-use Rattle.asl_model.specs.Certificate.{waiting_name, Declared, Certificate, certified_input, IsScope, whole_machine, child_of_state, EachHas, OutputFits, WorkFits, CaughtFits, CatchersFit, IsClosedAt, IsClosed, AnswerObeys, ActionObeys, TakenObeys, AnswersObey, end_under, end_of_child, end_at, RaisesNothing, IsAsCertified, NoneRaises, EachIsAsCertified, NoTurnRaises, TurnsAreAsCertified, move_at, number_of, ActivityFits, ActivitiesFit, EachActivityFits}
+use Rattle.asl_model.specs.Certificate.{waiting_name, Declared, Certificate, certified_input, IsScope, whole_machine, child_of_state, EachHas, OutputFits, WorkFits, CaughtFits, CatchersFit, IsClosedAt, IsClosed, AnswerObeys, ActionObeys, TakenObeys, AnswersObey, end_under, end_of_child, end_at, RaisesNothing, IsAsCertified, NoneRaises, EachIsAsCertified, NoTurnRaises, TurnsAreAsCertified, move_at, how_many_children, ActivityFits, ActivitiesFit, EachActivityFits}
 use Rattle.asl_model.proofs.RunOptions.{some_inj, none_some}
 
 -- children of which one is still running in front aren't all done
@@ -78,7 +78,7 @@ module _ (declared : Declared) (certificate : Certificate) (machine : Scope) (cl
   started_fits scopes ends NoTrees fits = tt
   started_fits scopes ends (AndTree input inputs) fits = (fits.0, started_fits (λ i. scopes (suc i)) (λ i. ends (suc i)) inputs fits.1)
 
-  started_number : (scopes : ℕ → Scope) (inputs : Trees) → number_of (started scopes inputs) ≡ count inputs
+  started_number : (scopes : ℕ → Scope) (inputs : Trees) → how_many_children (started scopes inputs) ≡ count inputs
   started_number scopes NoTrees = refl
   started_number scopes (AndTree input inputs) = ap suc (started_number (λ i. scopes (suc i)) inputs)
 
@@ -113,13 +113,13 @@ module _ (declared : Declared) (certificate : Certificate) (machine : Scope) (cl
   done_fits output n ends outputs has StillRunning inner h = absurd (cc)
 
   -- all children are done: their outputs are results of the shapes certified for them
-  outputs_fit : (i : ℕ) (children : Activities) (scopes : ℕ → Scope) (ends : ℕ → Shape) (outputs : Trees) → joining i children ≡ AllDone outputs → ActivitiesFit declared certificate children scopes ends → (count outputs ≡ number_of children) × EachHas ends outputs
+  outputs_fit : (i : ℕ) (children : Activities) (scopes : ℕ → Scope) (ends : ℕ → Shape) (outputs : Trees) → joining i children ≡ AllDone outputs → ActivitiesFit declared certificate children scopes ends → (count outputs ≡ how_many_children children) × EachHas ends outputs
   outputs_fit i NoActivities scopes ends NoTrees e fits = (refl, tt)
   outputs_fit i NoActivities scopes ends (AndTree t ts) e fits = absurd (cc)
   outputs_fit i (AndActivity (Ready n raw counts) others) scopes ends outputs e fits = never_done (joining (suc i) others) e
   outputs_fit i (AndActivity (Waiting n raw counts payload) others) scopes ends outputs e fits = never_done (joining (suc i) others) e
   outputs_fit i (AndActivity (Split n raw counts children) others) scopes ends outputs e fits = never_done (joining (suc i) others) e
-  outputs_fit i (AndActivity (Done output) others) scopes ends outputs e fits = done_fits output (number_of others) ends outputs fits.0 (joining (suc i) others) (λ further f. outputs_fit (suc i) others (λ k. scopes (suc k)) (λ k. ends (suc k)) further f fits.1) e
+  outputs_fit i (AndActivity (Done output) others) scopes ends outputs e fits = done_fits output (how_many_children others) ends outputs fits.0 (joining (suc i) others) (λ further f. outputs_fit (suc i) others (λ k. scopes (suc k)) (λ k. ends (suc k)) further f fits.1) e
   outputs_fit i (AndActivity (Failed error cause) others) scopes ends outputs e fits = absurd (cc)
 
   -- one step of an activity itself
@@ -142,7 +142,7 @@ module _ (declared : Declared) (certificate : Certificate) (machine : Scope) (cl
       let at = closed.states scope end is_scope n state e in
       subst (StepFits scope end) (some_inj h) (entry_fits scope end (TaskFailed n error cause) (troubled n (settings_of state) raw counts error cause) tt tt (troubled_fits scope end n (settings_of state) raw counts error cause has (at.catchers raw has)))
 
-  joins_fits : (scope : Scope) (end : Shape) (n : List ℕ) (state : State) (raw : Tree) (counts : List ℕ) (children : Activities) (inputs : Trees) (s : Step) → IsClosedAt declared certificate end n state → Has (certified_input certificate n) raw → first_move state raw ≡ Splits inputs → number_of children ≡ count inputs → ActivitiesFit declared certificate children (child_scope (kind_of state)) (end_under certificate n (Some state)) → (joined : Joining) → joining 0 children ≡ joined → joins n state raw counts joined ≡ Some s → StepFits scope end s
+  joins_fits : (scope : Scope) (end : Shape) (n : List ℕ) (state : State) (raw : Tree) (counts : List ℕ) (children : Activities) (inputs : Trees) (s : Step) → IsClosedAt declared certificate end n state → Has (certified_input certificate n) raw → first_move state raw ≡ Splits inputs → how_many_children children ≡ count inputs → ActivitiesFit declared certificate children (child_scope (kind_of state)) (end_under certificate n (Some state)) → (joined : Joining) → joining 0 children ≡ joined → joins n state raw counts joined ≡ Some s → StepFits scope end s
   joins_fits scope end n state raw counts children inputs s at has split one_each children_fit (AllDone outputs) e h =
       let fits : WorkFits declared certificate end n state raw (Splits inputs) = subst (WorkFits declared certificate end n state raw) split (at.work raw has) in
       let done = outputs_fit 0 children (child_scope (kind_of state)) (end_under certificate n (Some state)) outputs e children_fit in
@@ -151,7 +151,7 @@ module _ (declared : Declared) (certificate : Certificate) (machine : Scope) (cl
       subst (StepFits scope end) (some_inj h) (entry_fits scope end (BranchFailed n i error cause) (troubled n (settings_of state) raw counts (join_error (kind_of state) error) cause) tt tt (troubled_fits scope end n (settings_of state) raw counts (join_error (kind_of state) error) cause has (at.catchers raw has)))
   joins_fits scope end n state raw counts children inputs s at has split one_each children_fit StillRunning e h = none_some h
 
-  split_fits : (scope : Scope) (end : Shape) → IsScope certificate machine scope end → (n : List ℕ) (raw : Tree) (counts : List ℕ) (children : Activities) (action : Action) (s : Step) → Has (certified_input certificate n) raw → (inputs : Trees) → number_of children ≡ count inputs → (found : Option State) → state_named n scope ≡ found → option_map (λ state. first_move state raw) found ≡ Some (Splits inputs) → ActivitiesFit declared certificate children (scope_under found) (end_under certificate n found) → option_and_then (moves_split n raw counts children action) found ≡ Some s → StepFits scope end s
+  split_fits : (scope : Scope) (end : Shape) → IsScope certificate machine scope end → (n : List ℕ) (raw : Tree) (counts : List ℕ) (children : Activities) (action : Action) (s : Step) → Has (certified_input certificate n) raw → (inputs : Trees) → how_many_children children ≡ count inputs → (found : Option State) → state_named n scope ≡ found → option_map (λ state. first_move state raw) found ≡ Some (Splits inputs) → ActivitiesFit declared certificate children (scope_under found) (end_under certificate n found) → option_and_then (moves_split n raw counts children action) found ≡ Some s → StepFits scope end s
   split_fits scope end is_scope n raw counts children action s has inputs one_each None e splits children_fit h = none_some h
   split_fits scope end is_scope n raw counts children Move s has inputs one_each (Some state) e splits children_fit h = joins_fits scope end n state raw counts children inputs s (closed.states scope end is_scope n state e) has (some_inj splits) one_each children_fit (joining 0 children) refl h
   split_fits scope end is_scope n raw counts children (Gives answer) s has inputs one_each (Some state) e splits children_fit h = none_some h
@@ -176,7 +176,7 @@ module _ (declared : Declared) (certificate : Certificate) (machine : Scope) (cl
   replaced_fit zero (AndActivity first others) scopes ends a fits new = (new, fits.1)
   replaced_fit (suc i) (AndActivity first others) scopes ends a fits new = (fits.0, replaced_fit i others (λ k. scopes (suc k)) (λ k. ends (suc k)) a fits.1 new)
 
-  replaced_number : (i : ℕ) (a : Activity) (children : Activities) → number_of (set_child i a children) ≡ number_of children
+  replaced_number : (i : ℕ) (a : Activity) (children : Activities) → how_many_children (set_child i a children) ≡ how_many_children children
   replaced_number i a NoActivities = refl
   replaced_number zero a (AndActivity first others) = refl
   replaced_number (suc i) a (AndActivity first others) = ap suc (replaced_number i a others)

@@ -5,7 +5,7 @@ use Rattle.asl_model.specs.Tree.{Tree, comes_before}
 use Rattle.asl_model.specs.Path.{Segment, Name, Index}
 use Rattle.asl_model.specs.Faults.{DataFlowError, ParameterPathFailure, IntrinsicFailure}
 use Rattle.asl_model.specs.Intrinsic.{Reference, Call, Item, referred, call_value}
-use Rattle.asl_model.specs.Template.{Template, Literal, FromPath, FromCall, ArrayTemplate, ObjectTemplate, Templates, NoTemplates, AndTemplate, FieldTemplates, NoFieldTemplates, AndFieldTemplate, Failure, below, unless_value, failures, element_failures, field_failures, filled, unless_failing, template_value, template_at, template_named, FailsAt, path_fails, call_fails, fails_in_element, fails_in_field, IsBefore, lesser_number, lesser_name, lesser_below, IsLeastFailure, before_each, IsInOrder, AreInOrder, HasFieldsInOrder, TellsLeastFailure}
+use Rattle.asl_model.specs.Template.{Template, Literal, FromPath, FromCall, ArrayTemplate, ObjectTemplate, Templates, NoTemplates, AndTemplate, FieldTemplates, NoFieldTemplates, AndFieldTemplate, Failure, below, unless_value, failures, element_failures, field_failures, filled, unless_failing, template_value, template_element, template_named, FailsAt, path_fails, call_fails, fails_in_element, fails_in_field, IsBefore, lesser_number, lesser_name, lesser_below, IsLeastFailure, before_each, IsInOrder, AreInOrder, HasFieldsInOrder, TellsLeastFailure}
 use Rattle.asl_model.proofs.RunOptions.{some_inj, none_some, false_true}
 use Rattle.asl_model.proofs.ShapeWitness.{comes_before-other}
 
@@ -96,7 +96,7 @@ module _ (input : Tree) (item : Option Item) where
     k : ℕ
     t : Template
     further : List Segment
-    stands : template_at k elements ≡ Some t
+    stands : template_element k elements ≡ Some t
     place : p ≡ Index (i + k) ∷ further
     inside : FailsAt input item t further error
 
@@ -116,7 +116,7 @@ module _ (input : Tree) (item : Option Item) where
   which_element : (i : ℕ) (t : Template) (others : Templates) (p : List Segment) (error : DataFlowError) → FailsFrom i (AndTemplate t others) p error → InFirstElement i t p error ⊎ FailsFrom (suc i) others p error
   which_element i t others p error h = go h.k h.stands h.place
     where
-      go : (k : ℕ) → template_at k (AndTemplate t others) ≡ Some h.t → p ≡ Index (i + k) ∷ h.further → InFirstElement i t p error ⊎ FailsFrom (suc i) others p error
+      go : (k : ℕ) → template_element k (AndTemplate t others) ≡ Some h.t → p ≡ Index (i + k) ∷ h.further → InFirstElement i t p error ⊎ FailsFrom (suc i) others p error
       go zero e f = let same : i + 0 ≡ i = omega arith in inl (record { further = h.further; place = f ∙ ap (λ (n : ℕ). Index n ∷ h.further) same; inside = subst (λ (v : Template). FailsAt input item v h.further error) (sym (some_inj e)) h.inside })
       go (suc k) e f = let same : i + suc k ≡ suc i + k = omega arith in inr (record { k = k; t = h.t; further = h.further; stands = e; place = f ∙ ap (λ (n : ℕ). Index n ∷ h.further) same; inside = h.inside })
 

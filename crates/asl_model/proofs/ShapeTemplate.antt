@@ -11,7 +11,7 @@ use Rattle.asl_model.specs.Template.{Template, Literal, FromPath, FromCall, Arra
 use Rattle.asl_model.specs.Faults.{DataFlowError, ParameterPathFailure, IntrinsicFailure}
 use Rattle.asl_model.specs.Shape.{Shape, Never, NullShape, BooleanShape, IntegerShape, StringShape, ArrayShape, Shapes, NoShapes, AndShape, Has, has, elements_have, fields_have, all_mentioned, inhabited}
 use Rattle.asl_model.specs.ShapeOrder.{is_null_shape, is_boolean_shape, is_integer_shape, is_string_shape}
-use Rattle.asl_model.specs.ShapeFlow.{ItemHas, look, literal, literals, literal_fields, Doubt, or_missing, reference_shape, unless_doubtful, is_formattable, all_formattable, is_array_shape, how_many_shapes, and_argument, number_of, fits_holes, format_of, value_shape, call_shape, argument_shape, argument_shapes, doubts_at, or_may_fail, or_none, doubts, element_doubts, field_doubts, filled_shape, filled_elements, filled_fields, unless_doubts, template_shape}
+use Rattle.asl_model.specs.ShapeFlow.{ItemHas, look, literal, literals, literal_fields, Doubt, or_missing, reference_shape, unless_doubtful, is_formattable, all_formattable, is_array_shape, how_many_shapes, and_argument, array_length_of, fits_holes, format_of, value_shape, call_shape, argument_shape, argument_shapes, doubts_at, or_may_fail, or_none, doubts, element_doubts, field_doubts, filled_shape, filled_elements, filled_fields, unless_doubts, template_shape}
 use Rattle.asl_model.proofs.PlacingExactly.{found}
 use Rattle.asl_model.proofs.FindingScopes.{append-none}
 use Rattle.asl_model.proofs.ShapeInhabited.{has-inhabited}
@@ -117,7 +117,7 @@ array-number (ArrayShape first rest) (Array ts) h m = (Integer (pos (count ts)),
 array-number (ArrayShape first rest) t h m = absurd (false≢true m)
 array-number s t h m = absurd (false≢true h)
 
-number-gives : (shapes : Shapes) (values : Trees) (r : Shape) → number_of (Some shapes) ≡ Some r → IsTrue (elements_have shapes (has Never) values) → GivesOne r (array_length values)
+number-gives : (shapes : Shapes) (values : Trees) (r : Shape) → array_length_of (Some shapes) ≡ Some r → IsTrue (elements_have shapes (has Never) values) → GivesOne r (array_length values)
 number-gives NoShapes values r e m = absurd (cc)
 number-gives (AndShape s (AndShape other others)) values r e m = absurd (cc)
 number-gives (AndShape s NoShapes) NoTrees r e m = absurd (false≢true m)

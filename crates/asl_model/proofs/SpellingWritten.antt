@@ -7,7 +7,7 @@ use Rattle.std.proofs.lemmas.Bool.Decides.{Decides-int_eq}
 use Rattle.std.proofs.lemmas.Cmp.{nat_list_cmp_total, nat_list_eq_equiv}
 use Rattle.asl_model.specs.Tree.{Tree, Integer, Array, Object, Trees, comes_before, count}
 use Rattle.asl_model.specs.Shape.{Shape, Any, Never, NullShape, BooleanShape, IntegerShape, StringShape, ArrayShape, ObjectShape, Shapes, NoShapes, AndShape, FieldShapes, NoFieldShapes, AndFieldShape, mentions, before_mentions, insert_mention, IsProperShape, AreProperShapes, AreProperFields}
-use Rattle.asl_model.specs.ShapeSpelling.{shape_of, shapes_of, element_shapes, properties_of, field_shapes, shape_faults, shapes_faults, element_faults, properties_faults, field_faults, min_items_faults, elements_in, required_faults, texts_among, are_texts, are_distinct, is_among, with_mention_needed, with_needed, with_all_needed, unless, NotAShape, MinItems, SpellsShape}
+use Rattle.asl_model.specs.ShapeSpelling.{shape_of, shapes_of, element_shapes, properties_of, field_shapes, shape_faults, shapes_faults, element_faults, properties_faults, field_faults, min_items_faults, element_count, required_faults, texts_among, are_texts, are_distinct, is_among, with_mention_needed, with_needed, with_all_needed, unless, NotAShape, MinItems, SpellsShape}
 use Rattle.asl_model.specs.ShapeOrder.{is_any_shape}
 use Rattle.asl_model.specs.ShapeFlow.{how_many_shapes}
 use Rattle.asl_model.specs.Written.{some_shapes, some_fields, needed_names, some_names, as_texts, array_fields, object_fields, written_shape, written_shapes, written_fields}
@@ -21,7 +21,7 @@ array_reads true false items n first = refl
 array_reads false true items n first = refl
 array_reads false false items n first = refl
 
-array_wrong : (a b : Bool) (items : Tree) (n : ℕ) (first : Tree) → shape_faults (Object (array_fields a b items n first)) ≡ (if b then shapes_faults first else []) ++ ((if a then shape_faults items else []) ++ min_items_faults (if b then Some (Integer (pos n)) else None) (if b then elements_in (Some first) else 0))
+array_wrong : (a b : Bool) (items : Tree) (n : ℕ) (first : Tree) → shape_faults (Object (array_fields a b items n first)) ≡ (if b then shapes_faults first else []) ++ ((if a then shape_faults items else []) ++ min_items_faults (if b then Some (Integer (pos n)) else None) (if b then element_count (Some first) else 0))
 array_wrong true true items n first = refl
 array_wrong true false items n first = refl
 array_wrong false true items n first = refl
@@ -56,7 +56,7 @@ counted (AndShape s others) = ap suc (counted others)
 int_same : (n : ℤ) → int_eq n n ≡ true
 int_same n = (Decides-int_eq n n).1 refl
 
-first_right : (first : Shapes) → element_faults (written_shapes first) ≡ [] → ((if some_shapes first then shapes_faults (Array (written_shapes first)) else []) ≡ []) × (min_items_faults (if some_shapes first then Some (Integer (pos (how_many_shapes first))) else None) (if some_shapes first then elements_in (Some (Array (written_shapes first))) else 0) ≡ [])
+first_right : (first : Shapes) → element_faults (written_shapes first) ≡ [] → ((if some_shapes first then shapes_faults (Array (written_shapes first)) else []) ≡ []) × (min_items_faults (if some_shapes first then Some (Integer (pos (how_many_shapes first))) else None) (if some_shapes first then element_count (Some (Array (written_shapes first))) else 0) ≡ [])
 first_right NoShapes h = (refl, refl)
 first_right (AndShape s others) h = (h, ap (λ n. unless (int_eq (pos (how_many_shapes (AndShape s others))) (pos n)) MinItems) (counted (AndShape s others)) ∙ ap (λ b. unless b MinItems) (int_same (pos (how_many_shapes (AndShape s others)))))
 

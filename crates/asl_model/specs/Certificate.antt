@@ -64,15 +64,15 @@ abbrev pub certified_output : Certificate → List ℕ → Shape
 certified_output certificate n = output_among (certified certificate n)
 
 -- the shape at a position, counted from 0
-abbrev pub shape_at : ℕ → List Shape → Option Shape
-shape_at i [] = None
-shape_at zero (s ∷ further) = Some s
-shape_at (suc i) (s ∷ further) = shape_at i further
+abbrev pub branch_shape : ℕ → List Shape → Option Shape
+branch_shape i [] = None
+branch_shape zero (s ∷ further) = Some s
+branch_shape (suc i) (s ∷ further) = branch_shape i further
 
 -- the shape certified for the end of a branch
 abbrev pub branch_end : ℕ → Option StateShapes → Option Shape
 branch_end i None = None
-branch_end i (Some shapes) = shape_at i shapes.branches
+branch_end i (Some shapes) = branch_shape i shapes.branches
 
 -- the shape certified for the end of a processor
 abbrev pub item_end : Option StateShapes → Option Shape
@@ -312,15 +312,15 @@ abbrev pub move_at : Scope → List ℕ → Tree → Option Work
 move_at scope n raw = option_map (λ state. first_move state raw) (state_named n scope)
 
 -- how many children there are
-abbrev pub number_of : Activities → ℕ
-number_of NoActivities = 0
-number_of (AndActivity child others) = suc (number_of others)
+abbrev pub how_many_children : Activities → ℕ
+how_many_children NoActivities = 0
+how_many_children (AndActivity child others) = suc (how_many_children others)
 
 -- the first move of state n on its raw input splits, and there is a child for each input: one a branch, or one an item
 pub record HasSplit (scope : Scope) (n : List ℕ) (raw : Tree) (children : Activities) : Type 0 where
   pub inputs : Trees
   pub split : move_at scope n raw ≡ Some (Splits inputs)
-  pub one_each : number_of children ≡ count inputs
+  pub one_each : how_many_children children ≡ count inputs
 
 abbrev mutual
   -- An activity is as certified, which stands in a scope with that end: what is Ready, Waiting or Split has a raw input

@@ -329,9 +329,9 @@ some_elements json.no_items = EmptyList ∷ []
 some_elements (json.item v vs) = []
 
 -- what is wrong with each of the elements
-abbrev pub each_element : (Data → List DefFault) → Items → List DefFault
-each_element of_element json.no_items = []
-each_element of_element (json.item v vs) = of_element v ++ each_element of_element vs
+abbrev pub wrong_with_each : (Data → List DefFault) → Items → List DefFault
+wrong_with_each of_element json.no_items = []
+wrong_with_each of_element (json.item v vs) = of_element v ++ wrong_with_each of_element vs
 
 -- where a text is wanted
 abbrev pub text_misfits : Data → List DefFault
@@ -355,7 +355,7 @@ misfits ConfigValue v = if is_some (tree_of v) then object_misfits v else NotWho
 misfits StatesValue v = object_misfits v
 misfits ScopeValue v = object_misfits v
 misfits ScopesValue v = list_misfits some_elements v
-misfits RulesValue v = list_misfits (λ vs. some_elements vs ++ each_element (λ r. rule_misfits (tree_of r)) vs) v
-misfits NamesValue v = list_misfits (λ vs. some_elements vs ++ each_element text_misfits vs) v
+misfits RulesValue v = list_misfits (λ vs. some_elements vs ++ wrong_with_each (λ r. rule_misfits (tree_of r)) vs) v
+misfits NamesValue v = list_misfits (λ vs. some_elements vs ++ wrong_with_each text_misfits vs) v
 misfits RetriersValue v = list_misfits any_elements v
 misfits CatchersValue v = list_misfits any_elements v

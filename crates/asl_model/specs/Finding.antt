@@ -144,9 +144,9 @@ branch_breaches inputs NoScopes input = []
 branch_breaches inputs (AndScope scope others) input = child_breaches inputs (codes "Branches") scope input ++ branch_breaches inputs others input
 
 -- the shapes, as those of the first elements of an array
-abbrev pub shapes_of : List Shape → Shapes
-shapes_of [] = NoShapes
-shapes_of (s ∷ further) = AndShape s (shapes_of further)
+abbrev pub as_first_elements : List Shape → Shapes
+as_first_elements [] = NoShapes
+as_first_elements (s ∷ further) = AndShape s (as_first_elements further)
 
 -- Maps
 
@@ -169,15 +169,15 @@ abbrev pub map_result : Shape → Shapes → Shape → Shape
 map_result item first rest = ArrayShape (at_each_place item first) (if inhabited rest then item else Never)
 
 -- the shapes of an array's first elements and of its further ones, where the shape is one of arrays
-abbrev pub elements_of : Shape → Option (Shapes × Shape)
-elements_of Any = None
-elements_of Never = None
-elements_of NullShape = None
-elements_of BooleanShape = None
-elements_of IntegerShape = None
-elements_of StringShape = None
-elements_of (ArrayShape first rest) = Some (first, rest)
-elements_of (ObjectShape shapes extra) = None
+abbrev pub array_parts : Shape → Option (Shapes × Shape)
+array_parts Any = None
+array_parts Never = None
+array_parts NullShape = None
+array_parts BooleanShape = None
+array_parts IntegerShape = None
+array_parts StringShape = None
+array_parts (ArrayShape first rest) = Some (first, rest)
+array_parts (ObjectShape shapes extra) = None
 
 -- goes on with the shapes of the elements of what `ItemsPath` names
 abbrev pub with_elements : (Shapes × Shape → List Breach) → Option (Shapes × Shape) → List Breach
@@ -186,7 +186,7 @@ with_elements go_on (Some elements) = go_on elements
 
 -- goes on with the shapes of the elements, or tells that the path may name nothing
 abbrev pub with_items : (Shapes × Shape → List Breach) → Result Shape ℕ → List Breach
-with_items go_on (Ok s) = with_elements go_on (elements_of s)
+with_items go_on (Ok s) = with_elements go_on (array_parts s)
 with_items go_on (Err at) = breach_unless false (codes "ItemsPath") PathMayBeMissing
 
 -- Choices
@@ -265,7 +265,7 @@ settled_breaches declared inputs end n entry settings (Choice rules (Some next))
 settled_breaches declared inputs end n entry settings (Wait delay) = []
 settled_breaches declared inputs end n entry settings Succeed = []
 settled_breaches declared inputs end n entry settings (Fail error cause) = []
-settled_breaches declared inputs end n entry settings (Parallel branches) = result_breaches inputs end entry settings (Parallel branches) (ArrayShape (shapes_of entry.branches) Never)
+settled_breaches declared inputs end n entry settings (Parallel branches) = result_breaches inputs end entry settings (Parallel branches) (ArrayShape (as_first_elements entry.branches) Never)
 settled_breaches declared inputs end n entry settings (Map items selector processor) = []
 
 -- The rules of a state that has an entry: none further where its certified input isn't inhabited. A rule is passed over

@@ -110,11 +110,11 @@ abbrev pub named_in : List ℕ → List Segment → Tree → Result Tree Fault
 named_in field p v = or_fault NamesNothing field (named_by p v)
 
 -- what a Wait looks at in its effective input before it waits
-abbrev pub delay_of : Delay → Tree → Result Tree Fault
-delay_of (Seconds n) v = Ok v
-delay_of (SecondsPath p) v = and_then (number_wanted (codes "SecondsPath")) (named_in (codes "SecondsPath") p v)
-delay_of (Timestamp t) v = Ok v
-delay_of (TimestampPath p) v = and_then (text_wanted (codes "TimestampPath")) (named_in (codes "TimestampPath") p v)
+abbrev pub delay_in : Delay → Tree → Result Tree Fault
+delay_in (Seconds n) v = Ok v
+delay_in (SecondsPath p) v = and_then (number_wanted (codes "SecondsPath")) (named_in (codes "SecondsPath") p v)
+delay_in (Timestamp t) v = Ok v
+delay_in (TimestampPath p) v = and_then (text_wanted (codes "TimestampPath")) (named_in (codes "TimestampPath") p v)
 
 -- one input for each branch
 abbrev pub branch_inputs : Scopes → Tree → Trees
@@ -132,19 +132,19 @@ item_inputs selector v i NoTrees = Ok NoTrees
 item_inputs selector v i (AndTree t ts) = and_then (λ u. and_then (λ us. Ok (AndTree u us)) (item_inputs selector v (suc i) ts)) (item_input selector v i t)
 
 -- the items of a Map: the list that `ItemsPath` names in the effective input
-abbrev pub items_of : List Segment → Tree → Result Trees Fault
-items_of p v = and_then (list_wanted (codes "ItemsPath")) (named_in (codes "ItemsPath") p v)
+abbrev pub map_items : List Segment → Tree → Result Trees Fault
+map_items p v = and_then (list_wanted (codes "ItemsPath")) (named_in (codes "ItemsPath") p v)
 
 -- what a state's first move comes to, for its type, its settings and its raw input
 abbrev pub work_of : Kind → Settings → Tree → Work
 work_of (Pass result) settings raw = works_on (λ v. Finishes (unwrap_or result v)) (effective_input settings raw)
 work_of (Task resource) settings raw = works_on Asks (effective_input settings raw)
 work_of (Choice rules default) settings raw = works_on (λ v. works_on (λ next. Leaves (Some next) v) (chosen rules default v)) (effective_input settings raw)
-work_of (Wait delay) settings raw = works_on (λ v. works_on (λ u. Leaves settings.next v) (delay_of delay v)) (effective_input settings raw)
+work_of (Wait delay) settings raw = works_on (λ v. works_on (λ u. Leaves settings.next v) (delay_in delay v)) (effective_input settings raw)
 work_of Succeed settings raw = works_on (Leaves None) (effective_input settings raw)
 work_of (Fail error cause) settings raw = FailsWith error cause
 work_of (Parallel branches) settings raw = works_on (λ v. Splits (branch_inputs branches v)) (effective_input settings raw)
-work_of (Map items selector processor) settings raw = works_on (λ v. works_on Splits (and_then (item_inputs selector v 0) (items_of items v))) (effective_input settings raw)
+work_of (Map items selector processor) settings raw = works_on (λ v. works_on Splits (and_then (item_inputs selector v 0) (map_items items v))) (effective_input settings raw)
 
 -- what a state's first move comes to for a raw input
 abbrev pub first_move : State → Tree → Work

@@ -221,11 +221,11 @@ array_of None = None
 array_of (Some shapes) = Some (ArrayShape shapes Never)
 
 -- `States.ArrayLength`: the length of one argument, which is an array or never comes
-abbrev pub number_of : Option Shapes → Option Shape
-number_of None = None
-number_of (Some NoShapes) = None
-number_of (Some (AndShape s NoShapes)) = if not (inhabited s) || is_array_shape s then Some IntegerShape else None
-number_of (Some (AndShape s (AndShape other others))) = None
+abbrev pub array_length_of : Option Shapes → Option Shape
+array_length_of None = None
+array_length_of (Some NoShapes) = None
+array_length_of (Some (AndShape s NoShapes)) = if not (inhabited s) || is_array_shape s then Some IntegerShape else None
+array_length_of (Some (AndShape s (AndShape other others))) = None
 
 -- the first argument is a literal text with as many holes as there are further ones, or never comes
 abbrev pub fits_holes : Option Pieces → Shape → Shapes → Bool
@@ -241,7 +241,7 @@ format_of literal_text (Some (AndShape s others)) = if fits_holes literal_text s
 -- the shape of a function's value, where it has one for all values of its arguments
 abbrev pub value_shape : Function → Option Pieces → Option Shapes → Option Shape
 value_shape StatesArray literal_text shapes = array_of shapes
-value_shape StatesArrayLength literal_text shapes = number_of shapes
+value_shape StatesArrayLength literal_text shapes = array_length_of shapes
 value_shape StatesFormat literal_text shapes = format_of literal_text shapes
 
 abbrev mutual
@@ -423,13 +423,13 @@ flow_then go_on (Ok s) = go_on s
 flow_then go_on (Err faults) = Err faults
 
 -- a template's doubt as a fault at its field
-abbrev pub fault_of : List ℕ → Doubt → FlowFault
-fault_of field MayBeMissing = MissingAt field
-fault_of field MayFail = FailsAt field
+abbrev pub doubt_fault : List ℕ → Doubt → FlowFault
+doubt_fault field MayBeMissing = MissingAt field
+doubt_fault field MayFail = FailsAt field
 
 -- all of a template's doubts as faults at its field
 abbrev pub faults_of : List ℕ → List (List ℕ × Doubt) → List FlowFault
-faults_of field found = map (λ d. fault_of field d.1) found
+faults_of field found = map (λ d. doubt_fault field d.1) found
 
 -- the template's shape, or its doubts as faults at that field
 abbrev pub template_flow : List ℕ → Result Shape (List (List ℕ × Doubt)) → Flow

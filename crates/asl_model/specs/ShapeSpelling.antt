@@ -66,8 +66,8 @@ type_in (Some (Array ts)) = OtherType
 type_in (Some (Object fs)) = NotAType
 
 -- what the `type` of these fields says
-abbrev pub type_of : Fields → TypeWord
-type_of fs = type_in (field_named (codes "type") fs)
+abbrev pub type_word_of : Fields → TypeWord
+type_word_of fs = type_in (field_named (codes "type") fs)
 
 -- read past, of any kind
 abbrev pub annotations : List (List ℕ)
@@ -192,14 +192,14 @@ min_items_faults (Some (Array ts)) n = NotAShape ∷ []
 min_items_faults (Some (Object fs)) n = NotAShape ∷ []
 
 -- how many elements a value has, where it is a list
-abbrev pub elements_in : Option Tree → ℕ
-elements_in None = 0
-elements_in (Some Null) = 0
-elements_in (Some (Boolean b)) = 0
-elements_in (Some (Integer n)) = 0
-elements_in (Some (Text s)) = 0
-elements_in (Some (Array ts)) = count ts
-elements_in (Some (Object fs)) = 0
+abbrev pub element_count : Option Tree → ℕ
+element_count None = 0
+element_count (Some Null) = 0
+element_count (Some (Boolean b)) = 0
+element_count (Some (Integer n)) = 0
+element_count (Some (Text s)) = 0
+element_count (Some (Array ts)) = count ts
+element_count (Some (Object fs)) = 0
 
 -- ---- shapes
 
@@ -225,7 +225,7 @@ abbrev mutual
   shape_of (Array ts) = Any
   shape_of (Object fs) =
       let extra = extra_in (field_named (codes "additionalProperties") fs) in
-      typed_shape (type_of fs)
+      typed_shape (type_word_of fs)
       (ArrayShape (shapes_under (codes "prefixItems") fs) (shape_under (codes "items") fs))
       (ObjectShape (with_all_needed extra (required_in (field_named (codes "required") fs)) (properties_under (codes "properties") fs)) extra)
 
@@ -295,8 +295,8 @@ abbrev mutual
   shape_faults (Text s) = NotAShape ∷ []
   shape_faults (Array ts) = NotAShape ∷ []
   shape_faults (Object fs) =
-      let prefix = elements_in (field_named (codes "prefixItems") fs) in
-      typed_faults (type_of fs) fs
+      let prefix = element_count (field_named (codes "prefixItems") fs) in
+      typed_faults (type_word_of fs) fs
       (shapes_faults_under (codes "prefixItems") fs ++ (shape_faults_under (codes "items") fs ++ min_items_faults (field_named (codes "minItems") fs) prefix))
       (properties_faults_under (codes "properties") fs ++ (required_faults (field_named (codes "required") fs) ++ extra_faults (field_named (codes "additionalProperties") fs)))
 

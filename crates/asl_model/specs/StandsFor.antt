@@ -77,8 +77,8 @@ abbrev pub template_at : Bool → List ℕ → Members → Option Template
 template_at item field ms = option_and_then (template_of item) (option_and_then tree_of (get_member field ms))
 
 -- a whole number that isn't negative
-abbrev pub count_at : List ℕ → ℕ → Members → ℕ
-count_at field default ms = unwrap_or (option_map nat_abs (option_and_then as_whole (get_member field ms))) default
+abbrev pub natural_at : List ℕ → ℕ → Members → ℕ
+natural_at field default ms = unwrap_or (option_map nat_abs (option_and_then as_whole (get_member field ms))) default
 
 -- the error names of a retrier or catcher
 abbrev pub error_names : Members → List (List ℕ)
@@ -86,7 +86,7 @@ error_names ms = filter_map as_str (listed (items_at (codes "ErrorEquals") ms))
 
 -- an element of `Retry`; without `MaxAttempts` it retries three times
 abbrev pub retrier_of : Data → Retrier
-retrier_of v = record { error_equals = error_names (members_in v); max_attempts = count_at (codes "MaxAttempts") 3 (members_in v) }
+retrier_of v = record { error_equals = error_names (members_in v); max_attempts = natural_at (codes "MaxAttempts") 3 (members_in v) }
 
 -- an element of `Catch`; without `ResultPath` the error output replaces the input
 abbrev pub catcher_of : Data → Catcher
@@ -97,8 +97,8 @@ catcher_of v = record {
 }
 
 -- what states of several types have; the `Parameters` of a Map are its `ItemSelector`
-abbrev pub settings_of : Option Template → Members → Settings
-settings_of parameters ms = record {
+abbrev pub settings_in : Option Template → Members → Settings
+settings_in parameters ms = record {
   input_path = path_or_null_at (codes "InputPath") ms;
   parameters = parameters;
   result_selector = template_at false (codes "ResultSelector") ms;
@@ -112,7 +112,7 @@ settings_of parameters ms = record {
 -- what a Wait waits for: the one of its four fields that is there
 abbrev pub delay_of : Members → Delay
 delay_of ms =
-    if is_given (codes "Seconds") ms then Seconds (count_at (codes "Seconds") 0 ms) else
+    if is_given (codes "Seconds") ms then Seconds (natural_at (codes "Seconds") 0 ms) else
     (if is_given (codes "SecondsPath") ms then SecondsPath (path_at (codes "SecondsPath") ms) else
     (if is_given (codes "Timestamp") ms then Timestamp (unwrap_or (text_at (codes "Timestamp") ms) []) else
     TimestampPath (path_at (codes "TimestampPath") ms)))
@@ -127,15 +127,15 @@ selector_of ms = if is_given (codes "ItemSelector") ms then template_at true (co
 
 -- the state of that type, for what its branches and its processor are
 abbrev pub state_by : Option StateType → Members → Scopes → Scope → State
-state_by None ms branches processor = StateOf (settings_of None ms) Succeed
-state_by (Some PassState) ms branches processor = StateOf (settings_of (template_at false (codes "Parameters") ms) ms) (Pass (option_and_then tree_of (get_member (codes "Result") ms)))
-state_by (Some TaskState) ms branches processor = StateOf (settings_of (template_at false (codes "Parameters") ms) ms) (Task (unwrap_or (text_at (codes "Resource") ms) []))
-state_by (Some ChoiceState) ms branches processor = StateOf (settings_of None ms) (Choice (rules_of ms) (text_at (codes "Default") ms))
-state_by (Some WaitState) ms branches processor = StateOf (settings_of None ms) (Wait (delay_of ms))
-state_by (Some SucceedState) ms branches processor = StateOf (settings_of None ms) Succeed
-state_by (Some FailState) ms branches processor = StateOf (settings_of None ms) (Fail (unwrap_or (text_at (codes "Error") ms) []) (unwrap_or (text_at (codes "Cause") ms) []))
-state_by (Some ParallelState) ms branches processor = StateOf (settings_of (template_at false (codes "Parameters") ms) ms) (Parallel branches)
-state_by (Some MapState) ms branches processor = StateOf (settings_of None ms) (Map (path_at (codes "ItemsPath") ms) (selector_of ms) processor)
+state_by None ms branches processor = StateOf (settings_in None ms) Succeed
+state_by (Some PassState) ms branches processor = StateOf (settings_in (template_at false (codes "Parameters") ms) ms) (Pass (option_and_then tree_of (get_member (codes "Result") ms)))
+state_by (Some TaskState) ms branches processor = StateOf (settings_in (template_at false (codes "Parameters") ms) ms) (Task (unwrap_or (text_at (codes "Resource") ms) []))
+state_by (Some ChoiceState) ms branches processor = StateOf (settings_in None ms) (Choice (rules_of ms) (text_at (codes "Default") ms))
+state_by (Some WaitState) ms branches processor = StateOf (settings_in None ms) (Wait (delay_of ms))
+state_by (Some SucceedState) ms branches processor = StateOf (settings_in None ms) Succeed
+state_by (Some FailState) ms branches processor = StateOf (settings_in None ms) (Fail (unwrap_or (text_at (codes "Error") ms) []) (unwrap_or (text_at (codes "Cause") ms) []))
+state_by (Some ParallelState) ms branches processor = StateOf (settings_in (template_at false (codes "Parameters") ms) ms) (Parallel branches)
+state_by (Some MapState) ms branches processor = StateOf (settings_in None ms) (Map (path_at (codes "ItemsPath") ms) (selector_of ms) processor)
 
 -- the field is a Map's processor, or has its older name
 abbrev pub is_processor : List ℕ → Bool

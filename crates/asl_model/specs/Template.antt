@@ -89,10 +89,10 @@ abbrev pub template_value : Template → Tree → Option Item → Result Tree Da
 template_value t input item = unless_failing (failures t input item) (filled t input item)
 
 -- the element at a position, counted from 0
-abbrev pub template_at : ℕ → Templates → Option Template
-template_at i NoTemplates = None
-template_at zero (AndTemplate t others) = Some t
-template_at (suc i) (AndTemplate t others) = template_at i others
+abbrev pub template_element : ℕ → Templates → Option Template
+template_element i NoTemplates = None
+template_element zero (AndTemplate t others) = Some t
+template_element (suc i) (AndTemplate t others) = template_element i others
 
 -- the value of the first field of that name
 abbrev pub template_named : List ℕ → FieldTemplates → Option Template
@@ -103,7 +103,7 @@ template_named n (AndFieldTemplate m t others) = if bytes_eq m n then Some t els
 pub data FailsAt (input : Tree) (item : Option Item) : Template → List Segment → DataFlowError → Type 0 where
   path_fails : {reference : Reference} → referred reference input item ≡ None → FailsAt input item (FromPath reference) [] ParameterPathFailure
   call_fails : {call : Call} → call_value call input item ≡ None → FailsAt input item (FromCall call) [] IntrinsicFailure
-  fails_in_element : {i : ℕ} {elements : Templates} {t : Template} {p : List Segment} {error : DataFlowError} → template_at i elements ≡ Some t → FailsAt input item t p error → FailsAt input item (ArrayTemplate elements) (Index i ∷ p) error
+  fails_in_element : {i : ℕ} {elements : Templates} {t : Template} {p : List Segment} {error : DataFlowError} → template_element i elements ≡ Some t → FailsAt input item t p error → FailsAt input item (ArrayTemplate elements) (Index i ∷ p) error
   fails_in_field : {n : List ℕ} {fields : FieldTemplates} {t : Template} {p : List Segment} {error : DataFlowError} → template_named n fields ≡ Some t → FailsAt input item t p error → FailsAt input item (ObjectTemplate fields) (Name n ∷ p) error
 
 -- a place comes before another: at the first difference by number, or by the bytes of the names

@@ -91,7 +91,7 @@ abbrev mutual
   part_of item (Integer n) = Literal (Integer n)
   part_of item (Text s) = Literal (Text s)
   part_of item (Array ts) = ArrayTemplate (parts_of item ts)
-  part_of item (Object fs) = ObjectTemplate (fields_of item fs)
+  part_of item (Object fs) = ObjectTemplate (field_templates_of item fs)
 
   -- so for the elements
   pub parts_of : Bool → Trees → Templates
@@ -99,9 +99,9 @@ abbrev mutual
   parts_of item (AndTree t ts) = AndTemplate (part_of item t) (parts_of item ts)
 
   -- so for the fields, each under its name without `.$`
-  pub fields_of : Bool → Fields → FieldTemplates
-  fields_of item NoFields = NoFieldTemplates
-  fields_of item (AndField n t fs) = with_field (renamed n) (elim (is_marked n) [ true ↦ marked_value item t | false ↦ part_of item t ]) (fields_of item fs)
+  pub field_templates_of : Bool → Fields → FieldTemplates
+  field_templates_of item NoFields = NoFieldTemplates
+  field_templates_of item (AndField n t fs) = with_field (renamed n) (elim (is_marked n) [ true ↦ marked_value item t | false ↦ part_of item t ]) (field_templates_of item fs)
 
 -- the names of the fields, renamed
 abbrev pub renamed_names : Fields → List (List ℕ)

@@ -148,7 +148,7 @@ fn read_keywords(alloc: Global, keywords: &BTreeMap<String, Tree>) -> Result<Sha
 
 #[tactic(auto, using(crate::proofs::Lookups::field_named_lookup_by))]
 fn type_word(keywords: &BTreeMap<String, Tree>) -> TypeWord
-    ensures { word_view result ≡ model.type_of (trees.entries_view keywords.now.entries) }
+    ensures { word_view result ≡ model.type_word_of (trees.entries_view keywords.now.entries) }
 {
     match keywords.get("type") {
         None => TypeWord::Absent,
@@ -233,8 +233,8 @@ fn simple(keywords: &BTreeMap<String, Tree>, shape: Shape) -> Result<Shape, Shap
 #[tactic(auto, using(crate::proofs::Telling::told_left, crate::proofs::Telling::told_right))]
 #[cycle(read)]
 fn read_array(alloc: Global, keywords: &BTreeMap<String, Tree>) -> Result<Shape, ShapeRefusal>
-    ensures spelled { IfOk result (λ s. model.type_of (trees.entries_view keywords.now.entries) ≡ model.OfArray → model.SpellsShape (json.Object (trees.entries_view keywords.now.entries)) (view s)) }
-    ensures refused { IfErr result (λ e. model.type_of (trees.entries_view keywords.now.entries) ≡ model.OfArray → Tells e (model.shape_faults (json.Object (trees.entries_view keywords.now.entries)))) }
+    ensures spelled { IfOk result (λ s. model.type_word_of (trees.entries_view keywords.now.entries) ≡ model.OfArray → model.SpellsShape (json.Object (trees.entries_view keywords.now.entries)) (view s)) }
+    ensures refused { IfErr result (λ e. model.type_word_of (trees.entries_view keywords.now.entries) ≡ model.OfArray → Tells e (model.shape_faults (json.Object (trees.entries_view keywords.now.entries)))) }
 {
     if !all_among(keywords, &ARRAY_KEYWORDS) {
         return Err(ShapeRefusal::Keyword);
@@ -257,7 +257,7 @@ fn read_prefix_items(
 ) -> Result<Vec<Shape>, ShapeRefusal>
     ensures right { IfOk result (λ _. model.shapes_faults_under (codes "prefixItems") (trees.entries_view keywords.now.entries) ≡ []) }
     ensures shapes { IfOk result (λ v. shapes_view v.items ≡ model.shapes_under (codes "prefixItems") (trees.entries_view keywords.now.entries)) }
-    ensures count { IfOk result (λ v. length v.items ≡ model.elements_in (field_named (codes "prefixItems") (trees.entries_view keywords.now.entries))) }
+    ensures count { IfOk result (λ v. length v.items ≡ model.element_count (field_named (codes "prefixItems") (trees.entries_view keywords.now.entries))) }
     ensures refused { IfErr result (λ e. Tells e (model.shapes_faults_under (codes "prefixItems") (trees.entries_view keywords.now.entries))) }
 {
     match keywords.get("prefixItems") {
@@ -270,7 +270,7 @@ fn read_prefix_items(
 fn read_shapes(alloc: Global, value: &Tree) -> Result<Vec<Shape>, ShapeRefusal>
     ensures right { IfOk result (λ _. model.shapes_faults (trees.view value.now) ≡ []) }
     ensures shapes { IfOk result (λ v. shapes_view v.items ≡ model.shapes_of (trees.view value.now)) }
-    ensures count { IfOk result (λ v. length v.items ≡ model.elements_in (Some (trees.view value.now))) }
+    ensures count { IfOk result (λ v. length v.items ≡ model.element_count (Some (trees.view value.now))) }
     ensures refused { IfErr result (λ e. Tells e (model.shapes_faults (trees.view value.now))) }
 {
     match value {
@@ -353,8 +353,8 @@ fn check_count(stated: i64, count: usize) -> Result<(), ShapeRefusal>
 #[tactic(auto, using(crate::proofs::Telling::told_left, crate::proofs::Telling::told_right))]
 #[cycle(read)]
 fn read_object(alloc: Global, keywords: &BTreeMap<String, Tree>) -> Result<Shape, ShapeRefusal>
-    ensures spelled { IfOk result (λ s. model.type_of (trees.entries_view keywords.now.entries) ≡ model.OfObject → model.SpellsShape (json.Object (trees.entries_view keywords.now.entries)) (view s)) }
-    ensures refused { IfErr result (λ e. model.type_of (trees.entries_view keywords.now.entries) ≡ model.OfObject → Tells e (model.shape_faults (json.Object (trees.entries_view keywords.now.entries)))) }
+    ensures spelled { IfOk result (λ s. model.type_word_of (trees.entries_view keywords.now.entries) ≡ model.OfObject → model.SpellsShape (json.Object (trees.entries_view keywords.now.entries)) (view s)) }
+    ensures refused { IfErr result (λ e. model.type_word_of (trees.entries_view keywords.now.entries) ≡ model.OfObject → Tells e (model.shape_faults (json.Object (trees.entries_view keywords.now.entries)))) }
 {
     if !all_among(keywords, &OBJECT_KEYWORDS) {
         return Err(ShapeRefusal::Keyword);
