@@ -1,3 +1,6 @@
+pub mod CallMeaning
+pub mod CallReading
+pub mod CallWriting
 pub mod ClosedScopes
 pub mod ExamplesAnswers
 pub mod ExamplesCalls

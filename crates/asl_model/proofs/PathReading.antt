@@ -64,7 +64,7 @@ segment_rest (x ∷ rest) c h = first (x == 46) h
 
 -- ---- the path that is read is the one that is spelled
 
-segments_begin : (n : ℕ) (text : List ℕ) (p : List Segment) → segments_of n text ≡ Some p → Begins p text []
+pub segments_begin : (n : ℕ) (text : List ℕ) (p : List Segment) → segments_of n text ≡ Some p → Begins p text []
 segments_begin n [] p h = subst (λ q. Begins q [] []) (same_Some [] p h) refl
 segments_begin zero (x ∷ t) p h = absurd (none-some p h)
 segments_begin (suc n) (x ∷ t) p h =
@@ -72,7 +72,7 @@ segments_begin (suc n) (x ∷ t) p h =
     let q = map_from (λ q. c.0.0 ∷ q) (segments_of n c.0.1) p c.2 in
     subst (λ r. Begins r (x ∷ t) []) q.2 (c.0.1, c.1, segments_begin n c.0.1 q.0 q.1)
 
-begun_read : (n : ℕ) (p : List Segment) (text : List ℕ) → Begins p text [] → length text ≤ n → segments_of n text ≡ Some p
+pub begun_read : (n : ℕ) (p : List Segment) (text : List ℕ) → Begins p text [] → length text ≤ n → segments_of n text ≡ Some p
 begun_read n [] text b l = subst (λ t. segments_of n t ≡ Some []) (sym b) refl
 begun_read n (s ∷ p) [] b l = absurd (none-some (s, b.0) b.1)
 begun_read zero (s ∷ p) (x ∷ t) b l = absurd (omega arith)

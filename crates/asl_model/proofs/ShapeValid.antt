@@ -37,6 +37,7 @@ found_mentions (AndField n t fs) shapes h =
 -- ---- what is valid passes the test
 
 mutual
+  -- a tree that is valid passes
   valid_has : {s : Shape} {t : Tree} → IsValid s t → Has s t
   valid_has any_is_valid = refl
   valid_has null_is_valid = refl
@@ -47,11 +48,13 @@ mutual
   valid_has (open_object_is_valid {shapes = shapes} {fs = fs} h) = and_from (fields_have shapes fs) true (valid_fields h) refl
   valid_has (closed_object_is_valid {shapes = shapes} {fs = fs} h mentioned) = and_from (fields_have shapes fs) (all_mentioned shapes fs) (valid_fields h) (mentions_found mentioned)
 
+  -- so do elements
   valid_elements : {first : Shapes} {rest : Shape} {ts : Trees} → HasValidElements first rest ts → IsTrue (elements_have first (has rest) ts)
   valid_elements no_further_element = refl
   valid_elements (further_element_is_valid {rest = rest} {t = t} {ts = ts} h further) = and_from (has rest t) (each_element (has rest) ts) (valid_has h) (valid_elements further)
   valid_elements (first_element_is_valid {s = s} {others = others} {rest = rest} {t = t} {ts = ts} h further) = and_from (has s t) (elements_have others (has rest) ts) (valid_has h) (valid_elements further)
 
+  -- so do fields
   valid_fields : {shapes : FieldShapes} {fs : Fields} → HasValidFields shapes fs → IsTrue (fields_have shapes fs)
   valid_fields no_field_mentioned = refl
   valid_fields (present_field_is_valid {n = n} {needed = needed} {s = s} {shapes = shapes} {fs = fs} {t = t} e h further) = and_from (there_and needed (has s) (field_named n fs)) (fields_have shapes fs) (ap (there_and needed (has s)) e ∙ valid_has h) (valid_fields further)
@@ -73,6 +76,7 @@ field_valid n false s shapes fs None e h inner further = absent_field_is_valid e
 field_valid n needed s shapes fs (Some t) e h inner further = present_field_is_valid e (inner t h) further
 
 mutual
+  -- a tree that passes is valid
   has_valid : (s : Shape) (t : Tree) → Has s t → IsValid s t
   has_valid Any t h = any_is_valid
   has_valid Never t h = absurd (false≢true h)
@@ -92,6 +96,7 @@ mutual
       closed_object_is_valid (fields_valid shapes fs both.0) (found_mentions fs shapes both.1)
   has_valid (ObjectShape shapes extra) t h = absurd (false≢true h)
 
+  -- so are elements
   elements_valid : (first : Shapes) (rest : Shape) (ts : Trees) → ((t : Tree) → Has rest t → IsValid rest t) → IsTrue (elements_have first (has rest) ts) → HasValidElements first rest ts
   elements_valid NoShapes rest ts inner h = further_valid rest ts inner h
   elements_valid (AndShape s others) rest NoTrees inner h = absurd (false≢true h)
@@ -99,6 +104,7 @@ mutual
       let both = and_parts (has s t) (elements_have others (has rest) ts) h in
       first_element_is_valid (has_valid s t both.0) (elements_valid others rest ts inner both.1)
 
+  -- so are fields
   fields_valid : (shapes : FieldShapes) (fs : Fields) → IsTrue (fields_have shapes fs) → HasValidFields shapes fs
   fields_valid NoFieldShapes fs h = no_field_mentioned
   fields_valid (AndFieldShape n needed s shapes) fs h =

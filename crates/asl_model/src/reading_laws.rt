@@ -1,6 +1,6 @@
 //! Laws about what texts mean. Each function here does nothing: its contract is the law.
 
-ghost use Rattle.std.specs.Prelude.{◌≡◌, ◌⊎◌, ◌↔◌, ℕ, List, length, Bool, Some, IsTrue};
+ghost use Rattle.std.specs.Prelude.{◌≡◌, ◌⊎◌, ◌↔◌, ℕ, List, length, Bool, Some, Ok, Err, IsTrue};
 ghost use Rattle.std.specs.Str.{encode_utf8_all};
 ghost use Rattle.serde_json.specs.Data.{Data};
 ghost use Rattle.asl_model.specs.Tree.{Tree};
@@ -16,6 +16,9 @@ ghost use Rattle.asl_model.specs.PathSpelling.{path_of, Spells, PathFault, IsRef
 ghost use Rattle.asl_model.specs.ShapeSpelling.{SpellsShape, ShapeFault, HasShapeFault};
 ghost use Rattle.asl_model.specs.TemplateSpelling.{TemplateFault, template_of, SpellsTemplate, HasTemplateFault};
 ghost use Rattle.asl_model.specs.RuleSpelling.{RuleFault, rule_of, SpellsRule, HasRuleFault};
+ghost use Rattle.asl_model.specs.Intrinsic.{Reference, Call};
+ghost use Rattle.asl_model.specs.CallSpelling.{reference_of, WrittenCall, written_call, CallFault, call_from};
+ghost use Rattle.asl_model.specs.CallGrammar.{WritesCall, SpellsReference, SpellsCall, IsRefusedCall};
 ghost use Rattle.asl_model.specs.Run.{Action};
 ghost use Rattle.asl_model.specs.AnswersSpelling.{ReadsAsAnswers, IsAnswersFault};
 ghost use Rattle.asl_model.specs.Records.{RecordComplaint, StandsForDeclared, StandsForCertificate, HasDeclaredFault, HasCertificateFault};
@@ -117,4 +120,23 @@ pub fn texts_have_one_list_of_answers()
     ensures one { (text : List ℕ) (a b : List Action) → ReadsAsAnswers text a → ReadsAsAnswers text b → a ≡ b }
     ensures no_fault { (text : List ℕ) (a : List Action) (f : TextFault) → ReadsAsAnswers text a → IsAnswersFault text f → ⊥ }
     ensures either { (text : List ℕ) → ((a : List Action) × ReadsAsAnswers text a) ⊎ ((f : TextFault) × IsAnswersFault text f) }
+{}
+
+/// The function that cuts a text as a call gives exactly the call that the text writes, and the one that reads paths in
+/// templates exactly the path that it spells.
+pub fn written_calls_are_exactly_cut()
+    ensures written { (text : List ℕ) (c : WrittenCall) → (written_call text ≡ Some c) ↔ WritesCall 32 text c }
+    ensures reference { (item : Bool) (text : List ℕ) (r : Reference) → (reference_of item text ≡ Some r) ↔ SpellsReference item text r }
+{}
+
+/// Each text spells an intrinsic call or is refused, never both, and in one way: the lesser refusal counts. The function
+/// that reads calls gives exactly the call that a text spells, or its refusal. So it is with and without leave for paths
+/// to a Map's item.
+pub fn texts_spell_calls_or_are_refused()
+    ensures either { (item : Bool) (text : List ℕ) → ((c : Call) × SpellsCall item text c) ⊎ ((f : CallFault) × IsRefusedCall item text f) }
+    ensures call { (item : Bool) (text : List ℕ) (c d : Call) → SpellsCall item text c → SpellsCall item text d → c ≡ d }
+    ensures no_refusal { (item : Bool) (text : List ℕ) (c : Call) (f : CallFault) → SpellsCall item text c → IsRefusedCall item text f → ⊥ }
+    ensures one_refusal { (item : Bool) (text : List ℕ) (f g : CallFault) → IsRefusedCall item text f → IsRefusedCall item text g → f ≡ g }
+    ensures read { (item : Bool) (text : List ℕ) (c : Call) → (call_from item text ≡ Ok c) ↔ SpellsCall item text c }
+    ensures refused { (item : Bool) (text : List ℕ) (f : CallFault) → (call_from item text ≡ Err f) ↔ IsRefusedCall item text f }
 {}
