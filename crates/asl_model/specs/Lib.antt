@@ -6,6 +6,7 @@ pub mod DefinitionTable
 pub mod Faults
 pub mod Finding
 pub mod Flow
+pub mod Headline
 pub mod Intrinsic
 pub mod Json
 pub mod Machine
