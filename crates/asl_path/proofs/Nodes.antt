@@ -1,8 +1,8 @@
 -- What one step leads to, and what a path names.
-use Rattle.std.proofs.Common.{◌≡◌, ℕ, zero, suc, List, [], ◌∷◌, Bool, true, false, cond, Option, Some, None, option_map, option_and_then, bytes_eq, Bor, String, Global, string_bytes, nat_cmp, refl, sym, ap, subst, ◌∙◌, rules, arith, Vec, BTreeMap, length, get_or, drop, drop-cons, is_some, IfSome, ◌<◌, ◌≤◌}
+use Rattle.std.proofs.Common.{◌≡◌, ℕ, zero, suc, List, [], ◌∷◌, Bool, true, false, cond, Option, Some, None, option_map, option_and_then, bytes_eq, Bor, String, Global, string_bytes, nat_cmp, refl, sym, ap, subst, ◌∙◌, rules, arith, Vec, BTreeMap, length, get_or, drop, take, ◌-◌, drop-cons, is_some, IfSome, ◌<◌, ◌≤◌}
 use borrow.Author.Tests.{ltb-true, ltb-false}
 use lib.Dec.{ltb}
-use Rattle.std.proofs.lemmas.List.{drop_all}
+use Rattle.std.proofs.lemmas.List.{drop_all, take_all}
 use Rattle.std.proofs.lemmas.Map.Text.{is_eq-slice_cmp}
 use Rattle.std.proofs.lemmas.Slice.Eq.{bytes_eq-Decides}
 use Rattle.std.specs.BTreeMap.{is_at}
@@ -37,12 +37,12 @@ pub view-lookup : (name : List ℕ) (es : List Entry) → option_map view (looku
 view-lookup name [] = refl
 view-lookup name (e ∷ es) = first_or _ _ e.1 _ _ (is_eq-slice_cmp name (string_bytes e.0) ∙ turned _ _ name (string_bytes e.0) refl refl) (view-lookup name es)
 
-element_within : (ts : List Tree) (i : ℕ) (d : Tree) → i < length ts → Some (view (get_or ts i d)) ≡ element i (elements_view ts)
+pub element_within : (ts : List Tree) (i : ℕ) (d : Tree) → i < length ts → Some (view (get_or ts i d)) ≡ element i (elements_view ts)
 element_within [] i d h = absurd (omega arith)
 element_within (t ∷ ts) zero d h = refl
 element_within (t ∷ ts) (suc i) d h = element_within ts i d (omega arith)
 
-element_past : (ts : List Tree) (i : ℕ) → length ts ≤ i → None ≡ element i (elements_view ts)
+pub element_past : (ts : List Tree) (i : ℕ) → length ts ≤ i → None ≡ element i (elements_view ts)
 element_past [] i h = refl
 element_past (t ∷ ts) zero h = absurd (omega arith)
 element_past (t ∷ ts) (suc i) h = element_past ts i (omega arith)
@@ -67,6 +67,13 @@ element_child t v s i e f = rw (e, f, view-List v) refl
 pub view_of_ref : (r : Option (Bor Tree)) → option_map (λ x. view x.now) r ≡ option_map view (option_map (λ x. x.now) r)
 view_of_ref None = refl
 view_of_ref (Some x) = refl
+
+-- the first step and what is behind it are the path
+pub first_and_rest : (items : List code.Segment) (s : code.Segment) (m : Segment) → 1 ≤ length items → s ≡ get_or items 0 s → segment_view s ≡ m → m ∷ segments_view (take (length items - 1) (drop 1 items)) ≡ segments_view items
+first_and_rest [] s m some is seen = absurd (omega arith)
+first_and_rest (x ∷ items) s m some is seen =
+    let all : take (length (x ∷ items) - 1) items ≡ items = take_all (length (x ∷ items) - 1) items (omega arith) in
+    rw all (ap (λ y. y ∷ segments_view items) (sym seen ∙ ap segment_view is))
 
 -- ---- what a path names, by cases
 

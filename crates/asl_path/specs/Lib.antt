@@ -1,3 +1,4 @@
 pub mod Parts
+pub mod Placement
 pub mod Refusal
 pub mod View
