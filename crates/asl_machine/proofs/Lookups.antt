@@ -14,6 +14,10 @@ use Rattle.asl_model.proofs.PathReading.{path_of-Spells}
 use Rattle.asl_model.specs.ShapeSpelling.{is_among}
 use Rattle.asl_model.specs.StandsFor.{members_in, names_of, characters}
 
+pub none_from : (o : Option Data) → is_some o ≡ false → o ≡ None
+none_from None e = refl
+none_from (Some v) e = absurd (cc)
+
 -- a field of a value is one of its members
 pub got_among : (field : List ℕ) (v : Data) → get field v ≡ get_member field (members_in v)
 got_among field json.null = refl
@@ -33,7 +37,7 @@ path_none text h = by (path_of text) refl
 
 -- ---- names
 
-bytes_eq-swap : (m n : List ℕ) → bytes_eq m n ≡ bytes_eq n m
+pub bytes_eq-swap : (m n : List ℕ) → bytes_eq m n ≡ bytes_eq n m
 bytes_eq-swap m n = go (bytes_eq m n) (bytes_eq n m) refl refl
   where
     go : (a b : Bool) → bytes_eq m n ≡ a → bytes_eq n m ≡ b → bytes_eq m n ≡ bytes_eq n m

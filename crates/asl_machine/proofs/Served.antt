@@ -1,5 +1,5 @@
 -- What is told of a state that is read field by field as it is served is told of the whole, or isn't served.
-use Rattle.std.proofs.Common.{◌≡◌, ℕ, zero, suc, slice_index_or, ◌<◌, List, [], ◌∷◌, ◌++◌, length, Option, Some, None, is_some, option_and_then, Result, Ok, Err, Bool, true, false, ◌||◌, bytes_eq, codes, refl, sym, ap, ◌∙◌, subst, arith, ◌⊎◌, inl, inr, append-nil}
+use Rattle.std.proofs.Common.{◌≡◌, ℕ, List, [], ◌∷◌, ◌++◌, map, Option, Some, None, is_some, option_and_then, Result, Err, Bool, true, false, ◌||◌, bytes_eq, codes, if◌then◌else◌, refl, sym, ap, ◌∙◌, subst, ◌⊎◌, inl, inr, append-nil}
 use Rattle.std.specs.List.{Contains}
 use Rattle.std.proofs.lemmas.Slice.Eq.{bytes_eq-Decides}
 use Rattle.serde_json.specs.Data as json
@@ -7,85 +7,102 @@ use Rattle.serde_json.specs.Data.{Data, Members}
 use Rattle.serde_json.specs.Find.{get_member, as_object}
 use Rattle.asl_model.specs.DefinitionTable as model
 use Rattle.asl_model.specs.ShapeSpelling.{is_among}
-use Rattle.asl_model.specs.StandsFor.{Complaint, members_in, names_of, text_at, type_of, has_row, rows_complaints, foreign_complaints, fields_complaints, type_complaints, unknown_type, state_complaints_by, state_complaints}
+use Rattle.asl_model.specs.StandsFor.{Complaint, members_in, names_of, text_at, type_of, given_among, has_row, rows_complaints, foreign_complaints, fields_complaints, type_complaints, unknown_type, state_complaints_by, state_complaints}
 use Rattle.asl_machine.specs.declared.checking.Complaint.{Complaint as Objection}
 use Rattle.asl_machine.specs.declared.table.StateType.{StateType}
 use Rattle.asl_machine.specs.declared.table.StateType.TheVariants as code
-use Rattle.asl_machine.specs.Definition.{served, served_type, complaint_view, IsAmong, IsVerdict, own_place, own_complaint, field_complaints, told_of, type_told, untyped_complaints, unserved_by, unserved_state}
-use Rattle.asl_machine.proofs.Lookups.{some_member}
-use Rattle.asl_machine.proofs.Verdicts.{in_first, in_second, among_second}
+use Rattle.asl_machine.specs.Unserved.{complaint_of, unserved_type, unserved_fields, unserved_by, unserved_state}
+use Rattle.asl_machine.specs.Definition.{served, served_type, complaint_view, IsAmong, IsVerdict, own_place, told_of, type_told, untyped_complaints}
+use Rattle.asl_machine.proofs.Complaints.{here, further, first_or, in_first, in_second, either, left_none, right_none}
+use Rattle.asl_machine.proofs.Lookups.{some_member, none_from}
+use Rattle.asl_machine.proofs.Verdicts.{Covers, carried}
 
--- ---- verdicts
+-- ---- no object
 
-moved : (xs ys : List Complaint) (r : Result (Unit {0}) Objection) → xs ≡ ys → IsVerdict xs r → IsVerdict ys r
-moved xs ys r e h = subst (λ zs. IsVerdict zs r) e h
+first_told : (x : Complaint) (xs : List Complaint) (c : Objection) → complaint_view c ≡ Some x → IsVerdict (x ∷ xs) (Err c)
+first_told x xs c e = record { holds = subst (λ o. IsAmong (x ∷ xs) o) (sym e) (here x xs) }
 
-carried_among : (xs ys : List Complaint) (o : Option Complaint) → ((c : Complaint) → Contains xs c → Contains ys c) → IsAmong xs o → IsAmong ys o
-carried_among xs ys None each h = tt
-carried_among xs ys (Some c) each h = each c h
+pub no_object_told : (names : List (List ℕ)) (state : List ℕ) (v : Data) (c : Objection) → is_some (as_object v) ≡ false → complaint_view c ≡ Some (complaint_of state [] model.NotObject)
+    → IsVerdict (state_complaints names state v ++ unserved_state state (members_in v)) (Err c)
+no_object_told names state json.null c h e = first_told (complaint_of state [] model.NotObject) [] c e
+no_object_told names state (json.boolean b) c h e = first_told (complaint_of state [] model.NotObject) [] c e
+no_object_told names state (json.number n) c h e = first_told (complaint_of state [] model.NotObject) [] c e
+no_object_told names state (json.string s) c h e = first_told (complaint_of state [] model.NotObject) [] c e
+no_object_told names state (json.array vs) c h e = first_told (complaint_of state [] model.NotObject) [] c e
+no_object_told names state (json.object ms) c h e = absurd (cc)
 
-carried : (xs ys : List Complaint) (r : Result (Unit {0}) Objection) → (xs ≡ [] → ys ≡ []) → ((c : Complaint) → Contains xs c → Contains ys c) → IsVerdict xs r → IsVerdict ys r
-carried xs ys (Ok nothing) none each h = record { holds = none h.holds }
-carried xs ys (Err c) none each h = record { holds = carried_among xs ys (complaint_view c) each h.holds }
+-- ---- no type that is served
 
-second_judged : (xs ys : List Complaint) (r : Result (Unit {0}) Objection) → (ys ≡ [] → ⊥) → IsVerdict ys r → IsVerdict (xs ++ ys) r
-second_judged xs ys (Ok nothing) some h = absurd (some h.holds)
-second_judged xs ys (Err c) some h = record { holds = among_second xs ys (complaint_view c) h.holds }
+-- the second of two lists of rows is the first with further rows in front
+pub data Extends : List model.Row → List model.Row → Type 0 where
+  as_it_is : {rows : List model.Row} → Extends rows rows
+  one_more : {rows more : List model.Row} {row : model.Row} → Extends rows more → Extends rows (row ∷ more)
 
-either : (xs ys : List Complaint) (c : Complaint) (k : ℕ) → k < length (xs ++ ys) → slice_index_or (xs ++ ys) k c ≡ c → Contains xs c ⊎ Contains ys c
-either [] ys c k h e = inr (k, h, e)
-either (x ∷ xs) ys c zero h e = inl (0, omega arith, e)
-either (x ∷ xs) ys c (suc k) h e = elim (either xs ys c k (omega arith) e) [ inl a ↦ inl (suc a.0, omega arith, a.2) | inr b ↦ inr b ]
+-- what is wrong with the fields of some rows is so with those of more rows
+in_more_rows : {rows more : List model.Row} (state : List ℕ) (ms : Members) (c : Complaint) → Extends rows more → Contains (rows_complaints (own_place state) rows ms) c → Contains (rows_complaints (own_place state) more ms) c
+in_more_rows state ms c as_it_is h = h
+in_more_rows state ms c (one_more later) h = in_second _ _ c (in_more_rows state ms c later h)
 
-left_none : (xs ys : List Complaint) → xs ++ ys ≡ [] → xs ≡ []
-left_none [] ys e = refl
-left_none (x ∷ xs) ys e = absurd (cc)
+-- where nothing is wrong with those of more rows, nothing is with those of fewer
+pub fewer_rows_none : {rows more : List model.Row} (state : List ℕ) (ms : Members) → Extends rows more → rows_complaints (own_place state) more ms ≡ [] → rows_complaints (own_place state) rows ms ≡ []
+fewer_rows_none state ms as_it_is h = h
+fewer_rows_none state ms (one_more later) h = fewer_rows_none state ms later (right_none _ _ h)
 
-right_none : (xs ys : List Complaint) → xs ++ ys ≡ [] → ys ≡ []
-right_none [] ys e = e
-right_none (x ∷ xs) ys e = absurd (cc)
+path_rows_extend : Extends model.every_state_rows model.path_rows
+path_rows_extend = one_more (one_more as_it_is)
+
+next_rows_extend : Extends model.every_state_rows model.next_rows
+next_rows_extend = one_more (one_more path_rows_extend)
+
+trouble_rows_extend : Extends model.every_state_rows model.trouble_rows
+trouble_rows_extend = one_more (one_more (one_more (one_more next_rows_extend)))
+
+-- each type of states has the fields of every state
+rows_extend : (t : model.StateType) → Extends model.every_state_rows (model.rows_of t)
+rows_extend model.PassState = one_more (one_more (one_more next_rows_extend))
+rows_extend model.TaskState = one_more (one_more (one_more (one_more trouble_rows_extend)))
+rows_extend model.ChoiceState = one_more (one_more path_rows_extend)
+rows_extend model.WaitState = one_more (one_more (one_more (one_more next_rows_extend)))
+rows_extend model.SucceedState = path_rows_extend
+rows_extend model.FailState = one_more (one_more as_it_is)
+rows_extend model.ParallelState = one_more (one_more trouble_rows_extend)
+rows_extend model.MapState = one_more (one_more (one_more (one_more (one_more (one_more trouble_rows_extend)))))
 
 not_none : (xs : List Complaint) (x : Complaint) → xs ++ (x ∷ []) ≡ [] → ⊥
 not_none [] x e = cc
 not_none (y ∷ xs) x e = cc
 
--- ---- no object
-
-first_told : (x : Complaint) (xs : List Complaint) (c : Objection) → complaint_view c ≡ Some x → IsVerdict (x ∷ xs) (Err c)
-first_told x xs c e = record { holds = subst (λ o. IsAmong (x ∷ xs) o) (sym e) (0, omega arith, refl) }
-
-pub no_object_told : (names : List (List ℕ)) (state : List ℕ) (v : Data) (c : Objection) → is_some (as_object v) ≡ false → complaint_view c ≡ Some (own_complaint state [] model.NotObject)
-    → IsVerdict (state_complaints names state v ++ unserved_state state (members_in v)) (Err c)
-no_object_told names state json.null c h e = first_told (own_complaint state [] model.NotObject) [] c e
-no_object_told names state (json.boolean b) c h e = first_told (own_complaint state [] model.NotObject) [] c e
-no_object_told names state (json.number n) c h e = first_told (own_complaint state [] model.NotObject) [] c e
-no_object_told names state (json.string s) c h e = first_told (own_complaint state [] model.NotObject) [] c e
-no_object_told names state (json.array vs) c h e = first_told (own_complaint state [] model.NotObject) [] c e
-no_object_told names state (json.object ms) c h e = absurd (cc)
-
--- ---- no type that is served
+-- a state of a type that isn't served
+other_type : (t : model.StateType) (text : Option (List ℕ)) (names : List (List ℕ)) (state : List ℕ) (ms : Members) (branches processor : List Complaint) → option_and_then model.type_named text ≡ Some t
+    → Covers (rows_complaints (own_place state) model.every_state_rows ms ++ type_told state text) (state_complaints_by (Some t) state names ms branches processor ++ unserved_type state)
+other_type t None names state ms branches processor e = absurd (cc)
+other_type t (Some s) names state ms branches processor e = record {
+  none = λ h. absurd (not_none (rows_complaints (own_place state) model.every_state_rows ms) (complaint_of state (codes "Type") model.UnknownType) h);
+  each = λ c h. by c (either (rows_complaints (own_place state) model.every_state_rows ms) (unserved_type state) c h);
+}
+  where
+    by : (c : Complaint) → Contains (rows_complaints (own_place state) model.every_state_rows ms) c ⊎ Contains (unserved_type state) c → Contains (state_complaints_by (Some t) state names ms branches processor ++ unserved_type state) c
+    by c (inl a) = in_first _ (unserved_type state) c (in_first (fields_complaints (own_place state) (model.rows_of t) ms) _ c (in_first (rows_complaints (own_place state) (model.rows_of t) ms) _ c (in_more_rows state ms c (rows_extend t) a)))
+    by c (inr b) = in_second (state_complaints_by (Some t) state names ms branches processor) (unserved_type state) c b
 
 unknown_told : (state : List ℕ) (text : Option (List ℕ)) → option_and_then model.type_named text ≡ None → unknown_type (own_place state) text ≡ type_told state text
 unknown_told state None e = refl
 unknown_told state (Some s) e = rw e refl
 
-named_told : (state : List ℕ) (text : Option (List ℕ)) (t : model.StateType) (xs : List Complaint) → option_and_then model.type_named text ≡ Some t → xs ++ type_told state text ≡ [] → ⊥
-named_told state None t xs e h = cc
-named_told state (Some s) t xs e h = not_none xs (own_complaint state (codes "Type") model.UnknownType) h
-
 untyped_by : (o : Option model.StateType) (names : List (List ℕ)) (state : List ℕ) (ms : Members) (branches processor : List Complaint) (r : Result (Unit {0}) Objection)
     → type_of ms ≡ o → option_and_then served o ≡ None → IsVerdict (untyped_complaints state ms) r
     → IsVerdict (state_complaints_by o state names ms branches processor ++ unserved_by state ms o) r
 untyped_by None names state ms branches processor r e h j =
-    moved (untyped_complaints state ms) _ r (sym (append-nil (rows_complaints (own_place state) model.every_state_rows ms ++ unknown_type (own_place state) (text_at (codes "Type") ms)) ∙ ap (λ ws. rows_complaints (own_place state) model.every_state_rows ms ++ ws) (unknown_told state (text_at (codes "Type") ms) e))) j
+    let rows = rows_complaints (own_place state) model.every_state_rows ms in
+    subst (λ xs. IsVerdict xs r) (sym (append-nil (rows ++ unknown_type (own_place state) (text_at (codes "Type") ms)) ∙ ap (λ ws. rows ++ ws) (unknown_told state (text_at (codes "Type") ms) e))) j
 untyped_by (Some model.PassState) names state ms branches processor r e h j = absurd (cc)
 untyped_by (Some model.SucceedState) names state ms branches processor r e h j = absurd (cc)
 untyped_by (Some model.FailState) names state ms branches processor r e h j = absurd (cc)
-untyped_by (Some model.TaskState) names state ms branches processor r e h j = second_judged _ (untyped_complaints state ms) r (named_told state (text_at (codes "Type") ms) model.TaskState (rows_complaints (own_place state) model.every_state_rows ms) e) j
-untyped_by (Some model.ChoiceState) names state ms branches processor r e h j = second_judged _ (untyped_complaints state ms) r (named_told state (text_at (codes "Type") ms) model.ChoiceState (rows_complaints (own_place state) model.every_state_rows ms) e) j
-untyped_by (Some model.WaitState) names state ms branches processor r e h j = second_judged _ (untyped_complaints state ms) r (named_told state (text_at (codes "Type") ms) model.WaitState (rows_complaints (own_place state) model.every_state_rows ms) e) j
-untyped_by (Some model.ParallelState) names state ms branches processor r e h j = second_judged _ (untyped_complaints state ms) r (named_told state (text_at (codes "Type") ms) model.ParallelState (rows_complaints (own_place state) model.every_state_rows ms) e) j
-untyped_by (Some model.MapState) names state ms branches processor r e h j = second_judged _ (untyped_complaints state ms) r (named_told state (text_at (codes "Type") ms) model.MapState (rows_complaints (own_place state) model.every_state_rows ms) e) j
+untyped_by (Some model.TaskState) names state ms branches processor r e h j = carried (untyped_complaints state ms) _ r (other_type model.TaskState (text_at (codes "Type") ms) names state ms branches processor e) j
+untyped_by (Some model.ChoiceState) names state ms branches processor r e h j = carried (untyped_complaints state ms) _ r (other_type model.ChoiceState (text_at (codes "Type") ms) names state ms branches processor e) j
+untyped_by (Some model.WaitState) names state ms branches processor r e h j = carried (untyped_complaints state ms) _ r (other_type model.WaitState (text_at (codes "Type") ms) names state ms branches processor e) j
+untyped_by (Some model.ParallelState) names state ms branches processor r e h j = carried (untyped_complaints state ms) _ r (other_type model.ParallelState (text_at (codes "Type") ms) names state ms branches processor e) j
+untyped_by (Some model.MapState) names state ms branches processor r e h j = carried (untyped_complaints state ms) _ r (other_type model.MapState (text_at (codes "Type") ms) names state ms branches processor e) j
 
 pub untyped_told : (names : List (List ℕ)) (state : List ℕ) (v : Data) (r : Result (Unit {0}) Objection) → is_some (as_object v) ≡ true → served_type (members_in v) ≡ None → IsVerdict (untyped_complaints state (members_in v)) r
     → IsVerdict (state_complaints names state v ++ unserved_state state (members_in v)) r
@@ -111,11 +128,7 @@ not_named state n rows (json.member m v ms) e h = go (λ f. not_named state n ro
         absurd (cc)
     go later false b f g = let some = rw f at e in absurd (cc)
 
-none_from : (o : Option Data) → is_some o ≡ false → o ≡ None
-none_from None e = refl
-none_from (Some v) e = absurd (cc)
-
-not_given : (state n : List ℕ) (rows : List model.Row) (ms : Members) → foreign_complaints (own_place state) rows ms ≡ [] → has_row n rows ≡ false → get_member n ms ≡ None
+pub not_given : (state n : List ℕ) (rows : List model.Row) (ms : Members) → foreign_complaints (own_place state) rows ms ≡ [] → has_row n rows ≡ false → get_member n ms ≡ None
 not_given state n rows ms e h = none_from (get_member n ms) (some_member n ms ∙ not_named state n rows ms e h)
 
 -- with more rows too no field lacks one
@@ -134,58 +147,129 @@ or_last false b e = e
 pass_rows_too : (n : List ℕ) → has_row n model.next_rows ≡ true → has_row n model.pass_rows ≡ true
 pass_rows_too n e = or_last (bytes_eq (codes "Parameters") n) _ (or_last (bytes_eq (codes "Result") n) _ (or_last (bytes_eq (codes "ResultPath") n) _ e))
 
-all_none : (xs ys zs : List Complaint) → xs ≡ [] → ys ≡ [] → zs ≡ [] → (xs ++ ys) ++ zs ≡ []
-all_none xs ys zs a b c = rw (a, b, c) refl
-
-plain_told : (fields foreign_ones : List Complaint) (rows : List Complaint) (r : Result (Unit {0}) Objection) → fields ≡ rows ++ foreign_ones → IsVerdict (fields ++ []) r → IsVerdict ((fields ++ []) ++ foreign_ones) r
-plain_told fields foreign_ones rows r e =
-    carried (fields ++ []) ((fields ++ []) ++ foreign_ones) r
-    (λ h. all_none fields [] foreign_ones (left_none fields [] h) refl (right_none rows foreign_ones (sym e ∙ left_none fields [] h)))
-    (λ c h. in_first (fields ++ []) foreign_ones c h)
-
-pass_told : (rows foreign_ones further all_rows all_foreign : List Complaint) (r : Result (Unit {0}) Objection)
-    → ((c : Complaint) → Contains rows c → Contains all_rows c) → (rows ≡ [] → foreign_ones ≡ [] → all_rows ≡ []) → (foreign_ones ≡ [] → all_foreign ≡ [])
-    → IsVerdict ((rows ++ foreign_ones) ++ further) r → IsVerdict (((all_rows ++ all_foreign) ++ (further ++ [])) ++ foreign_ones) r
-pass_told rows foreign_ones further all_rows all_foreign r each none none_foreign =
-    carried ((rows ++ foreign_ones) ++ further) (((all_rows ++ all_foreign) ++ (further ++ [])) ++ foreign_ones) r nothing some
+-- the three fields of a Pass that aren't served
+more_named : (n : List ℕ) → has_row n model.next_rows ≡ false → has_row n model.pass_rows ≡ true → is_among n unserved_fields ≡ true
+more_named n e h = by (bytes_eq (codes "Parameters") n) (bytes_eq (codes "Result") n) (bytes_eq (codes "ResultPath") n) (has_row n model.next_rows) e h
   where
-    nothing : (rows ++ foreign_ones) ++ further ≡ [] → ((all_rows ++ all_foreign) ++ (further ++ [])) ++ foreign_ones ≡ []
+    by : (a b d f : Bool) → f ≡ false → (a || (b || (d || f))) ≡ true → (a || (b || (d || false))) ≡ true
+    by true b d f e h = refl
+    by false true d f e h = refl
+    by false false true f e h = refl
+    by false false false f e h = absurd (cc)
+
+-- none of them is left out
+unknown_ones : (n : List ℕ) → is_among n unserved_fields ≡ true → is_among n model.left_out_fields ≡ false
+unknown_ones n e = by (bytes_eq (codes "Parameters") n) (bytes_eq (codes "Result") n) (bytes_eq (codes "ResultPath") n) refl refl refl e
+  where
+    by : (a b d : Bool) → bytes_eq (codes "Parameters") n ≡ a → bytes_eq (codes "Result") n ≡ b → bytes_eq (codes "ResultPath") n ≡ d → (a || (b || (d || false))) ≡ true → is_among n model.left_out_fields ≡ false
+    by true b d f g k h = subst (λ m. is_among m model.left_out_fields ≡ false) ((bytes_eq-Decides (codes "Parameters") n).0 f) refl
+    by false true d f g k h = subst (λ m. is_among m model.left_out_fields ≡ false) ((bytes_eq-Decides (codes "Result") n).0 g) refl
+    by false false true f g k h = subst (λ m. is_among m model.left_out_fields ≡ false) ((bytes_eq-Decides (codes "ResultPath") n).0 k) refl
+    by false false false f g k h = absurd (cc)
+
+-- a field of those that is given is told
+given_told : (tell : List ℕ → Complaint) (n : List ℕ) (fields : List (List ℕ)) (ms : Members) → is_among n fields ≡ true → is_some (get_member n ms) ≡ true → Contains (map tell (given_among fields ms)) (tell n)
+given_told tell n [] ms e h = absurd (cc)
+given_told tell n (field ∷ fields) ms e h = by (bytes_eq field n) refl (is_some (get_member field ms)) refl (λ k. given_told tell n fields ms k h)
+  where
+    by : (a : Bool) → bytes_eq field n ≡ a → (b : Bool) → is_some (get_member field ms) ≡ b → (is_among n fields ≡ true → Contains (map tell (given_among fields ms)) (tell n)) → Contains (map tell (if is_some (get_member field ms) then field ∷ given_among fields ms else given_among fields ms)) (tell n)
+    by true f true g later =
+        let same : field ≡ n = (bytes_eq-Decides field n).0 f in
+        rw g (subst (λ m. Contains (tell m ∷ map tell (given_among fields ms)) (tell n)) (sym same) (here (tell n) (map tell (given_among fields ms))))
+    by true f false g later =
+        let same : field ≡ n = (bytes_eq-Decides field n).0 f in
+        let there : is_some (get_member field ms) ≡ true = subst (λ m. is_some (get_member m ms) ≡ true) (sym same) h in
+        absurd (cc)
+    by false f true g later = rw g (further (tell field) (tell n) (map tell (given_among fields ms)) (later (rw f at e)))
+    by false f false g later = rw g (later (rw f at e))
+
+-- a field of a Pass that isn't read is none of a Pass, or isn't served
+unread : (state : List ℕ) (all ms : Members) (c : Complaint) → ((n : List ℕ) → is_among n (names_of ms) ≡ true → is_some (get_member n all) ≡ true)
+    → Contains (foreign_complaints (own_place state) model.next_rows ms) c
+    → Contains (foreign_complaints (own_place state) model.pass_rows ms) c ⊎ Contains (unserved_by state all (Some model.PassState)) c
+unread state all json.no_members c given h = inl h
+unread state all (json.member m v ms) c given h = by (has_row m model.next_rows) (has_row m model.pass_rows) refl refl (λ k. unread state all ms c (λ n e. given n (or_last (bytes_eq m n) (is_among n (names_of ms)) e)) k)
+  where
+    told : model.DefFault
+    told = if is_among m model.left_out_fields then model.LeftOut else model.UnknownField
+
+    among_all : is_some (get_member m all) ≡ true
+    among_all = given m (rw ((bytes_eq-Decides m m).1 refl) refl)
+
+    head_told : is_among m unserved_fields ≡ true → complaint_of state m told ≡ c → Contains (unserved_by state all (Some model.PassState)) c
+    head_told e same =
+        let plain : complaint_of state m model.UnknownField ≡ c = (rw (unknown_ones m e) refl) ∙ same in
+        subst (λ x. Contains (unserved_by state all (Some model.PassState)) x) plain (given_told (λ field. complaint_of state field model.UnknownField) m unserved_fields all e among_all)
+
+    lifted : (x : Complaint) → Contains (foreign_complaints (own_place state) model.pass_rows ms) c ⊎ Contains (unserved_by state all (Some model.PassState)) c → Contains (x ∷ foreign_complaints (own_place state) model.pass_rows ms) c ⊎ Contains (unserved_by state all (Some model.PassState)) c
+    lifted x (inl a) = inl (further x c (foreign_complaints (own_place state) model.pass_rows ms) a)
+    lifted x (inr b) = inr b
+
+    by : (a b : Bool) → has_row m model.next_rows ≡ a → has_row m model.pass_rows ≡ b
+        → (Contains (foreign_complaints (own_place state) model.next_rows ms) c → Contains (foreign_complaints (own_place state) model.pass_rows ms) c ⊎ Contains (unserved_by state all (Some model.PassState)) c)
+        → Contains (foreign_complaints (own_place state) model.pass_rows (json.member m v ms)) c ⊎ Contains (unserved_by state all (Some model.PassState)) c
+    by true b e f later = rw (pass_rows_too m e) (later (rw e at h))
+    by false true e f later = rw f (elim (first_or (complaint_of state m told) c (foreign_complaints (own_place state) model.next_rows ms) (rw e at h)) [ inl same ↦ inr (head_told (more_named m e f) same) | inr k ↦ later k ])
+    by false false e f later = rw f (elim (first_or (complaint_of state m told) c (foreign_complaints (own_place state) model.next_rows ms) (rw e at h)) [ inl same ↦ inl (subst (λ x. Contains (x ∷ foreign_complaints (own_place state) model.pass_rows ms) c) (sym same) (here c (foreign_complaints (own_place state) model.pass_rows ms))) | inr k ↦ lifted (complaint_of state m told) (later k) ])
+
+all_none : (rows foreign_ones rules unread_ones : List Complaint) → rows ≡ [] → foreign_ones ≡ [] → rules ≡ [] → unread_ones ≡ [] → ((rows ++ foreign_ones) ++ (rules ++ [])) ++ unread_ones ≡ []
+all_none rows foreign_ones rules unread_ones a b d e = rw (a, b, d, e) refl
+
+pass_rows_extend : Extends model.next_rows model.pass_rows
+pass_rows_extend = one_more (one_more (one_more as_it_is))
+
+-- what is told of a Pass
+pass_told : (names : List (List ℕ)) (state : List ℕ) (ms : Members) (branches processor : List Complaint)
+    → Covers (told_of code.Pass names state ms) (state_complaints_by (Some model.PassState) state names ms branches processor ++ unserved_by state ms (Some model.PassState))
+pass_told names state ms branches processor = record { none = nothing; each = λ c h. parts c (either fields rules c h) }
+  where
+    rows : List Complaint
+    rows = rows_complaints (own_place state) model.next_rows ms
+
+    foreign_ones : List Complaint
+    foreign_ones = foreign_complaints (own_place state) model.next_rows ms
+
+    rules : List Complaint
+    rules = type_complaints model.PassState state names ms
+
+    fields : List Complaint
+    fields = fields_complaints (own_place state) model.next_rows ms
+
+    all_rows : List Complaint
+    all_rows = rows_complaints (own_place state) model.pass_rows ms
+
+    all_foreign : List Complaint
+    all_foreign = foreign_complaints (own_place state) model.pass_rows ms
+
+    unread_ones : List Complaint
+    unread_ones = unserved_by state ms (Some model.PassState)
+
+    whole : List Complaint
+    whole = state_complaints_by (Some model.PassState) state names ms branches processor
+
+    nothing : fields ++ rules ≡ [] → whole ++ unread_ones ≡ []
     nothing h =
-        let fields = left_none (rows ++ foreign_ones) further h in
-        let f = right_none rows foreign_ones fields in
-        let rs = none (left_none rows foreign_ones fields) f in
-        rw (rs, none_foreign f, right_none (rows ++ foreign_ones) further h, f) refl
+        let f = left_none fields rules h in
+        let none_foreign : foreign_ones ≡ [] = right_none rows foreign_ones f in
+        let a = not_given state (codes "Parameters") model.next_rows ms none_foreign refl in
+        let b = not_given state (codes "Result") model.next_rows ms none_foreign refl in
+        let d = not_given state (codes "ResultPath") model.next_rows ms none_foreign refl in
+        all_none all_rows all_foreign rules unread_ones (rw (a, b, d) (left_none rows foreign_ones f)) (more_rows state model.next_rows model.pass_rows ms pass_rows_too none_foreign) (right_none fields rules h) (rw (a, b, d) refl)
 
-    in_fields : (c : Complaint) → Contains rows c ⊎ Contains foreign_ones c → Contains (((all_rows ++ all_foreign) ++ (further ++ [])) ++ foreign_ones) c
-    in_fields c (inl a) = in_first ((all_rows ++ all_foreign) ++ (further ++ [])) foreign_ones c (in_first (all_rows ++ all_foreign) (further ++ []) c (in_first all_rows all_foreign c (each c a)))
-    in_fields c (inr b) = in_second ((all_rows ++ all_foreign) ++ (further ++ [])) foreign_ones c b
+    in_whole : (c : Complaint) → Contains (fields_complaints (own_place state) model.pass_rows ms) c → Contains (whole ++ unread_ones) c
+    in_whole c h = in_first whole unread_ones c (in_first (fields_complaints (own_place state) model.pass_rows ms) (rules ++ []) c h)
 
-    in_parts : (c : Complaint) → Contains (rows ++ foreign_ones) c ⊎ Contains further c → Contains (((all_rows ++ all_foreign) ++ (further ++ [])) ++ foreign_ones) c
-    in_parts c (inl a) = in_fields c (either rows foreign_ones c a.0 a.1 a.2)
-    in_parts c (inr b) = in_first ((all_rows ++ all_foreign) ++ (further ++ [])) foreign_ones c (in_second (all_rows ++ all_foreign) (further ++ []) c (in_first further [] c b))
+    foreign_parts : (c : Complaint) → Contains all_foreign c ⊎ Contains unread_ones c → Contains (whole ++ unread_ones) c
+    foreign_parts c (inl a) = in_whole c (in_second all_rows all_foreign c a)
+    foreign_parts c (inr b) = in_second whole unread_ones c b
 
-    some : (c : Complaint) → Contains ((rows ++ foreign_ones) ++ further) c → Contains (((all_rows ++ all_foreign) ++ (further ++ [])) ++ foreign_ones) c
-    some c h = in_parts c (either (rows ++ foreign_ones) further c h.0 h.1 h.2)
+    field_parts : (c : Complaint) → Contains rows c ⊎ Contains foreign_ones c → Contains (whole ++ unread_ones) c
+    field_parts c (inl a) = in_whole c (in_first all_rows all_foreign c (in_more_rows state ms c pass_rows_extend a))
+    field_parts c (inr b) = foreign_parts c (unread state ms ms c (λ n e. some_member n ms ∙ e) b)
 
--- what is said of a field that isn't asked for
-asked : List ℕ → List ℕ → model.Wanted → Members → List Complaint
-asked state field wanted ms = field_complaints state (record { field = field; wanted = wanted; required = false }) (get_member field ms)
-
-pass_rows_in : (state : List ℕ) (ms : Members) (c : Complaint) → Contains (rows_complaints (own_place state) model.next_rows ms) c → Contains (rows_complaints (own_place state) model.pass_rows ms) c
-unfolding asked
-pass_rows_in state ms c h =
-    let rows = rows_complaints (own_place state) model.next_rows ms in
-    let a = asked state (codes "Parameters") model.TemplateValue ms in
-    let b = asked state (codes "Result") model.AnyValue ms in
-    let d = asked state (codes "ResultPath") model.PathOrNullValue ms in
-    in_second a (b ++ (d ++ rows)) c (in_second b (d ++ rows) c (in_second d rows c h))
-
-pass_rows_none : (state : List ℕ) (ms : Members) → rows_complaints (own_place state) model.next_rows ms ≡ [] → foreign_complaints (own_place state) model.next_rows ms ≡ [] → rows_complaints (own_place state) model.pass_rows ms ≡ []
-pass_rows_none state ms h f =
-    let a = not_given state (codes "Parameters") model.next_rows ms f refl in
-    let b = not_given state (codes "Result") model.next_rows ms f refl in
-    let d = not_given state (codes "ResultPath") model.next_rows ms f refl in
-    rw (a, b, d) h
+    parts : (c : Complaint) → Contains fields c ⊎ Contains rules c → Contains (whole ++ unread_ones) c
+    parts c (inl a) = field_parts c (either rows foreign_ones c a)
+    parts c (inr b) = in_first whole unread_ones c (in_second (fields_complaints (own_place state) model.pass_rows ms) (rules ++ []) c (in_first rules [] c b))
 
 served_by : (o : Option model.StateType) (t : StateType) (names : List (List ℕ)) (state : List ℕ) (ms : Members) (branches processor : List Complaint) (r : Result (Unit {0}) Objection)
     → option_and_then served o ≡ Some t → IsVerdict (told_of t names state ms) r
@@ -193,17 +277,13 @@ served_by : (o : Option model.StateType) (t : StateType) (names : List (List ℕ
 served_by None t names state ms branches processor r h j = absurd (cc)
 served_by (Some model.PassState) t names state ms branches processor r h j =
     let same : code.Pass ≡ t = cc in
-    let k = subst (λ u. IsVerdict (told_of u names state ms) r) (sym same) j in
-    pass_told (rows_complaints (own_place state) model.next_rows ms) (foreign_complaints (own_place state) model.next_rows ms) (type_complaints model.PassState state names ms) (rows_complaints (own_place state) model.pass_rows ms) (foreign_complaints (own_place state) model.pass_rows ms) r
-    (pass_rows_in state ms) (pass_rows_none state ms) (more_rows state model.next_rows model.pass_rows ms pass_rows_too) k
+    carried (told_of code.Pass names state ms) _ r (pass_told names state ms branches processor) (subst (λ u. IsVerdict (told_of u names state ms) r) (sym same) j)
 served_by (Some model.SucceedState) t names state ms branches processor r h j =
     let same : code.Succeed ≡ t = cc in
-    let k = subst (λ u. IsVerdict (told_of u names state ms) r) (sym same) j in
-    plain_told (fields_complaints (own_place state) model.path_rows ms) (foreign_complaints (own_place state) model.path_rows ms) (rows_complaints (own_place state) model.path_rows ms) r refl k
+    subst (λ xs. IsVerdict xs r) (sym (append-nil (told_of code.Succeed names state ms))) (subst (λ u. IsVerdict (told_of u names state ms) r) (sym same) j)
 served_by (Some model.FailState) t names state ms branches processor r h j =
     let same : code.Fail ≡ t = cc in
-    let k = subst (λ u. IsVerdict (told_of u names state ms) r) (sym same) j in
-    plain_told (fields_complaints (own_place state) model.fail_rows ms) (foreign_complaints (own_place state) model.fail_rows ms) (rows_complaints (own_place state) model.fail_rows ms) r refl k
+    subst (λ xs. IsVerdict xs r) (sym (append-nil (told_of code.Fail names state ms))) (subst (λ u. IsVerdict (told_of u names state ms) r) (sym same) j)
 served_by (Some model.TaskState) t names state ms branches processor r h j = absurd (cc)
 served_by (Some model.ChoiceState) t names state ms branches processor r h j = absurd (cc)
 served_by (Some model.WaitState) t names state ms branches processor r h j = absurd (cc)

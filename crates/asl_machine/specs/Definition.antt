@@ -7,9 +7,10 @@ use Rattle.serde_json.specs.Data.{Data, Members}
 use Rattle.serde_json.specs.Find.{as_bool, get_member}
 use Rattle.asl_model.specs.DefinitionTable as model
 use Rattle.asl_model.specs.Machine.{State, StateOf, States, NoStates, AndState, Scope, ScopeOf, Pass, Succeed, Fail}
-use Rattle.asl_model.specs.StandsFor.{Complaint, Place, text_at, path_or_null_at, members_in, type_of, field_faults, rows_complaints, foreign_complaints, fields_complaints, type_complaints}
+use Rattle.asl_model.specs.StandsFor.{Complaint, Place, text_at, path_or_null_at, members_in, type_of, names_of, field_faults, rows_complaints, fields_complaints, type_complaints, target_complaints, name_complaints, state_complaints, duplicate_complaints, number_complaints}
 use Rattle.asl_machine.specs.View.{def_fault_view}
 use Rattle.asl_machine.specs.Machine.{settings_with}
+use Rattle.asl_machine.specs.Unserved.{complaint_of, unserved_state}
 use Rattle.asl_machine.specs.declared.table.StateType.{StateType}
 use Rattle.asl_machine.specs.declared.table.StateType.TheVariants as code
 use Rattle.asl_machine.specs.declared.table.Wanted.{Wanted}
@@ -94,30 +95,27 @@ Judges wrong (Err c) = IsAmong wrong (complaint_view c)
 pub record IsVerdict (wrong : List Complaint) (result : Result (Unit {0}) Objection) : Type 0 where
   pub holds : Judges wrong result
 
--- a complaint at a state and at a field of its own
+-- a place at the state itself
 abbrev pub own_place : List ℕ → Place
 own_place state = record { state = state; within = None }
 
-abbrev pub own_complaint : List ℕ → List ℕ → model.DefFault → Complaint
-own_complaint state field fault = record { fault = fault; state = state; field = field }
-
 abbrev pub field_complaints : List ℕ → model.Row → Option Data → List Complaint
-field_complaints state row value = map (own_complaint state row.field) (field_faults row value)
+field_complaints state row value = map (complaint_of state row.field) (field_faults row value)
 
 -- neither or both of `Next` and `"End": true`; an `End` that is no truth value says nothing
 abbrev pub way_complaints : List ℕ → Bool → Option Bool → List Complaint
 way_complaints state goes_on None = []
-way_complaints state true (Some true) = own_complaint state (codes "Next") model.NextOrEnd ∷ []
+way_complaints state true (Some true) = complaint_of state (codes "Next") model.NextOrEnd ∷ []
 way_complaints state true (Some false) = []
 way_complaints state false (Some true) = []
-way_complaints state false (Some false) = own_complaint state (codes "Next") model.NextOrEnd ∷ []
+way_complaints state false (Some false) = complaint_of state (codes "Next") model.NextOrEnd ∷ []
 
 -- the truth value of `End`, absent as false; None is a value of another kind
 abbrev pub end_of : Option Data → Option Bool
 end_of None = Some false
 end_of (Some v) = as_bool v
 
--- ---- what isn't served
+-- ---- what is told of a state
 
 abbrev pub type_view : StateType → model.StateType
 type_view code.Pass = model.PassState
@@ -127,25 +125,28 @@ type_view code.Fail = model.FailState
 -- the text in `Type` is that of no type that is read
 abbrev pub type_told : List ℕ → Option (List ℕ) → List Complaint
 type_told state None = []
-type_told state (Some name) = own_complaint state (codes "Type") model.UnknownType ∷ []
+type_told state (Some name) = complaint_of state (codes "Type") model.UnknownType ∷ []
 
 -- what is said of a state whose type isn't read
 abbrev pub untyped_complaints : List ℕ → Members → List Complaint
 untyped_complaints state ms = rows_complaints (own_place state) model.every_state_rows ms ++ type_told state (text_at (codes "Type") ms)
 
--- a type that isn't served is told as if there were none of that name, a field that isn't served as if there were no such field
-abbrev pub unserved_fields : List ℕ → Members → Option StateType → List Complaint
-unserved_fields state ms None = untyped_complaints state ms
-unserved_fields state ms (Some type) = foreign_complaints (own_place state) (served_rows type) ms
-
-abbrev pub unserved_by : List ℕ → Members → Option model.StateType → List Complaint
-unserved_by state ms None = []
-unserved_by state ms (Some type) = unserved_fields state ms (served type)
-
--- all of a state that isn't served
-abbrev pub unserved_state : List ℕ → Members → List Complaint
-unserved_state state ms = unserved_by state ms (type_of ms)
-
 -- what is said of a state of a served type
 abbrev pub told_of : StateType → List (List ℕ) → List ℕ → Members → List Complaint
 told_of type names state ms = fields_complaints (own_place state) (served_rows type) ms ++ type_complaints (type_view type) state names ms
+
+-- ---- what is told of all states
+
+-- of the name of each member, and of it as a state
+abbrev pub members_told : List (List ℕ) → Members → List Complaint
+members_told names json.no_members = []
+members_told names (json.member n v ms) = name_complaints n ++ ((state_complaints names n v ++ unserved_state n (members_in v)) ++ members_told names ms)
+
+-- of an object of states
+abbrev pub states_told : Members → List Complaint
+states_told ms = duplicate_complaints (names_of ms) ++ (number_complaints (names_of ms) ++ members_told (names_of ms) ms)
+
+-- of the start of a machine and of its states, where they are there
+abbrev pub scope_told : Members → Option Data → List Complaint
+scope_told ms None = []
+scope_told ms (Some states) = target_complaints (own_place []) (names_of (members_in states)) (codes "StartAt") (text_at (codes "StartAt") ms) ++ states_told (members_in states)

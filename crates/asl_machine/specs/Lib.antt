@@ -1,3 +1,4 @@
 pub mod Definition
 pub mod Machine
+pub mod Unserved
 pub mod View

@@ -1,6 +1,8 @@
--- What the faults of a definition stand for in the definitions.
-use Rattle.std.specs.Prelude.{Option, Some, None}
+-- What the faults and refusals of a definition stand for in the definitions.
+use Rattle.std.specs.Prelude.{Option, Some, None, option_map, string_bytes}
 use Rattle.asl_model.specs.DefinitionTable as definition
+use Rattle.asl_model.specs.StandsFor.{Complaint}
+use Rattle.asl_machine.specs.declared.refusals.DefRefusal.{DefRefusal}
 use Rattle.asl_machine.specs.declared.refusals.DefFault.{DefFault}
 use Rattle.asl_machine.specs.declared.refusals.DefFault.TheVariants as def
 
@@ -25,3 +27,7 @@ def_fault_view def.HeartbeatNotSmaller = Some definition.HeartbeatNotSmaller
 def_fault_view def.TooLarge = Some definition.TooLarge
 def_fault_view def.OutOfMemory = None
 def_fault_view def.NotWhole = Some definition.NotWhole
+
+-- what a refusal tells; none is want of memory
+abbrev pub refusal_view : DefRefusal → Option Complaint
+refusal_view r = option_map (λ f. record { fault = f; state = string_bytes r.state; field = string_bytes r.field }) (def_fault_view r.fault)

@@ -4,10 +4,11 @@ ghost use Rattle.std.specs.Prelude.{◌≡◌, ◌++◌, IfSome, Some, codes, is
 ghost use Rattle.serde_json.specs.Find.{get};
 ghost use Rattle.serde_json.specs.View.{view};
 ghost use Rattle.asl_model.specs.DefinitionTable as model;
-ghost use Rattle.asl_model.specs.StandsFor.{members_in, name_complaints, names_of, fields_complaints, rows_complaints, foreign_complaints, target_complaints, next_complaints, type_complaints, state_complaints, text_at, characters as model_characters};
+ghost use Rattle.asl_model.specs.StandsFor.{members_in, complaints, name_complaints, names_of, fields_complaints, rows_complaints, foreign_complaints, target_complaints, next_complaints, type_complaints, state_complaints, text_at, characters as model_characters};
 ghost use Rattle.asl_model.specs.ShapeSpelling.{is_among};
 ghost use Rattle.asl_machine.specs.View.{def_fault_view};
-ghost use Rattle.asl_machine.specs.Definition.{wanted_view, row_view, rows_view, told, IsVerdict, own_place, field_complaints, way_complaints, end_of, type_view, type_told, told_of, untyped_complaints, unserved_state};
+ghost use Rattle.asl_machine.specs.Definition.{wanted_view, row_view, rows_view, told, IsVerdict, own_place, field_complaints, way_complaints, end_of, type_view, type_told, told_of, untyped_complaints, scope_told, states_told};
+ghost use Rattle.asl_machine.specs.Unserved.{unserved, unserved_state};
 
 use crate::building::{read_path, state_type, text_of};
 use crate::refusals::DefFault;
@@ -24,29 +25,42 @@ pub(crate) struct Complaint<'a> {
 }
 
 /// Finds a broken rule of a machine, where there is one.
-pub(crate) fn check_machine<'a>(alloc: Global, machine: &'a Value) -> Result<(), Complaint<'a>> {
-    check_object(alloc, "", machine, &table::MACHINE)?;
-    let states = match machine.get("States") {
-        Some(states) => states,
-        None => return Err(Complaint {
-            fault: DefFault::MissingField,
+pub(crate) fn check_machine<'a>(alloc: Global, machine: &'a Value) -> Result<(), Complaint<'a>>
+    ensures { IsVerdict (complaints (view machine.now) ++ unserved (view machine.now)) result }
+{
+    if !machine.is_object() {
+        return Err(Complaint {
+            fault: DefFault::NotObject,
             state: "",
-            field: "States",
-        }),
-    };
-    check_states(alloc, states)?;
-    check_target("", "StartAt", machine, states)
+            field: "",
+        });
+    }
+    match check_fields(alloc, "", machine, table::machine()) {
+        Ok(()) => check_scope(alloc, machine),
+        Err(complaint) => Err(complaint),
+    }
+}
+
+/// Checks the start and the states of a machine. A machine without states is told with its fields.
+fn check_scope<'a>(alloc: Global, machine: &'a Value) -> Result<(), Complaint<'a>>
+    ensures { IsVerdict (scope_told (members_in (view machine.now)) (get (codes "States") (view machine.now))) result }
+{
+    match machine.get("States") {
+        Some(states) => match check_target("", "StartAt", machine, states) {
+            Ok(()) => check_states(alloc, states),
+            Err(complaint) => Err(complaint),
+        },
+        None => Ok(()),
+    }
 }
 
 /// Finds a broken rule of the states, where there is one.
-fn check_states<'a>(alloc: Global, states: &'a Value) -> Result<(), Complaint<'a>> {
+fn check_states<'a>(alloc: Global, states: &'a Value) -> Result<(), Complaint<'a>>
+    ensures { IsVerdict (states_told (members_in (view states.now))) result }
+{
     let members = match states.as_object() {
         Some(members) => members,
-        None => return Err(Complaint {
-            fault: DefFault::WrongKind,
-            state: "",
-            field: "States",
-        }),
+        None => return Ok(()),
     };
     if members.len() > table::MOST_STATES {
         return Err(Complaint {
@@ -56,10 +70,27 @@ fn check_states<'a>(alloc: Global, states: &'a Value) -> Result<(), Complaint<'a
         });
     }
     for (name, state) in members.iter() {
-        check_name(name)?;
-        check_state(alloc, name, state, states)?;
+        match check_member(alloc, name, state, states) {
+            Ok(()) => {}
+            Err(complaint) => return Err(complaint),
+        }
     }
     Ok(())
+}
+
+/// Finds a broken rule of one of the states, or of its name.
+fn check_member<'a>(
+    alloc: Global,
+    name: &'a str,
+    state: &'a Value,
+    states: &Value,
+) -> Result<(), Complaint<'a>>
+    ensures { IsVerdict (name_complaints name.now ++ (state_complaints (names_of (members_in (view states.now))) name.now (view state.now) ++ unserved_state name.now (members_in (view state.now)))) result }
+{
+    match check_name(name) {
+        Ok(()) => check_state(alloc, name, state, states),
+        Err(complaint) => Err(complaint),
+    }
 }
 
 /// Checks that the name of a state isn't too long.
@@ -211,23 +242,6 @@ fn names_state(states: &Value, name: &str) -> bool
     ensures { result ≡ is_among name.now (names_of (members_in (view states.now))) }
 {
     states.get(name).is_some()
-}
-
-/// Finds a field that breaks a rule of its object, where there is one.
-fn check_object<'a>(
-    alloc: Global,
-    state: &'a str,
-    object: &'a Value,
-    rows: &'static [Row],
-) -> Result<(), Complaint<'a>> {
-    if !object.is_object() {
-        return Err(Complaint {
-            fault: DefFault::NotObject,
-            state,
-            field: "",
-        });
-    }
-    check_fields(alloc, state, object, rows)
 }
 
 /// Checks the fields of an object: the value of each, and that there is no other.

@@ -1,7 +1,7 @@
 // The fields of a machine and of its states, a row a field (States Language, "Top-level fields", "State Types").
 
 ghost use Rattle.std.specs.Prelude.{◌≡◌, Some, option_and_then, map, if◌then◌else◌};
-ghost use Rattle.asl_model.specs.DefinitionTable.{type_named, every_state_rows, left_out_fields, LeftOut, UnknownField};
+ghost use Rattle.asl_model.specs.DefinitionTable.{type_named, machine_rows, every_state_rows, left_out_fields, LeftOut, UnknownField};
 ghost use Rattle.asl_model.specs.ShapeSpelling.{is_among};
 ghost use Rattle.asl_model.specs.StandsFor.{has_row as model_has_row};
 ghost use Rattle.asl_machine.specs.View.{def_fault_view};
@@ -47,7 +47,7 @@ pub(crate) const MOST_STATES: usize = 10000;
 pub(crate) const LONGEST_NAME: usize = 80;
 
 /// The fields of the machine itself.
-pub(crate) const MACHINE: [Row; 6] = [
+const MACHINE: [Row; 6] = [
     Row {
         name: "Version",
         wanted: Wanted::Text,
@@ -242,6 +242,13 @@ impl StateType {
             StateType::Fail => &FAIL,
         }
     }
+}
+
+/// The fields of a machine.
+pub(crate) fn machine() -> &'static [Row]
+    ensures { rows_view result.now ≡ machine_rows }
+{
+    &MACHINE
 }
 
 /// The fields of a state of any type.
