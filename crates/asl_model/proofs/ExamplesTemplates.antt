@@ -185,7 +185,7 @@ length_of_no_argument = refl
 abbrev pub number_and_value : Call
 number_and_value = CallOf StatesArray (with_arguments (PathArgument ItemIndex ∷ PathArgument (InItem []) ∷ []))
 
-with_an_item : call_value number_and_value Null (Some (record { number = 3; value = whole 9 })) ≡ Some (Array (trees_of (whole 3 ∷ whole 9 ∷ [])))
+with_an_item : call_value number_and_value Null (Some (record { number = pos 3; value = whole 9 })) ≡ Some (Array (trees_of (whole 3 ∷ whole 9 ∷ [])))
 with_an_item = refl
 
 without_an_item : called (CallOf StatesArray (with_arguments (PathArgument ItemIndex ∷ []))) Null ≡ None

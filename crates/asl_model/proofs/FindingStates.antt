@@ -1,6 +1,6 @@
 -- Where no rule is broken at a state, the certificate is closed at it, whatever its type.
 use Rattle.std.proofs.Common.{◌≡◌, ℕ, suc, List, [], ◌∷◌, ◌++◌, length, Bool, true, false, Option, Some, None, Result, Ok, Err, refl, sym, ap, subst, arith}
-use Rattle.std.specs.Prelude.{IsTrue, is_some, codes, if◌then◌else◌}
+use Rattle.std.specs.Prelude.{pos, IsTrue, is_some, codes, if◌then◌else◌}
 use Rattle.std.proofs.lemmas.Bool.{and_parts, and_from, false≢true}
 use Rattle.asl_model.specs.Tree.{Tree, Integer, Text, Array, Trees, NoTrees, AndTree, count}
 use Rattle.asl_model.specs.Path.{Segment}
@@ -130,7 +130,7 @@ item-gives None s element r u i t e h m =
     (t, refl, subst (λ (z : Shape). Has z t) is m)
 item-gives (Some selector) s element r u i t e h m =
     let live : template_flow (codes "ItemSelector") (template_shape selector s (Some element)) ≡ Ok r = rw (has-inhabited element t m) at e in
-    let given = template-gives selector s (Some element) r u (Some (record { number = i; value = t })) (template-parts (codes "ItemSelector") (template_shape selector s (Some element)) r live) h m in
+    let given = template-gives selector s (Some element) r u (Some (record { number = pos i; value = t })) (template-parts (codes "ItemSelector") (template_shape selector s (Some element)) r live) h m in
     (given.0, rw (given.1) refl, given.2)
 
 inputs-give : (selector : Option Template) (s element r : Shape) (u : Tree) (i : ℕ) (ts : Trees) → item_flow selector s element ≡ Ok r → Has s u → IsTrue (each_element (has element) ts) → (us : Trees) × (item_inputs selector u i ts ≡ Ok us) × (count us ≡ count ts) × IsTrue (each_element (has r) us)

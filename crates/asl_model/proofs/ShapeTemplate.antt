@@ -39,7 +39,7 @@ reference-gives ItemIndex input None r v i e h m = absurd (cc)
 reference-gives ItemIndex input (Some s) r v None e h m = absurd m
 reference-gives ItemIndex input (Some s) r v (Some it) e h m =
     let is : IntegerShape ≡ r = cc in
-    (Integer (pos it.number), refl, subst (λ (z : Shape). Has z (Integer (pos it.number))) is refl)
+    (Integer it.number, refl, subst (λ (z : Shape). Has z (Integer it.number)) is refl)
 reference-gives (InItem path) input None r v i e h m = absurd (cc)
 reference-gives (InItem path) input (Some s) r v None e h m = absurd m
 reference-gives (InItem path) input (Some s) r v (Some it) e h m = look-gives path s r it.value (missing-none (look path s) r e) m

@@ -2,7 +2,7 @@
 -- The order is: raw input, `InputPath`, `Parameters`, the work, `ResultSelector`, `ResultPath`, `OutputPath`.
 -- The profile chooses: `SecondsPath`, `TimestampPath` and `ItemsPath` go into the effective input, and a Wait looks
 -- at what they name, but waits for nothing.
-use Rattle.std.specs.Prelude.{ℕ, suc, List, [], ◌∷◌, Bool, true, false, Option, Some, None, unwrap_or, Result, Ok, Err, codes}
+use Rattle.std.specs.Prelude.{ℕ, suc, pos, List, [], ◌∷◌, Bool, true, false, Option, Some, None, unwrap_or, Result, Ok, Err, codes}
 use Rattle.asl_model.specs.Tree.{Tree, Null, Boolean, Integer, Text, Array, Object, Trees, NoTrees, AndTree, NoFields}
 use Rattle.asl_model.specs.Path.{Segment, named_by}
 use Rattle.asl_model.specs.Placing.{placed}
@@ -124,7 +124,7 @@ branch_inputs (AndScope branch others) v = AndTree v (branch_inputs others v)
 -- the input of a Map's child: the item, or the value of `ItemSelector` for the Map's effective input v and the item
 abbrev pub item_input : Option Template → Tree → ℕ → Tree → Result Tree Fault
 item_input None v i t = Ok t
-item_input (Some selector) v i t = met_in (codes "ItemSelector") (template_value selector v (Some (record { number = i; value = t })))
+item_input (Some selector) v i t = met_in (codes "ItemSelector") (template_value selector v (Some (record { number = pos i; value = t })))
 
 -- the inputs of a Map's children, one for each item from number i on; the first fault counts
 abbrev pub item_inputs : Option Template → Tree → ℕ → Trees → Result Trees Fault

@@ -47,15 +47,15 @@ mutual
     NoArguments : Arguments
     AndArgument : Argument → Arguments → Arguments
 
--- the item that a Map's `ItemSelector` is evaluated for
+-- the item that a Map's `ItemSelector` is evaluated for: its number, which a Map counts from 0, and the item
 pub record Item : Type 0 where
-  pub number : ℕ
+  pub number : ℤ
   pub value : Tree
 
 -- what a path in a template or in a call names, for the template's input and the item at hand
 abbrev pub referred : Reference → Tree → Option Item → Option Tree
 referred (InInput p) input item = named_by p input
-referred ItemIndex input item = option_map (λ i. Integer (pos i.number)) item
+referred ItemIndex input item = option_map (λ i. Integer i.number) item
 referred (InItem p) input item = option_and_then (λ i. named_by p i.value) item
 
 -- the digits of n in front of the text; n has at most that many
