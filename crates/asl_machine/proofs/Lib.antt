@@ -3,6 +3,7 @@ pub mod Lookups
 pub mod Members
 pub mod Served
 pub mod ServedStates
+pub mod Standing
 pub mod States
 pub mod Told
 pub mod Verdicts

@@ -1,6 +1,7 @@
 // Why a definition is refused.
 
-ghost use Rattle.std.specs.Prelude.{◌≡◌, IfSome};
+ghost use Rattle.std.specs.Prelude.{◌≡◌, IfSome, Some, None, option_map};
+ghost use Rattle.asl_machine.specs.View.{def_fault_view};
 
 use std::alloc::Global;
 
@@ -49,7 +50,6 @@ pub enum DefFault {
 
 impl DefFault {
     ghost use Rattle.asl_model.specs.Printed.{definition_fault_name};
-    ghost use Rattle.asl_machine.specs.View.{def_fault_view};
 
     /// The fault's name, as it is printed.
     pub fn name(self) -> &'static str
@@ -88,8 +88,13 @@ pub struct DefRefusal {
 }
 
 impl DefRefusal {
+    ghost use Rattle.asl_machine.specs.View.{refusal_view};
+    ghost use Rattle.asl_machine.specs.Unserved.{complaint_of};
+
     /// A fault at a state and a field. Where there is no memory for their names, that is what is told.
-    pub(crate) fn new(alloc: Global, fault: DefFault, state: &str, field: &str) -> DefRefusal {
+    pub(crate) fn new(alloc: Global, fault: DefFault, state: &str, field: &str) -> DefRefusal
+        ensures { IfSome (refusal_view result) (λ c. option_map (complaint_of state.now field.now) (def_fault_view fault) ≡ Some c) }
+    {
         match (
             String::from_str(alloc, state),
             String::from_str(alloc, field),
@@ -104,7 +109,9 @@ impl DefRefusal {
     }
 
     /// Want of memory, at no state and no field.
-    pub(crate) fn out_of_memory(alloc: Global) -> DefRefusal {
+    pub(crate) fn out_of_memory(alloc: Global) -> DefRefusal
+        ensures { refusal_view result ≡ None }
+    {
         DefRefusal {
             fault: DefFault::OutOfMemory,
             state: String::new(alloc),
