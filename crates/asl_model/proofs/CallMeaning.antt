@@ -1,5 +1,5 @@
 -- What a written call means, and how a text is refused arguments a call, are exactly what is read.
-use Rattle.std.proofs.Common.{◌≡◌, ◌↔◌, ◌⊎◌, inl, inr, ℕ, List, [], ◌∷◌, ◌++◌, length, Bool, true, false, is_some, IsTrue, if◌then◌else◌, Option, Some, None, option_map, option_and_then, Result, Ok, Err, bytes_eq, codes, refl, sym, ap, subst, ◌∙◌, arith}
+use Rattle.std.proofs.Common.{◌≡◌, ◌↔◌, ◌⊎◌, inl, inr, ℕ, List, [], ◌∷◌, ◌++◌, length, Bool, true, false, is_some, IsTrue, if◌then◌else◌, Option, Some, None, option_map, option_and_then, Ok, Err, bytes_eq, codes, refl, sym, ap, subst, ◌∙◌, arith}
 use Rattle.std.proofs.lemmas.Bool.{and_parts, and_from, and_cases, and_left, and_right, false≢true, true≢false}
 use Rattle.std.proofs.lemmas.Option.{none-some, same_Some}
 use Rattle.std.proofs.lemmas.Slice.Eq.{bytes_eq-Decides}
@@ -8,6 +8,7 @@ use Rattle.asl_model.specs.Intrinsic.{Reference, InInput, ItemIndex, InItem, Fun
 use Rattle.asl_model.specs.PathSpelling.{after, Begins, Spells, segments_of, path_of}
 use Rattle.asl_model.specs.CallSpelling.{behind, context_of, is_context, reference_of, WrittenCall, WrittenAs, WrittenArgument, WrittenNull, WrittenBoolean, WrittenInteger, WrittenText, WrittenPath, WrittenNested, WrittenArguments, NoneWritten, AndWritten, written_call, function_named, knows_functions, knows_functions_in, know_functions, call_of, argument_of, arguments_of, CallFault, Malformed, UnknownFunction, BadPath, call_or_bad_path, call_or_fault, call_from}
 use Rattle.asl_model.specs.CallGrammar.{WritesCall, NamesFunction, names_array, names_array_length, names_format, SpellsReference, spells_in_input, spells_item_index, spells_in_item, MeansCall, means_call, MeansArgument, means_null, means_boolean, means_integer, means_text, means_path, means_nested, MeansArguments, means_none, means_further, SpellsCall, HasUnknownFunction, own_is_unknown, one_inside_is_unknown, HaveUnknownFunction, unknown_in_this, unknown_in_later, HasBadPath, one_inside_is_bad, HaveBadPath, this_is_bad, bad_in_this, bad_in_later, IsRefusedCall, is_malformed, has_unknown_function, has_bad_path}
+use Rattle.asl_model.proofs.RunOptions.{same_ok, same_err, ok_or_err}
 use Rattle.asl_model.proofs.ReadingSteps.{then_from, map_from}
 use Rattle.asl_model.proofs.PathReading.{after_is, segments_begin, begun_read, path_of-Spells, Spells-path_of}
 use Rattle.asl_model.proofs.CallReading.{written_exactly}
@@ -329,18 +330,6 @@ spelled_or_refused item text = go (written_call text) refl
     go : (o : Option WrittenCall) → written_call text ≡ o → ((c : Call) × SpellsCall item text c) ⊎ ((f : CallFault) × IsRefusedCall item text f)
     go None e = inr (Malformed, is_malformed (λ w writes. none-some w (sym e ∙ (written_exactly text w).1 writes)))
     go (Some w) e = known w ((written_exactly text w).0 e) (knows_functions w) refl
-
--- equal answers
-same_ok : {A E : Type 0} {a b : A} → ◌≡◌ {A = Result A E} (Ok a) (Ok b) → a ≡ b
-same_ok h = cc
-
--- equal refusals
-same_err : {A E : Type 0} {e f : E} → ◌≡◌ {A = Result A E} (Err e) (Err f) → e ≡ f
-same_err h = cc
-
--- an answer is no refusal
-ok_or_err : {A E : Type 0} {a : A} {e : E} → ◌≡◌ {A = Result A E} (Ok a) (Err e) → ⊥
-ok_or_err h = absurd (cc)
 
 -- a call that is read is spelled
 read_spelled : (item : Bool) (text : List ℕ) (c : Call) → call_from item text ≡ Ok c → SpellsCall item text c

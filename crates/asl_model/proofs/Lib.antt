@@ -19,8 +19,14 @@ pub mod ExamplesTemplates
 pub mod ExamplesTexts
 pub mod ExamplesWritten
 pub mod FindingClosed
+pub mod FindingFlows
+pub mod FindingListed
+pub mod FindingNames
+pub mod FindingRules
 pub mod FindingScopes
 pub mod FindingStates
+pub mod FindingTold
+pub mod Listed
 pub mod PathPrinting
 pub mod PathReading
 pub mod PlacingExactly

@@ -1,5 +1,5 @@
--- What an option that is equal to a value holds.
-use Rattle.std.proofs.Common.{◌≡◌, refl, true, false, Option, Some, None, is_some, IsTrue}
+-- What an option or an answer that is equal to a value holds.
+use Rattle.std.proofs.Common.{◌≡◌, refl, true, false, Option, Some, None, Result, Ok, Err, is_some, IsTrue}
 
 -- equal values, where they are there
 pub some_inj : {A : Type 0} {a b : A} → Some a ≡ Some b → a ≡ b
@@ -21,3 +21,15 @@ there_some (Some b) h = refl
 -- a fact that is none
 pub false_true : {B : Type 0} → false ≡ true → B
 false_true h = absurd (cc)
+
+-- equal answers
+pub same_ok : {A E : Type 0} {a b : A} → ◌≡◌ {A = Result A E} (Ok a) (Ok b) → a ≡ b
+same_ok h = cc
+
+-- equal refusals
+pub same_err : {A E : Type 0} {e f : E} → ◌≡◌ {A = Result A E} (Err e) (Err f) → e ≡ f
+same_err h = cc
+
+-- an answer is no refusal
+pub ok_or_err : {A E B : Type 0} {a : A} {e : E} → ◌≡◌ {A = Result A E} (Ok a) (Err e) → B
+ok_or_err h = absurd (cc)

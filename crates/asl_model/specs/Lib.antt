@@ -5,6 +5,7 @@ pub mod Certificate
 pub mod DefinitionTable
 pub mod Faults
 pub mod Finding
+pub mod FindingRules
 pub mod Flow
 pub mod Headline
 pub mod Intrinsic

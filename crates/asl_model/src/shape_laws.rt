@@ -13,7 +13,8 @@ ghost use Rattle.asl_model.specs.Shape.{Shape, has, IsValid, Has, Inside, IsProp
 ghost use Rattle.asl_model.specs.ShapeOrder.{sub, join};
 ghost use Rattle.asl_model.specs.ShapeFlow.{look, put, ItemHas, template_shape, rule_shape, leave, leaving, WithInput, WithResult};
 ghost use Rattle.asl_model.specs.Certificate.{Certificate, Declared, IsClosed};
-ghost use Rattle.asl_model.specs.Finding.{findings};
+ghost use Rattle.asl_model.specs.Finding.{Finding, findings, Stands};
+ghost use Rattle.asl_model.specs.FindingRules.{IsBroken};
 
 /// The test of membership in a shape is true exactly where the tree is valid against it.
 pub fn has_is_exactly_valid()
@@ -75,4 +76,9 @@ pub fn leave_means_an_output()
 /// Where no rule is broken, the certificate is closed: for every machine of all eight state types.
 pub fn no_broken_rule_means_closed()
     ensures closed { (machine : Scope) (declared : Declared) (certificate : Certificate) → findings machine declared certificate ≡ [] → IsClosed declared certificate machine }
+{}
+
+/// The list of findings has a finding exactly where the rule with its fault is broken at its state and field.
+pub fn findings_are_exactly_the_broken_rules()
+    ensures exactly { (machine : Scope) (declared : Declared) (certificate : Certificate) (finding : Finding) → IsBroken machine declared certificate finding ↔ Stands machine declared certificate finding }
 {}
