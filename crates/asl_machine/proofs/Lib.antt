@@ -1,4 +1,5 @@
 pub mod Complaints
+pub mod ExamplesUnserved
 pub mod Lookups
 pub mod Members
 pub mod Served
