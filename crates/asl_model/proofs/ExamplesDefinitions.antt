@@ -1,21 +1,35 @@
 -- Worked examples of definitions: the machine that a text stands for, and one value for each fault.
-use Rattle.std.specs.Prelude.{◌≡◌, ℕ, zero, suc, pos, List, [], ◌∷◌, ◌++◌, true, false, Option, Some, None, option_map, codes, refl}
+use Rattle.std.proofs.Common.{◌≡◌, ℕ, zero, suc, pos, List, [], ◌∷◌, ◌++◌, length, nat_lt, not, if◌then◌else◌, true, false, Option, Some, None, option_map, Contains, decimal, encode_utf8_all, codes, refl, ap, sym, subst}
+use lib.Utf8.{scalars}
+use Rattle.std.proofs.lemmas.List.Elements.{Contains-append_right}
+use Rattle.serde_json.specs.Data as json
+use Rattle.serde_json.specs.Data.{Data, Members}
 use Rattle.serde_json.specs.Read.{read}
 use Rattle.serde_json.proofs.OnLiterals.{serde_json_on_literals}
 use Rattle.asl_model.specs.Tree.{Null, Integer, Array, NoTrees, AndTree}
 use Rattle.asl_model.specs.Path.{Name, Index}
-use Rattle.asl_model.specs.Intrinsic.{InInput}
+use Rattle.asl_model.specs.Intrinsic.{InInput, ItemIndex, InItem}
 use Rattle.asl_model.specs.Test.{NullKind, IsOfKind, IsPresent}
 use Rattle.asl_model.specs.Template.{Literal, FromPath, ObjectTemplate, NoFieldTemplates, AndFieldTemplate}
 use Rattle.asl_model.specs.Machine.{Settings, Seconds, SecondsPath, Timestamp, TimestampPath, Scope, ScopeOf, NoStates, AndState, StateOf, Pass, Task, Choice, Wait, Succeed, Fail, Parallel, Map, NoScopes, AndScope}
-use Rattle.asl_model.specs.DefinitionTable.{DefFault, NotObject, MissingField, WrongKind, UnknownField, LeftOut, UnknownType, NameTooLong, DuplicateName, NoSuchState, NextOrEnd, BadPath, BadTemplate, BadRule, BadErrorEquals, EmptyList, HeartbeatNotSmaller, NotWhole}
-use Rattle.asl_model.specs.StandsFor.{Complaint, complaints, scope_of, characters}
+use Rattle.asl_model.specs.DefinitionTable.{DefFault, NotObject, MissingField, WrongKind, UnknownField, LeftOut, UnknownType, NameTooLong, DuplicateName, NoSuchState, NextOrEnd, BadPath, BadTemplate, BadRule, BadErrorEquals, EmptyList, HeartbeatNotSmaller, TooLarge, NotWhole, machine_rows}
+use Rattle.asl_model.specs.StandsFor.{Complaint, complaints, scope_of, each_state, all_names, names_among, scope_complaints, duplicate_complaints, number_complaints, no_object_complaints, HasComplaint, characters}
+use Rattle.asl_model.specs.Texts.{ReadsAsMachine}
+use Rattle.asl_model.proofs.ReadingSteps.{map_from}
+use Rattle.asl_model.proofs.Listed.{first_in}
 
 complaints_in : List ℕ → Option (List Complaint)
 complaints_in text = option_map complaints (read text)
 
 machine_in : List ℕ → Option (Scope × List Complaint)
 machine_in text = option_map (λ v. (scope_of v, complaints v)) (read text)
+
+-- a text of ASCII characters reads as the machine that its value gives, where nothing is wrong with that
+stands : {text : List ℕ} {held : Scope} → scalars text ≡ true → encode_utf8_all text ≡ text → machine_in text ≡ Some (held, []) → ReadsAsMachine text held
+unfolding machine_in
+stands {text} {held} s e h =
+    let o = map_from (λ v. (scope_of v, complaints v)) (read text) (held, []) h in
+    record { value = o.0; reads = ((text, (s, e)), o.1); stands = record { none_wrong = ap (λ p. p.1) o.2; same = ap (λ p. p.0) o.2 } }
 
 -- that fault alone, at that state and field
 only : DefFault → List ℕ → List ℕ → Option (List Complaint)
@@ -175,6 +189,18 @@ catcher_with_bad_path : complaints_in (machine (codes "\"A\":{\"Type\":\"Task\",
 unfolding serde_json_on_literals complaints_in machine only
 catcher_with_bad_path = refl
 
+default_to_nowhere : complaints_in (machine (codes "\"A\":{\"Type\":\"Choice\",\"Choices\":[{\"Variable\":\"$\",\"IsNull\":true,\"Next\":\"A\"}],\"Default\":\"Z\"}")) ≡ only NoSuchState (codes "A") (codes "Default")
+unfolding serde_json_on_literals complaints_in machine only
+default_to_nowhere = refl
+
+catch_all_not_last : complaints_in (machine (codes "\"A\":{\"Type\":\"Task\",\"Resource\":\"r\",\"End\":true,\"Catch\":[{\"ErrorEquals\":[\"States.ALL\"],\"Next\":\"A\"},{\"ErrorEquals\":[\"E\"],\"Next\":\"A\"}]}")) ≡ only BadErrorEquals (codes "A") (codes "Catch")
+unfolding serde_json_on_literals complaints_in machine only
+catch_all_not_last = refl
+
+catch_all_not_alone : complaints_in (machine (codes "\"A\":{\"Type\":\"Task\",\"Resource\":\"r\",\"End\":true,\"Catch\":[{\"ErrorEquals\":[\"E\",\"States.ALL\"],\"Next\":\"A\"}]}")) ≡ only BadErrorEquals (codes "A") (codes "Catch")
+unfolding serde_json_on_literals complaints_in machine only
+catch_all_not_alone = refl
+
 no_choices : complaints_in (machine (codes "\"A\":{\"Type\":\"Choice\",\"Choices\":[]}")) ≡ only EmptyList (codes "A") (codes "Choices")
 unfolding serde_json_on_literals complaints_in machine only
 no_choices = refl
@@ -279,94 +305,143 @@ too_long_name : complaints_in (machine_named (repeated 81 (codes "a"))) ≡ only
 unfolding serde_json_on_literals complaints_in machine_named repeated only
 too_long_name = refl
 
+-- states that end at once, each under its number; one with too many is too long to be written out as a text
+numbered_states : ℕ → Members
+numbered_states zero = json.no_members
+numbered_states (suc n) = json.member (decimal n) (json.object (json.member (codes "Type") (json.string (codes "Succeed")) json.no_members)) (numbered_states n)
+
+-- a machine of that many states
+machine_of : ℕ → Data
+machine_of n = json.object (json.member (codes "StartAt") (json.string (codes "0")) (json.member (codes "States") (json.object (numbered_states n)) json.no_members))
+
+-- it has that many names
+names_counted : (n : ℕ) → length (names_among (each_state (numbered_states n))) ≡ n
+unfolding numbered_states
+names_counted zero = refl
+names_counted (suc n) = ap suc (names_counted n)
+
+-- what is said of that many states
+abbrev said_of : ℕ → List Complaint
+said_of n = if not (nat_lt 10000 n) then [] else record { fault = TooLarge; state = []; field = codes "States" } ∷ []
+
+-- 10,000 states aren't too many
+large_enough : number_complaints (all_names (scope_of (machine_of 10000))) ≡ []
+unfolding machine_of
+large_enough = ap said_of (names_counted 10000)
+
+-- one more is too many
+too_large : HasComplaint (machine_of 10001) (record { fault = TooLarge; state = []; field = codes "States" })
+unfolding machine_of
+too_large = record {
+  listed = Contains-append_right (no_object_complaints (machine_of 10001)) _ _ (Contains-append_right (scope_complaints (record { state = []; within = None }) machine_rows (machine_of 10001)) _ _ (Contains-append_right (duplicate_complaints (all_names (scope_of (machine_of 10001)))) _ _
+      (subst (λ xs. Contains xs (record { fault = TooLarge; state = []; field = codes "States" })) (sym (ap said_of (names_counted 10001))) (first_in (record { fault = TooLarge; state = []; field = codes "States" }) []))));
+}
+
 -- ---- what is read
 
 -- the settings of a state that gives none
 bare : Option (List ℕ) → Settings
 bare next = record { input_path = Some []; parameters = None; result_selector = None; result_path = Some []; output_path = Some []; next = next; retriers = []; catchers = [] }
 
-one_pass : machine_in (machine (codes "\"A\":{\"Type\":\"Pass\",\"End\":true}")) ≡ Some (ScopeOf (codes "A") (AndState (codes "A") (StateOf (bare None) (Pass None)) NoStates), [])
+one_pass : ReadsAsMachine (machine (codes "\"A\":{\"Type\":\"Pass\",\"End\":true}")) (ScopeOf (codes "A") (AndState (codes "A") (StateOf (bare None) (Pass None)) NoStates))
 unfolding serde_json_on_literals machine_in machine bare
-one_pass = refl
+one_pass = stands refl refl refl
 
 -- every field of Pass, Succeed and Fail
-every_field : machine_in (machine (codes "\"A\":{\"Type\":\"Pass\",\"Comment\":\"c\",\"QueryLanguage\":\"JSONPath\",\"InputPath\":\"$.in\",\"OutputPath\":null,\"ResultPath\":\"$.r[0]\",\"Parameters\":{\"x\":1},\"Result\":[null],\"Next\":\"B\"},\"B\":{\"Type\":\"Succeed\",\"InputPath\":null,\"OutputPath\":\"$.o\"},\"C\":{\"Type\":\"Fail\",\"Comment\":\"d\",\"Error\":\"E\",\"Cause\":\"why\"}")) ≡ Some (
-  ScopeOf (codes "A")
-      (AndState (codes "A") (StateOf (record (bare (Some (codes "B"))) { input_path = Some (Name (codes "in") ∷ []); output_path = None; result_path = Some (Name (codes "r") ∷ Index 0 ∷ []); parameters = Some (ObjectTemplate (AndFieldTemplate (codes "x") (Literal (Integer (pos 1))) NoFieldTemplates)) }) (Pass (Some (Array (AndTree Null NoTrees)))))
-      (AndState (codes "B") (StateOf (record (bare None) { input_path = None; output_path = Some (Name (codes "o") ∷ []) }) Succeed)
-      (AndState (codes "C") (StateOf (bare None) (Fail (codes "E") (codes "why"))) NoStates))),
-  [],
-)
+every_field : ReadsAsMachine (machine (codes "\"A\":{\"Type\":\"Pass\",\"Comment\":\"c\",\"QueryLanguage\":\"JSONPath\",\"InputPath\":\"$.in\",\"OutputPath\":null,\"ResultPath\":\"$.r[0]\",\"Parameters\":{\"x\":1},\"Result\":[null],\"Next\":\"B\"},\"B\":{\"Type\":\"Succeed\",\"InputPath\":null,\"OutputPath\":\"$.o\"},\"C\":{\"Type\":\"Fail\",\"Comment\":\"d\",\"Error\":\"E\",\"Cause\":\"why\"}")) (
+    ScopeOf (codes "A")
+    (AndState (codes "A") (StateOf (record (bare (Some (codes "B"))) { input_path = Some (Name (codes "in") ∷ []); output_path = None; result_path = Some (Name (codes "r") ∷ Index 0 ∷ []); parameters = Some (ObjectTemplate (AndFieldTemplate (codes "x") (Literal (Integer (pos 1))) NoFieldTemplates)) }) (Pass (Some (Array (AndTree Null NoTrees)))))
+    (AndState (codes "B") (StateOf (record (bare None) { input_path = None; output_path = Some (Name (codes "o") ∷ []) }) Succeed)
+    (AndState (codes "C") (StateOf (bare None) (Fail (codes "E") (codes "why"))) NoStates)))
+    )
 unfolding serde_json_on_literals machine_in machine bare
-every_field = refl
+every_field = stands refl refl refl
 
 -- a Task with retriers and a catcher
-a_task : machine_in (machine (codes "\"A\":{\"Type\":\"Task\",\"Resource\":\"r\",\"TimeoutSeconds\":5,\"HeartbeatSeconds\":4,\"ResultSelector\":{\"y\":2},\"Retry\":[{\"ErrorEquals\":[\"E\"],\"BackoffRate\":1.5},{\"ErrorEquals\":[\"States.ALL\"],\"MaxAttempts\":0,\"IntervalSeconds\":1,\"MaxDelaySeconds\":2,\"JitterStrategy\":\"FULL\"}],\"Catch\":[{\"ErrorEquals\":[\"F\"],\"ResultPath\":\"$.e\",\"Next\":\"A\"}],\"End\":true}")) ≡ Some (
-  ScopeOf (codes "A") (AndState (codes "A")
-      (StateOf (record (bare None) {
-        result_selector = Some (ObjectTemplate (AndFieldTemplate (codes "y") (Literal (Integer (pos 2))) NoFieldTemplates));
-        retriers = record { error_equals = codes "E" ∷ []; max_attempts = 3 } ∷ record { error_equals = codes "States.ALL" ∷ []; max_attempts = 0 } ∷ [];
-        catchers = record { error_equals = codes "F" ∷ []; result_path = Some (Name (codes "e") ∷ []); next = codes "A" } ∷ [];
-      }) (Task (codes "r"))) NoStates),
-  [],
-)
+a_task : ReadsAsMachine (machine (codes "\"A\":{\"Type\":\"Task\",\"Resource\":\"r\",\"TimeoutSeconds\":5,\"HeartbeatSeconds\":4,\"ResultSelector\":{\"y\":2},\"Retry\":[{\"ErrorEquals\":[\"E\"],\"BackoffRate\":1.5},{\"ErrorEquals\":[\"States.ALL\"],\"MaxAttempts\":0,\"IntervalSeconds\":1,\"MaxDelaySeconds\":2,\"JitterStrategy\":\"FULL\"}],\"Catch\":[{\"ErrorEquals\":[\"F\"],\"ResultPath\":\"$.e\",\"Next\":\"A\"}],\"End\":true}")) (
+    ScopeOf (codes "A") (AndState (codes "A")
+    (StateOf (record (bare None) {
+      result_selector = Some (ObjectTemplate (AndFieldTemplate (codes "y") (Literal (Integer (pos 2))) NoFieldTemplates));
+      retriers = record { error_equals = codes "E" ∷ []; max_attempts = 3 } ∷ record { error_equals = codes "States.ALL" ∷ []; max_attempts = 0 } ∷ [];
+      catchers = record { error_equals = codes "F" ∷ []; result_path = Some (Name (codes "e") ∷ []); next = codes "A" } ∷ [];
+    }) (Task (codes "r"))) NoStates)
+    )
 unfolding serde_json_on_literals machine_in machine bare
-a_task = refl
+a_task = stands refl refl refl
 
 -- scopes in scopes
-nested_scopes : machine_in (machine (codes "\"A\":{\"Type\":\"Parallel\",\"Branches\":[{\"StartAt\":\"B\",\"States\":{\"B\":{\"Type\":\"Succeed\"}}},{\"StartAt\":\"C\",\"States\":{\"C\":{\"Type\":\"Map\",\"ItemsPath\":\"$.l\",\"Parameters\":{\"z\":3},\"Iterator\":{\"StartAt\":\"D\",\"States\":{\"D\":{\"Type\":\"Wait\",\"Seconds\":7,\"End\":true}}},\"End\":true}}}],\"End\":true}")) ≡ Some (
-  ScopeOf (codes "A") (AndState (codes "A") (StateOf (bare None) (Parallel
-      (AndScope (ScopeOf (codes "B") (AndState (codes "B") (StateOf (bare None) Succeed) NoStates))
-      (AndScope (ScopeOf (codes "C") (AndState (codes "C") (StateOf (bare None) (Map (Name (codes "l") ∷ []) (Some (ObjectTemplate (AndFieldTemplate (codes "z") (Literal (Integer (pos 3))) NoFieldTemplates)))
-      (ScopeOf (codes "D") (AndState (codes "D") (StateOf (bare None) (Wait (Seconds 7))) NoStates)))) NoStates))
-      NoScopes)))) NoStates),
-  [],
-)
+nested_scopes : ReadsAsMachine (machine (codes "\"A\":{\"Type\":\"Parallel\",\"Branches\":[{\"StartAt\":\"B\",\"States\":{\"B\":{\"Type\":\"Succeed\"}}},{\"StartAt\":\"C\",\"States\":{\"C\":{\"Type\":\"Map\",\"ItemsPath\":\"$.l\",\"Parameters\":{\"z\":3},\"Iterator\":{\"StartAt\":\"D\",\"States\":{\"D\":{\"Type\":\"Wait\",\"Seconds\":7,\"End\":true}}},\"End\":true}}}],\"End\":true}")) (
+    ScopeOf (codes "A") (AndState (codes "A") (StateOf (bare None) (Parallel
+    (AndScope (ScopeOf (codes "B") (AndState (codes "B") (StateOf (bare None) Succeed) NoStates))
+    (AndScope (ScopeOf (codes "C") (AndState (codes "C") (StateOf (bare None) (Map (Name (codes "l") ∷ []) (Some (ObjectTemplate (AndFieldTemplate (codes "z") (Literal (Integer (pos 3))) NoFieldTemplates)))
+    (ScopeOf (codes "D") (AndState (codes "D") (StateOf (bare None) (Wait (Seconds 7))) NoStates)))) NoStates))
+    NoScopes)))) NoStates)
+    )
 unfolding serde_json_on_literals machine_in machine bare
-nested_scopes = refl
+nested_scopes = stands refl refl refl
+
+-- a Parallel with the fields that a Task has too, on its way to another state
+a_parallel : ReadsAsMachine (machine (codes "\"A\":{\"Type\":\"Parallel\",\"Parameters\":{\"x\":1},\"Branches\":[{\"StartAt\":\"B\",\"Comment\":\"c\",\"States\":{\"B\":{\"Type\":\"Succeed\"}}},{\"StartAt\":\"C\",\"States\":{\"C\":{\"Type\":\"Fail\",\"Error\":\"E\"}}}],\"ResultPath\":null,\"Retry\":[{\"ErrorEquals\":[\"States.BranchFailed\"],\"MaxAttempts\":1}],\"Catch\":[{\"ErrorEquals\":[\"States.ALL\"],\"Next\":\"D\"}],\"Next\":\"D\"},\"D\":{\"Type\":\"Succeed\"}")) (
+    ScopeOf (codes "A")
+    (AndState (codes "A") (StateOf (record (bare (Some (codes "D"))) {
+      parameters = Some (ObjectTemplate (AndFieldTemplate (codes "x") (Literal (Integer (pos 1))) NoFieldTemplates));
+      result_path = None;
+      retriers = record { error_equals = codes "States.BranchFailed" ∷ []; max_attempts = 1 } ∷ [];
+      catchers = record { error_equals = codes "States.ALL" ∷ []; result_path = Some []; next = codes "D" } ∷ [];
+    }) (Parallel
+    (AndScope (ScopeOf (codes "B") (AndState (codes "B") (StateOf (bare None) Succeed) NoStates))
+    (AndScope (ScopeOf (codes "C") (AndState (codes "C") (StateOf (bare None) (Fail (codes "E") [])) NoStates))
+    NoScopes))))
+    (AndState (codes "D") (StateOf (bare None) Succeed) NoStates))
+    )
+unfolding serde_json_on_literals machine_in machine bare
+a_parallel = stands refl refl refl
+
+-- the machine of the next two
+mapped : Scope
+mapped =
+    ScopeOf (codes "A") (AndState (codes "A") (StateOf (record (bare None) { result_path = Some (Name (codes "r") ∷ []) })
+    (Map (Name (codes "l") ∷ [])
+    (Some (ObjectTemplate (AndFieldTemplate (codes "i") (FromPath ItemIndex) (AndFieldTemplate (codes "v") (FromPath (InItem (Name (codes "k") ∷ []))) NoFieldTemplates))))
+    (ScopeOf (codes "B") (AndState (codes "B") (StateOf (bare None) (Pass None)) NoStates)))) NoStates)
+
+-- a Map
+a_map : ReadsAsMachine (machine (codes "\"A\":{\"Type\":\"Map\",\"ItemsPath\":\"$.l\",\"ItemSelector\":{\"i.$\":\"$$.Map.Item.Index\",\"v.$\":\"$$.Map.Item.Value.k\"},\"MaxConcurrency\":2,\"ItemProcessor\":{\"ProcessorConfig\":{\"Mode\":\"INLINE\"},\"StartAt\":\"B\",\"States\":{\"B\":{\"Type\":\"Pass\",\"End\":true}}},\"ResultPath\":\"$.r\",\"End\":true}")) mapped
+unfolding serde_json_on_literals machine_in machine mapped bare
+a_map = stands refl refl refl
+
+-- with the older names `Iterator` and `Parameters`
+an_older_map : ReadsAsMachine (machine (codes "\"A\":{\"Type\":\"Map\",\"ItemsPath\":\"$.l\",\"Parameters\":{\"i.$\":\"$$.Map.Item.Index\",\"v.$\":\"$$.Map.Item.Value.k\"},\"MaxConcurrency\":2,\"Iterator\":{\"StartAt\":\"B\",\"States\":{\"B\":{\"Type\":\"Pass\",\"End\":true}}},\"ResultPath\":\"$.r\",\"End\":true}")) mapped
+unfolding serde_json_on_literals machine_in machine mapped bare
+an_older_map = stands refl refl refl
 
 -- a Choice with `Default` and without
-a_choice : machine_in (machine (codes "\"A\":{\"Type\":\"Choice\",\"Choices\":[{\"Variable\":\"$.k\",\"IsNull\":true,\"Next\":\"B\"}],\"Default\":\"C\"},\"B\":{\"Type\":\"Succeed\"},\"C\":{\"Type\":\"Choice\",\"Choices\":[{\"Variable\":\"$\",\"IsPresent\":false,\"Next\":\"B\"}]}")) ≡ Some (
-  ScopeOf (codes "A")
-      (AndState (codes "A") (StateOf (bare None) (Choice (record { test = IsOfKind (Name (codes "k") ∷ []) NullKind true; next = codes "B" } ∷ []) (Some (codes "C"))))
-      (AndState (codes "B") (StateOf (bare None) Succeed)
-      (AndState (codes "C") (StateOf (bare None) (Choice (record { test = IsPresent [] false; next = codes "B" } ∷ []) None)) NoStates))),
-  [],
-)
+a_choice : ReadsAsMachine (machine (codes "\"A\":{\"Type\":\"Choice\",\"Choices\":[{\"Variable\":\"$.k\",\"IsNull\":true,\"Next\":\"B\"}],\"Default\":\"C\"},\"B\":{\"Type\":\"Succeed\"},\"C\":{\"Type\":\"Choice\",\"Choices\":[{\"Variable\":\"$\",\"IsPresent\":false,\"Next\":\"B\"}]}")) (
+    ScopeOf (codes "A")
+    (AndState (codes "A") (StateOf (bare None) (Choice (record { test = IsOfKind (Name (codes "k") ∷ []) NullKind true; next = codes "B" } ∷ []) (Some (codes "C"))))
+    (AndState (codes "B") (StateOf (bare None) Succeed)
+    (AndState (codes "C") (StateOf (bare None) (Choice (record { test = IsPresent [] false; next = codes "B" } ∷ []) None)) NoStates)))
+    )
 unfolding serde_json_on_literals machine_in machine bare
-a_choice = refl
-
-default_to_nowhere : complaints_in (machine (codes "\"A\":{\"Type\":\"Choice\",\"Choices\":[{\"Variable\":\"$\",\"IsNull\":true,\"Next\":\"A\"}],\"Default\":\"Z\"}")) ≡ only NoSuchState (codes "A") (codes "Default")
-unfolding serde_json_on_literals complaints_in machine only
-default_to_nowhere = refl
+a_choice = stands refl refl refl
 
 -- a Wait by a path to seconds, a timestamp, and a path to a timestamp
-waits : machine_in (machine (codes "\"A\":{\"Type\":\"Wait\",\"SecondsPath\":\"$.s\",\"Next\":\"B\"},\"B\":{\"Type\":\"Wait\",\"Timestamp\":\"t\",\"Next\":\"C\"},\"C\":{\"Type\":\"Wait\",\"TimestampPath\":\"$.t\",\"End\":true}")) ≡ Some (
-  ScopeOf (codes "A")
-      (AndState (codes "A") (StateOf (bare (Some (codes "B"))) (Wait (SecondsPath (Name (codes "s") ∷ []))))
-      (AndState (codes "B") (StateOf (bare (Some (codes "C"))) (Wait (Timestamp (codes "t"))))
-      (AndState (codes "C") (StateOf (bare None) (Wait (TimestampPath (Name (codes "t") ∷ [])))) NoStates))),
-  [],
-)
+waits : ReadsAsMachine (machine (codes "\"A\":{\"Type\":\"Wait\",\"SecondsPath\":\"$.s\",\"Next\":\"B\"},\"B\":{\"Type\":\"Wait\",\"Timestamp\":\"t\",\"Next\":\"C\"},\"C\":{\"Type\":\"Wait\",\"TimestampPath\":\"$.t\",\"End\":true}")) (
+    ScopeOf (codes "A")
+    (AndState (codes "A") (StateOf (bare (Some (codes "B"))) (Wait (SecondsPath (Name (codes "s") ∷ []))))
+    (AndState (codes "B") (StateOf (bare (Some (codes "C"))) (Wait (Timestamp (codes "t"))))
+    (AndState (codes "C") (StateOf (bare None) (Wait (TimestampPath (Name (codes "t") ∷ [])))) NoStates)))
+    )
 unfolding serde_json_on_literals machine_in machine bare
-waits = refl
-
-catch_all_not_last : complaints_in (machine (codes "\"A\":{\"Type\":\"Task\",\"Resource\":\"r\",\"End\":true,\"Catch\":[{\"ErrorEquals\":[\"States.ALL\"],\"Next\":\"A\"},{\"ErrorEquals\":[\"E\"],\"Next\":\"A\"}]}")) ≡ only BadErrorEquals (codes "A") (codes "Catch")
-unfolding serde_json_on_literals complaints_in machine only
-catch_all_not_last = refl
-
-catch_all_not_alone : complaints_in (machine (codes "\"A\":{\"Type\":\"Task\",\"Resource\":\"r\",\"End\":true,\"Catch\":[{\"ErrorEquals\":[\"E\",\"States.ALL\"],\"Next\":\"A\"}]}")) ≡ only BadErrorEquals (codes "A") (codes "Catch")
-unfolding serde_json_on_literals complaints_in machine only
-catch_all_not_alone = refl
+waits = stands refl refl refl
 
 -- a catcher's `ResultPath` that is `null`, and one that isn't given; a Task's `Parameters`
-two_catchers : machine_in (machine (codes "\"A\":{\"Type\":\"Task\",\"Resource\":\"r\",\"Parameters\":{\"x.$\":\"$.k\"},\"Catch\":[{\"ErrorEquals\":[\"E\"],\"ResultPath\":null,\"Next\":\"A\"},{\"ErrorEquals\":[\"States.ALL\"],\"Next\":\"A\"}],\"End\":true}")) ≡ Some (
-  ScopeOf (codes "A") (AndState (codes "A")
-      (StateOf (record (bare None) {
-        parameters = Some (ObjectTemplate (AndFieldTemplate (codes "x") (FromPath (InInput (Name (codes "k") ∷ []))) NoFieldTemplates));
-        catchers = record { error_equals = codes "E" ∷ []; result_path = None; next = codes "A" } ∷ record { error_equals = codes "States.ALL" ∷ []; result_path = Some []; next = codes "A" } ∷ [];
-      }) (Task (codes "r"))) NoStates),
-  [],
-)
+two_catchers : ReadsAsMachine (machine (codes "\"A\":{\"Type\":\"Task\",\"Resource\":\"r\",\"Parameters\":{\"x.$\":\"$.k\"},\"Catch\":[{\"ErrorEquals\":[\"E\"],\"ResultPath\":null,\"Next\":\"A\"},{\"ErrorEquals\":[\"States.ALL\"],\"Next\":\"A\"}],\"End\":true}")) (
+    ScopeOf (codes "A") (AndState (codes "A")
+    (StateOf (record (bare None) {
+      parameters = Some (ObjectTemplate (AndFieldTemplate (codes "x") (FromPath (InInput (Name (codes "k") ∷ []))) NoFieldTemplates));
+      catchers = record { error_equals = codes "E" ∷ []; result_path = None; next = codes "A" } ∷ record { error_equals = codes "States.ALL" ∷ []; result_path = Some []; next = codes "A" } ∷ [];
+    }) (Task (codes "r"))) NoStates)
+    )
 unfolding serde_json_on_literals machine_in machine bare
-two_catchers = refl
+two_catchers = stands refl refl refl
