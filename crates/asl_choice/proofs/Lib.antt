@@ -1,1 +1,7 @@
+pub mod Elements
+pub mod Fields
+pub mod Lists
+pub mod Names
+pub mod Telling
+pub mod Variables
 pub mod Walks

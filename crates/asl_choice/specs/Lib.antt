@@ -1,2 +1,5 @@
+pub mod Operators
+pub mod Refusal
+pub mod Single
 pub mod View
 pub mod Walking

@@ -1,6 +1,7 @@
 //! Comparing values, and telling their kinds.
 ghost use Rattle.std.specs.Prelude.{◌≡◌, option_map};
 ghost use Rattle.asl_model.specs.Test.{as_text as text_of, as_integer as integer_of, as_boolean as boolean_of, compares as comparison_holds, is_of_kind as has_kind, relates as relation_holds};
+ghost use Rattle.asl_model.specs.RuleSpelling.{is_comparable as is_of_type};
 ghost use Rattle.asl_choice.specs.View.{comparison_view, kind_view, relation_view};
 ghost use Rattle.asl_tree.specs.View as trees;
 
@@ -38,6 +39,17 @@ fn relates(relation: Relation, order: Ordering) -> bool
         Relation::GreaterThan => order.is_gt(),
         Relation::LessThanEquals => order.is_le(),
         Relation::GreaterThanEquals => order.is_ge(),
+    }
+}
+
+/// Whether the value is of the comparison's type.
+pub(crate) fn is_comparable(comparison: Comparison, value: &Tree) -> bool
+    ensures { result ≡ is_of_type (comparison_view comparison) (trees.view value.now) }
+{
+    match comparison {
+        Comparison::String(_) => as_text(value).is_some(),
+        Comparison::Numeric(_) => as_integer(value).is_some(),
+        Comparison::BooleanEquals => as_boolean(value).is_some(),
     }
 }
 

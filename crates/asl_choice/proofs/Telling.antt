@@ -1,0 +1,52 @@
+-- What a refusal tells of a fault that was met on the way.
+use Rattle.std.proofs.Common.{◌≡◌, ℕ, List, ◌++◌, Option, Some, None, Ok, refl, subst, rules}
+use Rattle.std.specs.Prelude.{IfSome}
+use Rattle.std.specs.List.{Contains}
+use Rattle.std.proofs.lemmas.List.Elements.{Contains-append_left, Contains-append_right}
+use Rattle.asl_model.specs.Tree.{Tree}
+use Rattle.asl_model.specs.Path.{Segment}
+use Rattle.asl_model.specs.PathSpelling.{path_of, Spells}
+use Rattle.asl_model.specs.Test.{as_text, PatternPart, StringMatches}
+use Rattle.asl_model.specs.RuleSpelling.{RuleFault, BadPath, BadPattern, Matching, operator_test, fault_of, given_or, pattern_of}
+use Rattle.asl_model.proofs.PathReading.{path_of-Spells}
+use Rattle.asl_choice.specs.declared.refusal.RuleRefusal.{RuleRefusal}
+use Rattle.asl_choice.specs.declared.refusal.RuleRefusal.TheVariants as refusal
+use Rattle.asl_choice.specs.Refusal.{Tells, fault_named, missing}
+
+pub told_same : (e : RuleRefusal) (xs ys : List RuleFault) → Tells e xs → xs ≡ ys → Tells e ys
+told_same e xs ys h same = subst (Tells e) same h
+
+left : (named : Option RuleFault) (xs ys : List RuleFault) → IfSome named (Contains xs) → IfSome named (Contains (xs ++ ys))
+left None xs ys h = h
+left (Some f) xs ys h = Contains-append_left xs ys f h
+
+right : (named : Option RuleFault) (xs ys : List RuleFault) → IfSome named (Contains ys) → IfSome named (Contains (xs ++ ys))
+right None xs ys h = h
+right (Some f) xs ys h = Contains-append_right xs ys f h
+
+-- what is told of one of two lists is told of both
+pub told_left : (e : RuleRefusal) (xs ys : List RuleFault) → Tells e xs → Tells e (xs ++ ys)
+told_left e xs ys h = record { listed = left (fault_named e) xs ys h.listed }
+
+pub told_right : (e : RuleRefusal) (xs ys : List RuleFault) → Tells e ys → Tells e (xs ++ ys)
+told_right e xs ys h = record { listed = right (fault_named e) xs ys h.listed }
+
+-- a text that spells no path is read as none
+path_none : (text : List ℕ) → ((p : List Segment) → Spells text p → ⊥) → path_of text ≡ None
+path_none text not = by (path_of text) refl
+  where
+    by : (o : Option (List Segment)) → path_of text ≡ o → o ≡ None
+    by None e = refl
+    by (Some p) e = absurd (not p (path_of-Spells text p e))
+
+-- a pattern that can't be read, behind an operator
+pub pattern_told : (e : RuleRefusal) (p : List Segment) (t : Tree) (s bytes : List ℕ) → as_text t ≡ Some s → bytes ≡ s → Tells e (missing BadPattern (pattern_of bytes)) → Tells e (fault_of (operator_test p Matching t))
+pattern_told e p t s bytes is same told = rw is (by (pattern_of s) (rw (← same) told))
+  where
+    by : (o : Option (List PatternPart)) → Tells e (missing BadPattern o) → Tells e (fault_of (given_or BadPattern (λ parts. Ok (StringMatches p parts)) o))
+    by None h = h
+    by (Some parts) h = h
+
+-- a text that spells no path is told so
+pub path_told : (text : List ℕ) → ((p : List Segment) → Spells text p → ⊥) → Tells refusal.BadPath (missing BadPath (path_of text))
+path_told text not = rw (path_none text not) (record { listed = search rules })

@@ -1,0 +1,60 @@
+//! Why a tree is no spelling of a rule.
+
+use asl_tree::OutOfMemory;
+use std::alloc::{AllocError, AllocFailed};
+
+/// Why a tree is no spelling of a rule.
+#[derive(Clone, Copy, Debug, PartialEq, Drop)]
+pub enum RuleRefusal {
+    /// It is no object, or its fields aren't those of a rule: exactly one of `And`, `Or` and `Not`, or `Variable` and
+    /// one operator; at the top also `Next`, and `Comment` where it is wanted, both texts. Or `And` or `Or` holds no
+    /// list, or `Variable` no text.
+    NotARule,
+    /// There is no operator of that name.
+    UnknownOperator,
+    /// The value behind an operator is of a wrong kind.
+    BadOperand,
+    /// A text is no reference path.
+    BadPath,
+    /// In a pattern a backslash stands before neither a star nor a backslash.
+    BadPattern,
+    /// `And` or `Or` holds an empty list.
+    EmptyList,
+    /// `Next` stands below the top.
+    NextInside,
+    /// An allocation was refused.
+    OutOfMemory,
+}
+
+impl From<OutOfMemory> for RuleRefusal {
+    ghost use Rattle.std.specs.Prelude.{◌≡◌};
+    ghost use Rattle.asl_choice.specs.declared.refusal.RuleRefusal.{RuleRefusal};
+
+    ghost from_gives = { λ _ refusal. refusal ≡ RuleRefusal.OutOfMemory };
+
+    fn from(_error: OutOfMemory) -> RuleRefusal {
+        RuleRefusal::OutOfMemory
+    }
+}
+
+impl From<AllocError> for RuleRefusal {
+    ghost use Rattle.std.specs.Prelude.{◌≡◌};
+    ghost use Rattle.asl_choice.specs.declared.refusal.RuleRefusal.{RuleRefusal};
+
+    ghost from_gives = { λ _ refusal. refusal ≡ RuleRefusal.OutOfMemory };
+
+    fn from(_error: AllocError) -> RuleRefusal {
+        RuleRefusal::OutOfMemory
+    }
+}
+
+impl<T: Drop> From<AllocFailed<T>> for RuleRefusal {
+    ghost use Rattle.std.specs.Prelude.{◌≡◌};
+    ghost use Rattle.asl_choice.specs.declared.refusal.RuleRefusal.{RuleRefusal};
+
+    ghost from_gives = { λ _ refusal. refusal ≡ RuleRefusal.OutOfMemory };
+
+    fn from(_error: AllocFailed<T>) -> RuleRefusal {
+        RuleRefusal::OutOfMemory
+    }
+}

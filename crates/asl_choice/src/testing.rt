@@ -1,0 +1,119 @@
+//! Reading the test of a rule with `Variable`: the operator beside it, and what stands behind that.
+ghost use Rattle.std.specs.Prelude.{◌≡◌, Ok, Some, IfErr, IfOk, IfSome, IsUtf8};
+ghost use Rattle.asl_model.specs.PathSpelling.{path_of};
+ghost use Rattle.asl_model.specs.RuleSpelling as model;
+ghost use Rattle.asl_model.specs.Test.{as_text as text_of, as_boolean as boolean_of};
+ghost use Rattle.asl_choice.specs.Operators.{operator_view};
+ghost use Rattle.asl_choice.specs.Refusal.{Tells, missing};
+ghost use Rattle.asl_choice.specs.View.{view};
+ghost use Rattle.asl_tree.specs.View as trees;
+
+use crate::comparing::{as_boolean, as_text, is_comparable};
+use crate::operators::{Operator, operator_named};
+use crate::patterns::read_pattern;
+use crate::{Operand, RuleRefusal, Test};
+use asl_path::{PathRefusal, RefPath, parse};
+use asl_tree::{Tree, copy};
+use std::alloc::Global;
+
+/// The test on the value at `variable` that the operator of that name asks for with that operand.
+pub(crate) fn read_operator(
+    alloc: Global,
+    variable: RefPath,
+    name: &str,
+    operand: &Tree,
+) -> Result<Test, RuleRefusal>
+    ensures test { IfOk result (λ test. model.named_test variable name.now (trees.view operand.now) ≡ Ok (view test)) }
+    ensures refused { IfErr result (λ e. Tells e (model.fault_of (model.named_test variable name.now (trees.view operand.now)))) }
+{
+    match operator_named(name) {
+        Some(operator) => read_test(alloc, variable, operator, operand),
+        None => Err(RuleRefusal::UnknownOperator),
+    }
+}
+
+/// The test of an operator and its operand.
+fn read_test(
+    alloc: Global,
+    variable: RefPath,
+    operator: Operator,
+    operand: &Tree,
+) -> Result<Test, RuleRefusal>
+    ensures test { IfOk result (λ test. model.operator_test variable (operator_view operator) (trees.view operand.now) ≡ Ok (view test)) }
+    ensures refused { IfErr result (λ e. Tells e (model.fault_of (model.operator_test variable (operator_view operator) (trees.view operand.now)))) }
+{
+    match operator {
+        Operator::WithValue(comparison) => {
+            if !is_comparable(comparison, operand) {
+                return Err(RuleRefusal::BadOperand);
+            }
+            let operand = Operand::Constant(copy(alloc, operand)?);
+            Ok(Test::Compare {
+                variable,
+                comparison,
+                operand,
+            })
+        }
+        Operator::WithPath(comparison) => {
+            let operand = Operand::AtPath(read_path(alloc, text_in(operand)?)?);
+            Ok(Test::Compare {
+                variable,
+                comparison,
+                operand,
+            })
+        }
+        Operator::Matching => {
+            let pattern = read_pattern(alloc, text_in(operand)?.as_bytes())?;
+            Ok(Test::StringMatches { variable, pattern })
+        }
+        Operator::OfKind(kind) => {
+            let wanted = truth_in(operand)?;
+            Ok(Test::IsOfKind {
+                variable,
+                kind,
+                wanted,
+            })
+        }
+        Operator::Presence => {
+            let wanted = truth_in(operand)?;
+            Ok(Test::IsPresent { variable, wanted })
+        }
+    }
+}
+
+/// The text that the operand is.
+fn text_in(operand: &Tree) -> Result<&str, RuleRefusal>
+    ensures text { IfOk result (λ text. text_of (trees.view operand.now) ≡ Some text.now) }
+    ensures utf8 { IfOk result (λ text. IsUtf8 text.now) }
+    ensures refused { IfErr result (λ e. Tells e (missing model.BadOperand (text_of (trees.view operand.now)))) }
+{
+    match as_text(operand) {
+        Some(text) => Ok(text),
+        None => Err(RuleRefusal::BadOperand),
+    }
+}
+
+/// The truth value that the operand is.
+fn truth_in(operand: &Tree) -> Result<bool, RuleRefusal>
+    ensures truth { IfOk result (λ truth. boolean_of (trees.view operand.now) ≡ Some truth) }
+    ensures refused { IfErr result (λ e. Tells e (missing model.BadOperand (boolean_of (trees.view operand.now)))) }
+{
+    match as_boolean(operand) {
+        Some(truth) => Ok(truth),
+        None => Err(RuleRefusal::BadOperand),
+    }
+}
+
+/// The path that the text spells.
+pub(crate) fn read_path(alloc: Global, text: &str) -> Result<RefPath, RuleRefusal>
+    ensures path { IfOk result (λ p. path_of text.now ≡ Some p) }
+    ensures refused { IfErr result (λ e. Tells e (missing model.BadPath (path_of text.now))) }
+{
+    match parse(alloc, text) {
+        Ok(path) => Ok(path),
+        Err(refusal) => match refusal {
+            PathRefusal::OutOfMemory => Err(RuleRefusal::OutOfMemory),
+            _ => Err(RuleRefusal::BadPath),
+        },
+    }
+}
