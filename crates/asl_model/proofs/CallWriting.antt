@@ -302,7 +302,7 @@ number_begins (from_zero_on whole small) = whole_begins whole
 number_begins (from_zero_down {digits = digits} whole small) = record { first = 45; others = digits; whole = refl; no_space = refl; no_end = refl }
 
 -- the first byte of a name
-first_in_name : {b : ℕ} {name : List ℕ} → ConsistsOf in_function_name (b ∷ name) → IsTrue (in_function_name b)
+pub first_in_name : {b : ℕ} {name : List ℕ} → ConsistsOf in_function_name (b ∷ name) → IsTrue (in_function_name b)
 first_in_name (and_byte h further) = h
 
 -- a call begins so

@@ -61,3 +61,4 @@ pub mod ShapeValid
 pub mod ShapeWitness
 pub mod SpellingLookups
 pub mod SpellingWritten
+pub mod TemplateGrammar

@@ -17,7 +17,7 @@ use Rattle.asl_model.proofs.ShapeWitness.{comes_before-trans}
 -- ---- the order of names
 
 -- of two different names one comes before the other
-other_way : (m n : List ℕ) → comes_before m n ≡ false → bytes_eq m n ≡ false → IsTrue (comes_before n m)
+pub other_way : (m n : List ℕ) → comes_before m n ≡ false → bytes_eq m n ≡ false → IsTrue (comes_before n m)
 other_way m n h other = go (slice_cmp nat_cmp m n) refl
   where
     go : (o : Ordering) → slice_cmp nat_cmp m n ≡ o → IsTrue (comes_before n m)
@@ -29,14 +29,14 @@ neither : (a b : Bool) → (a || b) ≡ false → (a ≡ false) × (b ≡ false)
 neither true b h = absurd (true≢false h)
 neither false b h = (refl, h)
 
-not_true : (a : Bool) → not a ≡ true → a ≡ false
+pub not_true : (a : Bool) → not a ≡ true → a ≡ false
 not_true true h = absurd (false≢true h)
 not_true false h = refl
 
 -- ---- a field more
 
 -- no field has the name
-abbrev Absent : List ℕ → FieldTemplates → Type 0
+abbrev pub Absent : List ℕ → FieldTemplates → Type 0
 Absent n NoFieldTemplates = Unit {0}
 Absent n (AndFieldTemplate m q others) = (bytes_eq m n ≡ false) × Absent n others
 
@@ -76,7 +76,7 @@ ordered_with n q (AndFieldTemplate m u others) absent value h = go (comes_before
 
 -- ---- what is read
 
-absent_as_read : (item : Bool) (k : List ℕ) (fs : Fields) → is_among k (renamed_names fs) ≡ false → Absent k (field_templates_of item fs)
+pub absent_as_read : (item : Bool) (k : List ℕ) (fs : Fields) → is_among k (renamed_names fs) ≡ false → Absent k (field_templates_of item fs)
 absent_as_read item k NoFields h = tt
 absent_as_read item k (AndField n t fs) h =
     let parts = neither (bytes_eq (renamed n) k) (is_among k (renamed_names fs)) h in
@@ -102,7 +102,7 @@ marked_in_order item (Text s) = go (begins_path s)
 marked_in_order item (Array ts) = tt
 marked_in_order item (Object fs) = tt
 
-distinct_names : (fs : Fields) → duplicate_faults fs ≡ [] → are_distinct (renamed_names fs) ≡ true
+pub distinct_names : (fs : Fields) → duplicate_faults fs ≡ [] → are_distinct (renamed_names fs) ≡ true
 distinct_names fs h = go (are_distinct (renamed_names fs)) h
   where
     go : (b : Bool) → (if b then [] else DuplicateAfterStrip ∷ []) ≡ [] → b ≡ true
@@ -131,7 +131,7 @@ mutual
       let parts = append-none (part_faults item t) (parts_faults item ts) h in
       (part_in_order item t parts.0, parts_in_order item ts parts.1)
 
-  fields_in_order : (item : Bool) (fs : Fields) → are_distinct (renamed_names fs) ≡ true → fields_faults item fs ≡ [] → HasFieldsInOrder (field_templates_of item fs)
+  pub fields_in_order : (item : Bool) (fs : Fields) → are_distinct (renamed_names fs) ≡ true → fields_faults item fs ≡ [] → HasFieldsInOrder (field_templates_of item fs)
   fields_in_order item NoFields distinct h = tt
   fields_in_order item (AndField n t fs) distinct h =
       let names = and_parts (not (is_among (renamed n) (renamed_names fs))) (are_distinct (renamed_names fs)) distinct in

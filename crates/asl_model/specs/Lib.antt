@@ -24,6 +24,7 @@ pub mod ShapeOrder
 pub mod ShapeSpelling
 pub mod StandsFor
 pub mod Template
+pub mod TemplateGrammar
 pub mod TemplateSpelling
 pub mod Test
 pub mod Texts

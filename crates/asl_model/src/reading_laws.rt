@@ -15,6 +15,7 @@ ghost use Rattle.asl_model.specs.Json.{ReadsAsValue, ReadsAsTree};
 ghost use Rattle.asl_model.specs.PathSpelling.{path_of, Spells, PathFault, IsRefusedPath, printed_path, have_spellings};
 ghost use Rattle.asl_model.specs.ShapeSpelling.{SpellsShape, ShapeFault, HasShapeFault};
 ghost use Rattle.asl_model.specs.TemplateSpelling.{TemplateFault, template_of, SpellsTemplate, HasTemplateFault};
+ghost use Rattle.asl_model.specs.TemplateGrammar.{StandsForTemplate};
 ghost use Rattle.asl_model.specs.RuleSpelling.{RuleFault, rule_of, SpellsRule, HasRuleFault};
 ghost use Rattle.asl_model.specs.Intrinsic.{Reference, Call};
 ghost use Rattle.asl_model.specs.CallSpelling.{reference_of, WrittenCall, written_call, CallFault, call_from};
@@ -66,6 +67,11 @@ pub fn trees_spell_one_template()
     ensures no_fault { (item : Bool) (t : Tree) (p : Template) (f : TemplateFault) → SpellsTemplate item t p → HasTemplateFault item t f → ⊥ }
     ensures either { (item : Bool) (t : Tree) → ((p : Template) × SpellsTemplate item t p) ⊎ ((f : TemplateFault) × HasTemplateFault item t f) }
     ensures read { (item : Bool) (t : Tree) (p : Template) → (template_of item t ≡ Some p) ↔ SpellsTemplate item t p }
+{}
+
+/// A tree spells exactly the template that it stands for by the rules of payload templates.
+pub fn templates_are_exactly_spelled()
+    ensures { (item : Bool) (t : Tree) (p : Template) → SpellsTemplate item t p ↔ StandsForTemplate item t p }
 {}
 
 /// A template that a tree spells stands in order: at every depth each object has its names once, in byte order.
