@@ -1,13 +1,13 @@
 -- What a path, two paths, and the comparisons behind them come to.
-use Rattle.std.proofs.Common.{◌≡◌, ℕ, zero, suc, List, [], ◌∷◌, ◌++◌, Bool, true, false, ◌||◌, ◌&&◌, not, if◌then◌else◌, Option, Some, None, Result, Ok, Err, option_and_then, refl, sym, ap, subst, ◌∙◌, bytes_eq, arith}
-use Rattle.std.specs.Prelude.{IsTrue, Contains, codes}
-use Rattle.std.proofs.lemmas.Bool.{and_parts, false≢true}
+use Rattle.std.proofs.Common.{◌≡◌, ℕ, zero, suc, List, [], ◌∷◌, ◌++◌, Bool, true, false, ◌||◌, ◌&&◌, not, if◌then◌else◌, Option, Some, None, Result, Ok, Err, refl, sym, ap, subst, ◌∙◌, bytes_eq, arith}
+use Rattle.std.specs.Prelude.{IsTrue, codes}
+use Rattle.std.proofs.lemmas.Bool.{and_parts}
 use Rattle.asl_model.specs.Path.{Segment, Name, Index}
 use Rattle.asl_model.specs.Shape.{Shape, Any, Never, NullShape, BooleanShape, IntegerShape, StringShape, ArrayShape, ObjectShape, Shapes, NoShapes, AndShape, FieldShapes, NoFieldShapes, AndFieldShape, inhabited, all_inhabited, needed_inhabited}
-use Rattle.asl_model.specs.ShapeOrder.{sub, mention_of}
+use Rattle.asl_model.specs.ShapeOrder.{mention_of}
 use Rattle.asl_model.specs.ShapeFlow.{Flow, MissingAt, look, look_at, part_at, place_at, if_needed, through, one_further, path_flow, through_path, flow_then, empty_object}
-use Rattle.asl_model.specs.Finding.{Breach, FindingFault, PathMayBeMissing, breach_of, breaches_then, breach_unless, breach_unless_sub}
-use Rattle.asl_check.specs.Checking.{Told, TellsOne, Flows, ComesTo}
+use Rattle.asl_model.specs.Finding.{Breach, FindingFault, PathMayBeMissing, OutputNotCertified, NextInput, breaches_then, breach_unless, breach_unless_sub, end_breaches, output_breaches}
+use Rattle.asl_check.specs.Checking.{Told, Flows}
 use Rattle.asl_check.specs.Looking.{looked_at}
 
 -- ---- what a path names in an inhabited shape is inhabited
@@ -68,7 +68,7 @@ flow-missing : (field : List ℕ) (r : Result Shape ℕ) → looked_at r ≡ Non
 flow-missing field (Ok s) e = absurd (cc)
 flow-missing field (Err at) e = refl
 
-look-inhabited : (path : List Segment) (s : Shape) → IsTrue (inhabited s) → look path s ≡ look_at path s
+pub look-inhabited : (path : List Segment) (s : Shape) → IsTrue (inhabited s) → look path s ≡ look_at path s
 look-inhabited path s h = rw h refl
 
 pub path-found : (field : List ℕ) (path : List Segment) (s t : Shape) → IsTrue (inhabited s) → Some t ≡ looked_at (look_at path s) → Flows (through_path field (Some path) s) (Ok t)
@@ -103,3 +103,16 @@ tell-off go flow b f =
 
 pub unless-told : (b : Breach) (field : List ℕ) (fault : FindingFault) (breaches : List Breach) → b ≡ record { field = field; fault = fault } → Told (breach_unless false field fault ++ breaches) (Some b)
 unless-told b field fault breaches is = rw (sym is) (first-told b breaches)
+
+-- ---- states
+
+-- a Pass state that goes on, where that input is compared
+pub pass-goes-on : (inputs : List ℕ → Option Shape) (certified : Shape) (end : Option Shape) (after : Option (List ℕ)) (next : List ℕ) (expected : Option Shape) (flow : Flow) (told : Option Breach) → after ≡ Some next → expected ≡ inputs next
+    → Told (breaches_then (λ s. breach_unless_sub (codes "OutputPath") OutputNotCertified s (Some certified) ++ breach_unless_sub (codes "Next") NextInput s expected) flow) told → Told (breaches_then (output_breaches inputs certified end after) flow) told
+pass-goes-on inputs certified end after next expected flow told a e t =
+    rw a (subst (λ o. Told (breaches_then (λ s. breach_unless_sub (codes "OutputPath") OutputNotCertified s (Some certified) ++ breach_unless_sub (codes "Next") NextInput s o) flow) told) e t)
+
+-- a Pass state that ends
+pub pass-ends : (inputs : List ℕ → Option Shape) (certified : Shape) (end : Option Shape) (after : Option (List ℕ)) (flow : Flow) (told : Option Breach) → after ≡ None
+    → Told (breaches_then (end_breaches certified (codes "End") end) flow) told → Told (breaches_then (output_breaches inputs certified end after) flow) told
+pass-ends inputs certified end after flow told a t = rw a t

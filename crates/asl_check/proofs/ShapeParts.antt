@@ -14,7 +14,7 @@ use Rattle.asl_path.specs.declared.Segment as code
 use Rattle.asl_shape.specs.declared.shape.Field.{Field}
 use Rattle.asl_shape.specs.declared.shape.Shape.{Shape}
 use Rattle.asl_shape.specs.declared.shape.Shape.TheViews
-use Rattle.asl_shape.specs.View.{view, shapes_view, fields_view}
+use Rattle.asl_shape.specs.View.{view, shapes_view}
 use Rattle.asl_shape.proofs.Lookups.{mention_of_lookup}
 use Rattle.asl_shape.proofs.Views.{view_list, view_object}
 use Rattle.asl_check.specs.Looking.{looked_at}

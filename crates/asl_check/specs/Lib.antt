@@ -1,3 +1,4 @@
 pub mod Checking
 pub mod Looking
+pub mod Noting
 pub mod View

@@ -2,7 +2,9 @@
 #![tactic(auto)]
 
 mod checker;
+mod flowing;
 mod looking;
+mod noting;
 mod verdicts;
 
 pub use checker::check;

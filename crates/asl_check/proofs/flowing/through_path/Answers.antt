@@ -1,7 +1,7 @@
-use Rattle.std.proofs.Common.{◌≡◌, sym, ap, ◌∙◌, option_map}
+use Rattle.std.proofs.Common.{sym, ap, ◌∙◌, option_map}
 use Rattle.asl_shape.specs.View.{view}
 use Rattle.asl_check.proofs.Flows.{path-found, path-missing, at-inhabited}
-use Rattle.asl_check.proofs.checker.through_path.Goals as goal
+use Rattle.asl_check.proofs.flowing.through_path.Goals as goal
 
 pub returns-in-Some-look-clause-comes_to : goal.returns-in-Some-look-clause-comes_to
 returns-in-Some-look-clause-comes_to c =

@@ -1,0 +1,12 @@
+use Rattle.std.specs.BTreeMap.{keys}
+use Rattle.asl_records.specs.View.{certificate_view}
+use Rattle.asl_check.specs.Checking.{entry_rule, found_by}
+use Rattle.asl_check.specs.Noting.{notes_view}
+use Rattle.asl_check.proofs.Passes.{AreLeft}
+use Rattle.asl_check.proofs.checker.Checker.note_uncertified.Given as goal
+
+-- those of the names left are still to be noted
+abbrev pub invariant-loop-name : goal.invariant-loop-name
+invariant-loop-name l =
+    let rule = entry_rule (certificate_view l.self.certificate.now) in
+    AreLeft (found_by rule (keys l.self.machine.now.states)) (found_by rule l.name-iterator) (notes_view l.initial.notes.entries) (notes_view l.notes.entries)

@@ -1,0 +1,34 @@
+-- What the checker notes: of each name that has a broken rule, one of them.
+use Rattle.std.specs.Prelude.{◌≡◌, ◌≢◌, List, [], map, Contains, String, string_bytes}
+use Rattle.std.specs.declared.alloc.Global.{Global}
+use mathlib.Core.Logic.{◌⊎◌}
+use Rattle.asl_model.specs.Finding as finding
+use Rattle.asl_model.specs.Verdict.{Verdict, Accepted, Rejected, AreInNameOrder, TellsOf}
+use Rattle.asl_check.specs.declared.noting.Broken.{Broken}
+use Rattle.asl_check.specs.View.{finding_fault_view}
+
+-- a broken rule
+abbrev pub broken_view : Broken → finding.Breach
+broken_view b = record { field = b.field.now; fault = finding_fault_view b.fault }
+
+-- a noted rule, as a finding of its name
+abbrev pub note_view : String Global × Broken → finding.Finding
+note_view note = record { state = string_bytes note.0; field = note.1.field.now; fault = finding_fault_view note.1.fault }
+
+abbrev pub notes_view : List (String Global × Broken) → List finding.Finding
+notes_view notes = map note_view notes
+
+-- From the first notes to the second those rules are noted: the first stay, a further one is one of the rules, and each
+-- name that has one of the rules has a note.
+pub record AreNoted (rules before after : List finding.Finding) : Type 0 where
+  pub stays : (f : finding.Finding) → Contains before f → Contains after f
+  pub further : (f : finding.Finding) → Contains after f → Contains before f ⊎ Contains rules f
+  pub each : (f : finding.Finding) → Contains rules f → TellsOf after f.state
+
+-- the verdict tells the notes: yes where there is none, else no with all of them, in the order of their names
+abbrev pub TellsNotes : List finding.Finding → Verdict → Type 0
+TellsNotes notes Accepted = notes ≡ []
+TellsNotes notes (Rejected told) = (told ≡ notes) × (notes ≢ []) × AreInNameOrder notes
+
+pub record IsToldBy (notes : List finding.Finding) (verdict : Verdict) : Type 0 where
+  pub holds : TellsNotes notes verdict
