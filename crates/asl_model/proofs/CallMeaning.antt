@@ -16,7 +16,7 @@ use Rattle.asl_model.proofs.CallReading.{written_exactly}
 -- ---- paths in templates
 
 -- what stands behind a front
-behind_is : (front text rest : List ℕ) → behind front text ≡ Some rest → text ≡ front ++ rest
+pub behind_is : (front text rest : List ℕ) → behind front text ≡ Some rest → text ≡ front ++ rest
 behind_is [] text rest h = same_Some text rest h
 behind_is (b ∷ front) text rest h =
     let o = then_from (behind front) (after b text) rest h in

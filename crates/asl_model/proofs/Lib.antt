@@ -37,6 +37,8 @@ pub mod ReadingLookups
 pub mod ReadingRules
 pub mod ReadingSteps
 pub mod ReadingTemplates
+pub mod RuleGrammar
+pub mod RuleOperators
 pub mod RunApart
 pub mod RunDecimals
 pub mod RunEnabled

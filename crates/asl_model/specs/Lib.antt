@@ -16,6 +16,7 @@ pub mod PathSpelling
 pub mod Placing
 pub mod Printed
 pub mod Records
+pub mod RuleGrammar
 pub mod RuleSpelling
 pub mod Run
 pub mod Shape

@@ -17,6 +17,7 @@ ghost use Rattle.asl_model.specs.ShapeSpelling.{SpellsShape, ShapeFault, HasShap
 ghost use Rattle.asl_model.specs.TemplateSpelling.{TemplateFault, template_of, SpellsTemplate, HasTemplateFault};
 ghost use Rattle.asl_model.specs.TemplateGrammar.{StandsForTemplate};
 ghost use Rattle.asl_model.specs.RuleSpelling.{RuleFault, rule_of, SpellsRule, HasRuleFault};
+ghost use Rattle.asl_model.specs.RuleGrammar.{StandsForRule};
 ghost use Rattle.asl_model.specs.Intrinsic.{Reference, Call};
 ghost use Rattle.asl_model.specs.CallSpelling.{reference_of, WrittenCall, written_call, CallFault, call_from};
 ghost use Rattle.asl_model.specs.CallGrammar.{WritesCall, SpellsReference, SpellsCall, IsRefusedCall};
@@ -85,6 +86,11 @@ pub fn trees_spell_one_rule()
     ensures no_fault { (t : Tree) (a : Rule) (f : RuleFault) → SpellsRule t a → HasRuleFault t f → ⊥ }
     ensures either { (t : Tree) → ((a : Rule) × SpellsRule t a) ⊎ ((f : RuleFault) × HasRuleFault t f) }
     ensures read { (t : Tree) (a : Rule) → (rule_of t ≡ Some a) ↔ SpellsRule t a }
+{}
+
+/// A tree spells exactly the rule that it stands for by the rules of Choice states.
+pub fn rules_are_exactly_spelled()
+    ensures { (t : Tree) (rule : Rule) → SpellsRule t rule ↔ StandsForRule t rule }
 {}
 
 /// A proper shape is spelled by the tree that is written for it.
