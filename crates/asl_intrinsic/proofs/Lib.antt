@@ -1,0 +1,5 @@
+pub mod Answers
+pub mod Arguments
+pub mod Cuts
+pub mod Filling
+pub mod Holes
