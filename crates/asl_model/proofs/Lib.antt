@@ -1,3 +1,4 @@
+pub mod AnswersExactly
 pub mod CallMeaning
 pub mod CallReading
 pub mod CallWriting

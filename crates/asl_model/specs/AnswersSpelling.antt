@@ -4,7 +4,7 @@ use Rattle.std.specs.Prelude.{◌≡◌, ℕ, suc, List, [], ◌∷◌, Bool, tr
 use Rattle.std.specs.Option.{unwrap_or}
 use Rattle.std.specs.List.{Contains}
 use Rattle.serde_json.specs.Data.{Data}
-use Rattle.asl_model.specs.Tree.{Tree, Null, Boolean, Integer, Text, Array, Object, Trees, NoTrees, AndTree, Fields, NoFields, AndField, field_named}
+use Rattle.asl_model.specs.Tree.{Tree, Null, Boolean, Integer, Text, Array, Object, Trees, NoTrees, AndTree, Fields, NoFields, AndField, field_named, element}
 use Rattle.asl_model.specs.Run.{Action, Gives, FailsTask}
 use Rattle.asl_model.specs.Test.{as_text}
 use Rattle.asl_model.specs.Json.{ReadsAsValue, tree_of}
@@ -85,3 +85,35 @@ pub data IsAnswersFault (text : List ℕ) : TextFault → Type 0 where
   answers_no_json : IsNoJson text → IsAnswersFault text NotJson
   answers_not_whole : {v : Data} → ReadsAsValue text v → tree_of v ≡ None → IsAnswersFault text NotWhole
   answers_bad : {v : Data} {t : Tree} {i : ℕ} → ReadsAsValue text v → tree_of v ≡ Some t → Contains (answer_faults t) i → IsAnswersFault text (BadAnswer i)
+
+-- ---- the format, a case for each rule
+
+-- no field but `Error` and `Cause`
+pub data HasErrorFields : Fields → Type 0 where
+  no_more_fields : HasErrorFields NoFields
+  error_field : {t : Tree} {fs : Fields} → HasErrorFields fs → HasErrorFields (AndField (codes "Error") t fs)
+  cause_field : {t : Tree} {fs : Fields} → HasErrorFields fs → HasErrorFields (AndField (codes "Cause") t fs)
+
+-- the cause that is told; the empty text where none is
+pub data TellsCause : Option Tree → List ℕ → Type 0 where
+  tells_no_cause : TellsCause None []
+  tells_cause : {s : List ℕ} → TellsCause (Some (Text s)) s
+
+-- the tree stands for the answer: `Gives` alone with any value, or `Fails` alone with an error
+pub data IsAnswer : Tree → Action → Type 0 where
+  answer_gives : {t : Tree} → IsAnswer (Object (AndField (codes "Gives") t NoFields)) (Gives t)
+  answer_fails : {fs : Fields} {error cause : List ℕ} → HasErrorFields fs → field_named (codes "Error") fs ≡ Some (Text error) → TellsCause (field_named (codes "Cause") fs) cause → IsAnswer (Object (AndField (codes "Fails") (Object fs) NoFields)) (FailsTask error cause)
+
+-- so for the elements of a list, in order
+pub data AreAnswers : Trees → List Action → Type 0 where
+  no_more_answers : AreAnswers NoTrees []
+  and_answer : {t : Tree} {a : Action} {ts : Trees} {answers : List Action} → IsAnswer t a → AreAnswers ts answers → AreAnswers (AndTree t ts) (a ∷ answers)
+
+-- the tree stands for a list of answers
+pub data StandsForAnswers : Tree → List Action → Type 0 where
+  list_of_answers : {ts : Trees} {answers : List Action} → AreAnswers ts answers → StandsForAnswers (Array ts) answers
+
+-- what is wrong with a tree as a list of answers, by position: the element there is none; at 0 also, that it is no list
+pub data IsBadAnswer : Tree → ℕ → Type 0 where
+  is_no_list : {t : Tree} → ((ts : Trees) → t ≡ Array ts → ⊥) → IsBadAnswer t 0
+  is_no_answer : {ts : Trees} {i : ℕ} {t : Tree} → element i ts ≡ Some t → ((a : Action) → IsAnswer t a → ⊥) → IsBadAnswer (Array ts) i

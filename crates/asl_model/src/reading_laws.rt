@@ -22,10 +22,10 @@ ghost use Rattle.asl_model.specs.Intrinsic.{Reference, Call};
 ghost use Rattle.asl_model.specs.CallSpelling.{reference_of, WrittenCall, written_call, CallFault, call_from};
 ghost use Rattle.asl_model.specs.CallGrammar.{WritesCall, SpellsReference, SpellsCall, IsRefusedCall};
 ghost use Rattle.asl_model.specs.Run.{Action};
-ghost use Rattle.asl_model.specs.AnswersSpelling.{ReadsAsAnswers, IsAnswersFault};
+ghost use Rattle.asl_model.specs.AnswersSpelling.{ReadsAsAnswers, IsAnswersFault, StandsForAnswers, IsBadAnswer};
 ghost use Rattle.asl_model.specs.Records.{RecordComplaint, StandsForDeclared, StandsForCertificate, HasDeclaredFault, HasCertificateFault};
 ghost use Rattle.asl_model.specs.StandsFor.{Complaint, StandsFor, HasComplaint, characters};
-ghost use Rattle.asl_model.specs.Texts.{TextFault, ReadsAsMachine, ReadsAsDeclared, ReadsAsCertificate, IsDefinitionFault, IsDeclaredFault, IsCertificateFault};
+ghost use Rattle.asl_model.specs.Texts.{TextFault, BadAnswer, ReadsAsMachine, ReadsAsDeclared, ReadsAsCertificate, IsDefinitionFault, IsDeclaredFault, IsCertificateFault};
 
 /// A text reads as at most one JSON value, tree, reference path, machine, declared shapes, certificate.
 pub fn texts_have_one_meaning()
@@ -151,4 +151,11 @@ pub fn texts_spell_calls_or_are_refused()
     ensures one_refusal { (item : Bool) (text : List ℕ) (f g : CallFault) → IsRefusedCall item text f → IsRefusedCall item text g → f ≡ g }
     ensures read { (item : Bool) (text : List ℕ) (c : Call) → (call_from item text ≡ Ok c) ↔ SpellsCall item text c }
     ensures refused { (item : Bool) (text : List ℕ) (f : CallFault) → (call_from item text ≡ Err f) ↔ IsRefusedCall item text f }
+{}
+
+/// A text reads as a list of answers exactly where it reads as a tree that stands for it, by the rules of the format, and
+/// an element is refused exactly where it stands for no answer.
+pub fn answers_are_exactly_read()
+    ensures read { (text : List ℕ) (answers : List Action) → ReadsAsAnswers text answers ↔ ((t : Tree) × ReadsAsTree text t × StandsForAnswers t answers) }
+    ensures bad { (text : List ℕ) (i : ℕ) → IsAnswersFault text (BadAnswer i) ↔ ((t : Tree) × ReadsAsTree text t × IsBadAnswer t i) }
 {}
