@@ -1,1 +1,4 @@
+pub mod Parts
+pub mod Refusal
+pub mod Unserved
 pub mod View

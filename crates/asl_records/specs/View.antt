@@ -1,4 +1,4 @@
--- What declared shapes, certificates and their faults stand for in the definitions.
+-- What declared shapes, certificates and their refusals stand for in the definitions.
 use Rattle.std.specs.Prelude.{ℕ, List, [], map, Option, Some, None, option_map, String, string_bytes}
 use Rattle.std.specs.declared.alloc.Global.{Global}
 use Rattle.asl_model.specs.Certificate as model
@@ -13,6 +13,7 @@ use Rattle.asl_records.specs.declared.records.Certificate.{Certificate}
 use Rattle.asl_records.specs.declared.records.StateShapes.{StateShapes}
 use Rattle.asl_records.specs.declared.refusals.RecordFault.{RecordFault}
 use Rattle.asl_records.specs.declared.refusals.RecordFault.TheVariants as kept
+use Rattle.asl_records.specs.declared.refusals.RecordRefusal.{RecordRefusal}
 
 -- the shapes of a task
 abbrev pub task_view : TaskShapes → model.TaskShapes
@@ -55,3 +56,7 @@ record_fault_view kept.WrongKind = Some records.WrongKind
 record_fault_view (kept.BadShape refusal) = option_map records.BadShape (shape_refusal_view refusal)
 record_fault_view kept.BadVersion = Some records.BadVersion
 record_fault_view kept.OutOfMemory = None
+
+-- the complaint that a refusal tells; none is want of memory
+abbrev pub complaint_view : RecordRefusal → Option records.RecordComplaint
+complaint_view refusal = option_map (λ fault. record { fault = fault; name = string_bytes refusal.name; field = string_bytes refusal.field }) (record_fault_view refusal.fault)

@@ -1,9 +1,9 @@
 // Why declared shapes or a certificate are refused.
 
-ghost use Rattle.std.specs.Prelude.{◌≡◌, IfSome};
+ghost use Rattle.std.specs.Prelude.{◌≡◌, ◌∷◌, [], Some, IfSome};
 
 use asl_shape::ShapeRefusal;
-use std::alloc::Global;
+use std::alloc::{AllocError, AllocFailed, Global};
 
 /// What is wrong with declared shapes or a certificate.
 #[derive(Debug, PartialEq, Drop)]
@@ -53,23 +53,6 @@ pub struct RecordRefusal {
     pub field: String,
 }
 
-impl RecordRefusal {
-    /// A fault at an entry and a field. Where there is no memory for their names, that is what is told.
-    pub(crate) fn new(alloc: Global, fault: RecordFault, name: &str, field: &str) -> RecordRefusal {
-        match (
-            String::from_str(alloc, name),
-            String::from_str(alloc, field),
-        ) {
-            (Ok(name), Ok(field)) => RecordRefusal { fault, name, field },
-            _ => RecordRefusal {
-                fault: RecordFault::OutOfMemory,
-                name: String::new(alloc),
-                field: String::new(alloc),
-            },
-        }
-    }
-}
-
 /// Why a JSON value is read as no declared shapes or no certificate.
 #[derive(Debug, PartialEq, Drop)]
 pub enum ReadFault {
@@ -79,4 +62,43 @@ pub enum ReadFault {
     Record(RecordRefusal),
     /// There was no memory to read it. No other fault says so.
     OutOfMemory,
+}
+
+impl ReadFault {
+    ghost use Rattle.asl_model.specs.Records as model;
+    ghost use Rattle.asl_records.specs.View.{record_fault_view};
+    ghost use Rattle.asl_records.specs.Parts.{TellsOneOf, complaint_of};
+
+    /// A fault at an entry and a field, or want of memory where there is none for their names.
+    pub(crate) fn record(alloc: Global, fault: RecordFault, name: &str, field: &str) -> ReadFault
+        ensures { (f : model.RecordFault) → record_fault_view fault ≡ Some f → TellsOneOf (complaint_of name.now field.now f ∷ []) result }
+    {
+        match (
+            String::from_str(alloc, name),
+            String::from_str(alloc, field),
+        ) {
+            (Ok(name), Ok(field)) => ReadFault::Record(RecordRefusal { fault, name, field }),
+            _ => ReadFault::OutOfMemory,
+        }
+    }
+}
+
+impl From<AllocError> for ReadFault {
+    ghost use Rattle.asl_records.specs.declared.refusals.ReadFault.{ReadFault};
+
+    ghost from_gives = { λ _ fault. fault ≡ ReadFault.OutOfMemory };
+
+    fn from(_error: AllocError) -> ReadFault {
+        ReadFault::OutOfMemory
+    }
+}
+
+impl<T: Drop> From<AllocFailed<T>> for ReadFault {
+    ghost use Rattle.asl_records.specs.declared.refusals.ReadFault.{ReadFault};
+
+    ghost from_gives = { λ _ fault. fault ≡ ReadFault.OutOfMemory };
+
+    fn from(_error: AllocFailed<T>) -> ReadFault {
+        ReadFault::OutOfMemory
+    }
 }

@@ -1,0 +1,9 @@
+pub mod Certified
+pub mod Entries
+pub mod Members
+pub mod Numbers
+pub mod Objects
+pub mod Served
+pub mod Shapes
+pub mod Telling
+pub mod Versions

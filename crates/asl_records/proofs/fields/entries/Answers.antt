@@ -1,0 +1,9 @@
+use Rattle.std.proofs.Common.{refl}
+use Rattle.asl_model.specs.Records.{WrongKind}
+use Rattle.asl_records.proofs.Members.{no_object}
+use Rattle.asl_records.proofs.fields.entries.Goals as goal
+
+pub returns : goal.returns
+returns c =
+    let none = no_object c.args.value c.in-Null.is in
+    record { members = tt; refused = rw none (c.record.ensures WrongKind refl) }

@@ -1,0 +1,77 @@
+-- What is wrong with the parts of a record, and what a part is refused with. No public clause cites this module.
+use Rattle.std.specs.Prelude.{ℕ, List, [], ◌∷◌, ◌++◌, map, Bool, true, if◌then◌else◌, Option, option_map, codes, ⊤, IsTrue, is_some}
+use Rattle.std.specs.Option.{unwrap_or}
+use Rattle.std.specs.List.{Contains}
+use Rattle.serde_json.specs.Data as json
+use Rattle.serde_json.specs.Data.{Data, Members}
+use Rattle.asl_model.specs.Shape.{Shape, Any}
+use Rattle.asl_model.specs.ShapeSpelling.{is_among}
+use Rattle.asl_model.specs.Json.{tree_of}
+use Rattle.asl_model.specs.Records.{RecordFault, UnknownField, RecordComplaint, RecordRow, ShapeValue, EntriesValue, VersionValue, certificate_rows, entries_complaints, field_faults, members_in, members_under, object_complaints, shape_from, shape_misfits}
+use Rattle.asl_records.specs.Refusal.{Tells}
+use Rattle.asl_records.specs.declared.refusals.ReadFault.{ReadFault}
+use Rattle.asl_records.specs.declared.refusals.ReadFault.TheVariants as kept
+
+-- ---- refusals
+
+-- a part is refused with one of the complaints about it, or for want of memory
+abbrev pub Blames : List RecordComplaint → ReadFault → Type 0
+Blames wrong kept.NotWhole = ⊥
+Blames wrong (kept.Record refusal) = Tells refusal (Contains wrong)
+Blames wrong kept.OutOfMemory = ⊤
+
+pub record TellsOneOf (wrong : List RecordComplaint) (fault : ReadFault) : Type 0 where
+  pub told : Blames wrong fault
+
+-- the value is a tree
+pub record IsWhole (v : Data) : Type 0 where
+  pub whole : IsTrue (is_some (tree_of v))
+
+-- ---- complaints
+
+-- a fault of that field, in the entry of that name
+abbrev pub complaint_of : List ℕ → List ℕ → RecordFault → RecordComplaint
+complaint_of name field fault = record { fault = fault; name = name; field = field }
+
+-- what is wrong with a value that should be a shape
+abbrev pub shape_complaints : List ℕ → List ℕ → Data → List RecordComplaint
+shape_complaints name field v = map (complaint_of name field) (shape_misfits v)
+
+-- what is wrong with what stands in a field
+abbrev pub field_complaints : List ℕ → RecordRow → Option Data → List RecordComplaint
+field_complaints name row value = map (complaint_of name row.field) (field_faults row value)
+
+-- a field with a shape
+abbrev pub shape_row : List ℕ → Bool → RecordRow
+shape_row field required = record { field = field; value = ShapeValue; required = required }
+
+-- a field with entries
+abbrev pub entries_row : List ℕ → Bool → RecordRow
+entries_row field required = record { field = field; value = EntriesValue; required = required }
+
+-- the version
+abbrev pub version_row : RecordRow
+version_row = record { field = codes "version"; value = VersionValue; required = true }
+
+-- a complaint for each field that isn't one of those
+abbrev pub foreign_complaints : List ℕ → List (List ℕ) → Members → List RecordComplaint
+foreign_complaints name known json.no_members = []
+foreign_complaints name known (json.member n v ms) = if is_among n known then foreign_complaints name known ms else complaint_of name n UnknownField ∷ foreign_complaints name known ms
+
+-- the fields that are served of a state's entry
+abbrev pub served_rows : List RecordRow
+served_rows = shape_row (codes "input") true ∷ shape_row (codes "output") true ∷ []
+
+-- what is wrong with a value as a certificate, of whose states only that is served
+abbrev pub served_complaints : Data → List RecordComplaint
+served_complaints v = object_complaints [] certificate_rows v ++ entries_complaints served_rows (members_under (codes "states") v)
+
+-- ---- what stands there
+
+-- the members of the object that stands there
+abbrev pub members_there : Option Data → Members
+members_there value = unwrap_or (option_map members_in value) json.no_members
+
+-- the shape that stands there, Any where nothing does
+abbrev pub shape_there : Option Data → Shape
+shape_there value = unwrap_or (option_map shape_from value) Any

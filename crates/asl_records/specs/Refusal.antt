@@ -1,0 +1,26 @@
+-- Why a JSON value is refused.
+use Rattle.std.specs.Prelude.{◌≡◌, Some, None, ◌⊎◌, ⊤}
+use Rattle.serde_json.specs.Data.{Data}
+use Rattle.asl_model.specs.Json.{tree_of}
+use Rattle.asl_model.specs.Records.{RecordComplaint, HasDeclaredFault, HasCertificateFault}
+use Rattle.asl_records.specs.View.{complaint_view}
+use Rattle.asl_records.specs.Unserved.{IsUnserved}
+use Rattle.asl_records.specs.declared.refusals.RecordRefusal.{RecordRefusal}
+use Rattle.asl_records.specs.declared.refusals.ReadFault.{ReadFault}
+use Rattle.asl_records.specs.declared.refusals.ReadFault.TheVariants as kept
+
+-- the refusal tells a complaint that stands
+abbrev pub Tells : RecordRefusal → (RecordComplaint → Type 0) → Type 0
+Tells refusal Stands = (c : RecordComplaint) × (complaint_view refusal ≡ Some c) × Stands c
+
+-- why the value isn't read as declared shapes
+abbrev pub IsDeclaredRefusal : Data → ReadFault → Type 0
+IsDeclaredRefusal v kept.NotWhole = tree_of v ≡ None
+IsDeclaredRefusal v (kept.Record refusal) = Tells refusal (HasDeclaredFault v)
+IsDeclaredRefusal v kept.OutOfMemory = ⊤
+
+-- why it isn't read as a certificate: it breaks a rule, or has what isn't served
+abbrev pub IsCertificateRefusal : Data → ReadFault → Type 0
+IsCertificateRefusal v kept.NotWhole = tree_of v ≡ None
+IsCertificateRefusal v (kept.Record refusal) = Tells refusal (λ c. HasCertificateFault v c ⊎ IsUnserved v c)
+IsCertificateRefusal v kept.OutOfMemory = ⊤

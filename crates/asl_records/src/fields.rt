@@ -1,0 +1,157 @@
+// The fields of a record, and of its entries.
+
+ghost use Rattle.std.specs.Prelude.{◌≡◌, ℕ, List, [], ◌∷◌, map, true, false, Some, None, option_map, IfOk, IfErr, IfSome, OnOk, bytes_eq, codes};
+ghost use Rattle.std.specs.List.{Contains};
+ghost use Rattle.serde_json.specs.Find.{as_object, get_member};
+ghost use Rattle.serde_json.specs.View.{view, members_view};
+ghost use Rattle.asl_model.specs.ShapeSpelling.{is_among};
+ghost use Rattle.asl_model.specs.Records.{RecordRow, RecordComplaint, NotObject, WrongKind, BadShape, object_complaints, shape_misfits, shape_from, field_faults, misfits, EntriesValue};
+ghost use Rattle.asl_shape.specs.View.{view as shape_view};
+ghost use Rattle.asl_records.specs.View.{shape_refusal_view};
+ghost use Rattle.asl_records.specs.Parts.{TellsOneOf, complaint_of, shape_complaints, field_complaints, foreign_complaints, shape_row, shape_there};
+
+use crate::refusals::{ReadFault, RecordFault};
+use asl_shape::{Shape, ShapeRefusal};
+use serde_json::{Map, Value};
+use std::alloc::Global;
+
+/// The members of the record, or of its entry of that name.
+pub(crate) fn members(
+    alloc: Global,
+    name: &str,
+    value: Value,
+) -> Result<Map<String, Value>, ReadFault>
+    ensures members { IfOk result (λ members. as_object (view value) ≡ Some (members_view members.entries)) }
+    ensures refused { IfErr result (λ fault. (rows : List RecordRow) → TellsOneOf (object_complaints name.now rows (view value)) fault) }
+{
+    match value {
+        Value::Object(members) => Ok(members),
+        Value::Null | Value::Bool(_) | Value::Number(_) | Value::String(_) | Value::Array(_) => {
+            Err(ReadFault::record(alloc, RecordFault::NotObject, name, ""))
+        }
+    }
+}
+
+/// The members of a field of the record.
+pub(crate) fn entries(
+    alloc: Global,
+    field: &'static str,
+    value: Value,
+) -> Result<Map<String, Value>, ReadFault>
+    ensures members { IfOk result (λ members. as_object (view value) ≡ Some (members_view members.entries)) }
+    ensures refused { IfErr result (TellsOneOf (map (complaint_of [] field.now) (misfits EntriesValue (view value)))) }
+{
+    match value {
+        Value::Object(members) => Ok(members),
+        Value::Null | Value::Bool(_) | Value::Number(_) | Value::String(_) | Value::Array(_) => {
+            Err(ReadFault::record(alloc, RecordFault::WrongKind, "", field))
+        }
+    }
+}
+
+/// Checks that each field of the record, or of its entry of that name, is one of those known.
+pub(crate) fn check_fields(
+    alloc: Global,
+    name: &str,
+    members: &Map<String, Value>,
+    known: &[&str],
+) -> Result<(), ReadFault>
+    ensures right { OnOk result (foreign_complaints name.now (map (λ field. field.now) known.now) (members_view members.now.entries) ≡ []) }
+    ensures refused { IfErr result (TellsOneOf (foreign_complaints name.now (map (λ field. field.now) known.now) (members_view members.now.entries))) }
+{
+    for (field, _) in members.iter() {
+        if !is_known(field, known) {
+            return Err(ReadFault::record(alloc, RecordFault::UnknownField, name, field));
+        }
+    }
+    Ok(())
+}
+
+/// Whether a field is one of those known.
+fn is_known(field: &str, known: &[&str]) -> bool
+    ensures { result ≡ is_among field.now (map (λ name. name.now) known.now) }
+{
+    for name in known {
+        if *name == field {
+            return true;
+        }
+    }
+    false
+}
+
+/// Takes a field out of a record, or out of one of its entries.
+pub(crate) fn take(fields: &mut Map<String, Value>, field: &'static str) -> Option<Value>
+    ensures value { option_map view result ≡ get_member field.now (members_view fields.old.entries) }
+    ensures others { (n : List ℕ) → bytes_eq field.now n ≡ false → get_member n (members_view fields.new.entries) ≡ get_member n (members_view fields.old.entries) }
+{
+    fields.remove(field)
+}
+
+/// Takes a field that has to be there out of a record, or out of its entry of that name, and reads its shape.
+pub(crate) fn required_shape(
+    alloc: Global,
+    name: &str,
+    field: &'static str,
+    fields: &mut Map<String, Value>,
+) -> Result<Shape, ReadFault>
+    ensures right { OnOk result (field_complaints name.now (shape_row field.now true) (get_member field.now (members_view fields.old.entries)) ≡ []) }
+    ensures shape { IfOk result (λ shape. shape_view shape ≡ shape_there (get_member field.now (members_view fields.old.entries))) }
+    ensures refused { IfErr result (TellsOneOf (field_complaints name.now (shape_row field.now true) (get_member field.now (members_view fields.old.entries)))) }
+    ensures others { (n : List ℕ) → bytes_eq field.now n ≡ false → get_member n (members_view fields.new.entries) ≡ get_member n (members_view fields.old.entries) }
+{
+    match take(fields, field) {
+        Some(value) => read_shape(alloc, name, field, value),
+        None => Err(ReadFault::record(alloc, RecordFault::MissingField, name, field)),
+    }
+}
+
+/// Takes a field that may be there out of a record, or out of its entry of that name, and reads its shape: every tree
+/// where it isn't there.
+pub(crate) fn optional_shape(
+    alloc: Global,
+    name: &str,
+    field: &'static str,
+    fields: &mut Map<String, Value>,
+) -> Result<Shape, ReadFault>
+    ensures right { OnOk result (field_complaints name.now (shape_row field.now false) (get_member field.now (members_view fields.old.entries)) ≡ []) }
+    ensures shape { IfOk result (λ shape. shape_view shape ≡ shape_there (get_member field.now (members_view fields.old.entries))) }
+    ensures refused { IfErr result (TellsOneOf (field_complaints name.now (shape_row field.now false) (get_member field.now (members_view fields.old.entries)))) }
+    ensures others { (n : List ℕ) → bytes_eq field.now n ≡ false → get_member n (members_view fields.new.entries) ≡ get_member n (members_view fields.old.entries) }
+{
+    match take(fields, field) {
+        Some(value) => read_shape(alloc, name, field, value),
+        None => Ok(Shape::Any),
+    }
+}
+
+/// The shape that a field's value stands for. All its numbers have been seen to be whole.
+fn read_shape(alloc: Global, name: &str, field: &str, value: Value) -> Result<Shape, ReadFault>
+    ensures right { OnOk result (shape_misfits (view value) ≡ []) }
+    ensures shape { IfOk result (λ shape. shape_view shape ≡ shape_from (view value)) }
+    ensures refused { IfErr result (TellsOneOf (shape_complaints name.now field.now (view value))) }
+{
+    let tree = match asl_tree::from_value(alloc, &value) {
+        Ok(tree) => tree,
+        Err(_) => return Err(ReadFault::OutOfMemory),
+    };
+    drop(value);
+    match asl_shape::read(alloc, &tree) {
+        Ok(shape) => Ok(shape),
+        Err(refusal) => Err(no_shape(alloc, refusal, name, field)),
+    }
+}
+
+/// What is told of a field whose value is refused as a shape.
+fn no_shape(alloc: Global, refusal: ShapeRefusal, name: &str, field: &str) -> ReadFault
+    ensures { (wrong : List RecordComplaint) → IfSome (shape_refusal_view refusal) (λ fault. Contains wrong (complaint_of name.now field.now (BadShape fault))) → TellsOneOf wrong result }
+{
+    match refusal {
+        ShapeRefusal::NotAShape
+        | ShapeRefusal::Keyword
+        | ShapeRefusal::BadType
+        | ShapeRefusal::MinItems => {
+            ReadFault::record(alloc, RecordFault::BadShape(refusal), name, field)
+        }
+        ShapeRefusal::OutOfMemory => ReadFault::OutOfMemory,
+    }
+}
