@@ -15,6 +15,7 @@ plain x [] not = rw (ne_eqb x 92 not) (by (eqb x 42))
     by false = refl
 plain x (y ∷ rest) not = rw (ne_eqb x 92 not, pattern_of) refl
 
+-- a star; another byte
 pub star_off : (x : ℕ) (others : List ℕ) → ¬ (x ≡ 92) → x ≡ 42 → pattern_of (x ∷ others) ≡ option_map (λ parts. model.Star ∷ parts) (pattern_of others)
 star_off x others not is = plain x others not ∙ rw is refl
 

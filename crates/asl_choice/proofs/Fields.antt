@@ -62,6 +62,7 @@ in_main q m t fs true is not further = rw (other (bytes_eq m q) refl) further
         let both : true ≡ false = sym is ∙ ap is_beside one ∙ not in
         absurd (cc)
 
+-- looking a field up among the main fields
 main_lookup : (q : List ℕ) (fs : model.Fields) → is_beside q ≡ false → field_named q fs ≡ field_named q (fields_of (main_fields fs))
 main_lookup q NoFields not = refl
 main_lookup q (AndField m t fs) not = in_main q m t fs (is_beside m) refl not (main_lookup q fs not)
@@ -93,10 +94,12 @@ nested_faults_found n (AndField m t fs) = under nested_faults [] t (field_named 
 
 -- ---- what an object with one main field spells
 
+-- by whether `Variable` is there, and by what stands under `And`, `Or` and `Not`
 pub faults_by : (fs : model.Fields) → object_faults fs ≡ test_faults (field_named (codes "Variable") fs) fs (list_faults_under (codes "And") fs) (list_faults_under (codes "Or") fs) (nested_faults_under (codes "Not") fs)
 faults_by NoFields = refl
 faults_by (AndField n t fs) = refl
 
+-- the first of several names that is there decides
 picked : {A : Type 0} (f : model.Tree → A) (d : A) (t : model.Tree) (here : Bool) (rest other : A) → rest ≡ other → (if here then unwrap_or (option_map f (if here then Some t else None)) d else rest) ≡ (if here then f t else other)
 picked f d t true rest other e = refl
 picked f d t false rest other e = e
@@ -109,6 +112,7 @@ not_test : (t : model.Tree) (here : Bool) → Not (unwrap_or (option_map test_of
 not_test t true = refl
 not_test t false = refl
 
+-- without `Variable`
 pub joined_faults_one : (fs : model.Fields) (n : List ℕ) (t : model.Tree) → field_named (codes "Variable") fs ≡ None → main_fields fs ≡ (n, t) ∷ [] → object_faults fs ≡ one_joined_faults n t
 joined_faults_one fs n t none one =
     rw (faults_by fs, none, one, list_faults_found (codes "And") fs, list_faults_found (codes "Or") fs, nested_faults_found (codes "Not") fs, one_lookup (codes "And") n t fs refl one, one_lookup (codes "Or") n t fs refl one, one_lookup (codes "Not") n t fs refl one)
@@ -119,6 +123,7 @@ joined_test_one fs n t none one =
     rw (none, tests_found (codes "And") fs, tests_found (codes "Or") fs, test_found (codes "Not") fs, one_lookup (codes "And") n t fs refl one, one_lookup (codes "Or") n t fs refl one, one_lookup (codes "Not") n t fs refl one)
     (picked_test tests_of NoTests And t (bytes_eq n (codes "And")) _ _ (picked_test tests_of NoTests Or t (bytes_eq n (codes "Or")) _ _ (not_test t (bytes_eq n (codes "Not")))))
 
+-- with `Variable`
 variable_found : (fs : model.Fields) (v : model.Tree) → field_named (codes "Variable") fs ≡ Some v → unwrap_or (variable_in fs) [] ≡ variable_path v
 variable_found fs v some = ap (λ o. unwrap_or (option_and_then path_of (option_and_then as_text o)) []) some
 

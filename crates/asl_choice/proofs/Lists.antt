@@ -18,42 +18,45 @@ use Rattle.asl_choice.specs.View.{view, tests_of, tests_view}
 use Rattle.asl_choice.proofs.Fields.{faults_by}
 use Rattle.asl_choice.proofs.Telling.{told_same, told_left, told_right}
 
+-- the tests that the elements spell, as parts
 tests_shown : (ts : List Tree) → tests_of (map (λ t. test_of (trees.view t)) ts) ≡ each_test (trees.elements_view ts)
 tests_shown [] = refl
 tests_shown (t ∷ ts) = ap (model.AndTest (test_of (trees.view t))) (tests_shown ts)
 
+-- tests that are read one by one are those of the list
 pub tests_read : (tests : List Test) (ts : List Tree) → map view tests ≡ map (λ t. test_of (trees.view t)) ts → tests_view tests ≡ each_test (trees.elements_view ts)
 tests_read tests ts e = ap tests_of e ∙ tests_shown ts
 
+-- what is wrong with one element is wrong with the list
 pub element_told : (e : RuleRefusal) (all left rest : List Tree) (t : Tree) → each_faults (trees.elements_view all) ≡ each_faults (trees.elements_view left) → left ≡ t ∷ rest → Tells e (nested_faults (trees.view t)) → Tells e (each_faults (trees.elements_view all))
 element_told e all left rest t so_far split told =
     told_same e _ _ (told_left e (nested_faults (trees.view t)) (each_faults (trees.elements_view rest)) told) (sym (so_far ∙ ap (λ ts. each_faults (trees.elements_view ts)) split))
 
+-- what a list shows
 view_list : (v : Vec Tree Global) → trees.view (tree.List v) ≡ json.Array (trees.elements_view v.items)
 view_list v = search (rules, the_lemmas)
 
+-- a list that has an element isn't empty
 some_there : (ts : List Tree) → false ≡ (length ts == 0) → some_element (trees.elements_view ts) ≡ []
 some_there [] none = absurd (cc)
 some_there (t ∷ ts) none = refl
 
--- a list that isn't empty
+-- a list that isn't empty, of elements with which nothing is wrong
 pub list_right : (value : Tree) (v : Vec Tree Global) (items : List Tree) (r : Result (Vec Test Global) RuleRefusal) → value ≡ tree.List v → items ≡ v.items → false ≡ (length items == 0) → IfOk r (λ _. each_faults (trees.elements_view items) ≡ []) → IfOk r (λ _. list_faults (trees.view value) ≡ [])
 list_right value v items r is same some right =
     rw (is, view_list v, ← same, some_there items some) right
 
--- ---- answers that are passed on
+-- ---- answers that are passed on, along an equation of the faults
 
 pub right_same : (a b : List RuleFault) (r : Result Test RuleRefusal) → a ≡ b → IfOk r (λ _. b ≡ []) → IfOk r (λ _. a ≡ [])
 right_same a b r same right = subst (λ faults. IfOk r (λ _. faults ≡ [])) (sym same) right
-
-pub test_same : (a b : model.Test) (r : Result Test RuleRefusal) → a ≡ b → IfOk r (λ x. view x ≡ b) → IfOk r (λ x. view x ≡ a)
-test_same a b r same given = subst (λ test. IfOk r (λ x. view x ≡ test)) (sym same) given
 
 pub told_all : (a b : List RuleFault) (r : Result Test RuleRefusal) → a ≡ b → IfErr r (λ e. Tells e b) → IfErr r (λ e. Tells e a)
 told_all a b r same told = subst (λ faults. IfErr r (λ e. Tells e faults)) (sym same) told
 
 -- ---- an object without its one field
 
+-- without `Variable`
 joined_wrong : (fs : List (List ℕ × json.Tree)) (ands ors nots : List RuleFault) → one_faults fs ≡ NotARule ∷ [] → joined_faults fs ands ors nots ≡ NotARule ∷ []
 joined_wrong [] ands ors nots wrong = refl
 joined_wrong (f ∷ []) ands ors nots wrong = absurd (cc)
@@ -62,10 +65,12 @@ joined_wrong (f ∷ g ∷ fs) ands ors nots wrong = refl
 told_here : Tells refusal.NotARule (NotARule ∷ [])
 told_here = record { listed = search rules }
 
+-- with `Variable` or without
 by_variable : (v : Option json.Tree) (fs : json.Fields) (ands ors nots : List RuleFault) → one_faults (main_fields fs) ≡ NotARule ∷ [] → Tells refusal.NotARule (test_faults v fs ands ors nots)
 by_variable None fs ands ors nots wrong = told_same refusal.NotARule _ _ told_here (sym (joined_wrong (main_fields fs) ands ors nots wrong))
 by_variable (Some t) fs ands ors nots wrong =
     told_right refusal.NotARule (variable_path_faults (as_text t)) _ (told_left refusal.NotARule _ _ (told_same refusal.NotARule _ _ told_here (sym wrong)))
 
+-- such an object is no rule
 pub no_one_field : (fs : json.Fields) → one_faults (main_fields fs) ≡ NotARule ∷ [] → Tells refusal.NotARule (object_faults fs)
 no_one_field fs wrong = told_same refusal.NotARule _ _ (by_variable (field_named (codes "Variable") fs) fs _ _ _ wrong) (sym (faults_by fs))

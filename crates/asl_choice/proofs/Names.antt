@@ -10,6 +10,7 @@ pub behind_found : (front rest : List ℕ) → behind front (front ++ rest) ≡ 
 behind_found [] rest = refl
 behind_found (b ∷ front) rest = rw (eq-eqb b b refl) (behind_found front rest)
 
+-- what stands behind a front, and the front before it, are the text
 begins_by : (b c : ℕ) (front text rest : List ℕ) (e : Bool) → eqb c b ≡ e → option_and_then (behind front) (cond e (Some text) None) ≡ Some rest → (behind front text ≡ Some rest → text ≡ front ++ rest) → c ∷ text ≡ b ∷ (front ++ rest)
 begins_by b c front text rest true e f further = rw (eqb-true c b e) (ap (λ t. b ∷ t) (further f))
 begins_by b c front text rest false e f further = absurd (cc)

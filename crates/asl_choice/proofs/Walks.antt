@@ -9,6 +9,7 @@ use Rattle.asl_choice.specs.declared.rule.PatternPart as code
 use Rattle.asl_choice.specs.View.{pattern_view}
 use Rattle.asl_choice.specs.Walking.{StandsBehind}
 
+-- two tests that follow from one another are the same
 same_truths : (a b : Bool) → (IsTrue a → IsTrue b) → (IsTrue b → IsTrue a) → a ≡ b
 same_truths true b f g = sym (f refl)
 same_truths false true f g = g refl
@@ -21,6 +22,7 @@ bytes_cut (b ∷ front) parts text (cut_off_byte {further = others} h) =
     let rest = bytes_cut front parts others h in
     (rest.0, ap (λ cs. b ∷ cs) rest.1, rest.2)
 
+-- a pattern that begins with the bytes that the text begins with cuts it where its rest cuts the rest
 cut_bytes : (front : List ℕ) (parts : List PatternPart) (rest : List ℕ) → IsCutBy parts rest → IsCutBy (map ByteOf front ++ parts) (front ++ rest)
 cut_bytes [] parts rest h = h
 cut_bytes (b ∷ front) parts rest h = cut_off_byte (cut_bytes front parts rest h)
@@ -52,6 +54,7 @@ leftmost front parts rest =
     (λ h. cut_passes (leftmost_cut front parts (front ++ rest) rest refl (passes_cut (Star ∷ whole) (front ++ rest) h)))
     (λ h. cut_passes (cut_off_star [] (cut_bytes front (Star ∷ parts) rest (passes_cut (Star ∷ parts) rest h))))
 
+-- at a star, whether the pattern cuts the text; whether it cuts some end of it
 pub here_at_star : (pattern parts : List code.PatternPart) (text rest : List ℕ) → StandsBehind pattern text (Star ∷ pattern_view parts) rest → is_cut_by (pattern_view pattern) text ≡ some_end (is_cut_by (pattern_view parts)) rest
 here_at_star pattern parts text rest h = rw (h.in_pattern, h.in_text) (bytes_here h.front (Star ∷ pattern_view parts) rest)
 
@@ -62,6 +65,7 @@ end_at_star pattern parts text rest h = rw (h.in_pattern, h.in_text) (leftmost h
 still : (pattern : List code.PatternPart) (parts : List PatternPart) (text rest : List ℕ) → StandsBehind pattern text parts rest → is_cut_by (pattern_view pattern) text ≡ is_cut_by parts rest
 still pattern parts text rest h = rw (h.in_pattern, h.in_text) (bytes_here h.front parts rest)
 
+-- the next element of a pattern is a byte
 next_part : (pattern : List code.PatternPart) (i b : ℕ) → i < length pattern → get_or pattern i (code.TheVariants.Byte 0) ≡ code.TheVariants.Byte b → pattern_view (drop i pattern) ≡ ByteOf b ∷ pattern_view (drop (i + 1) pattern)
 next_part pattern i b within is = ap pattern_view (drop-cons pattern i (code.TheVariants.Byte 0) within) ∙ rw (is, add-one) refl
 
@@ -77,6 +81,7 @@ pub bytes_differ : (pattern : List code.PatternPart) (text rest further : List �
 bytes_differ pattern text rest further i b c h within is split differ =
     still pattern _ text rest h ∙ rw (next_part pattern i b within is, split, ne_eqb b c (λ same. differ (sym same))) refl
 
+-- one more byte is the same
 one_more : (front : List ℕ) (b : ℕ) (parts : List PatternPart) → map ByteOf front ++ (ByteOf b ∷ parts) ≡ map ByteOf (front ++ (b ∷ [])) ++ parts
 one_more [] b parts = refl
 one_more (c ∷ front) b parts = ap (λ p. ByteOf c ∷ p) (one_more front b parts)
@@ -94,10 +99,12 @@ byte_walked pattern text rest further i b c h within is split same = record {
 pub at_end : (pattern : List code.PatternPart) (text rest : List ℕ) (i : ℕ) → StandsBehind pattern text (pattern_view (drop i pattern)) rest → length pattern ≤ i → is_cut_by (pattern_view pattern) text ≡ is_cut_by [] rest
 at_end pattern text rest i h end = still pattern _ text rest h ∙ rw (drop_all i pattern end) refl
 
+-- a text that passes is an end of itself that passes
 pub passes_here : (passes : List ℕ → Bool) (text : List ℕ) → passes text ≡ true → some_end passes text ≡ true
 passes_here passes [] h = h
 passes_here passes (b ∷ bs) h = rw h refl
 
+-- no pattern is left: the text has to be over too
 pub rest_over : (rest : List ℕ) → is_cut_by [] rest ≡ (length rest == 0)
 rest_over [] = refl
 rest_over (b ∷ rest) = grind (arith, nat_tests)

@@ -1,14 +1,16 @@
 //! Whether a test is true.
-ghost use Rattle.std.specs.Prelude.{◌≡◌, None, Some, IfErr, IfOk, option_map};
+ghost use Rattle.std.specs.Prelude.{◌≡◌, ◌↔◌, ℕ, List, None, Some, IfErr, IfOk, IsTrue, option_map};
 ghost use Rattle.std.specs.Result.{result_ok};
-ghost use Rattle.asl_model.specs.Test.{operand_value as value_of_operand, truth, all_true as truth_of_all, some_true as truth_of_some};
-ghost use Rattle.asl_model.specs.Path.{named_by};
+ghost use Rattle.asl_model.specs.Test.{IsCutBy, PatternPart, StringMatches, operand_value as value_of_operand, truth, all_true as truth_of_all, some_true as truth_of_some};
+ghost use Rattle.asl_model.specs.Path.{Names, Segment, named_by};
+ghost use Rattle.asl_model.specs.Tree.{Text};
 ghost use Rattle.asl_choice.specs.View.{operand_view, tests_view, view};
 ghost use Rattle.asl_tree.specs.View as trees;
 
 use crate::comparing::{as_text, compares, is_of_kind};
 use crate::matching::matches;
 use crate::{Operand, Test};
+use asl_model::run_laws::{matching_is_exactly_cutting, named_by_is_exactly_names};
 use asl_path::{RefPath, find};
 use asl_tree::Tree;
 
@@ -19,16 +21,31 @@ pub struct NamesNothing;
 /// Whether the test is true of the input (States Language, "Choice State").
 ///
 /// `And` is decided by its first part that isn't true, `Or` by its first that isn't false, so what stands behind that
-/// part isn't looked at. Every test but `IsPresent` with a path that names nothing is neither true nor false.
-#[cycle(holds)]
+/// part isn't looked at. Every test but `IsPresent` with a path that names nothing is neither true nor false. A text
+/// matches a pattern where it can be cut into parts, one for each element: a byte is itself, a star any text.
 pub fn holds(test: &Test, input: &Tree) -> Result<bool, NamesNothing>
+    ensures decided { IfOk result (λ answer. truth (view test.now) (trees.view input.now) ≡ Some answer) }
+    ensures names_nothing { IfErr result (λ _. truth (view test.now) (trees.view input.now) ≡ None) }
+    ensures matched { (p : List Segment) (parts : List PatternPart) (text : List ℕ)
+        → view test.now ≡ StringMatches p parts
+        → Names p (trees.view input.now) (Text text)
+        → IfOk result (λ answer. IsTrue answer ↔ IsCutBy parts text) }
+{
+    named_by_is_exactly_names();
+    matching_is_exactly_cutting();
+    decide(test, input)
+}
+
+/// Whether the test is true of the input, by its definition.
+#[cycle(decide)]
+fn decide(test: &Test, input: &Tree) -> Result<bool, NamesNothing>
     ensures decided { IfOk result (λ answer. truth (view test.now) (trees.view input.now) ≡ Some answer) }
     ensures names_nothing { IfErr result (λ _. truth (view test.now) (trees.view input.now) ≡ None) }
 {
     match test {
         Test::And(tests) => all_true(tests, input),
         Test::Or(tests) => some_true(tests, input),
-        Test::Not(test) => Ok(!holds(test, input)?),
+        Test::Not(test) => Ok(!decide(test, input)?),
         Test::Compare {
             variable,
             comparison,
@@ -52,12 +69,12 @@ pub fn holds(test: &Test, input: &Tree) -> Result<bool, NamesNothing>
 }
 
 /// `And`: the first part that isn't true decides; true where there is none.
-#[cycle(holds)]
+#[cycle(decide)]
 fn all_true(tests: &[Test], input: &Tree) -> Result<bool, NamesNothing>
     ensures { result_ok result ≡ truth_of_all (tests_view tests.now) (trees.view input.now) }
 {
     for test in tests {
-        if !holds(test, input)? {
+        if !decide(test, input)? {
             return Ok(false);
         }
     }
@@ -65,12 +82,12 @@ fn all_true(tests: &[Test], input: &Tree) -> Result<bool, NamesNothing>
 }
 
 /// `Or`: the first part that isn't false decides; false where there is none.
-#[cycle(holds)]
+#[cycle(decide)]
 fn some_true(tests: &[Test], input: &Tree) -> Result<bool, NamesNothing>
     ensures { result_ok result ≡ truth_of_some (tests_view tests.now) (trees.view input.now) }
 {
     for test in tests {
-        if holds(test, input)? {
+        if decide(test, input)? {
             return Ok(true);
         }
     }

@@ -12,6 +12,8 @@ mod reading;
 mod refusal;
 mod rule;
 mod testing;
+#[cfg(test)]
+mod tests;
 
 pub use deciding::{NamesNothing, holds};
 pub use reading::from_tree;

@@ -103,7 +103,9 @@ fn check_text(value: &Tree) -> Result<(), RuleRefusal>
     }
 }
 
-/// What a test's object holds beside `Next` and `Comment`: one field, and where that is an operator `Variable` too.
+/// The test that an object with these fields spells, `Next` and `Comment` apart: it has one further field, and `Variable`
+/// too where that is an operator.
+#[tactic(auto, using(crate::proofs::Fields::field_named_lookup, crate::proofs::Fields::variable_test_one, crate::proofs::Fields::joined_faults_one, crate::proofs::Fields::joined_test_one))]
 #[cycle(read)]
 fn read_test(alloc: Global, fields: &BTreeMap<String, Tree>) -> Result<Test, RuleRefusal>
     ensures right { IfOk result (λ _. model.object_faults (trees.entries_view fields.now.entries) ≡ []) }

@@ -1,4 +1,4 @@
-use Rattle.std.proofs.Common.{◌≡◌, sym, ap, ◌∙◌, ◌+◌, ◌==◌, ℕ, List, [], ◌∷◌, String, string_bytes, nat_cmp, length, drop, map, false, Some, None, option_map, codes, arith}
+use Rattle.std.proofs.Common.{◌≡◌, sym, ap, ◌∙◌, ◌+◌, ◌==◌, ℕ, List, [], ◌∷◌, String, string_bytes, nat_cmp, length, drop, map, false, Some, option_map, codes, arith}
 use Rattle.std.proofs.lemmas.Grind.{common_steps}
 use Rattle.std.proofs.lemmas.List.{take_all}
 use Rattle.std.proofs.lemmas.Result.{err_from_is_err_and}
@@ -11,8 +11,8 @@ use Rattle.asl_model.specs.Tree.{field_named}
 use Rattle.asl_model.specs.RuleSpelling as model
 use Rattle.asl_tree.specs.declared.Tree.{Tree}
 use Rattle.asl_tree.specs.View as trees
-use Rattle.asl_choice.proofs.Fields.{smaller, field_named_lookup, variable_faults_one, variable_test_one, joined_faults_one, joined_test_one}
-use Rattle.asl_choice.proofs.Lists.{tests_read, element_told, list_right, no_one_field, right_same, test_same, told_all}
+use Rattle.asl_choice.proofs.Fields.{smaller, field_named_lookup, variable_faults_one}
+use Rattle.asl_choice.proofs.Lists.{tests_read, element_told, list_right, no_one_field, right_same, told_all}
 use Rattle.asl_choice.proofs.reading.+read.Goals as goal
 
 pub read_test-read_joined-requires : goal.read_test-read_joined-requires
@@ -49,9 +49,6 @@ one fs n m v is same = is ∙ ap (λ k. (k, v) ∷ []) (sym same)
 found : (es : List (String Global × Tree)) (v : Tree) → Some v ≡ lookup (is_at (λ k. slice_cmp nat_cmp (codes "Variable") (string_bytes k))) es → field_named (codes "Variable") (trees.entries_view es) ≡ Some (trees.view v)
 found es v is = field_named_lookup (codes "Variable") es ∙ ap (option_map trees.view) (sym is)
 
-missing : (es : List (String Global × Tree)) → None ≡ lookup (is_at (λ k. slice_cmp nat_cmp (codes "Variable") (string_bytes k))) es → field_named (codes "Variable") (trees.entries_view es) ≡ None
-missing es is = field_named_lookup (codes "Variable") es ∙ ap (option_map trees.view) (sym is)
-
 pub read_test-returns-in-Some-get-clause-right : goal.read_test-returns-in-Some-get-clause-right
 read_test-returns-in-Some-get-clause-right t c =
     let fs = trees.entries_view c.args.fields.now.entries in
@@ -59,34 +56,9 @@ read_test-returns-in-Some-get-clause-right t c =
     let operand = trees.view c.in-Some.value.now in
     right_same _ _ c.read_variable_test.result (variable_faults_one fs v c.deref.result.now operand (found c.args.fields.now.entries c.in-Some-get.variable.now c.in-Some-get.ensures.value) (one fs (string_bytes c.in-Some.name.now) c.deref.result.now operand c.in-Some.ensures.field c.deref.ensures)) c.read_variable_test.ensures.right
 
-pub read_test-returns-in-Some-get-clause-test : goal.read_test-returns-in-Some-get-clause-test
-read_test-returns-in-Some-get-clause-test t c =
-    let fs = trees.entries_view c.args.fields.now.entries in
-    let v = trees.view c.in-Some-get.variable.now in
-    let operand = trees.view c.in-Some.value.now in
-    test_same _ _ c.read_variable_test.result (variable_test_one fs v c.deref.result.now operand (found c.args.fields.now.entries c.in-Some-get.variable.now c.in-Some-get.ensures.value) (one fs (string_bytes c.in-Some.name.now) c.deref.result.now operand c.in-Some.ensures.field c.deref.ensures)) c.read_variable_test.ensures.test
-
 pub read_test-returns-in-Some-get-clause-refused : goal.read_test-returns-in-Some-get-clause-refused
 read_test-returns-in-Some-get-clause-refused t c =
     let fs = trees.entries_view c.args.fields.now.entries in
     let v = trees.view c.in-Some-get.variable.now in
     let operand = trees.view c.in-Some.value.now in
     told_all _ _ c.read_variable_test.result (variable_faults_one fs v c.deref.result.now operand (found c.args.fields.now.entries c.in-Some-get.variable.now c.in-Some-get.ensures.value) (one fs (string_bytes c.in-Some.name.now) c.deref.result.now operand c.in-Some.ensures.field c.deref.ensures)) c.read_variable_test.ensures.refused
-
-pub read_test-returns-in-None-clause-right : goal.read_test-returns-in-None-clause-right
-read_test-returns-in-None-clause-right t c =
-    let fs = trees.entries_view c.args.fields.now.entries in
-    let value = trees.view c.in-Some.value.now in
-    right_same _ _ c.read_joined.result (joined_faults_one fs c.deref-in-None.result.now value (missing c.args.fields.now.entries c.in-None.ensures.value) (one fs (string_bytes c.in-Some.name.now) c.deref-in-None.result.now value c.in-Some.ensures.field c.deref-in-None.ensures)) c.read_joined.ensures.right
-
-pub read_test-returns-in-None-clause-test : goal.read_test-returns-in-None-clause-test
-read_test-returns-in-None-clause-test t c =
-    let fs = trees.entries_view c.args.fields.now.entries in
-    let value = trees.view c.in-Some.value.now in
-    test_same _ _ c.read_joined.result (joined_test_one fs c.deref-in-None.result.now value (missing c.args.fields.now.entries c.in-None.ensures.value) (one fs (string_bytes c.in-Some.name.now) c.deref-in-None.result.now value c.in-Some.ensures.field c.deref-in-None.ensures)) c.read_joined.ensures.test
-
-pub read_test-returns-in-None-clause-refused : goal.read_test-returns-in-None-clause-refused
-read_test-returns-in-None-clause-refused t c =
-    let fs = trees.entries_view c.args.fields.now.entries in
-    let value = trees.view c.in-Some.value.now in
-    told_all _ _ c.read_joined.result (joined_faults_one fs c.deref-in-None.result.now value (missing c.args.fields.now.entries c.in-None.ensures.value) (one fs (string_bytes c.in-Some.name.now) c.deref-in-None.result.now value c.in-Some.ensures.field c.deref-in-None.ensures)) c.read_joined.ensures.refused

@@ -2,7 +2,7 @@ use Rattle.std.proofs.Common.{◌≡◌, drop}
 use Rattle.asl_model.specs.Test.{all_true, some_true}
 use Rattle.asl_choice.specs.View.{tests_view}
 use Rattle.asl_tree.specs.View as trees
-use Rattle.asl_choice.proofs.deciding.+holds.Given as goal
+use Rattle.asl_choice.proofs.deciding.+decide.Given as goal
 
 abbrev pub invariant-all_true-loop-test : goal.invariant-all_true-loop-test
 invariant-all_true-loop-test l =
