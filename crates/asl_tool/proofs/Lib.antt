@@ -1,3 +1,5 @@
 pub mod LineSteps
+pub mod Promises
+pub mod RefusedTexts
 pub mod Slices
 pub mod WriteSteps

@@ -1,4 +1,5 @@
 pub mod Chunk
 pub mod Lines
+pub mod Verifying
 pub mod View
 pub mod Writing

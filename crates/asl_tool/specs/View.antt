@@ -1,14 +1,14 @@
 -- What the faults and closings of the code stand for in the definitions.
-use Rattle.std.specs.Prelude.{Option, option_map, string_bytes}
+use Rattle.std.specs.Prelude.{option_map}
 use Rattle.std.specs.Option.{unwrap_or}
 use Rattle.asl_model.specs.Texts as texts
 use Rattle.asl_model.specs.Printed as printed
 use Rattle.asl_tree.specs.declared.TreeRefusal.{TreeRefusal}
 use Rattle.asl_tree.specs.declared.TreeRefusal.TheVariants as tree
 use Rattle.asl_machine.specs.declared.refusals.DefRefusal.{DefRefusal}
-use Rattle.asl_machine.specs.View.{def_fault_view}
+use Rattle.asl_machine.specs.View.{refusal_view}
 use Rattle.asl_records.specs.declared.refusals.RecordRefusal.{RecordRefusal}
-use Rattle.asl_records.specs.View.{record_fault_view}
+use Rattle.asl_records.specs.Refusal.{complaint_view}
 use Rattle.asl_check.specs.View.{verdict_view}
 use Rattle.asl_tool.specs.declared.refusals.Which.{Which}
 use Rattle.asl_tool.specs.declared.refusals.Which.TheVariants as which
@@ -29,11 +29,11 @@ which_view which.Answers = texts.AnswersText
 
 -- why a definition is refused
 abbrev pub def_refusal_view : DefRefusal → texts.TextFault
-def_refusal_view r = unwrap_or (option_map (λ f. texts.BadDefinition (record { fault = f; state = string_bytes r.state; field = string_bytes r.field })) (def_fault_view r.fault)) texts.NoMemory
+def_refusal_view r = unwrap_or (option_map texts.BadDefinition (refusal_view r)) texts.NoMemory
 
 -- why a record is refused
 abbrev pub record_refusal_view : RecordRefusal → texts.TextFault
-record_refusal_view r = unwrap_or (option_map (λ f. texts.BadRecord (record { fault = f; name = string_bytes r.name; field = string_bytes r.field })) (record_fault_view r.fault)) texts.NoMemory
+record_refusal_view r = unwrap_or (option_map texts.BadRecord (complaint_view r)) texts.NoMemory
 
 -- what keeps a text from being a tree
 abbrev pub tree_refusal_view : TreeRefusal → texts.TextFault

@@ -2,8 +2,10 @@
 use Rattle.std.specs.Prelude.{◌≡◌, ℕ, List, ◌++◌, Option, Bool, IsTrue}
 use Rattle.std.specs.Io.KnownBytes.{Appends, Keeps}
 use Rattle.asl_model.specs.Verdict.{Verdict}
+use Rattle.asl_model.specs.Headline.{IsVerdictOn}
 use Rattle.asl_model.specs.Printed.{verdict_text}
 use Rattle.asl_tool.specs.Lines.{SomeLineIsLong, NoLineIsLong}
+use Rattle.asl_tool.specs.Verifying.{OfLines}
 use Rattle.asl_tool.specs.declared.refusals.RunFault.{RunFault}
 use Rattle.asl_tool.specs.declared.refusals.RunFault.TheVariants as run
 
@@ -15,10 +17,10 @@ pub record AppendsFront (old new : Option (List ℕ)) (bs : List ℕ) : Type 0 w
   pub appended : Appends old new front
 
 -- why the check of three lines of known bytes ends without a verdict, and what the sink holds then: a failed write leaves
--- a front of the lines of some verdict there, every other fault what it held before
+-- a front of the lines of the verdict there, every other fault what it held before
 abbrev pub CheckFaultStands : Option (List ℕ) → Bool → Option (List ℕ) → Option (List ℕ) → Bool → RunFault → Type 0
 CheckFaultStands known read_failed old new write_failed (run.Text refusal) = NoLineIsLong known × Keeps old new
 CheckFaultStands known read_failed old new write_failed run.TooLong = SomeLineIsLong known × Keeps old new
 CheckFaultStands known read_failed old new write_failed run.Read = IsTrue read_failed × Keeps old new
-CheckFaultStands known read_failed old new write_failed run.Write = NoLineIsLong known × IsTrue write_failed × ((verdict : Verdict) × AppendsFront old new (verdict_text verdict))
+CheckFaultStands known read_failed old new write_failed run.Write = NoLineIsLong known × IsTrue write_failed × ((verdict : Verdict) × OfLines known (λ definition declared certificate. IsVerdictOn definition declared certificate verdict) × AppendsFront old new (verdict_text verdict))
 CheckFaultStands known read_failed old new write_failed run.OutOfMemory = Keeps old new

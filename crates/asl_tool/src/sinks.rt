@@ -1,5 +1,5 @@
 //! Where a text goes.
-ghost use Rattle.std.specs.Prelude.{◌≡◌, ◌<◌, List, ℕ, Option, Bool, IsTrue, IfOk, OnErr, OnOk, length};
+ghost use Rattle.std.specs.Prelude.{◌≡◌, ◌<◌, List, ℕ, Option, Bool, IsTrue, IsFalse, IfOk, OnErr, OnOk, length};
 ghost use Rattle.std.specs.Io.{WritesAtMost};
 ghost use Rattle.std.specs.Io.KnownBytes.{Appends, WriteAppends};
 ghost use Rattle.asl_tool.specs.Writing.{AppendsFront};
@@ -32,7 +32,10 @@ pub struct ToWrite<W: Write + Drop> {
 
 impl<W: Write + Drop> ToWrite<W> {
     /// A sink that writes to `writer` and hasn't failed.
-    pub fn new(writer: W) -> ToWrite<W> {
+    pub fn new(writer: W) -> ToWrite<W>
+        ensures writer { result.writer ≡ writer }
+        ensures fresh { IsFalse result.failed }
+    {
         ToWrite {
             writer,
             failed: false,

@@ -1,5 +1,5 @@
 //! Where a text comes from.
-ghost use Rattle.std.specs.Prelude.{List, ℕ, Option, Bool, IsTrue, OnErr};
+ghost use Rattle.std.specs.Prelude.{◌≡◌, List, ℕ, Option, Bool, IsTrue, IsFalse, OnErr};
 ghost use Rattle.std.specs.Io.{ReadsAtMost};
 ghost use Rattle.std.specs.Io.KnownBytes.{ReadConsumes};
 
@@ -33,7 +33,10 @@ pub struct FromRead<R: Read + Drop> {
 
 impl<R: Read + Drop> FromRead<R> {
     /// A source that reads from `reader` and hasn't failed.
-    pub fn new(reader: R) -> FromRead<R> {
+    pub fn new(reader: R) -> FromRead<R>
+        ensures reader { result.reader ≡ reader }
+        ensures fresh { IsFalse result.failed }
+    {
         FromRead {
             reader,
             failed: false,

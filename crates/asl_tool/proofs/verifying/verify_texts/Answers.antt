@@ -1,0 +1,40 @@
+use Rattle.asl_machine.specs.Machine.{machine_view}
+use Rattle.asl_records.specs.View.{declared_view, certificate_view}
+use Rattle.asl_check.specs.View.{verdict_view}
+use Rattle.asl_tool.specs.View.{text_fault_view}
+use Rattle.asl_tool.specs.Verifying.{no_memory}
+use Rattle.asl_tool.proofs.Promises.{closed, headline}
+use Rattle.asl_tool.proofs.RefusedTexts.{definition-first, declared-first, certificate-first}
+use Rattle.asl_tool.proofs.verifying.verify_texts.Goals as goal
+
+pub returns-in-Err-clause-refused : goal.returns-in-Err-clause-refused
+returns-in-Err-clause-refused c = definition-first c.args.definition.now c.args.declared.now c.args.certificate.now (text_fault_view c.in-Err.fault) c.in-Err.ensures.refused
+
+pub returns-in-Err-declared_text-clause-refused : goal.returns-in-Err-declared_text-clause-refused
+returns-in-Err-declared_text-clause-refused c =
+    declared-first c.args.definition.now c.args.declared.now c.args.certificate.now (machine_view c.in-Ok.machine) (text_fault_view c.in-Err-declared_text.fault)
+    c.in-Ok.ensures.machine c.in-Err-declared_text.ensures.refused
+
+pub returns-in-Err-certificate_text-clause-refused : goal.returns-in-Err-certificate_text-clause-refused
+returns-in-Err-certificate_text-clause-refused c =
+    certificate-first c.args.definition.now c.args.declared.now c.args.certificate.now (machine_view c.in-Ok.machine) (declared_view c.in-Ok-declared_text.declared) (text_fault_view c.in-Err-certificate_text.fault)
+    c.in-Ok.ensures.machine c.in-Ok-declared_text.ensures.declared c.in-Err-certificate_text.ensures.refused
+
+pub returns-in-Ok-check-clause-yes : goal.returns-in-Ok-check-clause-yes
+returns-in-Ok-check-clause-yes c =
+    closed c.args.definition.now c.args.declared.now c.args.certificate.now (verdict_view c.in-Ok-check.verdict) c.no_broken_rule_means_closed.ensures.closed
+    (record {
+      machine = machine_view c.in-Ok.machine;
+      shapes = declared_view c.in-Ok-declared_text.declared;
+      certified = certificate_view c.in-Ok-certificate_text.certificate;
+      read = record { as_machine = c.in-Ok.ensures.machine; as_declared = c.in-Ok-declared_text.ensures.declared; as_certificate = c.in-Ok-certificate_text.ensures.certificate };
+      right = c.in-Ok-check.ensures.verdict;
+    })
+
+pub returns-in-Ok-check-clause-headline : goal.returns-in-Ok-check-clause-headline
+returns-in-Ok-check-clause-headline c =
+    headline c.args.definition.now c.args.declared.now c.args.certificate.now (verdict_view c.in-Ok-check.verdict) c.closed_runs_tell_no_fault.ensures c.closed_runs_never_fault.ensures
+    (returns-in-Ok-check-clause-yes c)
+
+pub returns-clause-refused : goal.returns-clause-refused
+returns-clause-refused c = no_memory

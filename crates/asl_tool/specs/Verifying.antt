@@ -1,0 +1,71 @@
+-- What is said of refused texts, and of the lines that texts are taken from.
+use Rattle.std.specs.Prelude.{ℕ, List, Option, option_map, ⊤}
+use Rattle.std.specs.Option.{unwrap_or}
+use Rattle.serde_json.specs.Data.{Data}
+use Rattle.asl_model.specs.Machine.{Scope}
+use Rattle.asl_model.specs.Certificate.{Declared}
+use Rattle.asl_model.specs.StandsFor.{Complaint}
+use Rattle.asl_model.specs.Records.{RecordComplaint}
+use Rattle.asl_model.specs.Json.{ReadsAsValue}
+use Rattle.asl_model.specs.Texts.{Which, DefinitionText, CertificateText, TextFault, NotJson, NotWhole, BadDefinition, BadRecord, NoMemory, IsNoJson, IsDefinitionFault, IsDeclaredFault, IsCertificateFault, IsRefusal, ReadsAsMachine, ReadsAsDeclared}
+use Rattle.asl_machine.specs.Unserved.{IsUnserved}
+use Rattle.asl_records.specs.Unserved.{IsUnserved as IsUnservedEntry}
+use Rattle.asl_records.specs.Refusal.{complaint_view}
+use Rattle.asl_records.specs.declared.refusals.ReadFault.{ReadFault}
+use Rattle.asl_records.specs.declared.refusals.ReadFault.TheVariants as kept
+use Rattle.asl_tool.specs.Lines.{AreLines}
+use Rattle.asl_tool.specs.View.{which_view, text_fault_view}
+use Rattle.asl_tool.specs.declared.refusals.RunFault.{RunFault}
+use Rattle.asl_tool.specs.declared.refusals.RunFault.TheVariants as run
+
+-- why a text gives no JSON value: it is no JSON, or there was no memory
+pub data UnreadableStands (text : List ℕ) : TextFault → Type 0 where
+  no_json : IsNoJson text → UnreadableStands text NotJson
+  unread : UnreadableStands text NoMemory
+
+-- what is told of a value that is no record
+abbrev pub record_fault_of : ReadFault → TextFault
+record_fault_of kept.NotWhole = NotWhole
+record_fault_of (kept.Record refusal) = unwrap_or (option_map BadRecord (complaint_view refusal)) NoMemory
+record_fault_of kept.OutOfMemory = NoMemory
+
+-- why a text is refused as a definition: the fault stands in it, or it has what isn't served yet, or there was no memory
+pub data RefusesDefinition (text : List ℕ) : TextFault → Type 0 where
+  definition_fault : {f : TextFault} → IsDefinitionFault text f → RefusesDefinition text f
+  definition_not_served : {v : Data} {c : Complaint} → ReadsAsValue text v → IsUnserved v c → RefusesDefinition text (BadDefinition c)
+  definition_no_memory : RefusesDefinition text NoMemory
+
+-- as declared shapes
+pub data RefusesDeclared (text : List ℕ) : TextFault → Type 0 where
+  declared_fault : {f : TextFault} → IsDeclaredFault text f → RefusesDeclared text f
+  declared_no_memory : RefusesDeclared text NoMemory
+
+-- as a certificate
+pub data RefusesCertificate (text : List ℕ) : TextFault → Type 0 where
+  certificate_fault : {f : TextFault} → IsCertificateFault text f → RefusesCertificate text f
+  certificate_not_served : {v : Data} {c : RecordComplaint} → ReadsAsValue text v → IsUnservedEntry v c → RefusesCertificate text (BadRecord c)
+  certificate_no_memory : RefusesCertificate text NoMemory
+
+-- The text is the first of the three that is refused, and the fault stands in it; or it is the first that has what isn't
+-- served yet, which the fault tells; or there was no memory to say.
+pub data IsRefused (definition declared certificate : List ℕ) : Which → TextFault → Type 0 where
+  fault_stands : {which : Which} {f : TextFault} → IsRefusal definition declared certificate which f → IsRefused definition declared certificate which f
+  definition_unserved : {v : Data} {c : Complaint} → ReadsAsValue definition v → IsUnserved v c → IsRefused definition declared certificate DefinitionText (BadDefinition c)
+  certificate_unserved : {machine : Scope} {shapes : Declared} {v : Data} {c : RecordComplaint} → ReadsAsMachine definition machine → ReadsAsDeclared declared shapes → ReadsAsValue certificate v → IsUnservedEntry v c → IsRefused definition declared certificate CertificateText (BadRecord c)
+  no_memory : {which : Which} → IsRefused definition declared certificate which NoMemory
+
+-- that is so of the first three lines of known bytes; of three lines, where the bytes aren't known
+pub record OfLines (known : Option (List ℕ)) (Promise : List ℕ → List ℕ → List ℕ → Type 0) : Type 0 where
+  pub definition : List ℕ
+  pub declared : List ℕ
+  pub certificate : List ℕ
+  pub lines : AreLines known definition declared certificate
+  pub promise : Promise definition declared certificate
+
+-- a refused text among three lines is refused rightly
+abbrev pub TellsRefusal : Option (List ℕ) → RunFault → Type 0
+TellsRefusal known (run.Text refusal) = OfLines known (λ definition declared certificate. IsRefused definition declared certificate (which_view refusal.which) (text_fault_view refusal.fault))
+TellsRefusal known run.TooLong = ⊤
+TellsRefusal known run.Read = ⊤
+TellsRefusal known run.Write = ⊤
+TellsRefusal known run.OutOfMemory = ⊤
