@@ -10,7 +10,7 @@ use Rattle.asl_model.specs.Json.{ReadsAsValue}
 use Rattle.asl_model.specs.Texts.{Which, DefinitionText, CertificateText, TextFault, NotJson, NotWhole, BadDefinition, BadRecord, NoMemory, IsNoJson, IsDefinitionFault, IsDeclaredFault, IsCertificateFault, IsRefusal, ReadsAsMachine, ReadsAsDeclared}
 use Rattle.asl_machine.specs.Unserved.{IsUnserved}
 use Rattle.asl_records.specs.Unserved.{IsUnserved as IsUnservedEntry}
-use Rattle.asl_records.specs.Refusal.{complaint_view}
+use Rattle.asl_records.specs.View.{complaint_view}
 use Rattle.asl_records.specs.declared.refusals.ReadFault.{ReadFault}
 use Rattle.asl_records.specs.declared.refusals.ReadFault.TheVariants as kept
 use Rattle.asl_tool.specs.Lines.{AreLines}

@@ -8,7 +8,7 @@ use Rattle.asl_tree.specs.declared.TreeRefusal.TheVariants as tree
 use Rattle.asl_machine.specs.declared.refusals.DefRefusal.{DefRefusal}
 use Rattle.asl_machine.specs.View.{refusal_view}
 use Rattle.asl_records.specs.declared.refusals.RecordRefusal.{RecordRefusal}
-use Rattle.asl_records.specs.Refusal.{complaint_view}
+use Rattle.asl_records.specs.View.{complaint_view}
 use Rattle.asl_check.specs.View.{verdict_view}
 use Rattle.asl_tool.specs.declared.refusals.Which.{Which}
 use Rattle.asl_tool.specs.declared.refusals.Which.TheVariants as which
