@@ -3,5 +3,5 @@ pub mod Fields
 pub mod Lists
 pub mod Names
 pub mod Telling
-pub mod Variables
+pub mod VariableTests
 pub mod Walks

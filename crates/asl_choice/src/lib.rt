@@ -11,9 +11,9 @@ mod patterns;
 mod reading;
 mod refusal;
 mod rule;
-mod testing;
 #[cfg(test)]
 mod tests;
+mod variables;
 
 pub use deciding::{NamesNothing, holds};
 pub use reading::from_tree;

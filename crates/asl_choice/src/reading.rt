@@ -5,13 +5,13 @@ ghost use Rattle.asl_model.specs.RuleSpelling as model;
 ghost use Rattle.asl_model.specs.Tree as json;
 ghost use Rattle.asl_model.specs.Tree.{field_named};
 ghost use Rattle.asl_choice.specs.Refusal.{Tells};
-ghost use Rattle.asl_choice.specs.Single.{is_beside as beside, joined_test, one_joined_faults, one_variable_faults, variable_test};
+ghost use Rattle.asl_choice.specs.Single.{is_beside as beside, joined_test, one_joined_faults};
 ghost use Rattle.asl_choice.specs.View.{rule_view, tests_view, view};
 ghost use Rattle.asl_choice.specs.declared.refusal.RuleRefusal.{RuleRefusal};
 ghost use Rattle.asl_tree.specs.View as trees;
 
 use crate::comparing::as_text;
-use crate::testing::{read_operator, read_path};
+use crate::variables::read_variable_test;
 use crate::{Rule, RuleRefusal, Test};
 use asl_tree::Tree;
 use std::alloc::Global;
@@ -119,24 +119,6 @@ fn read_test(alloc: Global, fields: &BTreeMap<String, Tree>) -> Result<Test, Rul
         Some(variable) => read_variable_test(alloc, variable, name, value),
         None => read_joined(alloc, name, value),
     }
-}
-
-/// The test of a rule with `Variable`, the operator of that name and its operand.
-fn read_variable_test(
-    alloc: Global,
-    variable: &Tree,
-    name: &str,
-    operand: &Tree,
-) -> Result<Test, RuleRefusal>
-    ensures right { IfOk result (λ _. one_variable_faults (trees.view variable.now) name.now (trees.view operand.now) ≡ []) }
-    ensures test { IfOk result (λ test. view test ≡ variable_test (trees.view variable.now) name.now (trees.view operand.now)) }
-    ensures refused { IfErr result (λ e. Tells e (one_variable_faults (trees.view variable.now) name.now (trees.view operand.now))) }
-{
-    let Some(text) = as_text(variable) else {
-        return Err(RuleRefusal::NotARule);
-    };
-    let variable = read_path(alloc, text)?;
-    read_operator(alloc, variable, name, operand)
 }
 
 /// The test of a rule with that field, which is to be `And`, `Or` or `Not`.

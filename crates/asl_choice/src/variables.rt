@@ -1,10 +1,11 @@
-//! Reading the test of a rule with `Variable`: the operator beside it, and what stands behind that.
-ghost use Rattle.std.specs.Prelude.{◌≡◌, Ok, Some, IfErr, IfOk, IfSome, IsUtf8};
+//! Reading the test of a rule with `Variable`: its path, the operator beside it, and the operator's operand.
+ghost use Rattle.std.specs.Prelude.{◌≡◌, [], Ok, Some, IfErr, IfOk, IfSome, IsUtf8};
 ghost use Rattle.asl_model.specs.PathSpelling.{path_of};
 ghost use Rattle.asl_model.specs.RuleSpelling as model;
 ghost use Rattle.asl_model.specs.Test.{as_text as text_of, as_boolean as boolean_of};
 ghost use Rattle.asl_choice.specs.Operators.{operator_view};
 ghost use Rattle.asl_choice.specs.Refusal.{Tells, missing};
+ghost use Rattle.asl_choice.specs.Single.{one_variable_faults, variable_test};
 ghost use Rattle.asl_choice.specs.View.{view};
 ghost use Rattle.asl_tree.specs.View as trees;
 
@@ -16,8 +17,26 @@ use asl_path::{PathRefusal, RefPath, parse};
 use asl_tree::{Tree, copy};
 use std::alloc::Global;
 
+/// The test of a rule with `Variable`, the operator of that name and its operand.
+pub(crate) fn read_variable_test(
+    alloc: Global,
+    variable: &Tree,
+    name: &str,
+    operand: &Tree,
+) -> Result<Test, RuleRefusal>
+    ensures right { IfOk result (λ _. one_variable_faults (trees.view variable.now) name.now (trees.view operand.now) ≡ []) }
+    ensures test { IfOk result (λ test. view test ≡ variable_test (trees.view variable.now) name.now (trees.view operand.now)) }
+    ensures refused { IfErr result (λ e. Tells e (one_variable_faults (trees.view variable.now) name.now (trees.view operand.now))) }
+{
+    let Some(text) = as_text(variable) else {
+        return Err(RuleRefusal::NotARule);
+    };
+    let variable = read_path(alloc, text)?;
+    read_operator(alloc, variable, name, operand)
+}
+
 /// The test on the value at `variable` that the operator of that name asks for with that operand.
-pub(crate) fn read_operator(
+fn read_operator(
     alloc: Global,
     variable: RefPath,
     name: &str,
@@ -27,13 +46,13 @@ pub(crate) fn read_operator(
     ensures refused { IfErr result (λ e. Tells e (model.fault_of (model.named_test variable name.now (trees.view operand.now)))) }
 {
     match operator_named(name) {
-        Some(operator) => read_test(alloc, variable, operator, operand),
+        Some(operator) => read_operand(alloc, variable, operator, operand),
         None => Err(RuleRefusal::UnknownOperator),
     }
 }
 
-/// The test of an operator and its operand.
-fn read_test(
+/// The same for an operator.
+fn read_operand(
     alloc: Global,
     variable: RefPath,
     operator: Operator,
@@ -105,7 +124,7 @@ fn truth_in(operand: &Tree) -> Result<bool, RuleRefusal>
 }
 
 /// The path that the text spells.
-pub(crate) fn read_path(alloc: Global, text: &str) -> Result<RefPath, RuleRefusal>
+fn read_path(alloc: Global, text: &str) -> Result<RefPath, RuleRefusal>
     ensures path { IfOk result (λ p. path_of text.now ≡ Some p) }
     ensures refused { IfErr result (λ e. Tells e (missing model.BadPath (path_of text.now))) }
 {

@@ -2,7 +2,7 @@ use Rattle.std.proofs.lemmas.Result.{err_from_is_err_and}
 use Rattle.asl_tree.specs.View.{view}
 use Rattle.asl_choice.specs.View.{comparison_view}
 use Rattle.asl_choice.proofs.Telling.{operand_path_told, pattern_told}
-use Rattle.asl_choice.proofs.testing.read_test.Goals as goal
+use Rattle.asl_choice.proofs.variables.read_operand.Goals as goal
 
 pub returns-in_err-read_path-in-WithPath-clause-refused : goal.returns-in_err-read_path-in-WithPath-clause-refused
 returns-in_err-read_path-in-WithPath-clause-refused c =

@@ -1,7 +1,7 @@
 use Rattle.std.proofs.lemmas.Result.{err_from_is_err_and}
 use Rattle.asl_tree.specs.View.{view}
-use Rattle.asl_choice.proofs.Variables.{variable_told, operator_right, operator_test, operator_told}
-use Rattle.asl_choice.proofs.reading.read_variable_test.Goals as goal
+use Rattle.asl_choice.proofs.VariableTests.{variable_told, operator_right, operator_test, operator_told}
+use Rattle.asl_choice.proofs.variables.read_variable_test.Goals as goal
 
 pub returns-in_err-variable-clause-refused : goal.returns-in_err-variable-clause-refused
 returns-in_err-variable-clause-refused c =

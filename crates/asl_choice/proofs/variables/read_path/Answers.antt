@@ -1,6 +1,6 @@
 use Rattle.asl_model.proofs.PathReading.{Spells-path_of}
 use Rattle.asl_choice.proofs.Telling.{path_told}
-use Rattle.asl_choice.proofs.testing.read_path.Goals as goal
+use Rattle.asl_choice.proofs.variables.read_path.Goals as goal
 
 pub returns-in-Ok-clause-path : goal.returns-in-Ok-clause-path
 returns-in-Ok-clause-path c = Spells-path_of c.args.text.now c.in-Ok.path c.in-Ok.ensures.path
