@@ -1,5 +1,5 @@
 -- What a written call means, and how a text is refused arguments a call, are exactly what is read.
-use Rattle.std.proofs.Common.{◌≡◌, ◌↔◌, ◌⊎◌, inl, inr, ℕ, List, [], ◌∷◌, ◌++◌, length, Bool, true, false, is_some, IsTrue, if◌then◌else◌, Option, Some, None, option_map, option_and_then, Ok, Err, bytes_eq, codes, refl, sym, ap, subst, ◌∙◌, arith}
+use Rattle.std.proofs.Common.{◌≡◌, ◌↔◌, ◌⊎◌, inl, inr, ℕ, List, [], ◌∷◌, ◌++◌, length, Bool, true, false, is_some, IsTrue, if◌then◌else◌, Option, Some, None, option_map, option_and_then, Ok, Err, bytes_eq, codes, refl, sym, ap, subst, ◌∙◌, eq-eqb, arith}
 use Rattle.std.proofs.lemmas.Bool.{and_parts, and_from, and_cases, and_left, and_right, false≢true, true≢false}
 use Rattle.std.proofs.lemmas.Option.{none-some, same_Some}
 use Rattle.std.proofs.lemmas.Slice.Eq.{bytes_eq-Decides}
@@ -21,6 +21,17 @@ behind_is [] text rest h = same_Some text rest h
 behind_is (b ∷ front) text rest h =
     let o = then_from (behind front) (after b text) rest h in
     after_is b text o.0 o.1 ∙ ap (λ t. b ∷ t) (behind_is front o.0 rest o.2)
+
+pub behind_found : (front rest : List ℕ) → behind front (front ++ rest) ≡ Some rest
+behind_found [] rest = refl
+behind_found (b ∷ front) rest = ap (λ t. option_and_then (behind front) (if t then Some (front ++ rest) else None)) (eq-eqb b b refl) ∙ behind_found front rest
+
+pub behind_none : (front text : List ℕ) → ((rest : List ℕ) → text ≡ front ++ rest → ⊥) → behind front text ≡ None
+behind_none front text none = go (behind front text) refl
+  where
+    go : (o : Option (List ℕ)) → behind front text ≡ o → o ≡ None
+    go None e = refl
+    go (Some rest) e = absurd (none rest (behind_is front text rest e))
 
 -- a path into the input doesn't begin arguments a context path does
 not_context : (text : List ℕ) (p : List Segment) → Spells text p → is_context text ≡ false

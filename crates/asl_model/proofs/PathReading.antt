@@ -91,6 +91,14 @@ Spells-path_of text p s = subst (λ t. path_of t ≡ Some p) (sym s.dollar) (beg
 pub path_of-is-Spells : (text : List ℕ) (p : List Segment) → (path_of text ≡ Some p) ↔ Spells text p
 path_of-is-Spells text p = (path_of-Spells text p, Spells-path_of text p)
 
+-- a text that spells no path is read as none
+pub path_of-none : (text : List ℕ) → ((p : List Segment) → Spells text p → ⊥) → path_of text ≡ None
+path_of-none text none = go (path_of text) refl
+  where
+    go : (o : Option (List Segment)) → path_of text ≡ o → o ≡ None
+    go None e = refl
+    go (Some p) e = absurd (none p (path_of-Spells text p e))
+
 pub one_path : (text : List ℕ) (p q : List Segment) → Spells text p → Spells text q → p ≡ q
 one_path text p q s t = one_value p q (Spells-path_of text p s) (Spells-path_of text q t)
 

@@ -25,7 +25,7 @@ other_way m n h other = go (slice_cmp nat_cmp m n) refl
     go Equal e = absurd (true≢false (sym (ap is_eq e) ∙ is_eq-slice_cmp m n ∙ other))
     go Greater e = ap (λ o. match_ordering o true false false) (nat_list_cmp_total.antisymm n m ∙ ap ordering_reverse e)
 
-neither : (a b : Bool) → (a || b) ≡ false → (a ≡ false) × (b ≡ false)
+pub neither : (a b : Bool) → (a || b) ≡ false → (a ≡ false) × (b ≡ false)
 neither true b h = absurd (true≢false h)
 neither false b h = (refl, h)
 

@@ -15,15 +15,15 @@ both false b h = false_true h
 
 module _ (input : Tree) (item : Option Item) where
   -- what a list of failures is to tell: nothing fails, or its first is the least
-  abbrev Told : Template → List Failure → Type 0
+  abbrev pub Told : Template → List Failure → Type 0
   Told t [] = (p : List Segment) (error : DataFlowError) → FailsAt input item t p error → ⊥
   Told t (failure ∷ further) = IsLeastFailure input item t failure
 
   -- a place without parts
-  no_literal : (u : Tree) (p : List Segment) (error : DataFlowError) → FailsAt input item (Literal u) p error → ⊥
+  pub no_literal : (u : Tree) (p : List Segment) (error : DataFlowError) → FailsAt input item (Literal u) p error → ⊥
   no_literal u p error h = elim h [ ]
 
-  path_told : (reference : Reference) (there : Option Tree) → referred reference input item ≡ there → Told (FromPath reference) (unless_value ParameterPathFailure there)
+  pub path_told : (reference : Reference) (there : Option Tree) → referred reference input item ≡ there → Told (FromPath reference) (unless_value ParameterPathFailure there)
   path_told reference None e = record { fails = path_fails e; least = λ p error h. here p error h }
     where
       here : (p : List Segment) (error : DataFlowError) → FailsAt input item (FromPath reference) p error → ([] ≡ p) ⊎ IsBefore [] p
@@ -33,7 +33,7 @@ module _ (input : Tree) (item : Option Item) where
       nowhere : (p : List Segment) (error : DataFlowError) → FailsAt input item (FromPath reference) p error → ⊥
       nowhere p error (path_fails f) = none_some (sym f ∙ e)
 
-  call_told : (call : Call) (there : Option Tree) → call_value call input item ≡ there → Told (FromCall call) (unless_value IntrinsicFailure there)
+  pub call_told : (call : Call) (there : Option Tree) → call_value call input item ≡ there → Told (FromCall call) (unless_value IntrinsicFailure there)
   call_told call None e = record { fails = call_fails e; least = λ p error h. here p error h }
     where
       here : (p : List Segment) (error : DataFlowError) → FailsAt input item (FromCall call) p error → ([] ≡ p) ⊎ IsBefore [] p
@@ -79,8 +79,8 @@ module _ (input : Tree) (item : Option Item) where
   in_first : (n : List ℕ) (t : Template) (others : FieldTemplates) (p : List Segment) (error : DataFlowError) → FailsAt input item t p error → FailsAt input item (ObjectTemplate (AndFieldTemplate n t others)) (Name n ∷ p) error
   in_first n t others p error h = fails_in_field (ap (λ (same : Bool). if same then Some t else template_named n others) ((bytes_eq-Decides n n).1 refl)) h
 
-  -- one more field in front
-  field_told : (n : List ℕ) (t : Template) (others : FieldTemplates) (own further : List Failure) → IsTrue (before_each n others) → Told t own → Told (ObjectTemplate others) further → Told (ObjectTemplate (AndFieldTemplate n t others)) (map (below (Name n)) own ++ further)
+  -- one more field in front; where it fails, the later ones don't count
+  pub field_told : (n : List ℕ) (t : Template) (others : FieldTemplates) (own further : List Failure) → IsTrue (before_each n others) → Told t own → (own ≡ [] → Told (ObjectTemplate others) further) → Told (ObjectTemplate (AndFieldTemplate n t others)) (map (below (Name n)) own ++ further)
   field_told n t others (x ∷ own) further before first later = record { fails = in_first n t others x.place x.error first.fails; least = λ p error h. ⊎_elim (λ a. ahead p error a) (λ b. behind p error b) (which_field n t others before p error h) }
     where
       ahead : (p : List Segment) (error : DataFlowError) → InFirstField n t p error → (Name n ∷ x.place ≡ p) ⊎ IsBefore (Name n ∷ x.place) p
@@ -88,23 +88,26 @@ module _ (input : Tree) (item : Option Item) where
 
       behind : (p : List Segment) (error : DataFlowError) → InLaterField n others p error → (Name n ∷ x.place ≡ p) ⊎ IsBefore (Name n ∷ x.place) p
       behind p error b = inr (subst (IsBefore (Name n ∷ x.place)) (sym b.place) (lesser_name b.later))
-  field_told n t others [] [] before first later = λ p error h. ⊎_elim (λ a. first a.further error a.inside) (λ b. later p error b.inside) (which_field n t others before p error h)
-  field_told n t others [] (y ∷ further) before first later = record { fails = in_later n t others before y.place y.error later.fails; least = λ p error h. ⊎_elim (λ a. absurd (first a.further error a.inside)) (λ b. later.least p error b.inside) (which_field n t others before p error h) }
+  field_told n t others [] [] before first later = λ p error h. ⊎_elim (λ a. first a.further error a.inside) (λ b. later refl p error b.inside) (which_field n t others before p error h)
+  field_told n t others [] (y ∷ further) before first later =
+      let rest = later refl in
+      record { fails = in_later n t others before y.place y.error rest.fails; least = λ p error h. ⊎_elim (λ a. absurd (first a.further error a.inside)) (λ b. rest.least p error b.inside) (which_field n t others before p error h) }
 
   -- a failing place among elements that are numbered from i on
-  record FailsFrom (i : ℕ) (elements : Templates) (p : List Segment) (error : DataFlowError) : Type 0 where
-    k : ℕ
-    t : Template
-    further : List Segment
-    stands : template_element k elements ≡ Some t
-    place : p ≡ Index (i + k) ∷ further
-    inside : FailsAt input item t further error
+  pub record FailsFrom (i : ℕ) (elements : Templates) (p : List Segment) (error : DataFlowError) : Type 0 where
+    pub k : ℕ
+    pub t : Template
+    pub further : List Segment
+    pub stands : template_element k elements ≡ Some t
+    pub place : p ≡ Index (i + k) ∷ further
+    pub inside : FailsAt input item t further error
 
-  record LeastFrom (i : ℕ) (elements : Templates) (failure : Failure) : Type 0 where
-    fails : FailsFrom i elements failure.place failure.error
-    least : (p : List Segment) (error : DataFlowError) → FailsFrom i elements p error → (failure.place ≡ p) ⊎ IsBefore failure.place p
+  pub record LeastFrom (i : ℕ) (elements : Templates) (failure : Failure) : Type 0 where
+    pub fails : FailsFrom i elements failure.place failure.error
+    pub least : (p : List Segment) (error : DataFlowError) → FailsFrom i elements p error → (failure.place ≡ p) ⊎ IsBefore failure.place p
 
-  abbrev ToldFrom : ℕ → Templates → List Failure → Type 0
+  -- the same for the elements from that position on
+  abbrev pub ToldFrom : ℕ → Templates → List Failure → Type 0
   ToldFrom i elements [] = (p : List Segment) (error : DataFlowError) → FailsFrom i elements p error → ⊥
   ToldFrom i elements (failure ∷ further) = LeastFrom i elements failure
 
@@ -123,7 +126,8 @@ module _ (input : Tree) (item : Option Item) where
   from_later : (i : ℕ) (t : Template) (others : Templates) (p : List Segment) (error : DataFlowError) → FailsFrom (suc i) others p error → FailsFrom i (AndTemplate t others) p error
   from_later i t others p error h = let same : suc i + h.k ≡ i + suc h.k = omega arith in record { k = suc h.k; t = h.t; further = h.further; stands = h.stands; place = h.place ∙ ap (λ (n : ℕ). Index n ∷ h.further) same; inside = h.inside }
 
-  element_told : (i : ℕ) (t : Template) (others : Templates) (own further : List Failure) → Told t own → ToldFrom (suc i) others further → ToldFrom i (AndTemplate t others) (map (below (Index i)) own ++ further)
+  -- one more element in front; where it fails, the later ones don't count
+  pub element_told : (i : ℕ) (t : Template) (others : Templates) (own further : List Failure) → Told t own → (own ≡ [] → ToldFrom (suc i) others further) → ToldFrom i (AndTemplate t others) (map (below (Index i)) own ++ further)
   element_told i t others (x ∷ own) further first later =
       let same : i ≡ i + 0 = omega arith in
       record {
@@ -136,11 +140,13 @@ module _ (input : Tree) (item : Option Item) where
 
       behind : (p : List Segment) (error : DataFlowError) → FailsFrom (suc i) others p error → (Index i ∷ x.place ≡ p) ⊎ IsBefore (Index i ∷ x.place) p
       behind p error b = let later : i < suc i + b.k = omega arith in inr (subst (IsBefore (Index i ∷ x.place)) (sym b.place) (lesser_number later))
-  element_told i t others [] [] first later = λ p error h. ⊎_elim (λ a. first a.further error a.inside) (λ b. later p error b) (which_element i t others p error h)
-  element_told i t others [] (y ∷ further) first later = record {
-    fails = from_later i t others y.place y.error later.fails;
-    least = λ p error h. ⊎_elim (λ a. absurd (first a.further error a.inside)) (λ b. later.least p error b) (which_element i t others p error h);
-  }
+  element_told i t others [] [] first later = λ p error h. ⊎_elim (λ a. first a.further error a.inside) (λ b. later refl p error b) (which_element i t others p error h)
+  element_told i t others [] (y ∷ further) first later =
+      let rest = later refl in
+      record {
+        fails = from_later i t others y.place y.error rest.fails;
+        least = λ p error h. ⊎_elim (λ a. absurd (first a.further error a.inside)) (λ b. rest.least p error b) (which_element i t others p error h);
+      }
 
   -- numbered from 0, the elements are those of the array
   in_array : (elements : Templates) (p : List Segment) (error : DataFlowError) → FailsFrom 0 elements p error → FailsAt input item (ArrayTemplate elements) p error
@@ -149,11 +155,11 @@ module _ (input : Tree) (item : Option Item) where
   from_array : (elements : Templates) (p : List Segment) (error : DataFlowError) → FailsAt input item (ArrayTemplate elements) p error → FailsFrom 0 elements p error
   from_array elements p error (fails_in_element {i = i} {t = t} {p = q} e h) = let same : i ≡ 0 + i = omega arith in record { k = i; t = t; further = q; stands = e; place = ap (λ (n : ℕ). Index n ∷ q) same; inside = h }
 
-  array_told : (elements : Templates) (all : List Failure) → ToldFrom 0 elements all → Told (ArrayTemplate elements) all
+  pub array_told : (elements : Templates) (all : List Failure) → ToldFrom 0 elements all → Told (ArrayTemplate elements) all
   array_told elements [] told = λ p error h. told p error (from_array elements p error h)
   array_told elements (x ∷ further) told = record { fails = in_array elements x.place x.error told.fails; least = λ p error h. told.least p error (from_array elements p error h) }
 
-  no_field : (p : List Segment) (error : DataFlowError) → FailsAt input item (ObjectTemplate NoFieldTemplates) p error → ⊥
+  pub no_field : (p : List Segment) (error : DataFlowError) → FailsAt input item (ObjectTemplate NoFieldTemplates) p error → ⊥
   no_field p error (fails_in_field e h) = none_some e
 
   mutual
@@ -166,11 +172,11 @@ module _ (input : Tree) (item : Option Item) where
 
     elements_told : (elements : Templates) (i : ℕ) → AreInOrder elements → ToldFrom i elements (element_failures i elements input item)
     elements_told NoTemplates i order = λ p error h. none_some h.stands
-    elements_told (AndTemplate t others) i order = element_told i t others (failures t input item) (element_failures (suc i) others input item) (told_by t order.0) (elements_told others (suc i) order.1)
+    elements_told (AndTemplate t others) i order = element_told i t others (failures t input item) (element_failures (suc i) others input item) (told_by t order.0) (λ none. elements_told others (suc i) order.1)
 
     fields_told : (fields : FieldTemplates) → HasFieldsInOrder fields → Told (ObjectTemplate fields) (field_failures fields input item)
     fields_told NoFieldTemplates order = λ p error h. no_field p error h
-    fields_told (AndFieldTemplate n t others) order = field_told n t others (failures t input item) (field_failures others input item) order.0 (told_by t order.1) (fields_told others order.2)
+    fields_told (AndFieldTemplate n t others) order = field_told n t others (failures t input item) (field_failures others input item) order.0 (told_by t order.1) (λ none. fields_told others order.2)
 
   -- the value of a template tells the least failing place
   pub value_tells : (t : Template) → IsInOrder t → TellsLeastFailure input item t (template_value t input item)

@@ -24,7 +24,7 @@ before_suffix : (n : List ℕ) → length (n ++ codes ".$") - 2 ≡ length n
 before_suffix n = omega (arith, length-append n (codes ".$"))
 
 -- a name with the suffix is marked, and loses it
-marked_name : (n : List ℕ) → is_marked (n ++ codes ".$") ≡ true
+pub marked_name : (n : List ℕ) → is_marked (n ++ codes ".$") ≡ true
 marked_name n =
     ap (λ k. bytes_eq (drop k (n ++ codes ".$")) (codes ".$")) (before_suffix n)
     ∙ ap (λ t. bytes_eq t (codes ".$")) (drop-append_seam n (codes ".$"))
@@ -41,7 +41,7 @@ name_marked : (n : List ℕ) → is_marked n ≡ true → n ≡ take (length n -
 name_marked n h = sym (take-append-drop (length n - 2) n) ∙ ap (λ t. take (length n - 2) n ++ t) ((bytes_eq-Decides (drop (length n - 2) n) (codes ".$")).0 h)
 
 -- a name without the suffix isn't marked
-unmarked : (n : List ℕ) → ((m : List ℕ) → n ≡ m ++ codes ".$" → ⊥) → is_marked n ≡ false
+pub unmarked : (n : List ℕ) → ((m : List ℕ) → n ≡ m ++ codes ".$" → ⊥) → is_marked n ≡ false
 unmarked n none = false_from_ne_true (is_marked n) (λ h. none (take (length n - 2) n) (name_marked n h))
 
 -- ---- the texts of marked fields
@@ -103,7 +103,7 @@ absent_put n p (AndFieldTemplate m q fields) h = go (comes_before m n) refl (abs
     go false e further = puts_in_front (other_way m n e h.0)
 
 -- of two names only one comes before the other
-one_way : (m n : List ℕ) → IsTrue (comes_before n m) → comes_before m n ≡ false
+pub one_way : (m n : List ℕ) → IsTrue (comes_before n m) → comes_before m n ≡ false
 one_way m n h = false_from_ne_true (comes_before m n) (λ k. true≢false (sym ((bytes_eq-Decides n n).1 refl) ∙ comes_before-other n n (comes_before-trans n m n h k)))
 
 -- what is put in is what the reader puts in
@@ -137,7 +137,7 @@ absent_with k n q (AndFieldTemplate m u fields) h = go (comes_before m n) h (abs
     go false a below = (a.0, a.1)
 
 -- so for all names
-none_among_read : (item : Bool) (k : List ℕ) (fs : Fields) → Absent k (field_templates_of item fs) → is_among k (renamed_names fs) ≡ false
+pub none_among_read : (item : Bool) (k : List ℕ) (fs : Fields) → Absent k (field_templates_of item fs) → is_among k (renamed_names fs) ≡ false
 none_among_read item k NoFields h = refl
 none_among_read item k (AndField n t fs) h =
     let w = absent_with k (renamed n) (elim (is_marked n) [ true ↦ marked_value item t | false ↦ part_of item t ]) (field_templates_of item fs) h in
