@@ -3,6 +3,7 @@ use Rattle.std.proofs.Common.{◌≡◌, ℕ, List, [], ◌∷◌, ◌++◌, Opt
 use Rattle.std.specs.List.{Contains}
 use Rattle.std.specs.declared.alloc.Global.{Global}
 use Rattle.std.specs.Map.{keys_of}
+use Rattle.std.proofs.lemmas.List.{map-append}
 use Rattle.std.proofs.lemmas.List.Elements.{Contains-append_left, Contains-append_right, Contains-append_cases}
 use Rattle.asl_model.specs.Machine as model
 use Rattle.asl_model.specs.Machine.{Scope, StateOf, settings_of, kind_of}
@@ -31,9 +32,11 @@ record MakeUp (xs ys zs : List Finding) : Type 0 where
   pub second : (f : Finding) → Contains ys f → Contains zs f
   pub either : (f : Finding) → Contains zs f → Contains xs f ⊎ Contains ys f
 
+-- two empty lists
 made_up_of_none : MakeUp [] [] []
 made_up_of_none = record { first = λ f h. h; second = λ f h. h; either = λ f h. inl h }
 
+-- more in front of each
 made_up_behind : (x y xs ys zs : List Finding) → MakeUp xs ys zs → MakeUp (x ++ xs) (y ++ ys) ((x ++ y) ++ zs)
 made_up_behind x y xs ys zs m = record { first = λ f h. of_first f (Contains-append_cases x xs f h); second = λ f h. of_second f (Contains-append_cases y ys f h); either = λ f h. of_all f (Contains-append_cases (x ++ y) zs f h) }
   where
@@ -68,18 +71,16 @@ entry_form (code.Succeed paths) (Some entry) task = refl
 entry_form (code.Fail error cause) None task = refl
 entry_form (code.Fail error cause) (Some entry) task = refl
 
+-- none has states inside it
 no_children : (s : State) (machine : Scope) (declared : certificates.Declared) (certificate : certificates.Certificate) (n : List ℕ) → children_findings (kind_of (state_view s)) machine declared certificate n ≡ []
 no_children (code.Pass paths after) machine declared certificate n = refl
 no_children (code.Succeed paths) machine declared certificate n = refl
 no_children (code.Fail error cause) machine declared certificate n = refl
 
+-- what is found of a state is found at its name, or inside it
 found_of : (s : model.State) (machine : Scope) (declared : certificates.Declared) (certificate : certificates.Certificate) (end : Option Shape) (n : List ℕ)
     → state_findings s machine declared certificate end n ≡ found_at n (state_breaches machine declared certificate end n (settings_of s) (kind_of s)) ++ children_findings (kind_of s) machine declared certificate n
 found_of (StateOf settings kind) machine declared certificate end n = refl
-
-apart : (n : List ℕ) (xs ys : List Breach) → found_at n (xs ++ ys) ≡ found_at n xs ++ found_at n ys
-apart n [] ys = refl
-apart n (x ∷ xs) ys = ap (λ found. record { state = n; field = x.field; fault = x.fault } ∷ found) (apart n xs ys)
 
 -- what is found of one state
 found_of_state : (s : State) (k : String Global) (machine : Scope) (declared : certificates.Declared) (c : Certificate) (end : Option Shape)
@@ -92,7 +93,7 @@ found_of_state s k machine declared c end =
     let rules : state_breaches machine declared certificate end n (settings_of (state_view s)) (kind_of (state_view s)) ≡ entry_rule certificate n ++ flows =
     subst (λ e. entry_breaches (kind_of (state_view s)) e (under n declared.tasks) ++ flows ≡ breach_unless (is_some e) (codes "states") NotCertified ++ flows) (sym (entry_looked_up k c.states.entries)) (ap (λ breaches. breaches ++ flows) (entry_form s _ (under n declared.tasks))) in
     found_of (state_view s) machine declared certificate end n ∙ ap (λ others. found_at n (state_breaches machine declared certificate end n (settings_of (state_view s)) (kind_of (state_view s))) ++ others) (no_children s machine declared certificate n)
-    ∙ append-nil _ ∙ ap (found_at n) rules ∙ apart n (entry_rule certificate n) flows
+    ∙ append-nil _ ∙ ap (found_at n) rules ∙ map-append (λ (b : Breach). record { state = n; field = b.field; fault = b.fault }) (entry_rule certificate n) flows
 
 -- what is found of all of them
 found_of_states : (es : List (String Global × State)) (machine : Scope) (declared : certificates.Declared) (c : Certificate)
@@ -103,6 +104,7 @@ found_of_states (e ∷ es) machine declared c =
 
 -- ---- all rules
 
+-- two lists, one after the other, are the third
 made_up_noted : (xs ys zs a b : List Finding) → MakeUp xs ys zs → AreNoted (xs ++ ys) a b → AreNoted zs a b
 made_up_noted xs ys zs a b m p = same_noted (xs ++ ys) zs a b (λ f h. there f (Contains-append_cases xs ys f h)) (λ f h. back f (m.either f h)) p
   where

@@ -1,17 +1,18 @@
 -- What a path, two paths, and the comparisons behind them come to.
-use Rattle.std.proofs.Common.{◌≡◌, ℕ, zero, suc, List, [], ◌∷◌, ◌++◌, Bool, true, false, ◌||◌, ◌&&◌, not, if◌then◌else◌, Option, Some, None, Result, Ok, Err, refl, sym, ap, subst, ◌∙◌, bytes_eq, arith}
+use Rattle.std.proofs.Common.{◌≡◌, ℕ, zero, suc, List, [], ◌∷◌, ◌++◌, Bool, true, false, ◌||◌, ◌&&◌, not, if◌then◌else◌, Option, Some, None, Result, Ok, Err, refl, sym, ap, subst, ◌∙◌, bytes_eq}
 use Rattle.std.specs.Prelude.{IsTrue, codes}
 use Rattle.std.proofs.lemmas.Bool.{and_parts}
 use Rattle.asl_model.specs.Path.{Segment, Name, Index}
 use Rattle.asl_model.specs.Shape.{Shape, Any, Never, NullShape, BooleanShape, IntegerShape, StringShape, ArrayShape, ObjectShape, Shapes, NoShapes, AndShape, FieldShapes, NoFieldShapes, AndFieldShape, inhabited, all_inhabited, needed_inhabited}
 use Rattle.asl_model.specs.ShapeOrder.{mention_of}
-use Rattle.asl_model.specs.ShapeFlow.{Flow, MissingAt, look, look_at, part_at, place_at, if_needed, through, one_further, path_flow, through_path, flow_then, empty_object}
-use Rattle.asl_model.specs.Finding.{Breach, FindingFault, PathMayBeMissing, OutputNotCertified, NextInput, breaches_then, breach_unless, breach_unless_sub, end_breaches, output_breaches}
+use Rattle.asl_model.specs.ShapeFlow.{Flow, MissingAt, look, look_at, part_at, place_at, if_needed, through, one_further, path_flow, through_path}
+use Rattle.asl_model.specs.Finding.{Breach, PathMayBeMissing, OutputNotCertified, NextInput, breaches_then, breach_unless_sub, end_breaches, output_breaches}
 use Rattle.asl_check.specs.Checking.{Told, Flows}
 use Rattle.asl_check.specs.Looking.{looked_at}
 
 -- ---- what a path names in an inhabited shape is inhabited
 
+-- the shape of a needed field is
 needed-inhabited : (n : List ℕ) (shapes : FieldShapes) (t : Shape) → IsTrue (needed_inhabited shapes) → if_needed (mention_of n shapes) ≡ Some t → IsTrue (inhabited t)
 needed-inhabited n NoFieldShapes t h e = absurd (cc)
 needed-inhabited n (AndFieldShape m needed s others) t h e = go (bytes_eq m n) needed h e (needed-inhabited n others t)
@@ -23,6 +24,7 @@ needed-inhabited n (AndFieldShape m needed s others) t h e = go (bytes_eq m n) n
     go true false h' e' further = absurd (cc)
     go false needs h' e' further = further (and_parts (not needs || inhabited s) (needed_inhabited others) h').1 e'
 
+-- the shape of a place is
 place-inhabited : (i : ℕ) (shapes : Shapes) (t : Shape) → IsTrue (all_inhabited shapes) → place_at i shapes ≡ Some t → IsTrue (inhabited t)
 place-inhabited i NoShapes t h e = absurd (cc)
 place-inhabited zero (AndShape s others) t h e =
@@ -30,6 +32,7 @@ place-inhabited zero (AndShape s others) t h e =
     rw (sym is) (and_parts (inhabited s) (all_inhabited others) h).0
 place-inhabited (suc i) (AndShape s others) t h e = place-inhabited i others t (and_parts (inhabited s) (all_inhabited others) h).1 e
 
+-- so for what a segment names
 part-inhabited : (segment : Segment) (s t : Shape) → IsTrue (inhabited s) → part_at segment s ≡ Some t → IsTrue (inhabited t)
 part-inhabited segment Any t h e = absurd (cc)
 part-inhabited segment Never t h e = absurd (cc)
@@ -42,10 +45,12 @@ part-inhabited (Index i) (ArrayShape first rest) t h e = place-inhabited i first
 part-inhabited (Name n) (ObjectShape shapes extra) t h e = needed-inhabited n shapes t h e
 part-inhabited (Index i) (ObjectShape shapes extra) t h e = absurd (cc)
 
+-- a refusal counted on is one still
 not-further : (r : Result Shape ℕ) → looked_at (one_further r) ≡ looked_at r
 not-further (Ok s) = refl
 not-further (Err at) = refl
 
+-- and for what a whole path names
 pub at-inhabited : (path : List Segment) (s t : Shape) → IsTrue (inhabited s) → looked_at (look_at path s) ≡ Some t → IsTrue (inhabited t)
 at-inhabited [] s t h e =
     let is : s ≡ t = cc in
@@ -58,51 +63,29 @@ at-inhabited (segment ∷ path) s t h e = go (part_at segment s) refl e (λ u. a
 
 -- ---- a path
 
+-- what is found goes on
 flow-found : (field : List ℕ) (r : Result Shape ℕ) (t : Shape) → looked_at r ≡ Some t → path_flow field r ≡ Ok t
 flow-found field (Ok s) t e =
     let is : s ≡ t = cc in
     rw is refl
 flow-found field (Err at) t e = absurd (cc)
 
+-- what is missing stops the flow
 flow-missing : (field : List ℕ) (r : Result Shape ℕ) → looked_at r ≡ None → path_flow field r ≡ Err (MissingAt field ∷ [])
 flow-missing field (Ok s) e = absurd (cc)
 flow-missing field (Err at) e = refl
 
+-- an inhabited shape is looked into
 pub look-inhabited : (path : List Segment) (s : Shape) → IsTrue (inhabited s) → look path s ≡ look_at path s
 look-inhabited path s h = rw h refl
 
+-- a path that names something comes to its shape
 pub path-found : (field : List ℕ) (path : List Segment) (s t : Shape) → IsTrue (inhabited s) → Some t ≡ looked_at (look_at path s) → Flows (through_path field (Some path) s) (Ok t)
 path-found field path s t h e = record { flows = ap (path_flow field) (look-inhabited path s h) ∙ flow-found field (look_at path s) t (sym e) }
 
+-- a path that may name nothing stops there
 pub path-missing : (field : List ℕ) (path : List Segment) (s : Shape) (b : Breach) → IsTrue (inhabited s) → None ≡ looked_at (look_at path s) → b ≡ record { field = field; fault = PathMayBeMissing } → Flows (through_path field (Some path) s) (Err b)
 path-missing field path s b h e is = rw is (record { flows = (ap (path_flow field) (look-inhabited path s h) ∙ flow-missing field (look_at path s) (sym e), refl) })
-
-pub path-null : (field : List ℕ) (s n : Shape) → IsTrue (inhabited s) → n ≡ empty_object → Flows (through_path field None s) (Ok n)
-path-null field s n h is = record { flows = rw (h, is) refl }
-
--- ---- two paths
-
-pub flow-on : (go : Shape → Flow) (flow : Flow) (s : Shape) (answer : Result Shape Breach) → Flows flow (Ok s) → Flows (go s) answer → Flows (flow_then go flow) answer
-flow-on go flow s answer f g = rw f.flows g
-
-pub flow-off : (go : Shape → Flow) (flow : Flow) (b : Breach) → Flows flow (Err b) → Flows (flow_then go flow) (Err b)
-flow-off go flow b f = record { flows = (ap (flow_then go) f.flows.0, f.flows.1) }
-
--- ---- comparisons
-
-pub tell-on : (go : Shape → List Breach) (flow : Flow) (s : Shape) (told : Option Breach) → Flows flow (Ok s) → Told (go s) told → Told (breaches_then go flow) told
-tell-on go flow s told f t = rw f.flows t
-
-pub first-told : (b : Breach) (breaches : List Breach) → Told (b ∷ breaches) (Some b)
-first-told b breaches = record { one = (0, omega arith, refl) }
-
-pub tell-off : (go : Shape → List Breach) (flow : Flow) (b : Breach) → Flows flow (Err b) → Told (breaches_then go flow) (Some b)
-tell-off go flow b f =
-    let is : record { field = b.field; fault = PathMayBeMissing } ≡ b = rw (sym f.flows.1) refl in
-    rw f.flows.0 (subst (λ (c : Breach). Told (c ∷ []) (Some b)) (sym is) (first-told b []))
-
-pub unless-told : (b : Breach) (field : List ℕ) (fault : FindingFault) (breaches : List Breach) → b ≡ record { field = field; fault = fault } → Told (breach_unless false field fault ++ breaches) (Some b)
-unless-told b field fault breaches is = rw (sym is) (first-told b breaches)
 
 -- ---- states
 

@@ -4,15 +4,19 @@ use Rattle.std.specs.List.{Contains}
 use Rattle.std.proofs.lemmas.List.Elements.{Contains-append_right, Contains-append_cases, Contains-push_cases}
 use Rattle.asl_model.proofs.ReadingLaws.{none_listed}
 
+-- the first is one
 pub first : {A : Type 0} (x : A) (xs : List A) → Contains (x ∷ xs) x
 first x xs = (0, omega arith, refl)
 
+-- one of the others is one
 pub later : {A : Type 0} (x : A) (xs : List A) (y : A) → Contains xs y → Contains (x ∷ xs) y
 later x xs y h = Contains-append_right (x ∷ []) xs y h
 
+-- an empty list has none
 pub no_member : {A : Type 0} (x : A) → Contains [] x → ⊥
 no_member x h = none_listed [] x refl h
 
+-- each is the first or one of the others
 pub first_or_later : {A : Type 0} (x : A) (xs : List A) (y : A) → Contains (x ∷ xs) y → (x ≡ y) ⊎ Contains xs y
 first_or_later x xs y h = by (Contains-append_cases (x ∷ []) xs y h)
   where
@@ -24,6 +28,7 @@ first_or_later x xs y h = by (Contains-append_cases (x ∷ []) xs y h)
     by (inl here) = alone (Contains-push_cases [] x y here)
     by (inr there) = inr there
 
+-- a list of one has no other
 pub only : {A : Type 0} (x y : A) → Contains (x ∷ []) y → x ≡ y
 only x y h = by (first_or_later x [] y h)
   where

@@ -1,4 +1,4 @@
--- Notes of broken rules: what noting one more does to them, and how the lists of rules are gone through.
+-- Notes of broken rules: what noting one more does to them, and what they tell.
 use Rattle.std.proofs.Common.{◌≡◌, ◌≢◌, ℕ, List, [], ◌∷◌, ◌++◌, Option, Some, None, is_some, option_map, option_to_list, true, false, cond, Ordering, Less, Equal, Greater, String, string_bytes, string_cmp, refl, sym, ap, ◌∙◌, subst, ◌⊎◌, inl, inr, length, append-nil}
 use Rattle.std.specs.List.{Contains}
 use Rattle.std.specs.List.Sorted.{IsStrictlySortedBy}
@@ -15,6 +15,7 @@ use Rattle.asl_check.specs.declared.noting.Broken.{Broken}
 use Rattle.asl_check.proofs.Members.{first, later, no_member, first_or_later, only}
 use Rattle.asl_check.specs.Noting.{AreNoted, IsToldBy, broken_view, note_view, notes_view}
 
+-- a name with its broken rule
 abbrev pub Note : Type 0
 Note = String Global × Broken
 
@@ -26,9 +27,11 @@ record AddsOne (x : finding.Finding) (xs ys : List finding.Finding) : Type 0 whe
   pub added : Contains ys x
   pub no_other : (f : finding.Finding) → Contains ys f → (x ≡ f) ⊎ Contains xs f
 
+-- x in front of a list
 adds_front : (x : finding.Finding) (xs : List finding.Finding) → AddsOne x xs (x ∷ xs)
 adds_front x xs = record { held = λ f h. later x xs f h; added = first x xs; no_other = λ f h. first_or_later x xs f h }
 
+-- so behind another member
 adds_behind : (y x : finding.Finding) (xs ys : List finding.Finding) → AddsOne x xs ys → AddsOne x (y ∷ xs) (y ∷ ys)
 adds_behind y x xs ys a = record { held = λ f h. hold f (first_or_later y xs f h); added = later y ys x a.added; no_other = λ f h. other f (first_or_later y ys f h) }
   where
@@ -55,6 +58,7 @@ inserted (e ∷ es) k b h = go (string_cmp k e.0) h (inserted es k b)
     go Equal h' below = absurd (cc)
     go Greater h' below = adds_behind (note_view e) (note_view (k, b)) (notes_view es) (notes_view (insert_entry string_cmp es k b)) (below h')
 
+-- one more note notes its rule
 noted_by : (x : finding.Finding) (xs ys : List finding.Finding) → AddsOne x xs ys → AreNoted (x ∷ []) xs ys
 noted_by x xs ys a = record { stays = a.held; further = λ f h. turn f (a.no_other f h); each = λ f h. (x, a.added, ap (λ (g : finding.Finding). g.state) (only x f h)) }
   where
@@ -62,6 +66,7 @@ noted_by x xs ys a = record { stays = a.held; further = λ f h. turn f (a.no_oth
     turn f (inl is) = inr (subst (λ z. Contains (x ∷ []) z) is (first x []))
     turn f (inr h) = inl h
 
+-- what isn't there is none
 none_there : (o : Option Broken) → is_some o ≡ false → o ≡ None
 none_there None h = refl
 none_there (Some b) h = absurd (cc)
@@ -96,12 +101,14 @@ note_old notes name (Some b) h = record { stays = λ f g. g; further = λ f g. i
 
 -- ---- what the notes tell
 
+-- sorted names are in order
 in_order : (notes : List Note) → IsStrictlySortedBy string_cmp (keys_of notes) → AreInNameOrder (notes_view notes)
 unfolding IsStrictlySortedBy
 in_order [] h = tt
 in_order (e ∷ []) h = (refl, tt)
 in_order (e ∷ (d ∷ notes)) h = ((rw h.0.0 refl), in_order (d ∷ notes) h.1)
 
+-- what has a length has a member
 some_note : (notes : List Note) → (length notes ≡ 0 → ⊥) → notes_view notes ≢ []
 some_note [] h e = h refl
 some_note (n ∷ notes) h e = absurd (cc)

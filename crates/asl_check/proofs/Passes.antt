@@ -11,9 +11,11 @@ use Rattle.asl_check.proofs.Members.{first, no_member, first_or_later, only, giv
 
 -- ---- one list after another
 
+-- without a rule nothing has to be noted
 pub none_noted : (a : List Finding) → AreNoted [] a a
 none_noted a = record { stays = λ f h. h; further = λ f h. inl h; each = λ f h. absurd (no_member f h) }
 
+-- one list, then another
 pub both_noted : (xs ys a b c : List Finding) → AreNoted xs a b → AreNoted ys b c → AreNoted (xs ++ ys) a c
 both_noted xs ys a b c p q = record { stays = λ f h. q.stays f (p.stays f h); further = λ f h. back f (q.further f h); each = λ f h. told f (Contains-append_cases xs ys f h) }
   where
@@ -40,8 +42,9 @@ same_noted xs ys a b there back p = record { stays = p.stays; further = λ f h. 
     moved f (inl h) = inl h
     moved f (inr h) = inr (there f h)
 
--- ---- one rule of a name's
+-- ---- one of the rules of a name
 
+-- what is found at a name has that name
 named_at : (n : List ℕ) (breaches : List Breach) (f : Finding) → Contains (found_at n breaches) f → n ≡ f.state
 named_at n [] f h = absurd (no_member f h)
 named_at n (b ∷ breaches) f h = by (first_or_later _ (found_at n breaches) f h) (named_at n breaches f)
@@ -68,12 +71,15 @@ told_noted n breaches (Some breach) a b t p = record { stays = p.stays; further 
 pub record AreLeft (whole left before now : List Finding) : Type 0 where
   pub rest : (after : List Finding) → AreNoted left now after → AreNoted whole before after
 
+-- at first all of the list is left
 pub left_all : (whole left now : List Finding) → whole ≡ left → AreLeft whole left now now
 left_all whole left now is = record { rest = λ after p. subst (λ xs. AreNoted xs now after) (sym is) p }
 
+-- some members fewer are left
 pub left_less : (whole xs left before now next : List Finding) → AreLeft whole (xs ++ left) before now → AreNoted xs now next → AreLeft whole left before next
 left_less whole xs left before now next l p = record { rest = λ after q. l.rest after (both_noted xs left now next after p q) }
 
+-- at last none is
 pub left_none : (whole before now : List Finding) → AreLeft whole [] before now → AreNoted whole before now
 left_none whole before now l = l.rest now (none_noted now)
 

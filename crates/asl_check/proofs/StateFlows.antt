@@ -34,6 +34,7 @@ through_inhabited field (Some path) s t h e = go (look path s) (look-inhabited p
         at-inhabited path s t h (ap looked_at (sym is) ∙ ap Some same)
     go (Err at) is e' = absurd (cc)
 
+-- going on with the shape as it is changes nothing
 unchanged : (flow : Flow) → flow_then (λ s. Ok s) flow ≡ flow
 unchanged (Ok s) = refl
 unchanged (Err faults) = refl
@@ -46,6 +47,7 @@ effective input output next s = unchanged (through_path (codes "InputPath") inpu
 pass_leaves : (input output : Option (List Segment)) (next : Option (List ℕ)) (raw s : Shape) → IsTrue (inhabited raw) → IsTrue (inhabited s) → leave (settings_with input output next) (Pass None) raw s ≡ through_path (codes "OutputPath") output s
 pass_leaves input output next raw s r h = rw (r, h) refl
 
+-- so of a Succeed state
 succeed_leaves : (input output : Option (List Segment)) (next : Option (List ℕ)) (raw s : Shape) → IsTrue (inhabited raw) → leave (settings_with input output next) Succeed raw s ≡ through_path (codes "OutputPath") output s
 succeed_leaves input output next raw s r = rw r refl
 
@@ -77,11 +79,13 @@ succeed_flow declared inputs end n entry paths h =
 
 -- ---- what is told of a state
 
+-- of a Pass state
 pub pass_told : (declared : Declared) (inputs : List ℕ → Option Shape) (end : Option Shape) (n : List ℕ) (entry : StateShapes) (state : State) (paths : Paths) (next : Option (List ℕ)) (told : Option Breach) → state ≡ StateOf (settings_with paths.input paths.output next) (Pass None) → IsTrue (inhabited entry.input)
     → Told (breaches_then (output_breaches inputs entry.output end next) (paths_flow paths entry.input)) told → Told (flow_breaches declared inputs end n (settings_of state) (kind_of state) (Some entry)) told
 pass_told declared inputs end n entry state paths next told is h t =
     subst (λ s. Told (flow_breaches declared inputs end n (settings_of s) (kind_of s) (Some entry)) told) (sym is) (subst (λ breaches. Told breaches told) (sym (pass_flow declared inputs end n entry paths next h)) t)
 
+-- of a Succeed state
 pub succeed_told : (declared : Declared) (inputs : List ℕ → Option Shape) (end : Option Shape) (n : List ℕ) (entry : StateShapes) (state : State) (paths : Paths) (told : Option Breach) → state ≡ StateOf (settings_with paths.input paths.output None) Succeed → IsTrue (inhabited entry.input)
     → Told (breaches_then (end_breaches entry.output (codes "Type") end) (paths_flow paths entry.input)) told → Told (flow_breaches declared inputs end n (settings_of state) (kind_of state) (Some entry)) told
 succeed_told declared inputs end n entry state paths told is h t =

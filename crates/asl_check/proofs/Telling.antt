@@ -15,6 +15,7 @@ no_rule (f ∷ rules) notes p none =
     let told = p.each f (first f rules) in
     absurd (no_member told.0 (subst (λ ns. Contains ns told.0) none told.1))
 
+-- what tells the notes of all rules, which began with none, is right
 pub told_right : (machine : Scope) (declared : Declared) (certificate : Certificate) (before notes : List Finding) (verdict : Verdict) → before ≡ [] → AreNoted (findings machine declared certificate) before notes → IsToldBy notes verdict → IsRight machine declared certificate verdict
 told_right machine declared certificate before notes verdict none p t = by verdict t (subst (λ ns. AreNoted (findings machine declared certificate) ns notes) none p)
   where
