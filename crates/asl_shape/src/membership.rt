@@ -2,9 +2,10 @@
 ghost use Rattle.asl_model.specs.Shape as model;
 ghost use Rattle.asl_shape.specs.View.{view, shapes_view, fields_view};
 ghost use Rattle.asl_tree.specs.View as trees;
-ghost use Rattle.std.specs.Prelude.{◌≡◌, ◌≤◌, true, IsTrue, length};
+ghost use Rattle.std.specs.Prelude.{◌≡◌, ◌≤◌, ◌↔◌, true, IsTrue, length};
 
 use crate::shape::{Field, Shape};
+use asl_model::shape_laws::has_is_exactly_valid;
 use asl_tree::Tree;
 use std::collections::BTreeMap;
 
@@ -12,9 +13,17 @@ use std::collections::BTreeMap;
 /// stands there and each further element of the shape `rest`; or an object in which each needed field is there, each
 /// mentioned field that is there has its shape, and, without `extra`, no other field is there; or a value of the kind
 /// that the shape names. Every tree has `Any`, none has `Never` (JSON Schema, "Validation").
+pub fn has(shape: &Shape, tree: &Tree) -> bool
+    ensures as_defined { result ≡ model.has (view shape.now) (trees.view tree.now) }
+    ensures valid { IsTrue result ↔ model.IsValid (view shape.now) (trees.view tree.now) }
+{
+    has_is_exactly_valid();
+    is_valid(shape, tree)
+}
+
 #[tactic(auto, using(crate::proofs::Places::first_then_further))]
 #[cycle(has)]
-pub fn has(shape: &Shape, tree: &Tree) -> bool
+fn is_valid(shape: &Shape, tree: &Tree) -> bool
     ensures { result ≡ model.has (view shape.now) (trees.view tree.now) }
 {
     match shape {
@@ -51,7 +60,7 @@ fn first_have(shapes: &[Shape], elements: &[Tree]) -> bool
     for shape in shapes {
         match left.next() {
             Some(element) => {
-                if !has(shape, element) {
+                if !is_valid(shape, element) {
                     return false;
                 }
             }
@@ -67,7 +76,7 @@ fn each_has(shape: &Shape, elements: &[Tree]) -> bool
     ensures { result ≡ model.each_element (model.has (view shape.now)) (trees.elements_view elements.now) }
 {
     for element in elements {
-        if !has(shape, element) {
+        if !is_valid(shape, element) {
             return false;
         }
     }
@@ -84,7 +93,7 @@ fn fields_have(fields: &BTreeMap<String, Field>, members: &BTreeMap<String, Tree
     for (name, field) in fields.iter() {
         match members.get(name) {
             Some(member) => {
-                if !has(&field.shape, member) {
+                if !is_valid(&field.shape, member) {
                     return false;
                 }
             }

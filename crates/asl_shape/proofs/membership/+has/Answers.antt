@@ -10,8 +10,8 @@ pub first_have-returns-clause-places : goal.first_have-returns-clause-places
 first_have-returns-clause-places t c =
     sym (c.loop-shape.invariant.0 ∙ none_left _ _ _ c.loop-shape-test.false)
 
-pub has-returns-then-first_have : goal.has-returns-then-first_have
-has-returns-then-first_have t c =
+pub is_valid-returns-then-first_have : goal.is_valid-returns-then-first_have
+is_valid-returns-then-first_have t c =
     let first = c.in-List.first in
     let rest = c.in-List.rest in
     let elements = c.in-List-tree.elements in
@@ -20,8 +20,8 @@ has-returns-then-first_have t c =
     c.each_has.ensures ∙ further_same _ _ _ _ _ _ c.deref-then-first_have.ensures c.deref-then-first_have-2.ensures.value (omega (arith, first.ok.0)) in
     rw (c.in-List.is, c.in-List-tree.is) (list_has first rest elements true c.each_has.result places further)
 
-pub has-returns-else-first_have : goal.has-returns-else-first_have
-has-returns-else-first_have t c =
+pub is_valid-returns-else-first_have : goal.is_valid-returns-else-first_have
+is_valid-returns-else-first_have t c =
     let first = c.in-List.first in
     let rest = c.in-List.rest in
     let elements = c.in-List-tree.elements in
