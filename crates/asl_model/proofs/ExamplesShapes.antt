@@ -3,15 +3,15 @@
 use Rattle.std.specs.Prelude.{◌≡◌, ℕ, pos, List, [], ◌∷◌, map, Bool, true, false, Option, Some, None, Ok, Err, codes, refl}
 use Rattle.asl_model.specs.Tree.{Tree, Null, Boolean, Integer, Text, Array, Object, trees_of, fields_of}
 use Rattle.asl_model.specs.Path.{Segment, Name, Index}
-use Rattle.asl_model.specs.Intrinsic.{InInput, InItem, ItemIndex, CallOf, StatesFormat, StatesArrayLength, TextArgument, PathArgument, NoArguments, AndArgument}
-use Rattle.asl_model.specs.Template.{Template, FromPath, FromCall, ObjectTemplate, NoFieldTemplates, AndFieldTemplate}
+use Rattle.asl_model.specs.Intrinsic.{InInput, InItem, ItemIndex, CallOf, StatesArray, StatesFormat, StatesArrayLength, Pieces, Argument, IntegerArgument, TextArgument, PathArgument, NoArguments, AndArgument}
+use Rattle.asl_model.specs.Template.{Template, Literal, FromPath, FromCall, ArrayTemplate, ObjectTemplate, NoTemplates, AndTemplate, NoFieldTemplates, AndFieldTemplate}
 use Rattle.asl_model.specs.Test.{Test, And, Or, Compare, StringIs, NumericIs, Equals, LessThan, Constant, IsPresent, Tests, NoTests, AndTest}
 use Rattle.asl_model.specs.Machine.{Kind, Settings, SecondsPath, Scope, ScopeOf, NoStates, AndState, StateOf, Pass, Task, Choice, Wait, Succeed, Parallel, Map, NoScopes, AndScope}
 use Rattle.asl_model.specs.Shape.{Shape, Any, Never, NullShape, BooleanShape, IntegerShape, StringShape, ArrayShape, ObjectShape, NoShapes, AndShape, FieldShapes, NoFieldShapes, AndFieldShape, has}
 use Rattle.asl_model.specs.ShapeOrder.{sub, join}
-use Rattle.asl_model.specs.ShapeFlow.{look, put, template_shape, rule_shape, leave, MayBeMissing, MayFail}
+use Rattle.asl_model.specs.ShapeFlow.{look, put, literal, template_shape, rule_shape, leave, MayBeMissing, MayFail}
 use Rattle.asl_model.specs.Certificate.{TaskShapes, Declared, StateShapes, Certificate}
-use Rattle.asl_model.specs.Finding.{Finding, FindingFault, NotCertified, NotAState, TaskUndeclared, TaskUnknown, StartInput, PathMayBeMissing, WrongKind, ResultMayNotFit, IntrinsicMayFail, NoDefault, PayloadNotTaken, OutputNotCertified, NextInput, ScopeOutput, BranchInput, CatchInput, findings}
+use Rattle.asl_model.specs.Finding.{Finding, FindingFault, NotCertified, NotAState, TaskUndeclared, TaskUnknown, StartInput, PathMayBeMissing, WrongKind, ResultMayNotFit, IntrinsicMayFail, NoDefault, PayloadNotTaken, OutputNotCertified, NextInput, ScopeOutput, BranchInput, CatchInput, map_result, findings}
 
 -- Shapes and paths
 
@@ -113,6 +113,10 @@ join_with_impossible = refl
 join_of_impossible : join impossible Never ≡ Never
 join_of_impossible = refl
 
+-- each kind joined with itself
+join_with_itself : map (λ s. join s s) (NullShape ∷ BooleanShape ∷ IntegerShape ∷ StringShape ∷ []) ≡ NullShape ∷ BooleanShape ∷ IntegerShape ∷ StringShape ∷ []
+join_with_itself = refl
+
 -- a field of one object alone is optional where the other can't have it, and dropped where it may
 join_needs_both : join (closed (needed (codes "a") IntegerShape (needed (codes "b") IntegerShape NoFieldShapes))) (closed (optional (codes "b") IntegerShape (needed (codes "c") StringShape NoFieldShapes))) ≡ closed (optional (codes "a") IntegerShape (optional (codes "b") IntegerShape (optional (codes "c") StringShape NoFieldShapes)))
 join_needs_both = refl
@@ -195,12 +199,44 @@ and_in_order = refl
 template_of_input : template_shape (ObjectTemplate (AndFieldTemplate (codes "p") (FromPath (InInput [])) NoFieldTemplates)) (closed NoFieldShapes) None ≡ Ok (closed (needed (codes "p") (closed NoFieldShapes) NoFieldShapes))
 template_of_input = refl
 
--- `States.Format('{}', $)` of a list
-abbrev format_of_input : Template
-format_of_input = FromCall (CallOf StatesFormat (AndArgument (TextArgument (record { first = []; after_holes = [] ∷ [] })) (AndArgument (PathArgument (InInput [])) NoArguments)))
+-- a template with one field `x`, and the shape of an object with that field alone
+abbrev x_from : Template → Template
+x_from template = ObjectTemplate (AndFieldTemplate (codes "x") template NoFieldTemplates)
 
-template_of_list : template_shape (ObjectTemplate (AndFieldTemplate (codes "x") format_of_input NoFieldTemplates)) (ArrayShape NoShapes Any) None ≡ Err ((codes "x", MayFail) ∷ [])
+abbrev x_of : Shape → Shape
+x_of s = closed (needed (codes "x") s NoFieldShapes)
+
+-- `{}`, and a call of `States.Format` of that text and one argument
+abbrev one_hole : Pieces
+one_hole = record { first = []; after_holes = [] ∷ [] }
+
+abbrev formatted : Pieces → Argument → Template
+formatted pieces argument = x_from (FromCall (CallOf StatesFormat (AndArgument (TextArgument pieces) (AndArgument argument NoArguments))))
+
+template_of_list : template_shape (formatted one_hole (PathArgument (InInput []))) (ArrayShape NoShapes Any) None ≡ Err ((codes "x", MayFail) ∷ [])
 template_of_list = refl
+
+-- null, a truth value, a number and a text can be put in a text, and so can what never comes
+format_of_kinds : map (λ s. template_shape (formatted one_hole (PathArgument (InInput []))) s None) (NullShape ∷ BooleanShape ∷ IntegerShape ∷ StringShape ∷ []) ≡ Ok (x_of StringShape) ∷ Ok (x_of StringShape) ∷ Ok (x_of StringShape) ∷ Ok (x_of StringShape) ∷ []
+format_of_kinds = refl
+
+format_of_impossible : template_shape (formatted one_hole (PathArgument (InItem []))) Any (Some impossible) ≡ Ok (x_of StringShape)
+format_of_impossible = refl
+
+-- one argument for two holes
+too_many_holes : template_shape (formatted (record { first = []; after_holes = [] ∷ [] ∷ [] }) (PathArgument (InInput []))) StringShape None ≡ Err ((codes "x", MayFail) ∷ [])
+too_many_holes = refl
+
+-- `States.Array` and an array in a template have as many elements as are written
+array_of_two : template_shape (x_from (FromCall (CallOf StatesArray (AndArgument (IntegerArgument (pos 7)) (AndArgument (PathArgument (InInput [])) NoArguments))))) StringShape None ≡ Ok (x_of (pair IntegerShape StringShape Never))
+array_of_two = refl
+
+template_of_two : template_shape (x_from (ArrayTemplate (AndTemplate (Literal (Integer (pos 7))) (AndTemplate (Literal (Text (codes "a"))) NoTemplates)))) Any None ≡ Ok (x_of (pair IntegerShape StringShape Never))
+template_of_two = refl
+
+-- a literal: each field of an object is there and no other, and of one that stands twice the first counts
+literal_of_all : literal (Object (fields_of ((codes "b", Array (trees_of (Null ∷ Boolean true ∷ []))) ∷ (codes "a", Integer (pos 7)) ∷ (codes "a", Text (codes "x")) ∷ []))) ≡ closed (needed (codes "a") IntegerShape (needed (codes "b") (pair NullShape BooleanShape Never) NoFieldShapes))
+literal_of_all = refl
 
 -- the length of an array, and of what may be none
 abbrev length_of_input : Template
@@ -273,6 +309,10 @@ leave_to_nothing = refl
 
 leave_nulls : leave null_paths (Pass None) IntegerShape StringShape ≡ Ok (closed NoFieldShapes)
 leave_nulls = refl
+
+-- `ResultSelector`, `ResultPath` and `OutputPath`, in this order
+leave_in_order : leave (record { input_path = Some []; parameters = None; result_selector = Some (x_from (FromPath (InInput []))); result_path = Some k; output_path = Some (Name (codes "k") ∷ Name (codes "x") ∷ []); next = None; retriers = []; catchers = [] }) (Task (codes "r")) (closed (needed (codes "k") Any NoFieldShapes)) StringShape ≡ Ok StringShape
+leave_in_order = refl
 
 pass_yes : findings one_pass of_integers (certificate_of IntegerShape (entry (codes "A") IntegerShape IntegerShape ∷ [])) ≡ []
 pass_yes = refl
@@ -418,14 +458,19 @@ no_default_missing = refl
 abbrev catching : Scope
 catching = ScopeOf (codes "T") (AndState (codes "E") (StateOf ending (Pass None)) (AndState (codes "T") (StateOf (record { input_path = Some []; parameters = None; result_selector = None; result_path = Some []; output_path = Some []; next = None; retriers = []; catchers = record { error_equals = codes "States.ALL" ∷ []; result_path = Some []; next = codes "E" } ∷ [] }) (Task (codes "r"))) NoStates))
 
-abbrev catching_findings : List (List ℕ × TaskShapes) → List Finding
-catching_findings tasks = findings catching (declared_of Any tasks) (certificate_of Any (entry (codes "E") IntegerShape Any ∷ entry (codes "T") Any Any ∷ []))
+-- its findings, by what the Pass takes and by the declared tasks
+abbrev catching_findings : Shape → List (List ℕ × TaskShapes) → List Finding
+catching_findings caught tasks = findings catching (declared_of Any tasks) (certificate_of Any (entry (codes "E") caught Any ∷ entry (codes "T") Any Any ∷ []))
 
-catch_input : catching_findings (task (codes "T") Any Any ∷ []) ≡ finding (codes "T") (codes "Catch") CatchInput ∷ []
+catch_input : catching_findings IntegerShape (task (codes "T") Any Any ∷ []) ≡ finding (codes "T") (codes "Catch") CatchInput ∷ []
 catch_input = refl
 
-catch_undeclared : catching_findings [] ≡ finding (codes "T") (codes "Resource") TaskUndeclared ∷ finding (codes "T") (codes "Catch") CatchInput ∷ []
+catch_undeclared : catching_findings IntegerShape [] ≡ finding (codes "T") (codes "Resource") TaskUndeclared ∷ finding (codes "T") (codes "Catch") CatchInput ∷ []
 catch_undeclared = refl
+
+-- the error's name and its cause are there, as texts, and nothing else
+catch_yes : catching_findings (closed (needed (codes "Cause") StringShape (needed (codes "Error") StringShape NoFieldShapes))) (task (codes "T") Any Any ∷ []) ≡ []
+catch_yes = refl
 
 -- a Wait for as many seconds as its input says
 abbrev waiting_findings : Shape → List Finding
@@ -459,6 +504,10 @@ map_no_item = refl
 
 map_item : mapping_findings (Some Never) ≡ finding (codes "Q") (codes "End") ScopeOutput ∷ []
 map_item = refl
+
+-- a child's output at the place of each first element, and for each further one if there can be one
+map_results : (map_result StringShape (AndShape IntegerShape (AndShape Any NoShapes)) Never ≡ pair StringShape StringShape Never) × (map_result StringShape (AndShape IntegerShape NoShapes) Any ≡ one_then StringShape StringShape)
+map_results = (refl, refl)
 
 -- a Map whose `ItemSelector` may find nothing; the list of its children's answers isn't as certified either
 selector_missing : findings (ScopeOf (codes "M") (AndState (codes "M") (StateOf ending (Map [] (Some (ObjectTemplate (AndFieldTemplate (codes "x") (FromPath (InInput k)) NoFieldTemplates))) (one_task (codes "Q")))) NoStates)) (declared_of integers (task (codes "Q") Any StringShape ∷ [])) (certificate_of Any ((codes "M", record { input = integers; output = StringShape; branches = []; item = Some StringShape }) ∷ entry (codes "Q") Any StringShape ∷ [])) ≡ finding (codes "M") (codes "ItemSelector") PathMayBeMissing ∷ finding (codes "M") (codes "OutputPath") OutputNotCertified ∷ []
