@@ -10,9 +10,10 @@ use Rattle.std.specs.Ordering.{ordering_reverse}
 use Rattle.serde_json.specs.Data.{Data}
 use Rattle.serde_json.specs.View.{view, members_view}
 use Rattle.asl_model.specs.Records.{RecordRow, entries_complaints, entries_from, object_complaints}
-use Rattle.asl_records.specs.Parts.{TellsOneOf}
+use Rattle.asl_records.specs.Parts.{TellsOneOf, IsWhole, AreWhole}
 use Rattle.asl_records.specs.declared.refusals.ReadFault.{ReadFault}
 use Rattle.asl_records.proofs.Members.{Member}
+use Rattle.asl_records.proofs.Numbers.{head_whole, tail_whole}
 use Rattle.asl_records.proofs.Telling.{told_left, told_same}
 
 below_middle : {T : Type 0} (first : String Global) (es : List (String Global × T)) (k : String Global) (more : List (String Global)) → AllByRecursion (λ y. string_cmp first y ≡ Less) (keys_of es ++ k ∷ more) → string_cmp first k ≡ Less
@@ -36,12 +37,13 @@ module _ {T A : Type 0} (see : T → A) (rows : List RecordRow) (f : Data → A)
 
   -- so far the entries es were read, nothing was wrong, and those that are left make up the rest
   pub record Reads (all left : List Member) (es : List (String Global × T)) : Type 0 where
+    pub whole : AreWhole (members_view left)
     pub wrong : entries_complaints rows (members_view all) ≡ entries_complaints rows (members_view left)
     pub names : keys_of all ≡ keys_of es ++ keys_of left
     pub entries : entries_from f (members_view all) ≡ shown es ++ entries_from f (members_view left)
 
-  pub begun : (all left : List Member) (es : List (String Global × T)) → left ≡ all → es ≡ [] → Reads all left es
-  begun all left es same none = rw (same, none) (record { wrong = refl; names = refl; entries = refl })
+  pub begun : (all left : List Member) (es : List (String Global × T)) → AreWhole (members_view all) → left ≡ all → es ≡ [] → Reads all left es
+  begun all left es whole same none = rw (same, none) (record { whole = whole; wrong = refl; names = refl; entries = refl })
 
   shown_more : (es : List (String Global × T)) (k : String Global) (x : T) (others : List (List ℕ × A)) → shown (es ++ (k, x) ∷ []) ++ others ≡ shown es ++ (string_bytes k, see x) ∷ others
   shown_more [] k x others = refl
@@ -51,6 +53,10 @@ module _ {T A : Type 0} (see : T → A) (rows : List RecordRow) (f : Data → A)
   names_more [] k x others = refl
   names_more (e ∷ es) k x others = ap (λ rest. e.0 ∷ rest) (names_more es k x others)
 
+  -- the next entry is whole
+  pub next_whole : (all left rest : List Member) (es : List (String Global × T)) (e : Member) → Reads all left es → left ≡ e ∷ rest → IsWhole (view e.1)
+  next_whole all left rest es e h split = head_whole (string_bytes e.0) (view e.1) (members_view rest) (subst (λ ms. AreWhole (members_view ms)) split h.whole)
+
   -- one more entry was read
   pub gone_on : (all left rest : List Member) (es more : List (String Global × T)) (e : Member) (n : List ℕ) (x : T) → Reads all left es → left ≡ e ∷ rest → IsStrictlySortedBy string_cmp (keys_of all)
       → n ≡ string_bytes e.0 → object_complaints n rows (view e.1) ≡ [] → see x ≡ f (view e.1) → more ≡ insert_entry string_cmp es e.0 x → Reads all rest more
@@ -58,6 +64,7 @@ module _ {T A : Type 0} (see : T → A) (rows : List RecordRow) (f : Data → A)
       let order = subst (IsStrictlySortedBy string_cmp) (h.names ∙ ap (λ ms. keys_of es ++ keys_of ms) split) sorted in
       let last : more ≡ es ++ (e.0, x) ∷ [] = made ∙ insert_last es e.0 x (keys_of rest) order in
       record {
+        whole = tail_whole (string_bytes e.0) (view e.1) (members_view rest) (subst (λ ms. AreWhole (members_view ms)) split h.whole);
         wrong = h.wrong ∙ ap (λ ms. entries_complaints rows (members_view ms)) split ∙ ap (λ cs. cs ++ entries_complaints rows (members_view rest)) (rw named at right);
         names = h.names ∙ ap (λ ms. keys_of es ++ keys_of ms) split ∙ sym (ap (λ es. keys_of es ++ keys_of rest) last ∙ names_more es e.0 x (keys_of rest));
         entries = h.entries ∙ ap (λ ms. shown es ++ entries_from f (members_view ms)) split ∙ ap (λ a. shown es ++ (string_bytes e.0, a) ∷ entries_from f (members_view rest)) (sym is) ∙ sym (ap (λ es. shown es ++ entries_from f (members_view rest)) last ∙ shown_more es e.0 x (entries_from f (members_view rest)));

@@ -6,7 +6,7 @@ use Rattle.serde_json.specs.Data as json
 use Rattle.serde_json.specs.Data.{Data, Members}
 use Rattle.asl_model.specs.Shape.{Shape, Any}
 use Rattle.asl_model.specs.ShapeSpelling.{is_among}
-use Rattle.asl_model.specs.Json.{tree_of}
+use Rattle.asl_model.specs.Json.{tree_of, members_of}
 use Rattle.asl_model.specs.Records.{RecordFault, UnknownField, RecordComplaint, RecordRow, ShapeValue, EntriesValue, VersionValue, certificate_rows, entries_complaints, field_faults, members_in, members_under, object_complaints, shape_from, shape_misfits}
 use Rattle.asl_records.specs.Refusal.{Tells}
 use Rattle.asl_records.specs.declared.refusals.ReadFault.{ReadFault}
@@ -23,9 +23,12 @@ Blames wrong kept.OutOfMemory = ⊤
 pub record TellsOneOf (wrong : List RecordComplaint) (fault : ReadFault) : Type 0 where
   pub told : Blames wrong fault
 
--- the value is a tree
+-- all numbers in the value are whole, and in the members: it is a tree
 pub record IsWhole (v : Data) : Type 0 where
   pub whole : IsTrue (is_some (tree_of v))
+
+pub record AreWhole (ms : Members) : Type 0 where
+  pub whole : IsTrue (is_some (members_of ms))
 
 -- ---- complaints
 

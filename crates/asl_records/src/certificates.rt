@@ -6,7 +6,7 @@ ghost use Rattle.serde_json.specs.View.{view, members_view};
 ghost use Rattle.asl_model.specs.Records.{StandsForCertificate, certificate_from, object_complaints, entries_complaints, entries_from, state_from};
 ghost use Rattle.asl_records.specs.View.{certificate_view, entry_view, entries_view};
 ghost use Rattle.asl_records.specs.Refusal.{IsCertificateRefusal};
-ghost use Rattle.asl_records.specs.Parts.{TellsOneOf, IsWhole, field_complaints, entries_row, version_row, served_rows, served_complaints, members_there};
+ghost use Rattle.asl_records.specs.Parts.{TellsOneOf, IsWhole, AreWhole, field_complaints, entries_row, version_row, served_rows, served_complaints, members_there};
 
 use crate::fields::{check_fields, entries, members, required_shape, take};
 use crate::records::{Certificate, StateShapes};
@@ -68,6 +68,7 @@ fn read_states(
     alloc: Global,
     fields: &mut Map<String, Value>,
 ) -> Result<BTreeMap<String, StateShapes>, ReadFault>
+    requires { AreWhole (members_view fields.old.entries) }
     ensures right { OnOk result (field_complaints [] (entries_row (codes "states") true) (get_member (codes "states") (members_view fields.old.entries)) ++ entries_complaints served_rows (members_there (get_member (codes "states") (members_view fields.old.entries))) ≡ []) }
     ensures states { IfOk result (λ states. entries_view states.entries ≡ entries_from state_from (members_there (get_member (codes "states") (members_view fields.old.entries)))) }
     ensures refused { IfErr result (TellsOneOf (field_complaints [] (entries_row (codes "states") true) (get_member (codes "states") (members_view fields.old.entries)) ++ entries_complaints served_rows (members_there (get_member (codes "states") (members_view fields.old.entries))))) }
@@ -83,6 +84,7 @@ fn read_entries(
     alloc: Global,
     entries: Map<String, Value>,
 ) -> Result<BTreeMap<String, StateShapes>, ReadFault>
+    requires { AreWhole (members_view entries.entries) }
     ensures right { OnOk result (entries_complaints served_rows (members_view entries.entries) ≡ []) }
     ensures states { IfOk result (λ states. entries_view states.entries ≡ entries_from state_from (members_view entries.entries)) }
     ensures refused { IfErr result (TellsOneOf (entries_complaints served_rows (members_view entries.entries))) }
@@ -97,6 +99,7 @@ fn read_entries(
 
 /// The shapes of the state of this name.
 fn read_state(alloc: Global, name: &str, value: Value) -> Result<StateShapes, ReadFault>
+    requires { IsWhole (view value) }
     ensures right { OnOk result (object_complaints name.now served_rows (view value) ≡ []) }
     ensures shapes { IfOk result (λ shapes. entry_view shapes ≡ state_from (view value)) }
     ensures refused { IfErr result (TellsOneOf (object_complaints name.now served_rows (view value))) }

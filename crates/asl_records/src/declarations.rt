@@ -6,7 +6,7 @@ ghost use Rattle.serde_json.specs.View.{view, members_view};
 ghost use Rattle.asl_model.specs.Records.{StandsForDeclared, declared_complaints, declared_from, object_complaints, entries_complaints, entries_from, task_rows, task_from};
 ghost use Rattle.asl_records.specs.View.{declared_view, task_view, tasks_view};
 ghost use Rattle.asl_records.specs.Refusal.{IsDeclaredRefusal};
-ghost use Rattle.asl_records.specs.Parts.{TellsOneOf, IsWhole, field_complaints, entries_row, members_there};
+ghost use Rattle.asl_records.specs.Parts.{TellsOneOf, IsWhole, AreWhole, field_complaints, entries_row, members_there};
 
 use crate::fields::{check_fields, entries, members, optional_shape, required_shape, take};
 use crate::records::{Declared, TaskShapes};
@@ -29,6 +29,7 @@ pub fn read_declared(alloc: Global, value: Value) -> Result<Declared, ReadFault>
 
 /// The declared shapes that a JSON value with whole numbers stands for.
 fn read_record(alloc: Global, value: Value) -> Result<Declared, ReadFault>
+    requires { IsWhole (view value) }
     ensures right { OnOk result (declared_complaints (view value) ≡ []) }
     ensures declared { IfOk result (λ declared. declared_view declared ≡ declared_from (view value)) }
     ensures refused { IfErr result (TellsOneOf (declared_complaints (view value))) }
@@ -46,6 +47,7 @@ fn read_tasks(
     alloc: Global,
     fields: &mut Map<String, Value>,
 ) -> Result<BTreeMap<String, TaskShapes>, ReadFault>
+    requires { AreWhole (members_view fields.old.entries) }
     ensures right { OnOk result (field_complaints [] (entries_row (codes "tasks") false) (get_member (codes "tasks") (members_view fields.old.entries)) ++ entries_complaints task_rows (members_there (get_member (codes "tasks") (members_view fields.old.entries))) ≡ []) }
     ensures tasks { IfOk result (λ tasks. tasks_view tasks.entries ≡ entries_from task_from (members_there (get_member (codes "tasks") (members_view fields.old.entries)))) }
     ensures refused { IfErr result (TellsOneOf (field_complaints [] (entries_row (codes "tasks") false) (get_member (codes "tasks") (members_view fields.old.entries)) ++ entries_complaints task_rows (members_there (get_member (codes "tasks") (members_view fields.old.entries))))) }
@@ -61,6 +63,7 @@ fn read_entries(
     alloc: Global,
     entries: Map<String, Value>,
 ) -> Result<BTreeMap<String, TaskShapes>, ReadFault>
+    requires { AreWhole (members_view entries.entries) }
     ensures right { OnOk result (entries_complaints task_rows (members_view entries.entries) ≡ []) }
     ensures tasks { IfOk result (λ tasks. tasks_view tasks.entries ≡ entries_from task_from (members_view entries.entries)) }
     ensures refused { IfErr result (TellsOneOf (entries_complaints task_rows (members_view entries.entries))) }
@@ -75,6 +78,7 @@ fn read_entries(
 
 /// The shapes of the task of this name.
 fn read_task(alloc: Global, name: &str, value: Value) -> Result<TaskShapes, ReadFault>
+    requires { IsWhole (view value) }
     ensures right { OnOk result (object_complaints name.now task_rows (view value) ≡ []) }
     ensures shapes { IfOk result (λ shapes. task_view shapes ≡ task_from (view value)) }
     ensures refused { IfErr result (TellsOneOf (object_complaints name.now task_rows (view value))) }

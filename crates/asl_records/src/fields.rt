@@ -7,8 +7,8 @@ ghost use Rattle.serde_json.specs.View.{view, members_view};
 ghost use Rattle.asl_model.specs.ShapeSpelling.{is_among};
 ghost use Rattle.asl_model.specs.Records.{RecordRow, RecordComplaint, NotObject, WrongKind, BadShape, object_complaints, shape_misfits, shape_from, field_faults, misfits, EntriesValue};
 ghost use Rattle.asl_shape.specs.View.{view as shape_view};
-ghost use Rattle.asl_records.specs.View.{shape_refusal_view};
-ghost use Rattle.asl_records.specs.Parts.{TellsOneOf, complaint_of, shape_complaints, field_complaints, foreign_complaints, shape_row, shape_there};
+ghost use Rattle.asl_shape.specs.Refusal.{fault_named};
+ghost use Rattle.asl_records.specs.Parts.{TellsOneOf, IsWhole, AreWhole, complaint_of, shape_complaints, field_complaints, foreign_complaints, shape_row, shape_there};
 
 use crate::refusals::{ReadFault, RecordFault};
 use asl_shape::{Shape, ShapeRefusal};
@@ -21,7 +21,9 @@ pub(crate) fn members(
     name: &str,
     value: Value,
 ) -> Result<Map<String, Value>, ReadFault>
+    requires { IsWhole (view value) }
     ensures members { IfOk result (λ members. as_object (view value) ≡ Some (members_view members.entries)) }
+    ensures whole { IfOk result (λ members. AreWhole (members_view members.entries)) }
     ensures refused { IfErr result (λ fault. (rows : List RecordRow) → TellsOneOf (object_complaints name.now rows (view value)) fault) }
 {
     match value {
@@ -38,7 +40,9 @@ pub(crate) fn entries(
     field: &'static str,
     value: Value,
 ) -> Result<Map<String, Value>, ReadFault>
+    requires { IsWhole (view value) }
     ensures members { IfOk result (λ members. as_object (view value) ≡ Some (members_view members.entries)) }
+    ensures whole { IfOk result (λ members. AreWhole (members_view members.entries)) }
     ensures refused { IfErr result (TellsOneOf (map (complaint_of [] field.now) (misfits EntriesValue (view value)))) }
 {
     match value {
@@ -81,6 +85,9 @@ fn is_known(field: &str, known: &[&str]) -> bool
 
 /// Takes a field out of a record, or out of one of its entries.
 pub(crate) fn take(fields: &mut Map<String, Value>, field: &'static str) -> Option<Value>
+    requires { AreWhole (members_view fields.old.entries) }
+    ensures whole { IfSome result (λ value. IsWhole (view value)) }
+    ensures left { AreWhole (members_view fields.new.entries) }
     ensures value { option_map view result ≡ get_member field.now (members_view fields.old.entries) }
     ensures others { (n : List ℕ) → bytes_eq field.now n ≡ false → get_member n (members_view fields.new.entries) ≡ get_member n (members_view fields.old.entries) }
 {
@@ -94,6 +101,8 @@ pub(crate) fn required_shape(
     field: &'static str,
     fields: &mut Map<String, Value>,
 ) -> Result<Shape, ReadFault>
+    requires { AreWhole (members_view fields.old.entries) }
+    ensures left { AreWhole (members_view fields.new.entries) }
     ensures right { OnOk result (field_complaints name.now (shape_row field.now true) (get_member field.now (members_view fields.old.entries)) ≡ []) }
     ensures shape { IfOk result (λ shape. shape_view shape ≡ shape_there (get_member field.now (members_view fields.old.entries))) }
     ensures refused { IfErr result (TellsOneOf (field_complaints name.now (shape_row field.now true) (get_member field.now (members_view fields.old.entries)))) }
@@ -113,6 +122,8 @@ pub(crate) fn optional_shape(
     field: &'static str,
     fields: &mut Map<String, Value>,
 ) -> Result<Shape, ReadFault>
+    requires { AreWhole (members_view fields.old.entries) }
+    ensures left { AreWhole (members_view fields.new.entries) }
     ensures right { OnOk result (field_complaints name.now (shape_row field.now false) (get_member field.now (members_view fields.old.entries)) ≡ []) }
     ensures shape { IfOk result (λ shape. shape_view shape ≡ shape_there (get_member field.now (members_view fields.old.entries))) }
     ensures refused { IfErr result (TellsOneOf (field_complaints name.now (shape_row field.now false) (get_member field.now (members_view fields.old.entries)))) }
@@ -124,18 +135,14 @@ pub(crate) fn optional_shape(
     }
 }
 
-/// The shape that a field's value stands for. All its numbers have been seen to be whole.
+/// The shape that a field's value stands for.
 fn read_shape(alloc: Global, name: &str, field: &str, value: Value) -> Result<Shape, ReadFault>
+    requires { IsWhole (view value) }
     ensures right { OnOk result (shape_misfits (view value) ≡ []) }
     ensures shape { IfOk result (λ shape. shape_view shape ≡ shape_from (view value)) }
     ensures refused { IfErr result (TellsOneOf (shape_complaints name.now field.now (view value))) }
 {
-    let tree = match asl_tree::from_value(alloc, &value) {
-        Ok(tree) => tree,
-        Err(_) => return Err(ReadFault::OutOfMemory),
-    };
-    drop(value);
-    match asl_shape::read(alloc, &tree) {
+    match asl_shape::read_value(alloc, &value) {
         Ok(shape) => Ok(shape),
         Err(refusal) => Err(no_shape(alloc, refusal, name, field)),
     }
@@ -143,7 +150,7 @@ fn read_shape(alloc: Global, name: &str, field: &str, value: Value) -> Result<Sh
 
 /// What is told of a field whose value is refused as a shape.
 fn no_shape(alloc: Global, refusal: ShapeRefusal, name: &str, field: &str) -> ReadFault
-    ensures { (wrong : List RecordComplaint) → IfSome (shape_refusal_view refusal) (λ fault. Contains wrong (complaint_of name.now field.now (BadShape fault))) → TellsOneOf wrong result }
+    ensures { (wrong : List RecordComplaint) → IfSome (fault_named refusal) (λ fault. Contains wrong (complaint_of name.now field.now (BadShape fault))) → TellsOneOf wrong result }
 {
     match refusal {
         ShapeRefusal::NotAShape

@@ -6,6 +6,7 @@ pub mod Places
 pub mod Requiring
 pub mod Spellings
 pub mod Telling
+pub mod Trees
 pub mod Unders
 pub mod Views
 pub mod Witnesses

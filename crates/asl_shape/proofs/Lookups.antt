@@ -14,7 +14,9 @@ use Rattle.asl_model.specs.ShapeOrder.{mention_of}
 use Rattle.asl_tree.specs.declared.Tree.{Tree}
 use Rattle.asl_tree.specs.View as trees
 use Rattle.asl_shape.specs.declared.shape.Field.{Field}
+use Rattle.asl_shape.specs.Spelled as spelled
 use Rattle.asl_shape.specs.View.{view, fields_view}
+use Rattle.serde_json.specs.declared.value.Value.{Value}
 
 pub same_name : (k m : List ℕ) → bytes_eq m k ≡ is_eq (slice_cmp nat_cmp k m)
 same_name k m = nat_list_eq_equiv.symm m k ∙ sym (is_eq-slice_cmp k m)
@@ -42,8 +44,8 @@ mention_of_lookup k [] = refl
 mention_of_lookup k (m ∷ ms) =
     rw (same_name (string_bytes k) (string_bytes m.0), mention_of_lookup k ms) (picked (λ (m : Field). (m.needed, view m.shape)) m.1 _ _)
 
--- the same for a key that is no text of the map's own
-pub field_named_lookup_by : (q : List ℕ) (es : List (String Global × Tree)) → field_named q (trees.entries_view es) ≡ option_map trees.view (lookup (is_at (λ k. slice_cmp nat_cmp q (string_bytes k))) es)
+-- the same for a key that is no text of the map's own, in the members of a value
+pub field_named_lookup_by : (q : List ℕ) (es : List (String Global × Value)) → field_named q (spelled.entries_view es) ≡ option_map spelled.view (lookup (is_at (λ k. slice_cmp nat_cmp q (string_bytes k))) es)
 field_named_lookup_by q [] = refl
 field_named_lookup_by q (e ∷ es) =
-    rw (same_name q (string_bytes e.0), field_named_lookup_by q es) (picked trees.view e.1 _ _)
+    rw (same_name q (string_bytes e.0), field_named_lookup_by q es) (picked spelled.view e.1 _ _)

@@ -1,5 +1,5 @@
 -- Reading the elements of a list and the fields of an object as shapes, one after another.
-use Rattle.std.proofs.Common.{◌≡◌, ℕ, suc, List, [], ◌∷◌, ◌++◌, Bool, true, false, cond, bytes_eq, ◌&&◌, Some, Result, Ok, Err, Vec, map, length, Ordering, Less, Equal, Greater, String, string_bytes, refl, sym, ap, ◌∙◌}
+use Rattle.std.proofs.Common.{◌≡◌, ℕ, suc, List, [], ◌∷◌, ◌++◌, Bool, true, false, cond, bytes_eq, ◌&&◌, Some, Result, Ok, Err, Vec, map, length, Ordering, Less, Equal, Greater, String, string_bytes, refl, sym, ap, ◌∙◌, rules}
 use Rattle.std.specs.Prelude.{IfOk, IfErr}
 use Rattle.std.specs.declared.alloc.Global.{Global}
 use Rattle.std.specs.BTreeMap.{insert_entry}
@@ -14,12 +14,11 @@ use Rattle.std.proofs.lemmas.List.{length-map}
 use Rattle.asl_model.specs.Shape as model
 use Rattle.asl_model.specs.ShapeSpelling.{shape_of, element_shapes, field_shapes, texts_among, are_texts, with_needed, with_all_needed, unless, required_faults, shape_faults, field_faults, element_faults, properties_of, properties_under, NotAShape}
 use Rattle.asl_model.specs.Tree as json
-use Rattle.asl_tree.specs.declared.Tree.{Tree}
-use Rattle.asl_tree.specs.declared.Tree as tree
-use Rattle.asl_tree.specs.declared.Tree.TheFolds.{fold-roll-Tree}
-use Rattle.asl_tree.specs.declared.Tree.TheOpen as TreeOpen
-use Rattle.asl_tree.specs.declared.Tree.TheVariants as TreeVariants
-use Rattle.asl_tree.specs.View as trees
+use Rattle.asl_shape.specs.Spelled as trees
+use Rattle.asl_shape.specs.Spelled.{spelled}
+use Rattle.serde_json.specs.declared.value.Value.{Value, the_lemmas}
+use Rattle.serde_json.specs.declared.value.Value as value
+use Rattle.serde_json.proofs.Views.{view-Array}
 use Rattle.asl_shape.specs.declared.ShapeRefusal.{ShapeRefusal}
 use Rattle.asl_shape.specs.declared.shape.Shape.{Shape}
 use Rattle.asl_shape.specs.declared.shape.Field.{Field}
@@ -28,28 +27,27 @@ use Rattle.asl_shape.specs.Required.{is_needed, are_new, NoneNeeded}
 use Rattle.asl_shape.specs.View.{view, shapes_of, shapes_view, fields_view}
 use Rattle.asl_shape.proofs.Requiring.{new_next, new_are_distinct}
 use Rattle.asl_shape.proofs.Telling.{told_same, told_left}
-use Rattle.asl_shape.proofs.Views.{view_array}
 
 -- ---- elements
 
-elements_shown : (ts : List Tree) → shapes_of (map (λ t. shape_of (trees.view t)) ts) ≡ element_shapes (trees.elements_view ts)
+elements_shown : (ts : List Value) → shapes_of (map (λ t. shape_of (trees.view t)) ts) ≡ element_shapes (trees.elements_view ts)
 elements_shown [] = refl
 elements_shown (t ∷ ts) = ap (model.AndShape (shape_of (trees.view t))) (elements_shown ts)
 
-pub shapes_read : (ss : List Shape) (ts : List Tree) → map view ss ≡ map (λ t. shape_of (trees.view t)) ts → shapes_view ss ≡ element_shapes (trees.elements_view ts)
+pub shapes_read : (ss : List Shape) (ts : List Value) → map view ss ≡ map (λ t. shape_of (trees.view t)) ts → shapes_view ss ≡ element_shapes (trees.elements_view ts)
 shapes_read ss ts e = ap shapes_of e ∙ elements_shown ts
 
-elements_counted : (ts : List Tree) → length ts ≡ json.count (trees.elements_view ts)
+elements_counted : (ts : List Value) → length ts ≡ json.count (trees.elements_view ts)
 elements_counted [] = refl
 elements_counted (t ∷ ts) = ap suc (elements_counted ts)
 
-pub count_read : (ss : List Shape) (ts : List Tree) → map view ss ≡ map (λ t. shape_of (trees.view t)) ts → length ss ≡ json.count (trees.elements_view ts)
+pub count_read : (ss : List Shape) (ts : List Value) → map view ss ≡ map (λ t. shape_of (trees.view t)) ts → length ss ≡ json.count (trees.elements_view ts)
 count_read ss ts e = sym (length-map ss view) ∙ (ap length e ∙ (length-map ts (λ t. shape_of (trees.view t)) ∙ elements_counted ts))
 
 -- ---- fields
 
 abbrev Entry : Type 0
-Entry = String Global × Tree
+Entry = String Global × Value
 
 abbrev Mention : Type 0
 Mention = String Global × Field
@@ -88,22 +86,25 @@ member_read done e more fs k f sorted so_far named needed shape =
 
 -- ---- names in `required`
 
-view_text : (name : String Global) → trees.view (tree.Text name) ≡ json.Text (string_bytes name)
-view_text name = ap trees.view (sym (TreeVariants.rolls-Text name)) ∙ fold-roll-Tree json.Tree trees.view_step (TreeOpen.Text name)
+view_items : (names : Vec Value Global) → trees.view (value.Array names) ≡ json.Array (trees.elements_view names.items)
+view_items names = ap spelled (view-Array names)
 
-shown_split : (left rest : List Tree) (item : Tree) (name : String Global) → left ≡ item ∷ rest → item ≡ tree.Text name → trees.elements_view left ≡ json.AndTree (json.Text (string_bytes name)) (trees.elements_view rest)
+view_text : (name : String Global) → trees.view (value.String name) ≡ json.Text (string_bytes name)
+view_text name = search (rules, the_lemmas)
+
+shown_split : (left rest : List Value) (item : Value) (name : String Global) → left ≡ item ∷ rest → item ≡ value.String name → trees.elements_view left ≡ json.AndTree (json.Text (string_bytes name)) (trees.elements_view rest)
 shown_split left rest item name split is =
     ap trees.elements_view split ∙ (ap (λ t. json.AndTree (trees.view t) (trees.elements_view rest)) is ∙ ap (λ t. json.AndTree t (trees.elements_view rest)) (view_text name))
 
-pub texts_step : (left rest : List Tree) (item : Tree) (name : String Global) → left ≡ item ∷ rest → item ≡ tree.Text name → are_texts (trees.elements_view left) ≡ are_texts (trees.elements_view rest)
+pub texts_step : (left rest : List Value) (item : Value) (name : String Global) → left ≡ item ∷ rest → item ≡ value.String name → are_texts (trees.elements_view left) ≡ are_texts (trees.elements_view rest)
 texts_step left rest item name split is = ap are_texts (shown_split left rest item name split is)
 
-pub new_step : (extra : Bool) (left rest : List Tree) (item : Tree) (name : String Global) (old new : model.FieldShapes) → left ≡ item ∷ rest → item ≡ tree.Text name → is_needed (string_bytes name) old ≡ false → new ≡ with_needed extra (string_bytes name) old → are_new (texts_among (trees.elements_view left)) old ≡ are_new (texts_among (trees.elements_view rest)) new
+pub new_step : (extra : Bool) (left rest : List Value) (item : Value) (name : String Global) (old new : model.FieldShapes) → left ≡ item ∷ rest → item ≡ value.String name → is_needed (string_bytes name) old ≡ false → new ≡ with_needed extra (string_bytes name) old → are_new (texts_among (trees.elements_view left)) old ≡ are_new (texts_among (trees.elements_view rest)) new
 new_step extra left rest item name old new split is fresh made =
     ap (λ ts. are_new (texts_among ts) old) (shown_split left rest item name split is)
     ∙ (new_next extra (string_bytes name) (texts_among (trees.elements_view rest)) old fresh ∙ ap (are_new (texts_among (trees.elements_view rest))) (sym made))
 
-pub all_step : (extra : Bool) (left rest : List Tree) (item : Tree) (name : String Global) (old new : model.FieldShapes) → left ≡ item ∷ rest → item ≡ tree.Text name → new ≡ with_needed extra (string_bytes name) old → with_all_needed extra (texts_among (trees.elements_view left)) old ≡ with_all_needed extra (texts_among (trees.elements_view rest)) new
+pub all_step : (extra : Bool) (left rest : List Value) (item : Value) (name : String Global) (old new : model.FieldShapes) → left ≡ item ∷ rest → item ≡ value.String name → new ≡ with_needed extra (string_bytes name) old → with_all_needed extra (texts_among (trees.elements_view left)) old ≡ with_all_needed extra (texts_among (trees.elements_view rest)) new
 all_step extra left rest item name old new split is made =
     ap (λ ts. with_all_needed extra (texts_among ts) old) (shown_split left rest item name split is)
     ∙ ap (with_all_needed extra (texts_among (trees.elements_view rest))) (sym made)
@@ -120,17 +121,17 @@ required_refused e ts shapes none told =
 pub faults_step : (e : Entry) (left now : List Entry) → now ≡ e ∷ left → shape_faults (trees.view e.1) ≡ [] → field_faults (trees.entries_view now) ≡ field_faults (trees.entries_view left)
 faults_step e left now split right = ap (λ es. field_faults (trees.entries_view es)) split ∙ ap (λ xs. xs ++ field_faults (trees.entries_view left)) right
 
-pub required_ok : (names : Vec Tree Global) (ns : List Tree) (shapes : model.FieldShapes) (r : Result (Unit {0}) ShapeRefusal) → ns ≡ names.items → IfOk r (λ _. (are_texts (trees.elements_view ns) && are_new (texts_among (trees.elements_view ns)) shapes) ≡ true) → IfOk r (λ _. NoneNeeded shapes → required_faults (Some (trees.view (tree.List names))) ≡ [])
+pub required_ok : (names : Vec Value Global) (ns : List Value) (shapes : model.FieldShapes) (r : Result (Unit {0}) ShapeRefusal) → ns ≡ names.items → IfOk r (λ _. (are_texts (trees.elements_view ns) && are_new (texts_among (trees.elements_view ns)) shapes) ≡ true) → IfOk r (λ _. NoneNeeded shapes → required_faults (Some (trees.view (value.Array names))) ≡ [])
 required_ok names ns shapes (Ok u) same right = λ none.
-    ap (λ t. required_faults (Some t)) (view_array names ∙ ap (λ ts. json.Array (trees.elements_view ts)) (sym same)) ∙ required_right (trees.elements_view ns) shapes none right
+    ap (λ t. required_faults (Some t)) (view_items names ∙ ap (λ ts. json.Array (trees.elements_view ts)) (sym same)) ∙ required_right (trees.elements_view ns) shapes none right
 required_ok names ns shapes (Err e) same right = tt
 
-pub required_err : (names : Vec Tree Global) (ns : List Tree) (shapes : model.FieldShapes) (r : Result (Unit {0}) ShapeRefusal) → ns ≡ names.items → IfErr r (λ e. Tells e (unless (are_texts (trees.elements_view ns) && are_new (texts_among (trees.elements_view ns)) shapes) NotAShape)) → IfErr r (λ e. NoneNeeded shapes → Tells e (required_faults (Some (trees.view (tree.List names)))))
+pub required_err : (names : Vec Value Global) (ns : List Value) (shapes : model.FieldShapes) (r : Result (Unit {0}) ShapeRefusal) → ns ≡ names.items → IfErr r (λ e. Tells e (unless (are_texts (trees.elements_view ns) && are_new (texts_among (trees.elements_view ns)) shapes) NotAShape)) → IfErr r (λ e. NoneNeeded shapes → Tells e (required_faults (Some (trees.view (value.Array names)))))
 required_err names ns shapes (Ok u) same told = tt
 required_err names ns shapes (Err e) same told = λ none.
-    told_same e _ _ (required_refused e (trees.elements_view ns) shapes none told) (sym (ap (λ t. required_faults (Some t)) (view_array names ∙ ap (λ ts. json.Array (trees.elements_view ts)) (sym same))))
+    told_same e _ _ (required_refused e (trees.elements_view ns) shapes none told) (sym (ap (λ t. required_faults (Some t)) (view_items names ∙ ap (λ ts. json.Array (trees.elements_view ts)) (sym same))))
 
-pub element_told : (e : ShapeRefusal) (all left rest : List Tree) (t : Tree) → element_faults (trees.elements_view all) ≡ element_faults (trees.elements_view left) → left ≡ t ∷ rest → Tells e (shape_faults (trees.view t)) → Tells e (element_faults (trees.elements_view all))
+pub element_told : (e : ShapeRefusal) (all left rest : List Value) (t : Value) → element_faults (trees.elements_view all) ≡ element_faults (trees.elements_view left) → left ≡ t ∷ rest → Tells e (shape_faults (trees.view t)) → Tells e (element_faults (trees.elements_view all))
 element_told e all left rest t so_far split told =
     told_same e _ _ (told_left e (shape_faults (trees.view t)) (element_faults (trees.elements_view rest)) told) (sym (so_far ∙ ap (λ ts. element_faults (trees.elements_view ts)) split))
 

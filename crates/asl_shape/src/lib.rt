@@ -1,7 +1,8 @@
 //! Shapes of trees: reading them, membership, and comparing them.
 //!
 //! A [`Shape`] says which trees are meant (a subset of JSON Schema 2020-12). [`read`] makes one of the tree that spells
-//! it, [`has`] tests a tree, [`inhabited`] whether there is one at all, [`sub`] whether one shape is inside another.
+//! it, [`read_value`] of the JSON value that this tree is, [`has`] tests a tree, [`inhabited`] whether there is one at
+//! all, [`sub`] whether one shape is inside another.
 #![tactic(auto)]
 
 ghost use Rattle.std.specs.Prelude.{◌≡◌};
@@ -14,10 +15,11 @@ mod shape;
 #[cfg(test)]
 mod tests;
 
+use asl_tree::OutOfMemory;
 pub use comparing::sub;
 pub use inhabiting::inhabited;
 pub use membership::has;
-pub use reading::read;
+pub use reading::{read, read_value};
 pub use shape::{Field, Shape};
 use std::alloc::{AllocError, AllocFailed};
 
@@ -52,6 +54,16 @@ impl<T: Drop> From<AllocFailed<T>> for ShapeRefusal {
     ghost from_gives = { λ _ refusal. refusal ≡ ShapeRefusal.OutOfMemory };
 
     fn from(_error: AllocFailed<T>) -> ShapeRefusal {
+        ShapeRefusal::OutOfMemory
+    }
+}
+
+impl From<OutOfMemory> for ShapeRefusal {
+    ghost use Rattle.asl_shape.specs.declared.ShapeRefusal.{ShapeRefusal};
+
+    ghost from_gives = { λ _ refusal. refusal ≡ ShapeRefusal.OutOfMemory };
+
+    fn from(_error: OutOfMemory) -> ShapeRefusal {
         ShapeRefusal::OutOfMemory
     }
 }

@@ -6,7 +6,12 @@ ghost use Rattle.asl_shape.specs.Required.{NoneNeeded, are_new, is_needed};
 ghost use Rattle.asl_shape.specs.Refusal.{Tells};
 ghost use Rattle.asl_shape.specs.View.{view, shapes_view, fields_view};
 ghost use Rattle.asl_shape.specs.Words.{word_view};
-ghost use Rattle.asl_tree.specs.View as trees;
+ghost use Rattle.asl_shape.specs.Spelled as trees;
+ghost use Rattle.asl_shape.specs.Spelled.{spelled};
+ghost use Rattle.asl_tree.specs.View.{view as tree_view};
+ghost use Rattle.asl_model.specs.Json.{tree_of};
+ghost use Rattle.serde_json.specs.Data.{number};
+ghost use Rattle.serde_json.specs.View.{view as value_view, number_view};
 ghost use Rattle.std.specs.List.{Contains};
 ghost use Rattle.std.specs.Ordering.{int_eq};
 ghost use Rattle.asl_shape.specs.declared.ShapeRefusal.{ShapeRefusal};
@@ -15,6 +20,7 @@ ghost use Rattle.std.specs.Prelude.{◌≡◌, ◌&&◌, [], IsTrue, not, map, c
 use crate::ShapeRefusal;
 use crate::shape::{Field, Shape};
 use asl_tree::Tree;
+use serde_json::{Map, Number, Value};
 use std::alloc::Global;
 use std::collections::BTreeMap;
 
@@ -95,35 +101,48 @@ enum TypeWord {
 ///
 /// Where several refusals stand in a tree, the answer is one of them.
 pub fn read(alloc: Global, tree: &Tree) -> Result<Shape, ShapeRefusal>
-    ensures spelled { IfOk result (λ s. model.SpellsShape (trees.view tree.now) (view s)) }
+    ensures spelled { IfOk result (λ s. model.SpellsShape (tree_view tree.now) (view s)) }
     ensures not_a_shape { result ≡ Err ShapeRefusal.NotAShape
-        → model.HasShapeFault (trees.view tree.now) model.NotAShape }
+        → model.HasShapeFault (tree_view tree.now) model.NotAShape }
     ensures keyword { result ≡ Err ShapeRefusal.Keyword
-        → model.HasShapeFault (trees.view tree.now) model.Keyword }
+        → model.HasShapeFault (tree_view tree.now) model.Keyword }
     ensures bad_type { result ≡ Err ShapeRefusal.BadType
-        → model.HasShapeFault (trees.view tree.now) model.BadType }
+        → model.HasShapeFault (tree_view tree.now) model.BadType }
     ensures min_items { result ≡ Err ShapeRefusal.MinItems
-        → model.HasShapeFault (trees.view tree.now) model.MinItems }
+        → model.HasShapeFault (tree_view tree.now) model.MinItems }
 {
-    read_tree(alloc, tree)
+    let value = asl_tree::to_value(alloc, tree)?;
+    read_spelling(alloc, &value)
+}
+
+/// The shape that the tree spells that a JSON value is, as [`read`] tells it, with no tree made of it.
+///
+/// Of a value with a number that isn't whole, which is no tree, the answer says nothing.
+pub fn read_value(alloc: Global, value: &Value) -> Result<Shape, ShapeRefusal>
+    ensures spelled { IfOk result (λ s. (t : json.Tree) → tree_of (value_view value.now) ≡ Some t → model.SpellsShape t (view s)) }
+    ensures refused { IfErr result (λ e. (t : json.Tree) → tree_of (value_view value.now) ≡ Some t → Tells e (model.shape_faults t)) }
+{
+    read_spelling(alloc, value)
 }
 
 #[cycle(read)]
-fn read_tree(alloc: Global, tree: &Tree) -> Result<Shape, ShapeRefusal>
-    ensures spelled { IfOk result (λ s. model.SpellsShape (trees.view tree.now) (view s)) }
-    ensures refused { IfErr result (λ e. Tells e (model.shape_faults (trees.view tree.now))) }
+fn read_spelling(alloc: Global, value: &Value) -> Result<Shape, ShapeRefusal>
+    ensures spelled { IfOk result (λ s. model.SpellsShape (trees.view value.now) (view s)) }
+    ensures refused { IfErr result (λ e. Tells e (model.shape_faults (trees.view value.now))) }
 {
-    match tree {
-        Tree::Bool(true) => Ok(Shape::Any),
-        Tree::Bool(false) => Ok(Shape::Never),
-        Tree::Object(keywords) => read_keywords(alloc, keywords),
-        Tree::Null | Tree::Int(_) | Tree::Text(_) | Tree::List(_) => Err(ShapeRefusal::NotAShape),
+    match value {
+        Value::Bool(true) => Ok(Shape::Any),
+        Value::Bool(false) => Ok(Shape::Never),
+        Value::Object(keywords) => read_keywords(alloc, keywords),
+        Value::Null | Value::Number(_) | Value::String(_) | Value::Array(_) => {
+            Err(ShapeRefusal::NotAShape)
+        }
     }
 }
 
 // The shape that an object of keywords spells.
 #[cycle(read)]
-fn read_keywords(alloc: Global, keywords: &BTreeMap<String, Tree>) -> Result<Shape, ShapeRefusal>
+fn read_keywords(alloc: Global, keywords: &Map<String, Value>) -> Result<Shape, ShapeRefusal>
     ensures spelled { IfOk result (λ s. model.SpellsShape (json.Object (trees.entries_view keywords.now.entries)) (view s)) }
     ensures refused { IfErr result (λ e. Tells e (model.shape_faults (json.Object (trees.entries_view keywords.now.entries)))) }
 {
@@ -147,7 +166,7 @@ fn read_keywords(alloc: Global, keywords: &BTreeMap<String, Tree>) -> Result<Sha
 }
 
 #[tactic(auto, using(crate::proofs::Lookups::field_named_lookup_by))]
-fn type_word(keywords: &BTreeMap<String, Tree>) -> TypeWord
+fn type_word(keywords: &Map<String, Value>) -> TypeWord
     ensures { word_view result ≡ model.type_word_of (trees.entries_view keywords.now.entries) }
 {
     match keywords.get("type") {
@@ -156,13 +175,13 @@ fn type_word(keywords: &BTreeMap<String, Tree>) -> TypeWord
     }
 }
 
-fn type_in(value: &Tree) -> TypeWord
+fn type_in(value: &Value) -> TypeWord
     ensures { word_view result ≡ model.type_in (Some (trees.view value.now)) }
 {
     match value {
-        Tree::Text(word) => word_of(word),
-        Tree::List(_) => TypeWord::Other,
-        Tree::Null | Tree::Bool(_) | Tree::Int(_) | Tree::Object(_) => TypeWord::NoWord,
+        Value::String(word) => word_of(word),
+        Value::Array(_) => TypeWord::Other,
+        Value::Null | Value::Bool(_) | Value::Number(_) | Value::Object(_) => TypeWord::NoWord,
     }
 }
 
@@ -181,7 +200,7 @@ fn word_of(word: &str) -> TypeWord
 }
 
 // Whether each of the keywords is one of those.
-fn all_among(keywords: &BTreeMap<String, Tree>, known: &[&str]) -> bool
+fn all_among(keywords: &Map<String, Value>, known: &[&str]) -> bool
     ensures known { IsTrue result
         → (fault : model.ShapeFault)
         → model.foreign_faults
@@ -218,7 +237,7 @@ fn is_among(keyword: &str, known: &[&str]) -> bool
 }
 
 // The simple shape, if each keyword belongs to a type without keywords of its own.
-fn simple(keywords: &BTreeMap<String, Tree>, shape: Shape) -> Result<Shape, ShapeRefusal>
+fn simple(keywords: &Map<String, Value>, shape: Shape) -> Result<Shape, ShapeRefusal>
     ensures right { IfOk result (λ s. s ≡ shape) }
     ensures known { IfOk result (λ _. model.foreign_faults model.Keyword model.simple_keywords (trees.entries_view keywords.now.entries) ≡ []) }
     ensures refused { IfErr result (λ e. Tells e (model.foreign_faults model.Keyword model.simple_keywords (trees.entries_view keywords.now.entries))) }
@@ -232,7 +251,7 @@ fn simple(keywords: &BTreeMap<String, Tree>, shape: Shape) -> Result<Shape, Shap
 
 #[tactic(auto, using(crate::proofs::Telling::told_left, crate::proofs::Telling::told_right))]
 #[cycle(read)]
-fn read_array(alloc: Global, keywords: &BTreeMap<String, Tree>) -> Result<Shape, ShapeRefusal>
+fn read_array(alloc: Global, keywords: &Map<String, Value>) -> Result<Shape, ShapeRefusal>
     ensures spelled { IfOk result (λ s. model.type_word_of (trees.entries_view keywords.now.entries) ≡ model.OfArray → model.SpellsShape (json.Object (trees.entries_view keywords.now.entries)) (view s)) }
     ensures refused { IfErr result (λ e. model.type_word_of (trees.entries_view keywords.now.entries) ≡ model.OfArray → Tells e (model.shape_faults (json.Object (trees.entries_view keywords.now.entries)))) }
 {
@@ -253,7 +272,7 @@ fn read_array(alloc: Global, keywords: &BTreeMap<String, Tree>) -> Result<Shape,
 #[cycle(read)]
 fn read_prefix_items(
     alloc: Global,
-    keywords: &BTreeMap<String, Tree>,
+    keywords: &Map<String, Value>,
 ) -> Result<Vec<Shape>, ShapeRefusal>
     ensures right { IfOk result (λ _. model.shapes_faults_under (codes "prefixItems") (trees.entries_view keywords.now.entries) ≡ []) }
     ensures shapes { IfOk result (λ v. shapes_view v.items ≡ model.shapes_under (codes "prefixItems") (trees.entries_view keywords.now.entries)) }
@@ -267,15 +286,15 @@ fn read_prefix_items(
 }
 
 #[cycle(read)]
-fn read_shapes(alloc: Global, value: &Tree) -> Result<Vec<Shape>, ShapeRefusal>
+fn read_shapes(alloc: Global, value: &Value) -> Result<Vec<Shape>, ShapeRefusal>
     ensures right { IfOk result (λ _. model.shapes_faults (trees.view value.now) ≡ []) }
     ensures shapes { IfOk result (λ v. shapes_view v.items ≡ model.shapes_of (trees.view value.now)) }
     ensures count { IfOk result (λ v. length v.items ≡ model.element_count (Some (trees.view value.now))) }
     ensures refused { IfErr result (λ e. Tells e (model.shapes_faults (trees.view value.now))) }
 {
     match value {
-        Tree::List(elements) => read_elements(alloc, elements),
-        Tree::Null | Tree::Bool(_) | Tree::Int(_) | Tree::Text(_) | Tree::Object(_) => {
+        Value::Array(elements) => read_elements(alloc, elements),
+        Value::Null | Value::Bool(_) | Value::Number(_) | Value::String(_) | Value::Object(_) => {
             Err(ShapeRefusal::NotAShape)
         }
     }
@@ -283,7 +302,7 @@ fn read_shapes(alloc: Global, value: &Tree) -> Result<Vec<Shape>, ShapeRefusal>
 
 #[tactic(auto, using(crate::proofs::Spellings::shapes_read, crate::proofs::Spellings::count_read, crate::proofs::Telling::told_left))]
 #[cycle(read)]
-fn read_elements(alloc: Global, elements: &[Tree]) -> Result<Vec<Shape>, ShapeRefusal>
+fn read_elements(alloc: Global, elements: &[Value]) -> Result<Vec<Shape>, ShapeRefusal>
     ensures right { IfOk result (λ _. model.element_faults (trees.elements_view elements.now) ≡ []) }
     ensures shapes { IfOk result (λ v. shapes_view v.items ≡ model.element_shapes (trees.elements_view elements.now)) }
     ensures count { IfOk result (λ v. length v.items ≡ count (trees.elements_view elements.now)) }
@@ -291,7 +310,7 @@ fn read_elements(alloc: Global, elements: &[Tree]) -> Result<Vec<Shape>, ShapeRe
 {
     let mut shapes = Vec::with_capacity(alloc, elements.len())?;
     for element in elements {
-        shapes.push(read_tree(alloc, element)?)?;
+        shapes.push(read_spelling(alloc, element)?)?;
     }
     Ok(shapes)
 }
@@ -299,20 +318,20 @@ fn read_elements(alloc: Global, elements: &[Tree]) -> Result<Vec<Shape>, ShapeRe
 // The shape that `items` spells.
 #[tactic(auto, using(crate::proofs::Lookups::field_named_lookup_by, crate::proofs::Unders::shape_under_field_named, crate::proofs::Unders::shape_faults_under_field_named))]
 #[cycle(read)]
-fn read_items(alloc: Global, keywords: &BTreeMap<String, Tree>) -> Result<Shape, ShapeRefusal>
+fn read_items(alloc: Global, keywords: &Map<String, Value>) -> Result<Shape, ShapeRefusal>
     ensures right { IfOk result (λ _. model.shape_faults_under (codes "items") (trees.entries_view keywords.now.entries) ≡ []) }
     ensures shape { IfOk result (λ s. view s ≡ model.shape_under (codes "items") (trees.entries_view keywords.now.entries)) }
     ensures refused { IfErr result (λ e. Tells e (model.shape_faults_under (codes "items") (trees.entries_view keywords.now.entries))) }
 {
     match keywords.get("items") {
         None => Ok(Shape::Any),
-        Some(tree) => read_tree(alloc, tree),
+        Some(tree) => read_spelling(alloc, tree),
     }
 }
 
 // Refuses a `minItems` other than the number of the shapes in `prefixItems`.
 #[tactic(auto, using(crate::proofs::Lookups::field_named_lookup_by))]
-fn check_min_items(keywords: &BTreeMap<String, Tree>, count: usize) -> Result<(), ShapeRefusal>
+fn check_min_items(keywords: &Map<String, Value>, count: usize) -> Result<(), ShapeRefusal>
     ensures right { IfOk result
         (λ _. model.min_items_faults (field_named (codes "minItems") (trees.entries_view keywords.now.entries)) count ≡ []) }
     ensures refused { IfErr result
@@ -324,26 +343,38 @@ fn check_min_items(keywords: &BTreeMap<String, Tree>, count: usize) -> Result<()
     }
 }
 
-fn check_stated(value: &Tree, count: usize) -> Result<(), ShapeRefusal>
+fn check_stated(value: &Value, count: usize) -> Result<(), ShapeRefusal>
     ensures right { IfOk result
         (λ _. model.min_items_faults (Some (trees.view value.now)) count ≡ []) }
     ensures refused { IfErr result
         (λ e. Tells e (model.min_items_faults (Some (trees.view value.now)) count)) }
 {
     match value {
-        Tree::Int(stated) => check_count(*stated, count),
-        Tree::Null | Tree::Bool(_) | Tree::Text(_) | Tree::List(_) | Tree::Object(_) => {
+        Value::Number(stated) => check_number(stated, count),
+        Value::Null | Value::Bool(_) | Value::String(_) | Value::Array(_) | Value::Object(_) => {
             Err(ShapeRefusal::NotAShape)
         }
     }
 }
 
-fn check_count(stated: i64, count: usize) -> Result<(), ShapeRefusal>
+fn check_number(stated: &Number, count: usize) -> Result<(), ShapeRefusal>
+    ensures right { IfOk result
+        (λ _. model.min_items_faults (Some (spelled (number (number_view stated.now)))) count ≡ []) }
+    ensures refused { IfErr result
+        (λ e. Tells e (model.min_items_faults (Some (spelled (number (number_view stated.now)))) count)) }
+{
+    match stated.as_i128() {
+        Some(stated) => check_count(stated, count),
+        None => Err(ShapeRefusal::NotAShape),
+    }
+}
+
+fn check_count(stated: i128, count: usize) -> Result<(), ShapeRefusal>
     ensures right { IfOk result (λ _. int_eq stated (pos count) ≡ true) }
     ensures refused { IfErr result
         (λ e. e ≡ ShapeRefusal.MinItems × (int_eq stated (pos count) ≡ false)) }
 {
-    if stated >= 0 && stated as u64 == count as u64 {
+    if stated >= 0 && stated as u128 == count as u128 {
         Ok(())
     } else {
         Err(ShapeRefusal::MinItems)
@@ -352,7 +383,7 @@ fn check_count(stated: i64, count: usize) -> Result<(), ShapeRefusal>
 
 #[tactic(auto, using(crate::proofs::Telling::told_left, crate::proofs::Telling::told_right))]
 #[cycle(read)]
-fn read_object(alloc: Global, keywords: &BTreeMap<String, Tree>) -> Result<Shape, ShapeRefusal>
+fn read_object(alloc: Global, keywords: &Map<String, Value>) -> Result<Shape, ShapeRefusal>
     ensures spelled { IfOk result (λ s. model.type_word_of (trees.entries_view keywords.now.entries) ≡ model.OfObject → model.SpellsShape (json.Object (trees.entries_view keywords.now.entries)) (view s)) }
     ensures refused { IfErr result (λ e. model.type_word_of (trees.entries_view keywords.now.entries) ≡ model.OfObject → Tells e (model.shape_faults (json.Object (trees.entries_view keywords.now.entries)))) }
 {
@@ -367,7 +398,7 @@ fn read_object(alloc: Global, keywords: &BTreeMap<String, Tree>) -> Result<Shape
 
 // Whether other fields may be there, as `additionalProperties` says.
 #[tactic(auto, using(crate::proofs::Lookups::field_named_lookup_by))]
-fn read_additional(keywords: &BTreeMap<String, Tree>) -> Result<bool, ShapeRefusal>
+fn read_additional(keywords: &Map<String, Value>) -> Result<bool, ShapeRefusal>
     ensures right { IfOk result (λ _. model.extra_faults (field_named (codes "additionalProperties") (trees.entries_view keywords.now.entries)) ≡ []) }
     ensures extra { IfOk result (λ extra. extra ≡ model.extra_in (field_named (codes "additionalProperties") (trees.entries_view keywords.now.entries))) }
     ensures refused { IfErr result (λ e. Tells e (model.extra_faults (field_named (codes "additionalProperties") (trees.entries_view keywords.now.entries)))) }
@@ -378,14 +409,14 @@ fn read_additional(keywords: &BTreeMap<String, Tree>) -> Result<bool, ShapeRefus
     }
 }
 
-fn truth_value(value: &Tree) -> Result<bool, ShapeRefusal>
+fn truth_value(value: &Value) -> Result<bool, ShapeRefusal>
     ensures right { IfOk result (λ _. model.extra_faults (Some (trees.view value.now)) ≡ []) }
     ensures extra { IfOk result (λ extra. extra ≡ model.extra_in (Some (trees.view value.now))) }
     ensures refused { IfErr result (λ e. Tells e (model.extra_faults (Some (trees.view value.now)))) }
 {
     match value {
-        Tree::Bool(extra) => Ok(*extra),
-        Tree::Null | Tree::Int(_) | Tree::Text(_) | Tree::List(_) | Tree::Object(_) => {
+        Value::Bool(extra) => Ok(*extra),
+        Value::Null | Value::Number(_) | Value::String(_) | Value::Array(_) | Value::Object(_) => {
             Err(ShapeRefusal::NotAShape)
         }
     }
@@ -396,7 +427,7 @@ fn truth_value(value: &Tree) -> Result<bool, ShapeRefusal>
 #[cycle(read)]
 fn read_properties(
     alloc: Global,
-    keywords: &BTreeMap<String, Tree>,
+    keywords: &Map<String, Value>,
 ) -> Result<BTreeMap<String, Field>, ShapeRefusal>
     ensures right { IfOk result (λ _. model.properties_faults_under (codes "properties") (trees.entries_view keywords.now.entries) ≡ []) }
     ensures fields { IfOk result (λ m. fields_view m.entries ≡ model.properties_under (codes "properties") (trees.entries_view keywords.now.entries)) }
@@ -409,14 +440,14 @@ fn read_properties(
 }
 
 #[cycle(read)]
-fn read_fields(alloc: Global, value: &Tree) -> Result<BTreeMap<String, Field>, ShapeRefusal>
+fn read_fields(alloc: Global, value: &Value) -> Result<BTreeMap<String, Field>, ShapeRefusal>
     ensures right { IfOk result (λ _. model.properties_faults (trees.view value.now) ≡ []) }
     ensures fields { IfOk result (λ m. fields_view m.entries ≡ model.properties_of (trees.view value.now)) }
     ensures refused { IfErr result (λ e. Tells e (model.properties_faults (trees.view value.now))) }
 {
     match value {
-        Tree::Object(members) => read_members(alloc, members),
-        Tree::Null | Tree::Bool(_) | Tree::Int(_) | Tree::Text(_) | Tree::List(_) => {
+        Value::Object(members) => read_members(alloc, members),
+        Value::Null | Value::Bool(_) | Value::Number(_) | Value::String(_) | Value::Array(_) => {
             Err(ShapeRefusal::NotAShape)
         }
     }
@@ -425,7 +456,7 @@ fn read_fields(alloc: Global, value: &Tree) -> Result<BTreeMap<String, Field>, S
 #[cycle(read)]
 fn read_members(
     alloc: Global,
-    members: &BTreeMap<String, Tree>,
+    members: &Map<String, Value>,
 ) -> Result<BTreeMap<String, Field>, ShapeRefusal>
     ensures right { IfOk result (λ _. model.field_faults (trees.entries_view members.now.entries) ≡ []) }
     ensures fields { IfOk result (λ m. fields_view m.entries ≡ model.field_shapes (trees.entries_view members.now.entries)) }
@@ -434,7 +465,7 @@ fn read_members(
     let mut fields = BTreeMap::new(alloc);
     for (name, member) in members.iter() {
         let name = name.clone()?;
-        let shape = read_tree(alloc, member)?;
+        let shape = read_spelling(alloc, member)?;
         let field = Field {
             needed: false,
             shape,
@@ -447,7 +478,7 @@ fn read_members(
 // Makes the fields needed that `required` names; those that aren't mentioned are added.
 #[tactic(auto, using(crate::proofs::Lookups::field_named_lookup_by))]
 fn read_required(
-    keywords: &BTreeMap<String, Tree>,
+    keywords: &Map<String, Value>,
     extra: bool,
     fields: &mut BTreeMap<String, Field>,
 ) -> Result<(), ShapeRefusal>
@@ -465,7 +496,7 @@ fn read_required(
 
 #[tactic(auto, using(crate::proofs::Spellings::required_right, crate::proofs::Spellings::required_refused))]
 fn require_list(
-    value: &Tree,
+    value: &Value,
     extra: bool,
     fields: &mut BTreeMap<String, Field>,
 ) -> Result<(), ShapeRefusal>
@@ -476,15 +507,15 @@ fn require_list(
     ensures refused { IfErr result (λ e. NoneNeeded (fields_view fields.old.entries) → Tells e (model.required_faults (Some (trees.view value.now)))) }
 {
     match value {
-        Tree::List(names) => require_all(names, extra, fields),
-        Tree::Null | Tree::Bool(_) | Tree::Int(_) | Tree::Text(_) | Tree::Object(_) => {
+        Value::Array(names) => require_all(names, extra, fields),
+        Value::Null | Value::Bool(_) | Value::Number(_) | Value::String(_) | Value::Object(_) => {
             Err(ShapeRefusal::NotAShape)
         }
     }
 }
 
 fn require_all(
-    names: &[Tree],
+    names: &[Value],
     extra: bool,
     fields: &mut BTreeMap<String, Field>,
 ) -> Result<(), ShapeRefusal>
@@ -498,10 +529,11 @@ fn require_all(
 {
     for name in names {
         match name {
-            Tree::Text(name) => require(name, extra, fields)?,
-            Tree::Null | Tree::Bool(_) | Tree::Int(_) | Tree::List(_) | Tree::Object(_) => {
-                return Err(ShapeRefusal::NotAShape);
-            }
+            Value::String(name) => require(name, extra, fields)?,
+            Value::Null | Value::Bool(_) | Value::Number(_) | Value::Array(_) | Value::Object(_) =>
+                {
+                    return Err(ShapeRefusal::NotAShape);
+                }
         }
     }
     Ok(())

@@ -2,7 +2,7 @@
 //!
 //! A [`Tree`] is any JSON value whose numbers are whole and fit an `i64` (RFC 8259; States Language, "Data").
 //! [`read`] makes one of a text, [`to_text`] writes it as compact JSON, [`copy`] and [`same`] copy and compare,
-//! [`is_whole`] tests whether a JSON value is one.
+//! [`is_whole`] tests whether a JSON value is one, [`to_value`] makes that value of a tree.
 #![tactic(auto)]
 
 ghost use Rattle.std.specs.Prelude.{◌≡◌};
@@ -22,7 +22,7 @@ pub use comparing::same;
 pub use copying::copy;
 pub use reading::{from_value, read, read_value};
 pub use wholeness::is_whole;
-pub use writing::to_text;
+pub use writing::{to_text, to_value};
 
 /// A JSON value whose numbers are whole.
 #[derive(Debug, Drop)]

@@ -18,8 +18,9 @@ pub fn to_text(alloc: Global, tree: &Tree) -> Result<String, OutOfMemory>
     Ok(value.to_string(alloc)?)
 }
 
+/// The JSON value that `tree` is. Refuses only where an allocation was refused.
 #[cycle(unbuild)]
-fn to_value(alloc: Global, tree: &Tree) -> Result<Value, OutOfMemory>
+pub fn to_value(alloc: Global, tree: &Tree) -> Result<Value, OutOfMemory>
     ensures { IfOk result (λ v. json_view v ≡ value_of (view tree.now)) }
 {
     match tree {

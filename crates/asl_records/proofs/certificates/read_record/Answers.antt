@@ -3,7 +3,6 @@ use Rattle.serde_json.specs.View.{view, members_view}
 use Rattle.asl_model.specs.Records.{certificate_rows, object_complaints, entries_complaints, members_under}
 use Rattle.asl_records.specs.Parts.{field_complaints, shape_row, entries_row, version_row, served_rows, members_there}
 use Rattle.asl_records.proofs.Telling.{told_left, told_same, handed_on}
-use Rattle.asl_records.proofs.Numbers.{found_whole}
 use Rattle.asl_records.proofs.Certified.{others_told, version_told, output_told, states_told, none_wrong}
 use Rattle.asl_records.proofs.certificates.read_record.Goals as goal
 
@@ -19,9 +18,6 @@ returns-in_err-check_fields-clause-refused c =
     let f = c.in_err-check_fields.field-0.0 in
     handed_on c.from_residual-in_err-check_fields.result f _ c.from_residual-in_err-check_fields.ensures.1
     (others_told (view c.args.value) (members_view c.in_ok-fields.fields.entries) f c.in_ok-fields.ensures.members c.in_err-check_fields.ensures.refused)
-
-pub check_version-requires : goal.check_version-requires
-check_version-requires c = found_whole (view c.args.value) (members_view c.in_ok-fields.fields.entries) (codes "version") c.take.result c.requires c.in_ok-fields.ensures.members c.take.ensures.value
 
 pub returns-in_err-check_version-clause-refused : goal.returns-in_err-check_version-clause-refused
 returns-in_err-check_version-clause-refused c =

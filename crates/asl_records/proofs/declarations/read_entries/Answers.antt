@@ -1,12 +1,12 @@
 use Rattle.asl_model.specs.Records.{task_rows, task_from}
 use Rattle.asl_records.specs.View.{task_view}
 use Rattle.asl_records.proofs.Members.{Member}
-use Rattle.asl_records.proofs.Entries.{begun, gone_on, next_told, none_wrong, all_read}
+use Rattle.asl_records.proofs.Entries.{begun, next_whole, gone_on, next_told, none_wrong, all_read}
 use Rattle.asl_records.proofs.Telling.{handed_on}
 use Rattle.asl_records.proofs.declarations.read_entries.Goals as goal
 
 pub loop-name-init : goal.loop-name-init
-loop-name-init c = begun task_view task_rows task_from c.args.entries.entries c.into_iter-name-iterator.result c.new-tasks.result.entries c.into_iter-name-iterator.ensures.into_iter_gives.0 c.new-tasks.ensures.empty
+loop-name-init c = begun task_view task_rows task_from c.args.entries.entries c.into_iter-name-iterator.result c.new-tasks.result.entries c.requires c.into_iter-name-iterator.ensures.into_iter_gives.0 c.new-tasks.ensures.empty
 
 pub returns-in_err-shapes-clause-refused : goal.returns-in_err-shapes-clause-refused
 returns-in_err-shapes-clause-refused c =
@@ -25,3 +25,8 @@ returns-clause-right c = none_wrong task_view task_rows task_from c.args.entries
 
 pub returns-clause-tasks : goal.returns-clause-tasks
 returns-clause-tasks c = all_read task_view task_rows task_from c.args.entries.entries c.loop-name.name-iterator c.loop-name.tasks.entries c.loop-name.invariant c.in-None.ensures.steps.0
+
+pub read_task-requires : goal.read_task-requires
+read_task-requires c =
+    let e : Member = (c.in-Some.name, c.in-Some.task) in
+    next_whole task_view task_rows task_from c.args.entries.entries c.loop-name.name-iterator c.next.new.self c.loop-name.tasks.entries e c.loop-name.invariant c.in-Some.ensures.steps

@@ -6,4 +6,4 @@ use Rattle.asl_records.proofs.fields.entries.Goals as goal
 pub returns : goal.returns
 returns c =
     let none = no_object c.args.value c.in-Null.is in
-    record { members = tt; refused = rw none (c.record.ensures WrongKind refl) }
+    record { members = tt; whole = tt; refused = rw none (c.record.ensures WrongKind refl) }

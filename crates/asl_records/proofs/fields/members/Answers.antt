@@ -6,4 +6,4 @@ use Rattle.asl_records.proofs.fields.members.Goals as goal
 pub returns : goal.returns
 returns c =
     let none = no_object c.args.value c.in-Null.is in
-    record { members = tt; refused = λ rows. rw none (c.record.ensures NotObject refl) }
+    record { members = tt; whole = tt; refused = λ rows. rw none (c.record.ensures NotObject refl) }

@@ -8,14 +8,14 @@ use Rattle.std.proofs.lemmas.List.{take_all}
 use Rattle.std.proofs.lemmas.Result.{err_from_is_err_and}
 use Rattle.asl_model.specs.Tree.{field_named}
 use Rattle.asl_model.specs.Shape as shape
-use Rattle.asl_tree.specs.declared.Tree.{Tree}
+use Rattle.serde_json.specs.declared.value.Value.{Value}
 use Rattle.asl_shape.specs.declared.shape.Shape.TheViews.{roll-Field}
 use Rattle.asl_shape.specs.View.{view, fields_view}
 use Rattle.asl_shape.proofs.Lookups.{field_named_lookup_by}
 use Rattle.asl_shape.proofs.Spellings.{shapes_read, count_read, element_told, member_told, member_read, faults_step, none_needed}
 use Rattle.asl_shape.proofs.Unders.{shape_under_field_named}
 use Rattle.asl_model.specs.ShapeSpelling as model
-use Rattle.asl_tree.specs.View as trees
+use Rattle.asl_shape.specs.Spelled as trees
 use Rattle.asl_shape.specs.declared.ShapeRefusal.TheVariants.{Keyword, BadType}
 use Rattle.asl_shape.proofs.Keywords.{array_faults, object_faults, spelled_by, refused_by, array_spelled, object_spelled}
 use Rattle.asl_shape.proofs.Telling.{told_left, told_right}
@@ -82,18 +82,18 @@ pub read_elements-returns-clause-count : goal.read_elements-returns-clause-count
 read_elements-returns-clause-count t c =
     count_read c.loop-element.shapes.items c.args.elements.now (c.loop-element.invariant.1 ∙ ap (map (λ x. model.shape_of (trees.view x))) (take_all c.loop-element.element-index c.args.elements.now c.loop-element-test.false))
 
-pub read_elements-returns-in_err-read_tree-clause-refused : goal.read_elements-returns-in_err-read_tree-clause-refused
-read_elements-returns-in_err-read_tree-clause-refused t c =
+pub read_elements-returns-in_err-read_spelling-clause-refused : goal.read_elements-returns-in_err-read_spelling-clause-refused
+read_elements-returns-in_err-read_spelling-clause-refused t c =
     let i = c.loop-element.element-index in
     let elements = c.args.elements.now in
     let item = c.element-item.result in
     let split : drop i elements ≡ item ∷ drop (i + 1) elements = grind (arith, common_steps) in
-    let p = err_from_is_err_and c.from_residual-in_err-read_tree.result c.from_residual-in_err-read_tree.ensures.1 in
-    rw (p.1, p.2) (element_told c.in_err-read_tree.field-0.0 elements (drop i elements) (drop (i + 1) elements) item c.loop-element.invariant.0 split c.in_err-read_tree.ensures.refused)
+    let p = err_from_is_err_and c.from_residual-in_err-read_spelling.result c.from_residual-in_err-read_spelling.ensures.1 in
+    rw (p.1, p.2) (element_told c.in_err-read_spelling.field-0.0 elements (drop i elements) (drop (i + 1) elements) item c.loop-element.invariant.0 split c.in_err-read_spelling.ensures.refused)
 
 pub read_members-returns-in_err-shape-clause-refused : goal.read_members-returns-in_err-shape-clause-refused
 read_members-returns-in_err-shape-clause-refused t c =
-    let e : String Global × Tree = (c.in-Some.name.now, c.in-Some.member.now) in
+    let e : String Global × Value = (c.in-Some.name.now, c.in-Some.member.now) in
     let p = err_from_is_err_and c.from_residual-in_err-shape.result c.from_residual-in_err-shape.ensures.1 in
     rw (p.1, p.2) (member_told c.in_err-shape.field-0.0 c.args.members.now.entries c.loop-name.name-iterator c.next.new.self e c.loop-name.invariant.0 c.in-Some.ensures.steps c.in_err-shape.ensures.refused)
 
@@ -101,7 +101,7 @@ pub read_members-loop-name-preserved : goal.read_members-loop-name-preserved
 read_members-loop-name-preserved t c =
     let l = c.loop-name in
     let done = l.invariant.1.0 in
-    let e : String Global × Tree = (c.in-Some.name.now, c.in-Some.member.now) in
+    let e : String Global × Value = (c.in-Some.name.now, c.in-Some.member.now) in
     let left = c.next.new.self in
     let all : c.args.members.now.entries ≡ done ++ e ∷ left = l.invariant.1.1 ∙ ap (λ es. done ++ es) c.in-Some.ensures.steps in
     let sorted = subst (λ es. IsStrictlySortedBy string_cmp (keys_of es)) all c.iter-name-items.ensures.ordered in

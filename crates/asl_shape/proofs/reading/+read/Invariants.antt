@@ -1,8 +1,8 @@
 use Rattle.std.proofs.Common.{◌≡◌, List, ◌++◌, String, map, take, drop}
 use Rattle.std.specs.declared.alloc.Global.{Global}
 use Rattle.asl_model.specs.ShapeSpelling as model
-use Rattle.asl_tree.specs.declared.Tree.{Tree}
-use Rattle.asl_tree.specs.View as trees
+use Rattle.serde_json.specs.declared.value.Value.{Value}
+use Rattle.asl_shape.specs.Spelled as trees
 use Rattle.asl_shape.specs.View.{view, fields_view}
 use Rattle.asl_shape.proofs.reading.+read.Given as goal
 
@@ -14,4 +14,4 @@ invariant-read_elements-loop-element l =
 abbrev pub invariant-read_members-loop-name : goal.invariant-read_members-loop-name
 invariant-read_members-loop-name l =
     (model.field_faults (trees.entries_view l.members.entries) ≡ model.field_faults (trees.entries_view l.name-iterator))
-    × ((done : List (String Global × Tree)) × (l.members.entries ≡ done ++ l.name-iterator) × (fields_view l.fields.entries ≡ model.field_shapes (trees.entries_view done)))
+    × ((done : List (String Global × Value)) × (l.members.entries ≡ done ++ l.name-iterator) × (fields_view l.fields.entries ≡ model.field_shapes (trees.entries_view done)))

@@ -1,6 +1,6 @@
 use Rattle.std.proofs.Common.{◌≡◌, map}
 use Rattle.asl_model.specs.ShapeSpelling as model
-use Rattle.asl_tree.specs.View as trees
+use Rattle.asl_shape.specs.Spelled as trees
 use Rattle.asl_shape.proofs.reading.all_among.Given as goal
 
 abbrev pub invariant-loop-keyword : goal.invariant-loop-keyword

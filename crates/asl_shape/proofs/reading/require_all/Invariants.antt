@@ -1,6 +1,6 @@
 use Rattle.std.proofs.Common.{◌≡◌, drop}
 use Rattle.asl_model.specs.ShapeSpelling as model
-use Rattle.asl_tree.specs.View as trees
+use Rattle.asl_shape.specs.Spelled as trees
 use Rattle.asl_shape.specs.Required.{are_new}
 use Rattle.asl_shape.specs.View.{fields_view}
 use Rattle.asl_shape.proofs.reading.require_all.Given as goal
