@@ -1,12 +1,12 @@
 -- Worked certificates that are closed, and worked inputs and events that obey: no premise of the law is empty.
-use Rattle.std.proofs.Common.{◌≡◌, ◌∙◌, refl, subst, sym, arith, suc, List, [], ◌∷◌, Bool, true, false, ◌&&◌, ◌||◌, if◌then◌else◌, bytes_eq, IsTrue, Option, Some, None, is_some, codes}
+use Rattle.std.proofs.Common.{◌≡◌, ◌∙◌, refl, subst, sym, arith, suc, List, [], ◌∷◌, map, Bool, true, false, ◌&&◌, ◌||◌, if◌then◌else◌, bytes_eq, IsTrue, Option, Some, None, is_some, codes}
 use Rattle.asl_model.specs.Tree.{Tree, Null, Boolean, Integer, Text, Array, Object, Trees, NoTrees, AndTree, count, NoFields, trees_of}
 use Rattle.asl_model.specs.Path.{Name, Index}
 use Rattle.asl_model.specs.Shape.{Shape, Any, Never, IntegerShape, StringShape, ArrayShape, ObjectShape, NoShapes, AndShape, NoFieldShapes, AndFieldShape, Has, has, is_integer, is_text}
-use Rattle.asl_model.specs.Flow.{first_move}
-use Rattle.asl_model.specs.Machine.{Scope, ScopeOf, AndState, NoStates, StateOf, Pass, Task, Parallel, AndScope, NoScopes}
-use Rattle.asl_model.specs.Run.{Event, run_of, Move, Gives, Entered, Asked, Left, Ended, Output}
-use Rattle.asl_model.specs.Certificate.{TaskShapes, Declared, StateShapes, Certificate, under, or_never, branch_shape, EachHas, WorkFits, IsClosedAt, whole_machine, IsClosed, Obeys, NoTurnRaises, TurnsAreAsCertified, RunIsAsCertified}
+use Rattle.asl_model.specs.Flow.{Asks, Splits, first_move}
+use Rattle.asl_model.specs.Machine.{Scope, ScopeOf, AndState, NoStates, StateOf, Pass, Task, Choice, Wait, SecondsPath, Succeed, Fail, Parallel, Map, AndScope, NoScopes}
+use Rattle.asl_model.specs.Run.{Ready, Waiting, Split, Done, NoActivities, AndActivity, Event, run_of, Move, Gives, Entered, Asked, Left, Ended, Output}
+use Rattle.asl_model.specs.Certificate.{TaskShapes, Declared, StateShapes, Certificate, under, or_never, branch_shape, EachHas, WorkFits, IsClosedAt, whole_machine, IsClosed, Obeys, NoTurnRaises, TurnsAreAsCertified, RunIsAsCertified, HasSplit, ActivityFits, MovesOn, Works, Nests, group_of}
 use Rattle.asl_model.proofs.RunOptions.{false_true, none_some}
 use Rattle.asl_model.proofs.ClosedScopes.{closed_at_each}
 use Rattle.asl_model.proofs.RunLaws.{never_fault}
@@ -208,6 +208,33 @@ other_end h = false_true h.0.1.1.0
 
 other_answer : Obeys takes_integers (one_task (codes "A")) Null (at [] Move ∷ at [] (Gives Null) ∷ []) → ⊥
 other_answer h = false_true h.answers.1.0
+
+-- activities that aren't as certified: a raw input that its state doesn't take, an output that isn't the scope's, a
+-- payload that its task doesn't take or its state doesn't ask with, a child too few, a child that isn't as certified
+other_ready : ActivityFits integers_in integers_out (Ready (codes "A") Null []) passing IntegerShape → ⊥
+other_ready h = false_true h
+
+other_done : ActivityFits integers_in integers_out (Done Null) passing IntegerShape → ⊥
+other_done h = false_true h
+
+other_waiting : ActivityFits takes_integers (all_certified Any Any) (Waiting (codes "A") Null [] Null) (one_task (codes "A")) Any → ⊥
+other_waiting h = false_true h.1
+
+other_asking : ActivityFits takes_integers (all_certified Any Any) (Waiting (codes "A") (whole 1) [] (whole 2)) (one_task (codes "A")) Any → ⊥
+other_asking h = let asks : Some (Asks (whole 1)) ≡ Some (Asks (whole 2)) = h.2 in absurd (cc)
+
+child_too_few : ActivityFits two_tasks second_certified (Split (codes "P") (whole 5) [] (AndActivity (Ready (codes "T0") (whole 5) []) NoActivities)) second_of_two StringShape → ⊥
+child_too_few h = few h.1
+  where
+    few : HasSplit second_of_two (codes "P") (whole 5) (AndActivity (Ready (codes "T0") (whole 5) []) NoActivities) → ⊥
+    few split = let splits : Some (Splits (trees_of (whole 5 ∷ whole 5 ∷ []))) ≡ Some (Splits split.inputs) = split.split in let counted : 1 ≡ count split.inputs = split.one_each in absurd (cc)
+
+other_child : ActivityFits two_tasks second_certified (Split (codes "P") (whole 5) [] (AndActivity (Ready (codes "T0") Null []) (AndActivity (Ready (codes "T1") (whole 5) []) NoActivities))) second_of_two StringShape → ⊥
+other_child h = false_true h.2.0
+
+-- the groups of the types
+groups : map group_of (Pass None ∷ Task (codes "r") ∷ Choice [] None ∷ Wait (SecondsPath []) ∷ Succeed ∷ Fail (codes "e") (codes "c") ∷ Parallel NoScopes ∷ Map [] None passing ∷ []) ≡ MovesOn ∷ Works ∷ Works ∷ Works ∷ MovesOn ∷ MovesOn ∷ Nests ∷ Nests ∷ []
+groups = refl
 
 -- certificates that aren't closed: a result that misfits, a state without an entry, a task that isn't declared
 abbrev pub of_texts : Shape

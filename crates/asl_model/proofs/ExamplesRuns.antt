@@ -1,8 +1,8 @@
 -- Worked runs, computed: each says what a machine does on an input with some events.
-use Rattle.std.proofs.Common.{◌≡◌, refl, ℕ, List, [], ◌∷◌, pos, negsuc, Some, None, codes}
+use Rattle.std.proofs.Common.{◌≡◌, map, refl, ℕ, List, [], ◌∷◌, pos, negsuc, Some, None, codes}
 use Rattle.asl_model.specs.Tree.{Tree, Null, Integer, Text, Array, Object, NoTrees, NoFields, AndField, trees_of, fields_of}
 use Rattle.asl_model.specs.Path.{Segment, Name}
-use Rattle.asl_model.specs.Faults.{DataFlowError, ParameterPathFailure, ResultPathMatchFailure, NoChoiceMatched, NamesNothing, WrongKind, error_name}
+use Rattle.asl_model.specs.Faults.{DataFlowError, ParameterPathFailure, ResultPathMatchFailure, NoChoiceMatched, IntrinsicFailure, NamesNothing, WrongKind, error_name}
 use Rattle.asl_model.specs.Intrinsic.{InInput, ItemIndex, InItem}
 use Rattle.asl_model.specs.Template.{Template, FromPath, ObjectTemplate, NoFieldTemplates, AndFieldTemplate}
 use Rattle.asl_model.specs.Test.{Rule, Compare, NumericIs, LessThan, Constant}
@@ -263,6 +263,10 @@ fault_in_items_path = refl
 fault_in_item_selector : told (only ends (Map [] (Some missing_field) passing)) (Array (trees_of (Null ∷ []))) (at [] Move ∷ []) ≡ raises (Array (trees_of (Null ∷ []))) ParameterPathFailure (codes "ItemSelector")
 fault_in_item_selector = refl
 
+-- the names of the errors
+error_names : map error_name (ParameterPathFailure ∷ ResultPathMatchFailure ∷ NoChoiceMatched ∷ IntrinsicFailure ∷ NamesNothing ∷ WrongKind ∷ []) ≡ codes "States.ParameterPathFailure" ∷ codes "States.ResultPathMatchFailure" ∷ codes "States.NoChoiceMatched" ∷ codes "States.IntrinsicFailure" ∷ codes "Path.NamesNothing" ∷ codes "Path.WrongKind" ∷ []
+error_names = refl
+
 -- a data-flow fault goes through the state's own retriers and catchers
 fault_is_retried : left (only (record ends { output_path = Some missing; retriers = retrier (codes "Path.NamesNothing") ∷ [] }) (Pass None)) Null (at [] Move ∷ []) ≡ Ready (codes "A") Null (1 ∷ [])
 fault_is_retried = refl
@@ -302,6 +306,10 @@ succeeds = refl
 
 fails : told (only ends (Fail (codes "e") (codes "c"))) Null (at [] Move ∷ []) ≡ ([], Entered (codes "A") Null) ∷ ([], Ended (FailedWith (codes "e") (codes "c"))) ∷ []
 fails = refl
+
+-- the error of a Fail goes through no retrier and no catcher
+fail_is_not_caught : left (only (record ends { retriers = retrier (codes "e") ∷ []; catchers = catcher [] ∷ [] }) (Fail (codes "e") (codes "c"))) Null (at [] Move ∷ []) ≡ Failed (codes "e") (codes "c")
+fail_is_not_caught = refl
 
 -- of two branches that failed the first is told
 first_failed : step beside (left beside Null (at [] Move ∷ at (0 ∷ []) Move ∷ at (1 ∷ []) Move ∷ at (1 ∷ []) (FailsTask (codes "E") (codes "c")) ∷ at (0 ∷ []) (FailsTask (codes "F") (codes "d")) ∷ [])) (at [] Move) ≡ Some (record { entries = BranchFailed (codes "P") 0 (codes "F") (codes "d") ∷ Ended (FailedWith (codes "States.BranchFailed") (codes "d")) ∷ []; after = Failed (codes "States.BranchFailed") (codes "d") })
