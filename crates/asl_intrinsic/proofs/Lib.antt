@@ -1,5 +1,10 @@
 pub mod Answers
 pub mod Arguments
+pub mod Calls
 pub mod Cuts
 pub mod Filling
 pub mod Holes
+pub mod Literals
+pub mod Meanings
+pub mod Numbers
+pub mod Scans

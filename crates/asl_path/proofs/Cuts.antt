@@ -21,7 +21,7 @@ all_digits_one : (b : Bool) (x : ℕ) (n l : ℕ) → is_ascii_digit x ≡ b →
 all_digits_one true x n l e h = (digit_below_ten x e, omega arith)
 all_digits_one false x n l e h = absurd (omega arith)
 
-all_digits : (s : List ℕ) → front_length is_ascii_digit s ≡ length s → AllDigits 10 s
+pub all_digits : (s : List ℕ) → front_length is_ascii_digit s ≡ length s → AllDigits 10 s
 all_digits [] e = tt
 all_digits (x ∷ s) e = let h = all_digits_one (is_ascii_digit x) x (front_length is_ascii_digit s) (length s) refl e in (h.0, all_digits s h.1)
 
@@ -29,7 +29,7 @@ no_plus_one : (b : Bool) (x n l : ℕ) → is_ascii_digit x ≡ b → cond b (su
 no_plus_one true x n l e h = grind (arith, nat_tests)
 no_plus_one false x n l e h = absurd (omega arith)
 
-no_plus : (s : List ℕ) → front_length is_ascii_digit s ≡ length s → without_leading_plus s ≡ s
+pub no_plus : (s : List ℕ) → front_length is_ascii_digit s ≡ length s → without_leading_plus s ≡ s
 no_plus [] e = refl
 no_plus (x ∷ s) e = rw (no_plus_one (is_ascii_digit x) x (front_length is_ascii_digit s) (length s) refl e) refl
 

@@ -1,0 +1,166 @@
+//! Vectors for calls and their values, and each call once with ample memory.
+use crate::{Item, eval, parse};
+use asl_tree::{Tree, read, to_text};
+use std::alloc::Global;
+use std::test::Fail;
+
+/// The call that the text spells, or the refusal.
+fn call_in(alloc: Global, text: &str, item: bool) -> Result<String, Fail> {
+    match parse(alloc, text, item) {
+        Ok(call) => Ok(format!(in alloc; "{call:?}")?),
+        Err(refusal) => Ok(format!(in alloc; "{refusal:?}")?),
+    }
+}
+
+/// The text of the value of the call for the input and the item, or the refusal.
+fn value_of(alloc: Global, text: &str, input: &Tree, item: Option<Item>) -> Result<String, Fail> {
+    match eval(alloc, &parse(alloc, text, true)?, input, item) {
+        Ok(value) => Ok(to_text(alloc, &value)?),
+        Err(refusal) => Ok(format!(in alloc; "{refusal:?}")?),
+    }
+}
+
+/// A call in which calls nest that deep.
+fn nested(alloc: Global, depth: usize) -> Result<String, Fail> {
+    let mut text = String::new(alloc);
+    for _ in 0..depth {
+        text.push_str("States.Array(")?;
+    }
+    for _ in 0..depth {
+        text.push_str(")")?;
+    }
+    Ok(text)
+}
+
+#[test]
+fn calls(rt: HostRuntime) -> Result<(), Fail> {
+    let alloc = rt.alloc();
+    let vectors = [
+        ("States.Array()", "Array([])"),
+        ("States.Array(  )", "Array([])"),
+        (
+            "States.ArrayLength( null , true,false,-0 ,7 )",
+            "ArrayLength([Null, Bool(true), Bool(false), Int(0), Int(7)])",
+        ),
+        (
+            "States.Array(-9223372036854775808,9223372036854775807)",
+            "Array([Int(-9223372036854775808), Int(9223372036854775807)])",
+        ),
+        (
+            r"States.Format('a{}\{\}\'\\{b{}')",
+            r#"Format([Text(Pieces { first: "a", after_holes: ["{}'\\{b", ""] })])"#,
+        ),
+        (
+            "States.Array(States.Array(1),'é,)')",
+            r#"Array([Call(Array([Int(1)])), Text(Pieces { first: "é,)", after_holes: [] })])"#,
+        ),
+        ("States.UUID()", "UnknownFunction"),
+        ("States.Array(1(2))", "UnknownFunction"),
+        (".(1)", "UnknownFunction"),
+        ("States.Array(States.UUID(),$.a..b)", "UnknownFunction"),
+        ("States.Array($.a..b,States.UUID())", "UnknownFunction"),
+        ("States.UUID(States.Array(1)", "Malformed"),
+        ("States.Array(1", "Malformed"),
+        ("", "Malformed"),
+        ("(1)", "Malformed"),
+        ("States.Array", "Malformed"),
+        (" States.Array()", "Malformed"),
+        ("States.Array() ", "Malformed"),
+        ("States.Array ()", "Malformed"),
+        ("States.Array(1,)", "Malformed"),
+        ("States.Array(,1)", "Malformed"),
+        ("States.Array(1 2)", "Malformed"),
+        ("States.Array(01)", "Malformed"),
+        ("States.Array(-01)", "Malformed"),
+        ("States.Array(--1)", "Malformed"),
+        ("States.Array(+1)", "Malformed"),
+        ("States.Array(1.5)", "Malformed"),
+        ("States.Array(9223372036854775808)", "Malformed"),
+        ("States.Array(-9223372036854775809)", "Malformed"),
+        ("States.Array('a)", "Malformed"),
+        (r"States.Array('\n')", "Malformed"),
+        (r"States.Array('\", "Malformed"),
+        ("States.Array($['a)", "Malformed"),
+        ("States.Array(nil)", "Malformed"),
+        ("States.Array($.a..b)", "BadPath"),
+        ("States.Array($['Map'],$$['Map'].Item.Index)", "BadPath"),
+        ("States.Array($$.Map.Item.Index.x)", "BadPath"),
+        ("States.Array($$.Map.Item.Valuex)", "BadPath"),
+        ("States.Array($$.Map.Item.Value[*])", "BadPath"),
+        ("States.Array($$)", "BadPath"),
+    ];
+    for (text, wanted) in vectors {
+        let call = call_in(alloc, text, true)?;
+        assert_eq!(rt; call.as_str(), wanted, "at {text}");
+    }
+
+    let index = call_in(alloc, "States.Array($$.Map.Item.Index)", false)?;
+    assert_eq!(rt; index.as_str(), "BadPath");
+    let value = call_in(alloc, "States.Array($$.Map.Item.Value)", false)?;
+    assert_eq!(rt; value.as_str(), "BadPath");
+
+    assert!(rt; parse(alloc, &nested(alloc, 32)?, false).is_ok());
+    let too_deep = call_in(alloc, &nested(alloc, 33)?, false)?;
+    assert_eq!(rt; too_deep.as_str(), "Malformed");
+    Ok(())
+}
+
+#[test]
+fn values(rt: HostRuntime) -> Result<(), Fail> {
+    let alloc = rt.alloc();
+    let input = read(alloc, br#"{"x":{"y":2},"f":"\\{}","l":[1,[]],"a b":true}"#)?;
+    let vectors = [
+        (
+            "States.Array( 1 , null,true,$.x)",
+            r#"[1,null,true,{"y":2}]"#,
+        ),
+        ("States.Array()", "[]"),
+        ("States.Array('a{}\\{b')", r#"["a{}{b"]"#),
+        ("States.Array($['a b'])", "[true]"),
+        ("States.Array($.z)", "IntrinsicFailure"),
+        ("States.Array($$.Map.Item.Index)", "[3]"),
+        ("States.Array($$.Map.Item.Value.v)", "[5]"),
+        ("States.Array($$.Map.Item.Value.w)", "IntrinsicFailure"),
+        ("States.ArrayLength(States.Array(1,2))", "2"),
+        ("States.ArrayLength($.l)", "2"),
+        ("States.ArrayLength('ab')", "IntrinsicFailure"),
+        ("States.ArrayLength()", "IntrinsicFailure"),
+        ("States.ArrayLength($.l,$.l)", "IntrinsicFailure"),
+        ("States.Format('{')", r#""{""#),
+        ("States.Format('{', 1)", "IntrinsicFailure"),
+        ("States.Format($.f, 1)", r#""\\1""#),
+        (
+            "States.Format('{}-{} {}{}', 'a{}', -12, true, null)",
+            r#""a{}--12 truenull""#,
+        ),
+        ("States.Format('{}', $.x)", "IntrinsicFailure"),
+        ("States.Format('{}')", "IntrinsicFailure"),
+        ("States.Format(1)", "IntrinsicFailure"),
+        ("States.Format()", "IntrinsicFailure"),
+        (
+            "States.Format(States.Format('\\{}\\{\\}'), 1)",
+            "IntrinsicFailure",
+        ),
+        (
+            "States.Format(States.Format('\\{\\}\\{\\}'), 1, 2)",
+            r#""12""#,
+        ),
+    ];
+    let third = read(alloc, br#"{"v":5}"#)?;
+    let item = Item {
+        index: 3,
+        value: &third,
+    };
+    for (text, wanted) in vectors {
+        let value = value_of(alloc, text, &input, Some(item))?;
+        assert_eq!(rt; value.as_str(), wanted, "at {text}");
+    }
+    for text in [
+        "States.Array($$.Map.Item.Index)",
+        "States.Array($$.Map.Item.Value)",
+    ] {
+        let value = value_of(alloc, text, &input, None)?;
+        assert_eq!(rt; value.as_str(), "IntrinsicFailure", "at {text}");
+    }
+    Ok(())
+}
