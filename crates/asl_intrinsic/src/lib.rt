@@ -26,6 +26,7 @@ mod words;
 pub use call::{Arg, Call, Pieces};
 pub use evaluating::eval;
 pub use parsing::parse;
+pub use references::parse_reference;
 
 /// The item that a Map takes at hand.
 #[derive(Clone, Copy)]

@@ -4,7 +4,7 @@ ghost use Rattle.asl_model.specs.CallSpelling.{WrittenPath};
 ghost use Rattle.asl_intrinsic.specs.Meaning.{and_meaning, argument_meaning, argument_seen, arguments_seen, call_seen, fault_view, function_meaning, lesser_fault as lesser_of, nested_meaning};
 
 use crate::cutting::{Fault, Meant};
-use crate::references::reference;
+use crate::references::parse_reference;
 use crate::{Arg, Call};
 use asl_tree::OutOfMemory;
 use std::alloc::Global;
@@ -67,7 +67,7 @@ pub(crate) fn nested(call: Meant<Call>) -> Meant<Arg>
 pub(crate) fn path_meaning(alloc: Global, path: &str, item: bool) -> Result<Meant<Arg>, OutOfMemory>
     ensures { IfOk result (λ meant. argument_seen meant ≡ argument_meaning item (WrittenPath path.now)) }
 {
-    match reference(alloc, path, item)? {
+    match parse_reference(alloc, path, item)? {
         Some(argument) => Ok(Ok(argument)),
         None => Ok(Err(Fault::BadPath)),
     }

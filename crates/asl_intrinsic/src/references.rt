@@ -1,4 +1,4 @@
-//! Reading the paths in a call.
+//! Reading the paths in calls and in templates.
 ghost use Rattle.std.specs.Prelude.{◌≡◌, IfOk, List, option_map, codes};
 ghost use Rattle.asl_model.specs.CallSpelling.{context_of, reference_of};
 ghost use Rattle.asl_model.specs.Intrinsic.{PathArgument};
@@ -11,9 +11,10 @@ use asl_path::{PathRefusal, RefPath, parse};
 use asl_tree::OutOfMemory;
 use std::alloc::Global;
 
-/// The argument that a text with a leading `$` spells: a path into the input or, where `item` allows it, the item's
-/// number or a path into the item.
-pub(crate) fn reference(alloc: Global, text: &str, item: bool) -> Result<Option<Arg>, OutOfMemory>
+/// The path that a text spells in a call or in a template, if it spells one (States Language, "The Context Object").
+///
+/// It goes into the input; where `item` allows it, it may also be the item's number, or go into the item.
+pub fn parse_reference(alloc: Global, text: &str, item: bool) -> Result<Option<Arg>, OutOfMemory>
     ensures { IfOk result (λ argument. option_map argument_view argument ≡ option_map PathArgument (reference_of item text.now)) }
 {
     if !text.starts_with("$$") {
