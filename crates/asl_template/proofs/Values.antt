@@ -26,9 +26,11 @@ Entry = String Global × Template
 pub next_element : (ts : List Template) (i : ℕ) (t : Template) → i < length ts → t ≡ get_or ts i t → elements_view (drop i ts) ≡ AndTemplate (view t) (elements_view (drop (i + 1) ts))
 next_element ts i t within is = ap elements_view (drop-cons ts i t within) ∙ rw (← is, add-one) refl
 
+-- past the last element none is left
 pub no_element_left : (ts : List Template) (i : ℕ) → length ts ≤ i → elements_view (drop i ts) ≡ NoTemplates
 no_element_left ts i end = ap elements_view (drop_all i ts end)
 
+-- the values of all elements, as elements
 values_shown : (input : model.Tree) (item : Option Item) (ts : List Template) → model.trees_of (map (λ t. filled (view t) input item) ts) ≡ elements_filled (elements_view ts) input item
 values_shown input item [] = refl
 values_shown input item (t ∷ ts) = ap (model.AndTree (filled (view t) input item)) (values_shown input item ts)
@@ -44,6 +46,7 @@ unfolding IsStrictlySortedBy
 sorted_behind [] left h = h
 sorted_behind (d ∷ done) left h = sorted_behind done left h.1
 
+-- what is less than each of the names comes before each field
 each_above : (n : String Global) (es : List Entry) → AllByRecursion (λ y. string_cmp n y ≡ Less) (keys_of es) → IsTrue (before_each (string_bytes n) (entries_view es))
 each_above n [] h = refl
 each_above n (e ∷ es) h = and_from (comes_before (string_bytes n) (string_bytes e.0)) (before_each (string_bytes n) (entries_view es)) (ap (λ o. match_ordering o true false false) h.0) (each_above n es h.1)

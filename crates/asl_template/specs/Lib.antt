@@ -1,2 +1,4 @@
 pub mod Failing
+pub mod Field
+pub mod Refusal
 pub mod View

@@ -1,12 +1,18 @@
-//! Payload templates (States Language, "Payload Template"), and their values.
+//! Payload templates (States Language, "Payload Template"): reading them from trees, and their values.
 //!
-//! [`eval`] gives the value of a [`Template`] for an input and the item that a Map takes at hand.
+//! [`from_tree`] reads the [`Template`] that a tree spells; [`eval`] gives its value for an input and the item that a
+//! Map takes at hand.
 #![tactic(auto)]
 
 mod evaluating;
+mod paths;
+mod reading;
 mod refusal;
 mod template;
+#[cfg(test)]
+mod tests;
 
 pub use evaluating::eval;
-pub use refusal::TemplateRefusal;
+pub use reading::from_tree;
+pub use refusal::{SpellingRefusal, TemplateRefusal};
 pub use template::Template;

@@ -1,8 +1,27 @@
-//! Why a template has no value.
+//! Why a tree spells no template, and why a template has no value.
 ghost use Rattle.std.specs.Prelude.{◌≡◌};
 
 use asl_tree::OutOfMemory;
 use std::alloc::{AllocError, AllocFailed};
+
+/// Why a tree spells no template.
+#[derive(Clone, Copy, Debug, PartialEq, Drop)]
+pub enum SpellingRefusal {
+    /// It is no object.
+    NotObject,
+    /// The value of a field whose name ends in `.$` is no text.
+    NotText,
+    /// Such a text begins with one `$`, and is no reference path.
+    BadPath,
+    /// Such a text begins with no `$`, and is no intrinsic call.
+    BadIntrinsic,
+    /// Two fields of an object have one name once the suffix `.$` is lost.
+    DuplicateAfterStrip,
+    /// Such a text begins with `$$`, and is no context path that is allowed.
+    LeftOutContext,
+    /// An allocation was refused.
+    OutOfMemory,
+}
 
 /// Why a template has no value.
 #[derive(Clone, Copy, Debug, PartialEq, Drop)]
@@ -13,6 +32,36 @@ pub enum TemplateRefusal {
     IntrinsicFailure,
     /// An allocation was refused.
     OutOfMemory,
+}
+
+impl From<AllocError> for SpellingRefusal {
+    ghost use Rattle.asl_template.specs.declared.refusal.SpellingRefusal.{SpellingRefusal};
+
+    ghost from_gives = { λ _ refusal. refusal ≡ SpellingRefusal.OutOfMemory };
+
+    fn from(_error: AllocError) -> SpellingRefusal {
+        SpellingRefusal::OutOfMemory
+    }
+}
+
+impl<T: Drop> From<AllocFailed<T>> for SpellingRefusal {
+    ghost use Rattle.asl_template.specs.declared.refusal.SpellingRefusal.{SpellingRefusal};
+
+    ghost from_gives = { λ _ refusal. refusal ≡ SpellingRefusal.OutOfMemory };
+
+    fn from(_error: AllocFailed<T>) -> SpellingRefusal {
+        SpellingRefusal::OutOfMemory
+    }
+}
+
+impl From<OutOfMemory> for SpellingRefusal {
+    ghost use Rattle.asl_template.specs.declared.refusal.SpellingRefusal.{SpellingRefusal};
+
+    ghost from_gives = { λ _ refusal. refusal ≡ SpellingRefusal.OutOfMemory };
+
+    fn from(_error: OutOfMemory) -> SpellingRefusal {
+        SpellingRefusal::OutOfMemory
+    }
 }
 
 impl From<AllocError> for TemplateRefusal {

@@ -1,0 +1,134 @@
+//! Vectors for templates, and each call once with ample memory.
+use crate::{eval, from_tree};
+use asl_intrinsic::Item;
+use asl_tree::{read, to_text};
+use std::alloc::Global;
+use std::test::Fail;
+
+/// The text of the template's value, or the refusal.
+fn answered(
+    alloc: Global,
+    spelling: &[u8],
+    allowed: bool,
+    input: &[u8],
+    item: Option<Item>,
+) -> Result<String, Fail> {
+    let template = match from_tree(alloc, &read(alloc, spelling)?, allowed) {
+        Ok(template) => template,
+        Err(refusal) => return Ok(format!(in alloc; "{refusal:?}")?),
+    };
+    match eval(alloc, &template, &read(alloc, input)?, item) {
+        Ok(value) => Ok(to_text(alloc, &value)?),
+        Err(refusal) => Ok(format!(in alloc; "{refusal:?}")?),
+    }
+}
+
+#[test]
+fn templates(rt: HostRuntime) -> Result<(), Fail> {
+    let alloc = rt.alloc();
+    let vectors: [(&[u8], &[u8], &str); 17] = [
+        (
+            br#"{"a":[{"b.$":"$.x"}],"c":"$.x"}"#,
+            br#"{"x":1}"#,
+            r#"{"a":[{"b":1}],"c":"$.x"}"#,
+        ),
+        (
+            br#"{"t.$":"States.Format('{} of \\{}', $.n)"}"#,
+            br#"{"n":-9223372036854775808}"#,
+            r#"{"t":"-9223372036854775808 of {}"}"#,
+        ),
+        (
+            br#"{".$":"$","a.$.$":"$.x"}"#,
+            br#"{"x":1}"#,
+            r#"{"":{"x":1},"a.$":1}"#,
+        ),
+        (
+            br#"{"n":null,"b":true,"l":[],"o":{}}"#,
+            b"1",
+            r#"{"b":true,"l":[],"n":null,"o":{}}"#,
+        ),
+        (
+            br#"{"p.$":"$.no","q.$":"States.ArrayLength(1)"}"#,
+            b"{}",
+            "ParameterPathFailure",
+        ),
+        (
+            br#"{"p.$":"States.ArrayLength(1)","q.$":"$.no"}"#,
+            b"{}",
+            "IntrinsicFailure",
+        ),
+        (
+            br#"{"a!.$":"States.ArrayLength(1)","a.$":"$.no"}"#,
+            b"{}",
+            "ParameterPathFailure",
+        ),
+        (
+            br#"{"x.$":"States.Array($.no)"}"#,
+            b"{}",
+            "IntrinsicFailure",
+        ),
+        (br#"{"x.$":1}"#, b"{}", "NotText"),
+        (br#"{"x.$":"$$.Execution.Id"}"#, b"{}", "LeftOutContext"),
+        (br#"{"x.$":"$$.Map.Item.Index"}"#, b"{}", "LeftOutContext"),
+        (br#"{"x.$":"hello"}"#, b"{}", "BadIntrinsic"),
+        (br#"{"x.$":"$.a b"}"#, b"{}", "BadPath"),
+        (br#"{"x.$":"$.n","x":1}"#, b"{}", "DuplicateAfterStrip"),
+        (br#"{"a":[[{"x.$":1}]]}"#, b"{}", "NotText"),
+        (b"[]", b"{}", "NotObject"),
+        (b"\"$.x\"", b"{}", "NotObject"),
+    ];
+    for (spelling, input, wanted) in vectors {
+        let answer = answered(alloc, spelling, false, input, None)?;
+        assert_eq!(rt; answer.as_str(), wanted);
+    }
+
+    let value = read(alloc, br#"{"k":[1,2]}"#)?;
+    let item = Some(Item {
+        index: 3,
+        value: &value,
+    });
+    let with_item: [(&[u8], &str, &str); 7] = [
+        (
+            br#"{"x.$":"States.Array($$.Map.Item.Index)"}"#,
+            r#"{"x":[3]}"#,
+            "IntrinsicFailure",
+        ),
+        (
+            br#"{"i.$":"$$.Map.Item.Index"}"#,
+            r#"{"i":3}"#,
+            "ParameterPathFailure",
+        ),
+        (
+            br#"{"v.$":"$$.Map.Item.Value"}"#,
+            r#"{"v":{"k":[1,2]}}"#,
+            "ParameterPathFailure",
+        ),
+        (
+            br#"{"v.$":"$$.Map.Item.Value['k'][1]"}"#,
+            r#"{"v":2}"#,
+            "ParameterPathFailure",
+        ),
+        (
+            br#"{"v.$":"$$.Map.Item.Value.no"}"#,
+            "ParameterPathFailure",
+            "ParameterPathFailure",
+        ),
+        (
+            br#"{"v.$":"$$.Map.Item.Valuex"}"#,
+            "LeftOutContext",
+            "LeftOutContext",
+        ),
+        (
+            br#"{"v.$":"$$['Map'].Item.Index"}"#,
+            "LeftOutContext",
+            "LeftOutContext",
+        ),
+    ];
+    for (spelling, with, without) in with_item {
+        let answer = answered(alloc, spelling, true, b"{}", item)?;
+        assert_eq!(rt; answer.as_str(), with);
+        let answer = answered(alloc, spelling, true, b"{}", None)?;
+        assert_eq!(rt; answer.as_str(), without);
+    }
+    Ok(())
+}
