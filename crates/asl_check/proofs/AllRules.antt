@@ -11,10 +11,10 @@ use Rattle.asl_model.specs.Shape.{Shape}
 use Rattle.asl_model.specs.Certificate as certificates
 use Rattle.asl_model.specs.Certificate.{certified, under}
 use Rattle.asl_model.specs.Finding.{Breach, Finding, NotCertified, found_at, breach_unless, entry_breaches, flow_breaches, state_breaches, input_to_compare, state_findings, states_findings, children_findings, unknown_entries, unknown_tasks, start_findings, findings}
-use Rattle.asl_machine.specs.Machine.{machine_view, state_view, states_view}
-use Rattle.asl_machine.specs.declared.machine.Machine.{Machine}
-use Rattle.asl_machine.specs.declared.machine.State.{State}
-use Rattle.asl_machine.specs.declared.machine.State.TheVariants as code
+use Rattle.asl_machine.specs.Plain.{machine_view, state_view, states_view}
+use Rattle.asl_machine.specs.declared.plain.Machine.{Machine}
+use Rattle.asl_machine.specs.declared.plain.State.{State}
+use Rattle.asl_machine.specs.declared.plain.State.TheVariants as code
 use Rattle.asl_records.specs.View.{declared_view, certificate_view, entry_view}
 use Rattle.asl_records.specs.declared.records.Declared.{Declared}
 use Rattle.asl_records.specs.declared.records.Certificate.{Certificate}

@@ -7,10 +7,10 @@ use Rattle.asl_model.specs.Machine as model
 use Rattle.asl_model.specs.Machine.{ScopeOf, some_inside, names_state, names_task, kind_of, is_task}
 use Rattle.asl_model.specs.Certificate.{under, certified}
 use Rattle.asl_model.specs.Finding.{input_to_compare, input_of_entry, found_at, unknown_entries, unknown_tasks}
-use Rattle.asl_machine.specs.Machine.{machine_view, state_view, states_view}
-use Rattle.asl_machine.specs.declared.machine.Machine.{Machine}
-use Rattle.asl_machine.specs.declared.machine.State.{State}
-use Rattle.asl_machine.specs.declared.machine.State.TheVariants as code
+use Rattle.asl_machine.specs.Plain.{machine_view, state_view, states_view}
+use Rattle.asl_machine.specs.declared.plain.Machine.{Machine}
+use Rattle.asl_machine.specs.declared.plain.State.{State}
+use Rattle.asl_machine.specs.declared.plain.State.TheVariants as code
 use Rattle.asl_records.specs.View.{certificate_view, entry_view, entries_view, tasks_view}
 use Rattle.asl_records.specs.declared.records.Certificate.{Certificate}
 use Rattle.asl_records.specs.declared.records.StateShapes.{StateShapes}

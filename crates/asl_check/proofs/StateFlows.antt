@@ -10,8 +10,8 @@ use Rattle.asl_model.specs.Shape.{Shape, inhabited}
 use Rattle.asl_model.specs.ShapeFlow.{Flow, look, look_at, path_flow, through_path, flow_then, leave, empty_object}
 use Rattle.asl_model.specs.Certificate.{Declared, StateShapes, certified}
 use Rattle.asl_model.specs.Finding.{Breach, input_to_compare, breaches_then, output_breaches, end_breaches, effective_flow, work_breaches, flow_breaches}
-use Rattle.asl_machine.specs.Machine.{settings_with}
-use Rattle.asl_machine.specs.declared.machine.Paths.{Paths}
+use Rattle.asl_machine.specs.Plain.{settings_with}
+use Rattle.asl_machine.specs.declared.plain.Paths.{Paths}
 use Rattle.asl_check.specs.Checking.{Told, paths_flow, flow_rules}
 use Rattle.asl_records.specs.View.{certificate_view, entry_view}
 use Rattle.asl_records.specs.declared.records.Certificate.{Certificate}

@@ -10,7 +10,7 @@ use Rattle.asl_model.specs.Finding as finding
 use Rattle.asl_check.specs.declared.noting.Broken.{Broken}
 use Rattle.asl_shape.specs.declared.shape.Shape.{Shape}
 use Rattle.asl_shape.specs.View.{view}
-use Rattle.asl_machine.specs.declared.machine.Paths.{Paths}
+use Rattle.asl_machine.specs.declared.plain.Paths.{Paths}
 use Rattle.asl_check.specs.Noting.{broken_view}
 
 -- nothing is told where the list is empty, and else one of the list

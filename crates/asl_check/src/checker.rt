@@ -7,7 +7,7 @@ ghost use Rattle.asl_model.specs.Finding.{unknown_entries, unknown_tasks, start_
 ghost use Rattle.asl_model.specs.ShapeFlow.{empty_object};
 ghost use Rattle.asl_model.specs.Verdict.{IsRight};
 ghost use Rattle.asl_shape.specs.View.{view};
-ghost use Rattle.asl_machine.specs.Machine.{machine_view, states_view};
+ghost use Rattle.asl_machine.specs.Plain.{machine_view, states_view};
 ghost use Rattle.asl_records.specs.View.{declared_view, certificate_view};
 ghost use Rattle.asl_check.specs.Checking.{entry_rule, found_by, flow_findings};
 ghost use Rattle.asl_check.specs.Noting.{AreNoted, notes_view};
@@ -16,7 +16,7 @@ ghost use Rattle.asl_check.specs.View.{verdict_view};
 use crate::flowing::broken_unless_sub;
 use crate::noting::{BrokenRules, breach, breach_unless, note, verdict_on};
 use crate::verdicts::{FindingFault, Verdict};
-use asl_machine::Machine;
+use asl_machine::plain::Machine;
 use asl_records::{Certificate, Declared};
 use asl_shape::Shape;
 use asl_tree::OutOfMemory;

@@ -6,7 +6,7 @@ ghost use Rattle.asl_model.specs.Finding.{OutputNotCertified, breach_unless_sub,
 ghost use Rattle.asl_model.specs.Machine.{settings_of, kind_of};
 ghost use Rattle.asl_model.specs.ShapeFlow.{empty_object, through_path as path_flow_of};
 ghost use Rattle.asl_shape.specs.View.{view};
-ghost use Rattle.asl_machine.specs.Machine.{machine_view, state_view, after_view};
+ghost use Rattle.asl_machine.specs.Plain.{machine_view, state_view, after_view};
 ghost use Rattle.asl_records.specs.View.{declared_view, certificate_view, entry_view};
 ghost use Rattle.asl_check.specs.Checking.{Flows, Told, flow_rules, paths_flow, shape_or_breach};
 ghost use Rattle.asl_check.specs.Noting.{broken_view};
@@ -16,7 +16,7 @@ use crate::checker::Checker;
 use crate::looking::look;
 use crate::noting::{Broken, breach, breach_unless};
 use crate::verdicts::FindingFault;
-use asl_machine::{After, Paths, State};
+use asl_machine::plain::{After, Paths, State};
 use asl_path::RefPath;
 use asl_records::StateShapes;
 use asl_shape::{Shape, inhabited, sub};

@@ -11,9 +11,9 @@ use Rattle.serde_json.specs.View.{view as json_view, members_view}
 use Rattle.serde_json.specs.declared.value.Value.{Value}
 use Rattle.asl_model.specs.Machine as model
 use Rattle.asl_model.specs.StandsFor.{members_in}
-use Rattle.asl_machine.specs.Machine.{state_view, states_view}
+use Rattle.asl_machine.specs.Plain.{state_view, states_view}
 use Rattle.asl_machine.specs.Definition.{served_type, served_state, served_states}
-use Rattle.asl_machine.specs.declared.machine.State.{State}
+use Rattle.asl_machine.specs.declared.plain.State.{State}
 
 abbrev pub Entry : Type 0
 Entry = String Global × State

@@ -9,7 +9,7 @@ use Rattle.asl_model.specs.DefinitionTable as model
 use Rattle.asl_model.specs.Machine.{State, StateOf, States, NoStates, AndState, Scope, ScopeOf, Pass, Succeed, Fail}
 use Rattle.asl_model.specs.StandsFor.{Complaint, Place, text_at, path_or_null_at, members_in, type_of, names_of, field_faults, rows_complaints, fields_complaints, type_complaints, target_complaints, name_complaints, state_complaints, duplicate_complaints, number_complaints}
 use Rattle.asl_machine.specs.View.{def_fault_view}
-use Rattle.asl_machine.specs.Machine.{settings_with}
+use Rattle.asl_machine.specs.Plain.{settings_with}
 use Rattle.asl_machine.specs.Unserved.{complaint_of, unserved_state}
 use Rattle.asl_machine.specs.declared.table.StateType.{StateType}
 use Rattle.asl_machine.specs.declared.table.StateType.TheVariants as code

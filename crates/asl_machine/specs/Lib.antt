@@ -1,4 +1,4 @@
 pub mod Definition
-pub mod Machine
+pub mod Plain
 pub mod Unserved
 pub mod View

@@ -10,7 +10,7 @@ ghost use Rattle.asl_machine.specs.View.{def_fault_view};
 ghost use Rattle.asl_machine.specs.Definition.{wanted_view, row_view, rows_view, told, IsVerdict, own_place, field_complaints, way_complaints, end_of, type_view, type_told, told_of, untyped_complaints, scope_told, states_told};
 ghost use Rattle.asl_machine.specs.Unserved.{unserved, unserved_state};
 
-use crate::building::{read_path, state_type, text_of};
+use crate::plain_building::{read_path, state_type, text_of};
 use crate::refusals::DefFault;
 use crate::table::{self, Row, StateType, Wanted};
 use serde_json::Value;

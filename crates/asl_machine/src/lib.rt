@@ -4,13 +4,12 @@
 //! First every rule is checked, then the machine is built: building looks fields up and can only run out of memory.
 #![tactic(auto)]
 
-mod building;
 mod checking;
-mod machine;
-mod reading;
+pub mod plain;
+mod plain_building;
+mod plain_reading;
 mod refusals;
 mod table;
 
-pub use machine::{After, Machine, Paths, State};
-pub use reading::read;
+pub use plain_reading::read_plain;
 pub use refusals::{DefFault, DefRefusal};

@@ -7,7 +7,7 @@ ghost use Rattle.asl_model.specs.Json.{ReadsAsValue};
 ghost use Rattle.asl_model.specs.Printed.{verdict_text};
 ghost use Rattle.asl_model.specs.Texts.{IsNoJson, ReadsAsMachine, ReadsAsDeclared, ReadsAsCertificate};
 ghost use Rattle.asl_model.specs.Headline.{AreClosed, NeverFaults, AreRejected, IsVerdictOn, WhereAccepted, WhereRejected};
-ghost use Rattle.asl_machine.specs.Machine.{machine_view};
+ghost use Rattle.asl_machine.specs.Plain.{machine_view};
 ghost use Rattle.asl_records.specs.View.{declared_view, certificate_view};
 ghost use Rattle.asl_check.specs.View.{verdict_view};
 ghost use Rattle.asl_tool.specs.Lines.{NoLineIsLong};
@@ -21,7 +21,8 @@ use crate::refusals::{RunFault, TextFault, TextRefusal, Which};
 use crate::sinks::{Sink, write_all};
 use crate::sources::Source;
 use asl_check::{Verdict, check};
-use asl_machine::{DefFault, Machine};
+use asl_machine::DefFault;
+use asl_machine::plain::Machine;
 use asl_model::run_laws::{closed_runs_never_fault, closed_runs_tell_no_fault};
 use asl_model::shape_laws::no_broken_rule_means_closed;
 use asl_records::{Certificate, Declared, ReadFault, read_certificate, read_declared};
@@ -140,7 +141,7 @@ fn machine_text(alloc: Global, text: &[u8]) -> Result<Machine, TextFault>
         Ok(value) => value,
         Err(fault) => return Err(fault),
     };
-    match asl_machine::read(alloc, &value) {
+    match asl_machine::read_plain(alloc, &value) {
         Ok(machine) => Ok(machine),
         Err(refusal) => match refusal.fault {
             DefFault::OutOfMemory => Err(TextFault::OutOfMemory),

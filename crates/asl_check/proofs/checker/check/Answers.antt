@@ -1,6 +1,6 @@
 use Rattle.std.proofs.Common.{ap}
 use Rattle.std.proofs.lemmas.Result.{IfOk-weaker}
-use Rattle.asl_machine.specs.Machine.{machine_view}
+use Rattle.asl_machine.specs.Plain.{machine_view}
 use Rattle.asl_records.specs.View.{declared_view, certificate_view}
 use Rattle.asl_check.specs.Noting.{notes_view}
 use Rattle.asl_check.specs.View.{verdict_view}

@@ -14,5 +14,5 @@ returns-in-OutOfMemory-clause-refused c = definition_no_memory
 pub returns : goal.returns
 returns c = record {
   machine = tt;
-  refused = refused-definition c.args.text.now (view c.in-Ok.value) (refusal_view c.in-Err-read.refusal) c.in-Ok.ensures.value c.in-Err-read.ensures.refused;
+  refused = refused-definition c.args.text.now (view c.in-Ok.value) (refusal_view c.in-Err-read_plain.refusal) c.in-Ok.ensures.value c.in-Err-read_plain.ensures.refused;
 }

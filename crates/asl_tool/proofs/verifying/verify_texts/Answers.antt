@@ -1,4 +1,4 @@
-use Rattle.asl_machine.specs.Machine.{machine_view}
+use Rattle.asl_machine.specs.Plain.{machine_view}
 use Rattle.asl_records.specs.View.{declared_view, certificate_view}
 use Rattle.asl_check.specs.View.{verdict_view}
 use Rattle.asl_tool.specs.View.{text_fault_view}

@@ -1,6 +1,6 @@
 use Rattle.std.proofs.Common.{Some, ap}
 use Rattle.asl_model.specs.Finding.{input_to_compare}
-use Rattle.asl_machine.specs.Machine.{machine_view, after_view}
+use Rattle.asl_machine.specs.Plain.{machine_view, after_view}
 use Rattle.asl_records.specs.View.{certificate_view}
 use Rattle.asl_shape.specs.View.{view}
 use Rattle.asl_check.proofs.Flows.{pass-goes-on, pass-ends}

@@ -1,6 +1,6 @@
 use Rattle.std.proofs.Common.{Some, sym, ap}
 use Rattle.asl_model.specs.Finding.{input_to_compare}
-use Rattle.asl_machine.specs.Machine.{machine_view, state_view, after_view}
+use Rattle.asl_machine.specs.Plain.{machine_view, state_view, after_view}
 use Rattle.asl_records.specs.View.{declared_view, certificate_view, entry_view}
 use Rattle.asl_shape.specs.View.{view}
 use Rattle.asl_check.proofs.StateFlows.{pass_told, succeed_told}

@@ -1,5 +1,5 @@
 use Rattle.std.proofs.Common.{Some, None, string_bytes, refl}
-use Rattle.asl_machine.specs.Machine.{machine_view, state_view}
+use Rattle.asl_machine.specs.Plain.{machine_view, state_view}
 use Rattle.asl_records.specs.View.{declared_view}
 use Rattle.asl_check.proofs.StateFlows.{told_by_entry}
 use Rattle.asl_check.proofs.checker.Checker.broken_flow.Goals as goal

@@ -1,5 +1,5 @@
 use Rattle.std.proofs.Common.{string_bytes, subst}
-use Rattle.asl_machine.specs.Machine.{machine_view, state_view, states_view}
+use Rattle.asl_machine.specs.Plain.{machine_view, state_view, states_view}
 use Rattle.asl_records.specs.View.{declared_view, certificate_view}
 use Rattle.asl_check.specs.Checking.{flow_rules, flow_findings}
 use Rattle.asl_check.specs.Noting.{notes_view}

@@ -1,4 +1,4 @@
-use Rattle.asl_machine.specs.Machine.{machine_view, states_view}
+use Rattle.asl_machine.specs.Plain.{machine_view, states_view}
 use Rattle.asl_records.specs.View.{declared_view, certificate_view}
 use Rattle.asl_check.specs.Checking.{flow_findings}
 use Rattle.asl_check.specs.Noting.{notes_view}

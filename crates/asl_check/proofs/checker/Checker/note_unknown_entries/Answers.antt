@@ -1,6 +1,6 @@
 use Rattle.std.proofs.Common.{codes, string_bytes, sym, ap, ◌∙◌}
 use Rattle.asl_model.specs.Finding.{NotAState, breach_unless}
-use Rattle.asl_machine.specs.Machine.{machine_view}
+use Rattle.asl_machine.specs.Plain.{machine_view}
 use Rattle.asl_check.specs.Checking.{state_rule, found_by}
 use Rattle.asl_check.proofs.Names.{state_looked_up, entries_named}
 use Rattle.asl_check.proofs.Passes.{left_all, left_named}

@@ -1,5 +1,5 @@
 use Rattle.asl_model.specs.Finding.{unknown_entries}
-use Rattle.asl_machine.specs.Machine.{machine_view}
+use Rattle.asl_machine.specs.Plain.{machine_view}
 use Rattle.asl_records.specs.View.{certificate_view}
 use Rattle.asl_check.specs.Checking.{state_rule, found_by}
 use Rattle.asl_check.specs.Noting.{notes_view}

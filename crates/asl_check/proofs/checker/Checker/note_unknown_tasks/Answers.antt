@@ -1,6 +1,6 @@
 use Rattle.std.proofs.Common.{Some, codes, option_to_list, string_bytes, sym, ap, ◌∙◌}
 use Rattle.asl_model.specs.Finding.{TaskUnknown, breach_unless}
-use Rattle.asl_machine.specs.Machine.{machine_view}
+use Rattle.asl_machine.specs.Plain.{machine_view}
 use Rattle.asl_check.specs.Checking.{task_rule, found_by}
 use Rattle.asl_check.specs.Noting.{broken_view}
 use Rattle.asl_check.proofs.Names.{names_no_task, tasks_named}

@@ -1,5 +1,5 @@
 use Rattle.asl_model.specs.Finding.{unknown_tasks}
-use Rattle.asl_machine.specs.Machine.{machine_view}
+use Rattle.asl_machine.specs.Plain.{machine_view}
 use Rattle.asl_records.specs.View.{declared_view}
 use Rattle.asl_check.specs.Checking.{task_rule, found_by}
 use Rattle.asl_check.specs.Noting.{notes_view}

@@ -3,11 +3,11 @@ use Rattle.std.specs.Prelude.{ℕ, List, [], ◌∷◌, Option, Some, None, Stri
 use Rattle.std.specs.declared.alloc.Global.{Global}
 use Rattle.asl_model.specs.Path.{Segment}
 use Rattle.asl_model.specs.Machine as model
-use Rattle.asl_machine.specs.declared.machine.Machine.{Machine}
-use Rattle.asl_machine.specs.declared.machine.State.{State}
-use Rattle.asl_machine.specs.declared.machine.State.TheVariants as code
-use Rattle.asl_machine.specs.declared.machine.After.{After}
-use Rattle.asl_machine.specs.declared.machine.After.TheVariants as after
+use Rattle.asl_machine.specs.declared.plain.Machine.{Machine}
+use Rattle.asl_machine.specs.declared.plain.State.{State}
+use Rattle.asl_machine.specs.declared.plain.State.TheVariants as code
+use Rattle.asl_machine.specs.declared.plain.After.{After}
+use Rattle.asl_machine.specs.declared.plain.After.TheVariants as after
 
 -- the state that follows, where one does
 abbrev pub after_view : After → Option (List ℕ)

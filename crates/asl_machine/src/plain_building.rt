@@ -5,10 +5,10 @@ ghost use Rattle.std.specs.Option.{unwrap_or};
 ghost use Rattle.serde_json.specs.View.{view, members_view};
 ghost use Rattle.asl_model.specs.PathSpelling.{path_of};
 ghost use Rattle.asl_model.specs.StandsFor.{members_in, text_at, path_or_null_at};
-ghost use Rattle.asl_machine.specs.Machine.{machine_view, states_view, state_view, after_view};
+ghost use Rattle.asl_machine.specs.Plain.{machine_view, states_view, state_view, after_view};
 ghost use Rattle.asl_machine.specs.Definition.{served_type, served_state, served_states, served_scope};
 
-use crate::machine::{After, Machine, Paths, State};
+use crate::plain::{After, Machine, Paths, State};
 use crate::table::StateType;
 use asl_path::{PathRefusal, RefPath};
 use asl_tree::OutOfMemory;

@@ -1,0 +1,8 @@
+//! Shapes through a state: what follows of the shape of a state's input for what its paths name, what its templates give
+//! and what its rules let through (States Language, "Input and Output Processing", "Payload Template", "Choice State").
+#![tactic(auto)]
+
+mod looking;
+mod putting;
+mod rules;
+mod templates;

@@ -1,0 +1,1 @@
+// What a path leads to in the trees of a shape.

@@ -1,0 +1,1 @@
+// The shape of a tree with another placed in it.
