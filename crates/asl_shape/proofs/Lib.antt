@@ -1,4 +1,5 @@
 pub mod Bounds
+pub mod Copies
 pub mod Keywords
 pub mod Lookups
 pub mod Orders

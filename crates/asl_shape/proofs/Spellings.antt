@@ -49,11 +49,11 @@ count_read ss ts e = sym (length-map ss view) ∙ (ap length e ∙ (length-map t
 abbrev Entry : Type 0
 Entry = String Global × Value
 
-abbrev Mention : Type 0
+abbrev pub Mention : Type 0
 Mention = String Global × Field
 
 -- the mentions, with that one at its place
-abbrev put : List ℕ → Bool → model.Shape → model.FieldShapes → model.FieldShapes
+abbrev pub put : List ℕ → Bool → model.Shape → model.FieldShapes → model.FieldShapes
 put n needed s model.NoFieldShapes = model.AndFieldShape n needed s model.NoFieldShapes
 put n needed s (model.AndFieldShape m other r shapes) =
     match_ordering (slice_cmp nat_cmp n m) (model.AndFieldShape n needed s (model.AndFieldShape m other r shapes)) (model.AndFieldShape m needed s shapes) (model.AndFieldShape m other r (put n needed s shapes))
@@ -63,7 +63,7 @@ shown_by Less a b c = refl
 shown_by Equal a b c = refl
 shown_by Greater a b c = refl
 
-put_shown : (es : List Mention) (k : String Global) (f : Field) → fields_view (insert_entry string_cmp es k f) ≡ put (string_bytes k) f.needed (view f.shape) (fields_view es)
+pub put_shown : (es : List Mention) (k : String Global) (f : Field) → fields_view (insert_entry string_cmp es k f) ≡ put (string_bytes k) f.needed (view f.shape) (fields_view es)
 put_shown [] k f = refl
 put_shown (e ∷ es) k f = shown_by (string_cmp k e.0) _ _ _ ∙ rw (put_shown es k f)
 

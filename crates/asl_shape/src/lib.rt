@@ -1,13 +1,14 @@
-//! Shapes of trees: reading them, membership, and comparing them.
+//! Shapes of trees: reading them, membership, comparing and copying them.
 //!
 //! A [`Shape`] says which trees are meant (a subset of JSON Schema 2020-12). [`read`] makes one of the tree that spells
 //! it, [`read_value`] of the JSON value that this tree is, [`has`] tests a tree, [`inhabited`] whether there is one at
-//! all, [`sub`] whether one shape is inside another.
+//! all, [`sub`] whether one shape is inside another. [`copy`] makes an equal shape.
 #![tactic(auto)]
 
 ghost use Rattle.std.specs.Prelude.{◌≡◌};
 
 mod comparing;
+mod copying;
 mod inhabiting;
 mod membership;
 mod reading;
@@ -17,6 +18,7 @@ mod tests;
 
 use asl_tree::OutOfMemory;
 pub use comparing::sub;
+pub use copying::copy;
 pub use inhabiting::inhabited;
 pub use membership::has;
 pub use reading::{read, read_value};
