@@ -6,3 +6,5 @@ mod looking;
 mod putting;
 mod rules;
 mod templates;
+
+pub use looking::find_shape;
