@@ -27,6 +27,7 @@ pub mod FindingRules
 pub mod FindingScopes
 pub mod FindingStates
 pub mod FindingTold
+pub mod JoinFuel
 pub mod Listed
 pub mod PathPrinting
 pub mod PathReading
