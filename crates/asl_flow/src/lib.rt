@@ -7,4 +7,4 @@ mod putting;
 mod rules;
 mod templates;
 
-pub use looking::find_shape;
+pub use looking::{LookRefusal, find_shape, look};

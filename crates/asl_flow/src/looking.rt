@@ -1,14 +1,59 @@
 // What a path leads to in the trees of a shape.
 
-ghost use Rattle.std.specs.Prelude.{◌≡◌, Some, option_map, string_bytes};
-ghost use Rattle.asl_model.specs.Path as path;
-ghost use Rattle.asl_model.specs.ShapeFlow.{part_at, look_at, if_needed as needed_shape};
+ghost use Rattle.std.specs.Prelude.{◌≡◌, ◌↔◌, ℕ, Some, Ok, Err, IfOk, option_map, string_bytes};
+ghost use Rattle.asl_model.specs.Path.{Name, Index, Names};
+ghost use Rattle.asl_model.specs.Shape.{Has};
+ghost use Rattle.asl_model.specs.ShapeFlow.{part_at, look_at, look as looked, if_needed as needed_shape};
+ghost use Rattle.asl_model.specs.Tree.{Tree};
+ghost use Rattle.asl_flow.specs.declared.looking.LookRefusal.TheVariants.{MayBeMissing};
 ghost use Rattle.asl_flow.specs.Looking.{lent};
 ghost use Rattle.asl_path.specs.View.{segment_view};
 ghost use Rattle.asl_shape.specs.View.{view};
 
+use asl_model::shape_laws::look_means_named;
 use asl_path::{RefPath, Segment};
-use asl_shape::{Field, Shape};
+use asl_shape::{Field, Shape, copy, inhabited};
+use asl_tree::OutOfMemory;
+use std::alloc::Global;
+
+/// Why a path has no shape in a shape.
+#[derive(Clone, Copy, Debug, PartialEq, Drop)]
+pub enum LookRefusal {
+    /// The segment of that number, counted from 0, may name nothing in a tree of the shape.
+    MayBeMissing(usize),
+    /// An allocation was refused.
+    OutOfMemory,
+}
+
+impl From<OutOfMemory> for LookRefusal {
+    ghost use Rattle.asl_flow.specs.declared.looking.LookRefusal.{LookRefusal};
+
+    ghost from_gives = { λ _ refusal. refusal ≡ LookRefusal.OutOfMemory };
+
+    fn from(_error: OutOfMemory) -> LookRefusal {
+        LookRefusal::OutOfMemory
+    }
+}
+
+/// The shape of what `path` names in every tree of `shape` (States Language, "Reference Paths").
+///
+/// A name needs a needed field of an object, an index a place among the first of a list: `MayBeMissing` tells the first
+/// segment, counted from 0, that has neither. The answer is a copy of that part of `shape`, and `Never` where no tree
+/// has `shape`; `OutOfMemory` comes only where an allocation of that copy was refused. [`find_shape`] lends the part.
+pub fn look(alloc: Global, shape: &Shape, path: &RefPath) -> Result<Shape, LookRefusal>
+    ensures found { IfOk result (λ s. looked path.now (view shape.now) ≡ Ok (view s)) }
+    ensures named { IfOk result (λ s. (v : Tree) → Has (view shape.now) v → (w : Tree) × Names path.now v w × Has (view s) w) }
+    ensures may_be_missing { (at : ℕ) → (result ≡ Err (MayBeMissing at)) ↔ (looked path.now (view shape.now) ≡ Err at) }
+{
+    look_means_named();
+    if !inhabited(shape) {
+        return Ok(Shape::Never);
+    }
+    match find_shape(shape, path) {
+        Ok(part) => Ok(copy(alloc, part)?),
+        Err(segment) => Err(LookRefusal::MayBeMissing(segment)),
+    }
+}
 
 /// Lends the shape of what `path` names in every tree of an inhabited `shape`, or tells the number of the segment that
 /// may name nothing, counted from 0 (States Language, "Reference Paths"). A name needs a needed field of an object, an
@@ -35,7 +80,7 @@ fn part<'s>(shape: &'s Shape, segment: &Segment) -> Option<&'s Shape>
 
 /// The shape of a needed field.
 fn needed_field<'s>(shape: &'s Shape, name: &String) -> Option<&'s Shape>
-    ensures { option_map (λ s. view s.now) result ≡ part_at (path.Name (string_bytes name.now)) (view shape.now) }
+    ensures { option_map (λ s. view s.now) result ≡ part_at (Name (string_bytes name.now)) (view shape.now) }
 {
     match shape {
         Shape::Object { fields, extra: _ } => match fields.get(name) {
@@ -65,7 +110,7 @@ fn if_needed(field: &Field) -> Option<&Shape>
 
 /// The shape of the place at an index, where each list of the shape has it.
 fn first_place<'s>(shape: &'s Shape, index: u32) -> Option<&'s Shape>
-    ensures { option_map (λ s. view s.now) result ≡ part_at (path.Index index) (view shape.now) }
+    ensures { option_map (λ s. view s.now) result ≡ part_at (Index index) (view shape.now) }
 {
     match shape {
         Shape::List { first, rest: _ } => first.get(index as usize),
