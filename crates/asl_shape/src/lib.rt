@@ -2,13 +2,14 @@
 //!
 //! A [`Shape`] says which trees are meant (a subset of JSON Schema 2020-12). [`read`] makes one of the tree that spells
 //! it, [`read_value`] of the JSON value that this tree is, [`has`] tests a tree, [`inhabited`] whether there is one at
-//! all, [`sub`] whether one shape is inside another. [`copy`] makes an equal shape.
+//! all, [`sub`] whether one shape is inside another, [`same`] whether they are equal. [`copy`] makes an equal shape.
 #![tactic(auto)]
 
 ghost use Rattle.std.specs.Prelude.{◌≡◌};
 
 mod comparing;
 mod copying;
+mod equality;
 mod inhabiting;
 mod membership;
 mod reading;
@@ -19,6 +20,7 @@ mod tests;
 use asl_tree::OutOfMemory;
 pub use comparing::sub;
 pub use copying::copy;
+pub use equality::same;
 pub use inhabiting::inhabited;
 pub use membership::has;
 pub use reading::{read, read_value};
