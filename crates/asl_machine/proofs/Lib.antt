@@ -2,9 +2,10 @@ pub mod Complaints
 pub mod ExamplesUnserved
 pub mod Lookups
 pub mod Members
+pub mod PlainStates
+pub mod Positions
 pub mod Served
 pub mod ServedStates
 pub mod Standing
-pub mod States
 pub mod Told
 pub mod Verdicts

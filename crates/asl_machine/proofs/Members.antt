@@ -16,7 +16,7 @@ use Rattle.asl_machine.specs.Unserved.{complaint_of, unserved_state}
 use Rattle.asl_machine.specs.Definition.{complaint_view, IsAmong, IsVerdict, members_told, states_told}
 use Rattle.asl_machine.proofs.Complaints.{here, in_first, in_second}
 use Rattle.asl_machine.proofs.Lookups.{bytes_eq-swap}
-use Rattle.asl_machine.proofs.States.{Member}
+use Rattle.asl_machine.proofs.PlainStates.{Member}
 use Rattle.asl_machine.proofs.Verdicts.{among_first, among_second}
 
 -- the names are as many as the members

@@ -1,4 +1,6 @@
 pub mod Definition
+pub mod Machine
 pub mod Plain
+pub mod Table
 pub mod Unserved
 pub mod View

@@ -5,11 +5,15 @@
 #![tactic(auto)]
 
 mod checking;
+mod machine;
 pub mod plain;
 mod plain_building;
 mod plain_reading;
 mod refusals;
+mod states;
 mod table;
 
+pub use machine::Machine;
 pub use plain_reading::read_plain;
 pub use refusals::{DefFault, DefRefusal};
+pub use states::{Catcher, Delay, Kind, Retrier, Scope, Settings, State};

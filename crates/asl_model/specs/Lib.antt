@@ -11,6 +11,7 @@ pub mod Headline
 pub mod Intrinsic
 pub mod Json
 pub mod Machine
+pub mod Numbering
 pub mod Path
 pub mod PathSpelling
 pub mod Placing

@@ -2,7 +2,7 @@ use Rattle.std.proofs.Common.{string_bytes, ap, refl, ◌∙◌, rules}
 use Rattle.serde_json.specs.View.{view, members_view}
 use Rattle.asl_model.specs.StandsFor.{members_in, foreign_complaints}
 use Rattle.asl_machine.specs.Definition.{rows_view, own_place}
-use Rattle.asl_machine.proofs.States.{Member}
+use Rattle.asl_machine.proofs.PlainStates.{Member}
 use Rattle.asl_machine.proofs.Verdicts.{foreign_told}
 use Rattle.asl_machine.proofs.checking.check_names.Goals as goal
 

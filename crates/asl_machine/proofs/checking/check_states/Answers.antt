@@ -2,7 +2,7 @@ use Rattle.std.proofs.Common.{rules, refl, string_bytes, ◌∙◌, ap}
 use Rattle.serde_json.specs.View.{view, members_view}
 use Rattle.asl_model.specs.StandsFor.{members_in, names_of}
 use Rattle.asl_machine.specs.Definition.{members_told}
-use Rattle.asl_machine.proofs.States.{Member}
+use Rattle.asl_machine.proofs.PlainStates.{Member}
 use Rattle.asl_machine.proofs.Members.{too_many, member_complains, none_complains}
 use Rattle.asl_machine.proofs.checking.check_states.Goals as goal
 

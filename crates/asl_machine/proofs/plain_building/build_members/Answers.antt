@@ -2,7 +2,7 @@ use Rattle.std.proofs.Common.{◌≡◌, [], ◌∷◌, ◌++◌, string_bytes, 
 use Rattle.std.specs.List.Sorted.{IsStrictlySortedBy}
 use Rattle.std.specs.Map.{keys_of}
 use Rattle.asl_machine.specs.Plain.{states_view}
-use Rattle.asl_machine.proofs.States.{Member, states_more}
+use Rattle.asl_machine.proofs.PlainStates.{Member, states_more}
 use Rattle.asl_machine.proofs.plain_building.build_members.Goals as goal
 
 pub loop-name-preserved : goal.loop-name-preserved

@@ -2,7 +2,7 @@ use Rattle.std.proofs.Common.{◌≡◌, List, ◌++◌}
 use Rattle.serde_json.specs.View.{members_view}
 use Rattle.asl_machine.specs.Plain.{states_view}
 use Rattle.asl_machine.specs.Definition.{served_states}
-use Rattle.asl_machine.proofs.States.{Member}
+use Rattle.asl_machine.proofs.PlainStates.{Member}
 use Rattle.asl_machine.proofs.plain_building.build_members.Given as goal
 
 abbrev pub invariant-loop-name : goal.invariant-loop-name

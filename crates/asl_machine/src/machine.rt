@@ -1,0 +1,60 @@
+//! Machines: one table of states, by number and by name.
+
+ghost use Rattle.std.specs.Prelude.{◌≡◌, length, option_map, slice_get, position, bytes_eq};
+
+use crate::states::{Scope, State};
+use indexmap::IndexSet;
+
+/// A state machine: all its states in one table.
+///
+/// A state's number is its position, counted from 0: the states of a scope in byte order of their names, each followed
+/// by those of its own scopes, in order.
+#[derive(Drop)]
+pub struct Machine {
+    names: IndexSet<String>,
+    states: Vec<State>,
+    scopes: Vec<Scope>,
+}
+
+impl Machine {
+    ghost use Rattle.asl_machine.specs.Machine.{state_view, scope_view};
+    ghost use Rattle.asl_machine.specs.Table.{table_view};
+
+    /// The number of the state of that name.
+    pub fn state_named(&self, name: &str) -> Option<usize>
+        ensures number { result ≡ position (bytes_eq name.now) (table_view self.now).names }
+    {
+        self.names.get_index_of(name)
+    }
+
+    /// How many states there are.
+    pub fn states(&self) -> usize
+        ensures number { result ≡ length (table_view self.now).states }
+    {
+        self.states.len()
+    }
+
+    /// The state of that number, without the states of its scopes, which have numbers of their own.
+    pub fn state(&self, number: usize) -> Option<&State>
+        ensures state { option_map (λ s. state_view s.now) result ≡ slice_get (table_view self.now).states number }
+    {
+        self.states.get(number)
+    }
+
+    /// The name of the state of that number.
+    pub fn name(&self, number: usize) -> Option<&str>
+        ensures name { option_map (λ n. n.now) result ≡ slice_get (table_view self.now).names number }
+    {
+        match self.names.get_index(number) {
+            Some(name) => Some(name),
+            None => None,
+        }
+    }
+
+    /// The scope in which the state of that number stands.
+    pub fn scope_of(&self, number: usize) -> Option<&Scope>
+        ensures scope { option_map (λ s. scope_view s.now) result ≡ slice_get (table_view self.now).placements number }
+    {
+        self.scopes.get(number)
+    }
+}

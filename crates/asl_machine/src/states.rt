@@ -1,0 +1,110 @@
+//! The types of a machine's states (States Language, "State Types").
+
+use asl_choice::Rule;
+use asl_path::RefPath;
+use asl_template::Template;
+use asl_tree::Tree;
+
+/// A state: what states of several types have, and what its type adds.
+#[derive(Debug, Drop)]
+pub struct State {
+    pub settings: Settings,
+    pub kind: Kind,
+}
+
+/// What states of several types have. A state whose type lacks a field has here the value of one that is absent.
+#[derive(Debug, Drop)]
+pub struct Settings {
+    /// `InputPath`, `$` where it is absent, none where it is null.
+    pub input_path: Option<RefPath>,
+    /// `Parameters`, where they are given; those of a Map are its `ItemSelector`.
+    pub parameters: Option<Template>,
+    /// `ResultSelector`, where it is given.
+    pub result_selector: Option<Template>,
+    /// `ResultPath`, `$` where it is absent, none where it is null.
+    pub result_path: Option<RefPath>,
+    /// `OutputPath`, `$` where it is absent, none where it is null.
+    pub output_path: Option<RefPath>,
+    /// The name in `Next`; none where the state ends its scope.
+    pub next: Option<String>,
+    /// `Retry`.
+    pub retriers: Vec<Retrier>,
+    /// `Catch`.
+    pub catchers: Vec<Catcher>,
+}
+
+/// An element of `Retry` (States Language, "Retrying after error").
+#[derive(Debug, Drop)]
+pub struct Retrier {
+    /// The names of the errors that it takes.
+    pub error_equals: Vec<String>,
+    /// How often it retries within one execution of the state.
+    pub max_attempts: u64,
+}
+
+/// An element of `Catch` (States Language, "Fallback States").
+#[derive(Debug, Drop)]
+pub struct Catcher {
+    /// The names of the errors that it takes.
+    pub error_equals: Vec<String>,
+    /// Where the error output is placed, `$` where it is absent, none where it is null.
+    pub result_path: Option<RefPath>,
+    /// The name of the state that follows.
+    pub next: String,
+}
+
+/// The eight types of states, each with the fields that it alone has.
+#[derive(Debug, Drop)]
+pub enum Kind {
+    /// `Result`, where it is given.
+    Pass {
+        result: Option<Tree>,
+    },
+    /// `Resource`.
+    Task {
+        resource: String,
+    },
+    /// `Choices`, and `Default` where it is given.
+    Choice {
+        choices: Vec<Rule>,
+        default: Option<String>,
+    },
+    Wait {
+        delay: Delay,
+    },
+    Succeed,
+    /// `Error` and `Cause`, empty where they are absent.
+    Fail {
+        error: String,
+        cause: String,
+    },
+    /// The name of the start state of each of `Branches`.
+    Parallel {
+        branches: Vec<String>,
+    },
+    /// `ItemsPath`, `ItemSelector` where it is given, and the name of the start state of `ItemProcessor`.
+    Map {
+        items_path: RefPath,
+        item_selector: Option<Template>,
+        processor: String,
+    },
+}
+
+/// What a Wait waits for.
+#[derive(Debug, Drop)]
+pub enum Delay {
+    Seconds(u64),
+    SecondsPath(RefPath),
+    Timestamp(String),
+    TimestampPath(RefPath),
+}
+
+/// A scope: the machine, a branch of a Parallel or the processor of a Map.
+#[derive(Clone, Copy, Debug, PartialEq, Eq, Drop)]
+pub struct Scope {
+    /// The number of its start state.
+    pub start: usize,
+    /// The number of the state that it belongs to and the number of the branch, counted from 0 (0 for a Map's
+    /// processor); none for the machine's own.
+    pub owner: Option<(usize, usize)>,
+}
