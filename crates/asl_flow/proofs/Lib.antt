@@ -1,1 +1,3 @@
+pub mod LiteralFields
+pub mod Needed
 pub mod ShapeParts

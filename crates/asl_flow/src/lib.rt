@@ -2,9 +2,11 @@
 //! and what its rules let through (States Language, "Input and Output Processing", "Payload Template", "Choice State").
 #![tactic(auto)]
 
+mod literals;
 mod looking;
 mod putting;
 mod rules;
 mod templates;
 
+pub use literals::literal_shape;
 pub use looking::{LookRefusal, find_shape, look};
