@@ -77,6 +77,10 @@ kind_outline (Map items selector processor) = Map items selector (scope_outline 
 abbrev pub outline : State → State
 outline (StateOf settings kind) = StateOf settings (kind_outline kind)
 
+-- a state where it stands, without the states of its scopes
+abbrev pub outlined : Standing → Standing
+outlined s = record { name = s.name; state = outline s.state; start = s.start; owner = s.owner }
+
 -- where a state stands, by numbers: its scope's start state, and the state that the scope belongs to with the number of
 -- the branch
 pub record Placement : Type 0 where
@@ -91,8 +95,7 @@ number_or_0 states n = unwrap_or (number_of states n) 0
 abbrev pub placement_of : List Standing → Standing → Placement
 placement_of states s = record { start = number_or_0 states s.start; owner = option_map (λ o. (number_or_0 states o.0, o.1)) s.owner }
 
--- A machine as one table of its states: by number the name of each, the state without the states of its scopes, and
--- where it stands.
+-- A machine as one table of its states: by number the name of each, the state itself, and where it stands.
 pub record Table : Type 0 where
   pub names : List (List ℕ)
   pub states : List State
@@ -100,8 +103,8 @@ pub record Table : Type 0 where
 
 -- the table of those states
 abbrev pub table_among : List Standing → Table
-table_among states = record { names = map (λ s. s.name) states; states = map (λ s. outline s.state) states; placements = map (placement_of states) states }
+table_among states = record { names = map (λ s. s.name) states; states = map (λ s. s.state) states; placements = map (placement_of states) states }
 
--- the table of a machine
+-- the table of a machine: each state without the states of its scopes, which have numbers of their own
 abbrev pub table_of : Scope → Table
-table_of machine = table_among (standing machine)
+table_of machine = table_among (map outlined (standing machine))
