@@ -1,3 +1,4 @@
 pub mod LiteralFields
 pub mod Needed
+pub mod Replaced
 pub mod ShapeParts

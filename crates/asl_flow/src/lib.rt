@@ -5,6 +5,7 @@
 mod literals;
 mod looking;
 mod putting;
+mod replacing;
 mod rules;
 mod templates;
 
