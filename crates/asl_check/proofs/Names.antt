@@ -16,14 +16,9 @@ use Rattle.asl_records.specs.declared.records.Certificate.{Certificate}
 use Rattle.asl_records.specs.declared.records.StateShapes.{StateShapes}
 use Rattle.asl_records.specs.declared.records.TaskShapes.{TaskShapes}
 use Rattle.asl_check.specs.Checking.{state_rule, task_rule, found_by}
-use Rattle.asl_shape.proofs.Lookups.{same_name}
+use Rattle.asl_shape.proofs.Lookups.{picked, same_name}
 
 -- ---- entries
-
--- a function of what is picked
-picked : {A B : Type 0} (f : A → B) (x : A) (b : Bool) (o : Option A) → cond b (Some (f x)) (option_map f o) ≡ option_map f (cond b (Some x) o)
-picked f x true o = refl
-picked f x false o = refl
 
 -- an entry is looked up by its name
 pub entry_looked_up : (k : String Global) (es : List (String Global × StateShapes)) → under (string_bytes k) (entries_view es) ≡ option_map entry_view (lookup (is_at (string_cmp k)) es)

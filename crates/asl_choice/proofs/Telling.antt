@@ -1,5 +1,5 @@
 -- What a refusal tells of a fault that was met on the way.
-use Rattle.std.proofs.Common.{◌≡◌, ℕ, List, [], ◌++◌, Option, Some, None, Result, Ok, refl, subst, rules}
+use Rattle.std.proofs.Common.{◌≡◌, ℕ, List, [], ◌++◌, Option, Some, None, Result, Ok, subst, rules}
 use Rattle.std.specs.Prelude.{IfSome}
 use Rattle.std.specs.List.{Contains}
 use Rattle.std.proofs.lemmas.List.Elements.{Contains-append_left, Contains-append_right}
@@ -8,7 +8,7 @@ use Rattle.asl_model.specs.Path.{Segment}
 use Rattle.asl_model.specs.PathSpelling.{path_of, Spells}
 use Rattle.asl_model.specs.Test.{as_text, Comparison, AtPath, Compare, StringMatches, Test}
 use Rattle.asl_model.specs.RuleSpelling.{RuleFault, BadPath, BadPattern, Matching, WithPath, operator_test, fault_of, given_or, pattern_of}
-use Rattle.asl_model.proofs.PathReading.{path_of-Spells}
+use Rattle.asl_model.proofs.PathReading.{path_of-none}
 use Rattle.asl_choice.specs.declared.refusal.RuleRefusal.{RuleRefusal}
 use Rattle.asl_choice.specs.declared.refusal.RuleRefusal.TheVariants as refusal
 use Rattle.asl_choice.specs.Refusal.{Tells, fault_named, missing}
@@ -45,14 +45,6 @@ operand_path_told e p comparison t s is told = rw is (behind_told e BadPath (λ 
 pub pattern_told : (e : RuleRefusal) (p : List Segment) (t : Tree) (s bytes : List ℕ) → as_text t ≡ Some s → bytes ≡ s → Tells e (missing BadPattern (pattern_of bytes)) → Tells e (fault_of (operator_test p Matching t))
 pattern_told e p t s bytes is same told = rw (is, ← same) (behind_told e BadPattern (λ parts. Ok (StringMatches p parts)) (pattern_of bytes) told)
 
--- a text that spells no path is read as none
-path_none : (text : List ℕ) → ((p : List Segment) → Spells text p → ⊥) → path_of text ≡ None
-path_none text not = by (path_of text) refl
-  where
-    by : (o : Option (List Segment)) → path_of text ≡ o → o ≡ None
-    by None e = refl
-    by (Some p) e = absurd (not p (path_of-Spells text p e))
-
 -- a text that spells no path is told so
 pub path_told : (text : List ℕ) → ((p : List Segment) → Spells text p → ⊥) → Tells refusal.BadPath (missing BadPath (path_of text))
-path_told text not = rw (path_none text not) (record { listed = search rules })
+path_told text not = rw (path_of-none text not) (record { listed = search rules })

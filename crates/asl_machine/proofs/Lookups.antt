@@ -1,4 +1,4 @@
--- Looking fields up in a value, and reading paths.
+-- Looking fields up in a value.
 use Rattle.std.proofs.Common.{◌≡◌, ℕ, suc, ◌+◌, ◌/◌, ◌==◌, List, [], ◌∷◌, Option, Some, None, is_some, Bool, true, false, not, cond, if◌then◌else◌, ◌||◌, bytes_eq, refl, sym, ap, ◌∙◌, zero-add, add-zero, arith, is_eq, Ordering, Less, Equal, Greater}
 use Rattle.std.specs.List.{count_by, fold}
 use Rattle.std.proofs.lemmas.Slice.Eq.{bytes_eq-Decides}
@@ -8,9 +8,6 @@ use Rattle.std.proofs.lemmas.Map.Text.{is_eq-slice_cmp}
 use Rattle.serde_json.specs.Data as json
 use Rattle.serde_json.specs.Data.{Data, Members}
 use Rattle.serde_json.specs.Find.{get, get_member}
-use Rattle.asl_model.specs.Path.{Segment}
-use Rattle.asl_model.specs.PathSpelling.{path_of, Spells}
-use Rattle.asl_model.proofs.PathReading.{path_of-Spells}
 use Rattle.asl_model.specs.ShapeSpelling.{is_among}
 use Rattle.asl_model.specs.StandsFor.{members_in, names_of, characters}
 
@@ -26,14 +23,6 @@ got_among field (json.number n) = refl
 got_among field (json.string s) = refl
 got_among field (json.array vs) = refl
 got_among field (json.object ms) = refl
-
--- a text that spells no path is read as none
-pub path_none : (text : List ℕ) → ((p : List Segment) → Spells text p → ⊥) → path_of text ≡ None
-path_none text h = by (path_of text) refl
-  where
-    by : (o : Option (List Segment)) → path_of text ≡ o → path_of text ≡ None
-    by None e = e
-    by (Some p) e = absurd (h p (path_of-Spells text p e))
 
 -- ---- names
 

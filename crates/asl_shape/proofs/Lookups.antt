@@ -21,7 +21,8 @@ use Rattle.serde_json.specs.declared.value.Value.{Value}
 pub same_name : (k m : List ℕ) → bytes_eq m k ≡ is_eq (slice_cmp nat_cmp k m)
 same_name k m = nat_list_eq_equiv.symm m k ∙ sym (is_eq-slice_cmp k m)
 
-picked : {A B : Type 0} (f : A → B) (x : A) (b : Bool) (s : Option A) → cond b (Some (f x)) (option_map f s) ≡ option_map f (cond b (Some x) s)
+-- a function of what is picked
+pub picked : {A B : Type 0} (f : A → B) (x : A) (b : Bool) (s : Option A) → cond b (Some (f x)) (option_map f s) ≡ option_map f (cond b (Some x) s)
 picked f x true s = refl
 picked f x false s = refl
 
