@@ -9,13 +9,16 @@ use Rattle.asl_intrinsic.specs.Answer.{Answers, value_view, values_view}
 use Rattle.asl_intrinsic.specs.declared.EvalRefusal.TheVariants.{IntrinsicFailure}
 use Rattle.asl_intrinsic.specs.declared.value.Value.{Value}
 
+-- as many elements are seen as there are
 counted : (ts : List code.Tree) → trees_model.count (trees.elements_view ts) ≡ length ts
 counted [] = refl
 counted (t ∷ ts) = ap suc (counted ts)
 
+-- a list is seen as an array of its elements
 seen_list : (v : Vec code.Tree Global) → trees.view (code.List v) ≡ trees_model.Array (trees.elements_view v.items)
 seen_list v = search (rules, code.the_lemmas)
 
+-- a number is seen as that number
 seen_int : (z : ℤ) → trees.view (code.Int z) ≡ trees_model.Integer z
 seen_int z = search (rules, code.the_lemmas)
 
@@ -32,6 +35,7 @@ one_is_taken [] h = record { gives = tt; fails = λ e. refl }
 one_is_taken (v ∷ []) h = absurd (h refl)
 one_is_taken (v ∷ u ∷ values) h = record { gives = tt; fails = λ e. refl }
 
+-- nothing is filled where there are not as many values as holes
 apart : (text : List ℕ) (pieces : List (String Global)) (values : List Value) → (length values ≡ length pieces → ⊥) → holes_filled text (map string_bytes pieces) (values_view values) ≡ None
 apart text [] [] h = absurd (h refl)
 apart text [] (v ∷ values) h = refl

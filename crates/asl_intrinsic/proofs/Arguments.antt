@@ -12,6 +12,7 @@ use Rattle.asl_intrinsic.specs.declared.call.Arg.{Arg}
 use Rattle.asl_intrinsic.specs.declared.value.Value.{Value}
 
 module _ (input : trees.Tree) (item : Option model.Item) where
+  -- where each argument has its value, the arguments have these values
   values_given : (arguments : List Arg) (values : List Value) → map (λ a. model.argument_value (argument_view a) input item) arguments ≡ map (λ v. Some (value_view v)) values → model.argument_values (arguments_view arguments) input item ≡ Some (values_view values)
   values_given [] [] e = refl
   values_given [] (v ∷ values) e = absurd (cc)
@@ -24,10 +25,12 @@ module _ (input : trees.Tree) (item : Option model.Item) where
   pub values_gone_through : (arguments : List Arg) (i : ℕ) (values : List Value) → length arguments ≤ i → map (λ a. model.argument_value (argument_view a) input item) (take i arguments) ≡ map (λ v. Some (value_view v)) values → model.argument_values (arguments_view arguments) input item ≡ Some (values_view values)
   values_gone_through arguments i values end e = values_given arguments values (ap (map (λ a. model.argument_value (argument_view a) input item)) (sym (take_all i arguments end)) ∙ e)
 
+  -- where the later arguments have no values, neither do all of them
   no_rest : (t : Option trees.Tree) (rest : Option trees.Trees) → rest ≡ None → option_and_then (λ u. option_map (trees.AndTree u) rest) t ≡ None
   no_rest None rest e = refl
   no_rest (Some u) rest e = rw e refl
 
+  -- where the argument at a position has no value, the arguments have none
   none_at : (arguments : List Arg) (i : ℕ) (d : Arg) → i < length arguments → model.argument_value (argument_view (get_or arguments i d)) input item ≡ None → model.argument_values (arguments_view arguments) input item ≡ None
   none_at [] i d h e = absurd (omega arith)
   none_at (a ∷ arguments) zero d h e = rw e refl
@@ -43,6 +46,7 @@ module _ (input : trees.Tree) (item : Option model.Item) where
 
 -- ---- the literal text that the first argument may be
 
+-- what follows the first argument doesn't change the literal that it is
 same_literal : (a : model.Argument) (others further : model.Arguments) → model.literal_pieces (model.AndArgument a others) ≡ model.literal_pieces (model.AndArgument a further)
 same_literal model.NullArgument others further = refl
 same_literal (model.BooleanArgument b) others further = refl

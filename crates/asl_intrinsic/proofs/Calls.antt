@@ -37,6 +37,7 @@ behind_byte b s rest cut = cut.1.1 ∙ ap (λ r. b ∷ r) (sym cut.2)
 
 -- ---- arguments together
 
+-- an argument that is pushed stands behind the others
 pub pushed : (given new : List Arg) (a : Arg) → new ≡ given ++ a ∷ [] → arguments_view new ≡ and_last (arguments_view given) (argument_view a)
 pushed [] new a is = ap arguments_view is
 pushed (b ∷ given) new a is = ap arguments_view is ∙ ap (model.AndArgument (argument_view b)) (pushed given (given ++ a ∷ []) a refl)
@@ -48,6 +49,7 @@ first_meaning (Ok a) (Err fault) = Err fault
 first_meaning (Err fault) (Ok others) = Err fault
 first_meaning (Err fault) (Err other) = Err (lesser_fault fault other)
 
+-- what arguments mean, by the first and the others
 first_means : (item : Bool) (a : WrittenArgument) (others : WrittenArguments) → arguments_meaning item (AndWritten a others) ≡ first_meaning (argument_meaning item a) (arguments_meaning item others)
 first_means item a others = go (knows_functions_in a) (know_functions others) (argument_of item a) (arguments_of item others)
   where
@@ -62,6 +64,7 @@ first_means item a others = go (knows_functions_in a) (know_functions others) (a
     go false true x None = refl
     go false false x y = refl
 
+-- of three faults the same counts, however they are grouped
 lesser-lesser : (f g h : CallFault) → lesser_fault f (lesser_fault g h) ≡ lesser_fault (lesser_fault f g) h
 lesser-lesser Malformed g h = refl
 lesser-lesser UnknownFunction Malformed h = refl
@@ -71,6 +74,7 @@ lesser-lesser UnknownFunction UnknownFunction BadPath = refl
 lesser-lesser UnknownFunction BadPath h = refl
 lesser-lesser BadPath g h = refl
 
+-- it is the same whether the first argument is put to the others before the last one or after it
 first_and_last : (x : Result model.Argument CallFault) (others : Result model.Arguments CallFault) (y : Result model.Argument CallFault) → first_meaning x (and_meaning others y) ≡ and_meaning (first_meaning x others) y
 first_and_last (Ok x) (Ok others) (Ok y) = refl
 first_and_last (Ok x) (Ok others) (Err h) = refl
@@ -81,6 +85,7 @@ first_and_last (Err f) (Ok others) (Err h) = refl
 first_and_last (Err f) (Err g) (Ok y) = refl
 first_and_last (Err f) (Err g) (Err h) = ap Err (lesser-lesser f g h)
 
+-- a single argument is the first and the last
 alone : (x : Result model.Argument CallFault) → first_meaning x (Ok model.NoArguments) ≡ and_meaning (Ok model.NoArguments) x
 alone (Ok x) = refl
 alone (Err f) = refl
@@ -90,6 +95,7 @@ abbrev pub in_front : List WrittenArgument → WrittenArguments → WrittenArgum
 in_front [] further = further
 in_front (a ∷ front) further = AndWritten a (in_front front further)
 
+-- what arguments mean, by those in front and the last
 last_means : (item : Bool) (front : List WrittenArgument) (a : WrittenArgument) → arguments_meaning item (in_front front (AndWritten a NoneWritten)) ≡ and_meaning (arguments_meaning item (in_front front NoneWritten)) (argument_meaning item a)
 last_means item [] a = first_means item a NoneWritten ∙ alone (argument_meaning item a)
 last_means item (b ∷ front) a =
@@ -97,12 +103,14 @@ last_means item (b ∷ front) a =
     ∙ first_and_last (argument_meaning item b) (arguments_meaning item (in_front front NoneWritten)) (argument_meaning item a)
     ∙ ap (λ m. and_meaning m (argument_meaning item a)) (sym (first_means item b (in_front front NoneWritten)))
 
+-- an argument behind the front may be counted to the front
 in_front-last : (front : List WrittenArgument) (a : WrittenArgument) (further : WrittenArguments) → in_front front (AndWritten a further) ≡ in_front (front ++ a ∷ []) further
 in_front-last [] a further = refl
 in_front-last (b ∷ front) a further = ap (AndWritten b) (in_front-last front a further)
 
 -- ---- calls
 
+-- what a call means, by its name and what its arguments mean
 pub call_means : (item : Bool) (name : List ℕ) (arguments : WrittenArguments) → call_meaning item (WrittenAs name arguments) ≡ function_meaning name (arguments_meaning item arguments)
 call_means item name arguments = go (function_named name) (know_functions arguments) (arguments_of item arguments)
   where
@@ -112,6 +120,7 @@ call_means item name arguments = go (function_named name) (know_functions argume
     go (Some f) true None = refl
     go (Some f) false y = refl
 
+-- what a nested call means as an argument, by what it means as a call
 pub nested_means : (item : Bool) (c : WrittenCall) → argument_meaning item (WrittenNested c) ≡ nested_meaning (call_meaning item c)
 nested_means item c = go (knows_functions c) (call_of item c)
   where
@@ -132,17 +141,21 @@ pub record SoFar (item : Bool) (whole left : Cut WrittenArguments) (meaning : Re
   pub cut : whole ≡ option_map (behind_front front) left
   pub means : arguments_meaning item (in_front front NoneWritten) ≡ meaning
 
+-- with nothing in front a cut is as it was
 unchanged : (c : Cut WrittenArguments) → c ≡ option_map (behind_front []) c
 unchanged None = refl
 unchanged (Some c) = refl
 
+-- before the first argument nothing was cut off
 pub none_so_far : (item : Bool) (whole left : Cut WrittenArguments) → whole ≡ left → SoFar item whole left (Ok model.NoArguments)
 none_so_far item whole left same = record { front = []; cut = same ∙ unchanged left; means = refl }
 
 module _ (nested : List ℕ → Cut WrittenCall) where
+  -- what the arguments are, by the first of them and what follows it
   behind_argument : (m : ℕ) (left behind : List ℕ) (w : WrittenArgument) → cut_argument nested (without_spaces left) ≡ Some (w, behind) → cut_arguments nested (suc m) left ≡ after_argument (λ rest. cut_arguments nested m rest) w (without_spaces behind)
   behind_argument m left behind w e = rw e refl
 
+  -- one argument in front of a cut, and the front in front of it, are the front with that argument
   regrouped : (front : List WrittenArgument) (w : WrittenArgument) (c : Cut WrittenArguments) → option_map (behind_front front) (option_map (behind_front (w ∷ [])) c) ≡ option_map (behind_front (front ++ w ∷ [])) c
   regrouped front w None = refl
   regrouped front w (Some c) = ap (λ arguments. Some (arguments, c.1)) (in_front-last front w c.0)
@@ -168,6 +181,7 @@ module _ (nested : List ℕ → Cut WrittenCall) where
     last_means item so_far.front w ∙ rw (so_far.means, means) (sym all),
   )
 
+  -- nothing is cut off where neither a parenthesis nor a comma follows the argument
   neither : (further : List ℕ → Cut WrittenArguments) (w : WrittenArgument) (s : List ℕ) → ((rest : List ℕ) → s ≡ 41 ∷ rest → ⊥) → ((rest : List ℕ) → s ≡ 44 ∷ rest → ⊥) → after_argument further w s ≡ None
   neither further w [] no_parenthesis no_comma = refl
   neither further w (x ∷ s) no_parenthesis no_comma = go (x == 41) refl (x == 44) refl
@@ -186,6 +200,7 @@ module _ (nested : List ℕ → Cut WrittenCall) where
   nothing_follows item whole meaning fuel m left behind w so_far is found no_parenthesis no_comma =
       so_far.cut ∙ ap (option_map (behind_front so_far.front)) (ap (λ n. cut_arguments nested n left) is ∙ behind_argument m left behind w found ∙ neither (λ rest. cut_arguments nested m rest) w (without_spaces behind) no_parenthesis no_comma)
 
+  -- no arguments are cut off where there is no first one
   without_argument : (fuel : ℕ) (left : List ℕ) → cut_argument nested (without_spaces left) ≡ None → cut_arguments nested fuel left ≡ None
   without_argument zero left none = refl
   without_argument (suc m) left none = rw none refl
@@ -225,6 +240,7 @@ word_cut nested s word rest at_word at_rest lacks =
 
 -- ---- one call
 
+-- what stands behind the first byte of a rest
 drop_next : (k b : ℕ) (s rest : List ℕ) → drop k s ≡ b ∷ rest → drop (suc k) s ≡ rest
 drop_next zero b [] rest is = absurd (cc)
 drop_next zero b (x ∷ s) rest is = ap (drop 1) is

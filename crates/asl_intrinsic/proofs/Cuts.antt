@@ -13,10 +13,12 @@ plain x first others h = go (nat_eq x 123) refl (begins_with 125 first) refl
     go true e false f = rw (e, f) refl
     go false e closes f = rw e refl
 
+-- a text that begins with `}` is that byte and a rest
 closing : (s : List ℕ) → begins_with 125 s ≡ true → (rest : List ℕ) × (s ≡ 125 ∷ rest)
 closing [] h = absurd (cc)
 closing (x ∷ s) h = let is : x ≡ 125 = grind (arith, nat_tests) in (s, ap (λ y. y ∷ s) is)
 
+-- so is one whose front begins with it
 closing_front : (n : ℕ) (s : List ℕ) → begins_with 125 (take n s) ≡ true → (rest : List ℕ) × (s ≡ 125 ∷ rest)
 closing_front zero s h = absurd (cc)
 closing_front (suc n) [] h = absurd (cc)
@@ -41,11 +43,14 @@ uncut (x ∷ s) lacks =
     let later : (k : ℕ) → k ≤ length s → LacksTextAt (codes "{}") s k = λ k h. lacks (suc k) (omega arith) in
     rw (uncut s later) (plain x s [] (λ is closes. let found = closing s closes in lacks 0 (omega arith) found.0 (ap (λ y. y ∷ s) is ∙ ap (λ u. 123 ∷ u) found.1)))
 
+-- a text in which `{}` isn't found is one piece
 pub cut_without_match : (s : List ℕ) → FindsText (codes "{}") s None → cut_at_holes s ≡ record { first = s; after_holes = [] }
 cut_without_match s lacks = uncut s lacks
 
+-- a text is cut at the first place where `{}` is found
 pub cut_at_found : (s : List ℕ) (i j : ℕ) → FindsText (codes "{}") s (Some (i, j)) → cut_at_holes s ≡ record { first = take i s; after_holes = (cut_at_holes (drop j s)).first ∷ (cut_at_holes (drop j s)).after_holes }
 cut_at_found s i j found = cut_at s (drop j s) i found.0 found.1.split
 
+-- so it is where it was split there
 pub cut_at_match : (s front back : List ℕ) → SplitsAroundMatch (FindsText (codes "{}")) s front back → cut_at_holes s ≡ record { first = front; after_holes = (cut_at_holes back).first ∷ (cut_at_holes back).after_holes }
 cut_at_match s front back split = cut_at_found s split.0 split.1 split.2 ∙ rw (split.3, split.4) refl

@@ -15,6 +15,7 @@ use Rattle.asl_intrinsic.specs.declared.value.Value.{Value}
 
 -- ---- answers
 
+-- a text is seen as its bytes
 seen_text : (text : String Global) → trees.view (code.Text text) ≡ model.Text (string_bytes text)
 seen_text text = search (rules, code.the_lemmas)
 

@@ -22,6 +22,7 @@ one_piece_more whole text pieces i next d hole new so_far within after is at_hol
 
 -- ---- holes filled one after the other
 
+-- a front goes on in front of the filled text
 filled-front : (a b : List ℕ) (pieces : List (List ℕ)) (ts : Trees) → holes_filled (a ++ b) pieces ts ≡ option_map (λ further. a ++ further) (holes_filled b pieces ts)
 filled-front a b [] NoTrees = refl
 filled-front a b [] (AndTree t ts) = refl
@@ -33,6 +34,7 @@ filled-front a b (piece ∷ pieces) (AndTree t ts) = go (word_of t) (holes_fille
     go (Some w) None = refl
     go (Some w) (Some f) = ap Some (append_assoc a b (w ++ f))
 
+-- two fronts may be put in front one after the other
 regrouped : (a b : List ℕ) (o : Option (List ℕ)) → option_map (λ further. (a ++ b) ++ further) o ≡ option_map (λ further. a ++ (b ++ further)) o
 regrouped a b None = refl
 regrouped a b (Some further) = ap Some (append_assoc a b further)

@@ -15,21 +15,25 @@ use Rattle.asl_intrinsic.specs.declared.scanning.Part.TheVariants.{Plain}
 
 -- ---- bytes in front
 
+-- with no bytes in front a cut is as it was
 pub in_front-none : (c : Cut Pieces) → c ≡ option_map (bytes_in_front []) c
 in_front-none None = refl
 in_front-none (Some c) = refl
 
+-- one byte in front of others
 in_front-one : (b : ℕ) (bytes : List ℕ) (c : Cut Pieces) → option_map (byte_in_front b) (option_map (bytes_in_front bytes) c) ≡ option_map (bytes_in_front (b ∷ bytes)) c
 in_front-one b bytes None = refl
 in_front-one b bytes (Some c) = refl
 
 -- ---- plain bytes
 
+-- the byte is none of those that mean something in a literal text
 record IsPlain (b : ℕ) : Type 0 where
   no_apostrophe : (b == 39) ≡ false
   no_backslash : (b == 92) ≡ false
   no_brace : (b == 123) ≡ false
 
+-- so is each byte that may stand in a plain part
 is_plain : (b : ℕ) → may_stand_in Plain b ≡ true → IsPlain b
 is_plain b e = go (b == 39) refl (b == 92) refl (b == 123) refl e
   where
@@ -53,9 +57,11 @@ by_tests closes escapes escapable hole x y s =
       ]
     ]
 
+-- tests that answer the same give the same
 by_same_tests : (a b c d a' b' c' d' : Bool) (x y : ℕ) (s : List ℕ) → a ≡ a' → b ≡ b' → c ≡ c' → d ≡ d' → by_tests a b c d x y s ≡ by_tests a' b' c' d' x y s
 by_same_tests a b c d a' b' c' d' x y s e f g h = ap (λ t. by_tests t b c d x y s) e ∙ ap (λ t. by_tests a' t c d x y s) f ∙ ap (λ t. by_tests a' b' t d x y s) g ∙ ap (λ t. by_tests a' b' c' t x y s) h
 
+-- a plain byte stands in front of what is cut off behind it
 plain_byte : (x : ℕ) (s : List ℕ) → may_stand_in Plain x ≡ true → cut_pieces (x ∷ s) ≡ option_map (byte_in_front x) (cut_pieces s)
 plain_byte x [] e = ap (λ (closes : Bool). cond closes (Some (end_of_text [])) None) (is_plain x e).no_apostrophe
 plain_byte x (y ∷ s) e =
@@ -76,6 +82,7 @@ plain_shown (x ∷ s) = go (may_stand_in Plain x) refl (plain_shown s)
 
 -- ---- braces and escapes
 
+-- equal texts are split alike behind their first byte
 split_alike : (s t front back : List ℕ) → s ≡ t → front ≡ take 1 s → back ≡ drop 1 s → option_map (bytes_in_front (take 1 t)) (cut_pieces (drop 1 t)) ≡ option_map (bytes_in_front front) (cut_pieces back)
 split_alike s t front back is at_front at_back = rw (at_front, at_back, is) refl
 
@@ -98,6 +105,7 @@ pub first_of : (s : List ℕ) → 1 ≤ length s → (rest : List ℕ) × (s ≡
 first_of [] h = absurd (omega arith)
 first_of (b ∷ s) h = (s, refl)
 
+-- what may be escaped is an ASCII byte
 pub escaped_ascii : (b : ℕ) → is_one_of (codes "'{}\\") b ≡ true → b < 128
 escaped_ascii b e = grind (arith, nat_tests)
 
@@ -136,6 +144,7 @@ abbrev pub cut_so_far : List ℕ → List (List ℕ) → PieceEnd → List ℕ �
 cut_so_far first others Hole rest = option_map (with_further first others) (cut_pieces rest)
 cut_so_far first others Apostrophe rest = Some (record { first = first; after_holes = others }, rest)
 
+-- pieces may be put in front one after the other
 further-further : (first piece : List ℕ) (others : List (List ℕ)) (c : Cut Pieces) → option_map (with_further first others) (option_map (with_further piece []) c) ≡ option_map (with_further first (others ++ piece ∷ [])) c
 further-further first piece others None = refl
 further-further first piece others (Some c) = ap (λ (further : List (List ℕ)). Some (record { first = first; after_holes = further }, c.1)) (sym (append_assoc others (piece ∷ []) (c.0.first ∷ c.0.after_holes)))

@@ -16,24 +16,31 @@ use Rattle.asl_intrinsic.specs.declared.call.Arg as code
 
 -- ---- words
 
+-- null is seen as null
 seen_null : argument_view code.Null ≡ model.NullArgument
 seen_null = search (rules, code.the_lemmas)
 
+-- a truth value is seen as that value
 seen_boolean : (b : Bool) → argument_view (code.Bool b) ≡ model.BooleanArgument b
 seen_boolean b = search (rules, code.the_lemmas)
 
+-- a number is seen as that number
 seen_integer : (z : ℤ) → argument_view (code.Int z) ≡ model.IntegerArgument z
 seen_integer z = search (rules, code.the_lemmas)
 
+-- the word for null
 pub null_word : (word : List ℕ) → word ≡ codes "null" → IsPlainWord (word_of word) (Some code.Null)
 null_word word is = (WrittenNull, ap word_of is, λ item. rw seen_null refl)
 
+-- the word for true
 pub true_word : (word : List ℕ) → word ≡ codes "true" → IsPlainWord (word_of word) (Some (code.Bool true))
 true_word word is = (WrittenBoolean true, ap word_of is, λ item. rw (seen_boolean true) refl)
 
+-- the word for false
 pub false_word : (word : List ℕ) → word ≡ codes "false" → IsPlainWord (word_of word) (Some (code.Bool false))
 false_word word is = (WrittenBoolean false, ap word_of is, λ item. rw (seen_boolean false) refl)
 
+-- texts that aren't the same are told apart
 pub differs : (m n : List ℕ) → (m ≡ n → ⊥) → bytes_eq m n ≡ false
 differs m n h = go (bytes_eq m n) refl
   where
@@ -41,10 +48,12 @@ differs m n h = go (bytes_eq m n) refl
     go true e = absurd (h ((bytes_eq-Decides m n).0 e))
     go false e = refl
 
+-- a word that is none of these three, and spells a number
 pub number_word : (word : List ℕ) (z y : ℤ) → (word ≡ codes "null" → ⊥) → (word ≡ codes "true" → ⊥) → (word ≡ codes "false" → ⊥) → number_of word ≡ Some z → y ≡ z → IsPlainWord (word_of word) (Some (code.Int y))
 number_word word z y no_null no_true no_false is same =
     (WrittenInteger z, rw (differs word (codes "null") no_null, differs word (codes "true") no_true, differs word (codes "false") no_false, is) refl, λ item. rw (seen_integer y, same) refl)
 
+-- a number means itself
 pub number_meant : (item : Bool) (z y : ℤ) → y ≡ z → argument_meaning item (WrittenInteger z) ≡ argument_seen (Ok (code.Int y))
 number_meant item z y same = rw (seen_integer y, same) refl
 
@@ -58,12 +67,15 @@ refused_path text f refused = go (path_of text) refl
     go None e = refl
     go (Some p) e = absurd (spelled_not_refused text p f (path_of-Spells text p e) refused)
 
+-- so does one that is refused for a bad segment
 pub bad_segment : (text : List ℕ) (refusal : PathRefusal) (b : ℕ) → refusal ≡ path.BadSegment b → IsRefused text refusal → None ≡ path_of text
 bad_segment text refusal b is refused = refused_path text (BadSegment b) (subst (IsRefused text) is refused)
 
+-- so does one that is refused for what is left out
 pub left_out : (text : List ℕ) (refusal : PathRefusal) (b : ℕ) → refusal ≡ path.LeftOut b → IsRefused text refusal → None ≡ path_of text
 left_out text refusal b is refused = refused_path text (LeftOut b) (subst (IsRefused text) is refused)
 
+-- nothing stands behind a front that the text doesn't begin with
 not_behind : (front text : List ℕ) → ((rest : List ℕ) → text ≡ front ++ rest → ⊥) → behind front text ≡ None
 not_behind front text lacks = go (behind front text) refl
   where

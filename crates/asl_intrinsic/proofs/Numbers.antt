@@ -15,9 +15,11 @@ record IsNumber (s : List ℕ) : Type 0 where
   some : 0 < length s
   digits : front_length is_ascii_digit s ≡ length s
 
+-- a whole number has digits alone, and one at least
 is_number : (s : List ℕ) → is_whole s ≡ true → IsNumber s
 is_number s e = record { some = grind (arith, nat_tests); digits = grind (arith, nat_tests) }
 
+-- digits have no minus sign in front
 no_minus : (s : List ℕ) → front_length is_ascii_digit s ≡ length s → starts_with_minus s ≡ false
 no_minus [] e = refl
 no_minus (x ∷ s) e = go (is_ascii_digit x) refl e
@@ -26,18 +28,23 @@ no_minus (x ∷ s) e = go (is_ascii_digit x) refl e
     go true is h = grind (arith, nat_tests)
     go false is h = absurd (omega arith)
 
+-- digits of a whole number are a numeral to std's `parse`
 numeral : (s : List ℕ) → IsNumber s → IsNumeral 10 s
 numeral s h = (h.some, all_digits s h.digits)
 
+-- a number from 0 up that fits 64 bits with a sign is below 2 ^ 63
 within : (n : ℕ) → FitsSigned w64 (pos n) → n < 2 ^ 63
 within n h = omega (arith, ints, h)
 
+-- a number below 2 ^ 63 fits
 fits : (n : ℕ) → n < 2 ^ 63 → FitsSigned w64 (pos n)
 fits n h = fits_signed_from_abs w64 (pos n) h
 
+-- a whole number below 2 ^ 63 spells its value
 number_here : (s : List ℕ) → is_whole s ≡ true → digits_value 10 s < 2 ^ 63 → number_of s ≡ Some (pos (digits_value 10 s))
 number_here s whole small = rw (whole, lt-ltb (digits_value 10 s) (2 ^ 63) small) refl
 
+-- one that isn't below it spells none
 no_number : (s : List ℕ) → (digits_value 10 s < 2 ^ 63 → ⊥) → number_of s ≡ None
 no_number s large = go (nat_lt (digits_value 10 s) (2 ^ 63)) refl (is_whole s)
   where
@@ -59,19 +66,24 @@ number_parsed s (Err f) o whole parsed e =
 
 -- ---- numbers behind a minus sign
 
+-- a number taken from 0 is its negative
 below_zero : (n : ℕ) → pos 0 -ℤ pos n ≡ negated n
 below_zero zero = refl
 below_zero (suc n) = omega (arith, ints)
 
+-- where the negative of a number fits 64 bits, the number is at most 2 ^ 63
 least : (n : ℕ) → FitsSigned w64 (pos 0 -ℤ pos n) → n ≤ 2 ^ 63
 least n h = omega (arith, ints, h)
 
+-- the negative of such a number fits
 negative_fits : (n : ℕ) → n ≤ 2 ^ 63 → FitsSigned w64 (pos 0 -ℤ pos n)
 negative_fits n h = omega (arith, ints)
 
+-- a whole number of at most 2 ^ 63 spells its negative behind a minus sign
 negative_here : (s : List ℕ) → is_whole s ≡ true → digits_value 10 s ≤ 2 ^ 63 → negative_of s ≡ Some (negated (digits_value 10 s))
 negative_here s whole small = rw (whole, le-leb (digits_value 10 s) (2 ^ 63) small) refl
 
+-- a larger one spells none
 no_negative : (s : List ℕ) → (digits_value 10 s ≤ 2 ^ 63 → ⊥) → negative_of s ≡ None
 no_negative s large = go (nat_le (digits_value 10 s) (2 ^ 63)) refl (is_whole s)
   where
@@ -88,6 +100,7 @@ negative_refused s (Err f) o whole parsed e none =
     let refused = rw (no_plus s number.digits) at parsed in
     no_negative s (λ small. refused (numeral s number, omega arith))
 
+-- what is left of 0 without the number is the negative that is spelled, or neither is there
 subtracted : (s : List ℕ) (q : Option ℤ) (n : ℕ) → is_whole s ≡ true → n ≡ digits_value 10 s → SomeIff q (FitsSigned w64 (pos 0 -ℤ pos n)) (pos 0 -ℤ pos n) → q ≡ negative_of s
 subtracted s None n whole is h = sym (no_negative s (λ small. h (negative_fits n (rw is small))))
 subtracted s (Some z) n whole is h = ap Some (h.1 ∙ below_zero n ∙ ap negated is) ∙ sym (negative_here s whole (rw (← is) (least n h.0)))

@@ -33,12 +33,14 @@ behind_ascii test ascii s utf8 = go (front_length test s) refl
         let low = ascii (get_or s n 0) (front_passes test s n (omega arith)) in
         subst (IsCharBoundary s) (omega arith) (IsCharBoundary-after_ascii s n utf8 (omega arith) low)
 
+-- a text may be cut behind each part
 pub part_ends : (part : Part) (s : List ℕ) (n : ℕ) → IsUtf8 s → n ≡ front_length (may_stand_in part) s → IsCharBoundary s n
 part_ends Spaces s n utf8 e = rw e (behind_ascii (λ b. may_stand_in Spaces b) (λ b h. grind (arith, nat_tests)) s utf8)
 part_ends Word s n utf8 e = rw e (behind_ascii (λ b. may_stand_in Word b) (λ b h. grind (arith, nat_tests)) s utf8)
 part_ends Digits s n utf8 e = rw e (behind_ascii (λ b. may_stand_in Digits b) (λ b h. grind (arith, nat_tests)) s utf8)
 part_ends Plain s n utf8 e = boundary (λ b. may_stand_in Plain b) (λ b h. grind (arith, nat_tests)) s n e
 
+-- a path is no longer than the text
 path_within : (quote : ℕ) (s : List ℕ) → path_length quote s ≤ length s
 path_within quote [] = omega arith
 path_within quote (x ∷ s) = go (ends_path quote x) (path_within (open_quote quote x) s)
@@ -47,9 +49,11 @@ path_within quote (x ∷ s) = go (ends_path quote x) (path_within (open_quote qu
     go true h = omega arith
     go false h = omega arith
 
+-- what ends a path is an ASCII byte
 ends_at_ascii : (quote b : ℕ) → ends_path quote b ≡ true → b < 128
 ends_at_ascii quote b h = grind (arith, nat_tests)
 
+-- so is the byte behind a path
 path_stops : (quote : ℕ) (s : List ℕ) → path_length quote s < length s → slice_index s (path_length quote s) < 128
 path_stops quote [] h = absurd (omega arith)
 path_stops quote (x ∷ s) h = go (ends_path quote x) refl (path_stops (open_quote quote x) s) h
