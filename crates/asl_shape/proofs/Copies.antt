@@ -1,29 +1,20 @@
 -- The fields of an object shape, copied in the order of their names.
-use Rattle.std.proofs.Common.{◌≡◌, List, [], ◌∷◌, ◌++◌, String, Global, Less, Greater, string_bytes, string_cmp, nat_cmp, refl, ap, ◌∙◌}
-use Rattle.std.proofs.lemmas.Cmp.{nat_list_cmp_total}
+use Rattle.std.proofs.Common.{◌≡◌, List, [], ◌∷◌, ◌++◌, String, Global, string_bytes, string_cmp, refl, ap, ◌∙◌}
 use Rattle.std.specs.BTreeMap.{insert_entry}
-use Rattle.std.specs.Cmp.Lexicographic.{slice_cmp}
-use Rattle.std.specs.List.{AllByRecursion}
 use Rattle.std.specs.List.Sorted.{IsStrictlySortedBy}
 use Rattle.std.specs.Map.{keys_of}
-use Rattle.std.specs.Ordering.{ordering_reverse}
 use Rattle.asl_model.specs.Shape as model
+use Rattle.asl_tree.proofs.Texts.{after_first}
 use Rattle.asl_shape.specs.View.{view, fields_view}
 use Rattle.asl_shape.specs.declared.shape.Field.{Field}
 use Rattle.asl_shape.proofs.Spellings.{Mention, put, put_shown}
-
-below_middle : (first : Mention) (ms : List Mention) (m : Mention) (more : List Mention) → AllByRecursion (λ y. string_cmp first.0 y ≡ Less) (keys_of (ms ++ m ∷ more)) → string_cmp first.0 m.0 ≡ Less
-below_middle first [] m more h = h.0
-below_middle first (x ∷ ms) m more h = below_middle first ms m more h.1
 
 -- a name that is above those before it goes last
 put_last : (done : List Mention) (m : Mention) (more : List Mention) → IsStrictlySortedBy string_cmp (keys_of (done ++ m ∷ more)) → put (string_bytes m.0) m.1.needed (view m.1.shape) (fields_view done) ≡ fields_view (done ++ m ∷ [])
 unfolding IsStrictlySortedBy
 put_last [] m more h = refl
 put_last (first ∷ done) m more h =
-    let above : slice_cmp nat_cmp (string_bytes m.0) (string_bytes first.0) ≡ Greater =
-    nat_list_cmp_total.antisymm (string_bytes m.0) (string_bytes first.0) ∙ ap ordering_reverse (below_middle first done m more h.0) in
-    rw above (ap (model.AndFieldShape (string_bytes first.0) first.1.needed (view first.1.shape)) (put_last done m more h.1))
+    rw (after_first first done m more h.0) (ap (model.AndFieldShape (string_bytes first.0) first.1.needed (view first.1.shape)) (put_last done m more h.1))
 
 -- a field equal to the next one goes behind those that are equal to the fields before it
 pub field_copied : (done : List Mention) (m : Mention) (more : List Mention) (copies : List Mention) (k : String Global) (f : Field) → IsStrictlySortedBy string_cmp (keys_of (done ++ m ∷ more)) → fields_view copies ≡ fields_view done → string_bytes k ≡ string_bytes m.0 → f.needed ≡ m.1.needed → view f.shape ≡ view m.1.shape → fields_view (insert_entry string_cmp copies k f) ≡ fields_view (done ++ m ∷ [])

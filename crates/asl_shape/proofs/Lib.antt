@@ -11,3 +11,4 @@ pub mod Trees
 pub mod Unders
 pub mod Views
 pub mod Witnesses
+pub mod Writings

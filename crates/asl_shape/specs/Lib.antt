@@ -1,4 +1,6 @@
+pub mod Adding
 pub mod Known
+pub mod Proper
 pub mod Refusal
 pub mod Required
 pub mod Spelled

@@ -119,7 +119,7 @@ fn others_never_there(outer: &BTreeMap<String, Field>, inner: &BTreeMap<String, 
     true
 }
 
-fn is_any(shape: &Shape) -> bool
+pub(crate) fn is_any(shape: &Shape) -> bool
     ensures { result ≡ model.is_any_shape (view shape.now) }
 {
     matches!(shape, Shape::Any)

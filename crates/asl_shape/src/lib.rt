@@ -1,8 +1,9 @@
-//! Shapes of trees: reading them, membership, comparing and copying them.
+//! Shapes of trees: reading and writing them, membership, comparing and copying them.
 //!
 //! A [`Shape`] says which trees are meant (a subset of JSON Schema 2020-12). [`read`] makes one of the tree that spells
 //! it, [`read_value`] of the JSON value that this tree is, [`has`] tests a tree, [`inhabited`] whether there is one at
-//! all, [`sub`] whether one shape is inside another, [`same`] whether they are equal. [`copy`] makes an equal shape.
+//! all, [`sub`] whether one shape is inside another, [`same`] whether they are equal. [`copy`] makes an equal shape,
+//! [`write`] the tree that spells it.
 #![tactic(auto)]
 
 ghost use Rattle.std.specs.Prelude.{◌≡◌};
@@ -16,6 +17,7 @@ mod reading;
 mod shape;
 #[cfg(test)]
 mod tests;
+mod writing;
 
 use asl_tree::OutOfMemory;
 pub use comparing::sub;
@@ -26,6 +28,7 @@ pub use membership::has;
 pub use reading::{read, read_value};
 pub use shape::{Field, Shape};
 use std::alloc::{AllocError, AllocFailed};
+pub use writing::write;
 
 /// Why a tree is no spelling of a shape.
 #[derive(Debug, PartialEq, Drop)]
