@@ -4,6 +4,7 @@
 
 mod literals;
 mod looking;
+mod narrowing;
 mod putting;
 mod replacing;
 mod rules;
