@@ -9,3 +9,4 @@ pub mod ServedStates
 pub mod Standing
 pub mod Told
 pub mod Verdicts
+pub mod Walks

@@ -1,0 +1,91 @@
+-- What a walk over the members of an object finds under a name is what the look-up of that name gives.
+use Rattle.std.proofs.Common.{◌≡◌, ℕ, List, [], ◌∷◌, Bool, true, false, if◌then◌else◌, Option, Some, None, option_map, unwrap_or, bytes_eq, codes, is_eq, Ordering, Less, Equal, Greater, String, Global, string_bytes, cond, refl, sym, ap, ◌∙◌}
+use Rattle.std.specs.BTreeMap.{is_at}
+use Rattle.std.specs.Cmp.Lexicographic.{slice_cmp}
+use Rattle.std.specs.Map.{lookup}
+use Rattle.std.specs.Ordering.{nat_cmp, match_ordering}
+use Rattle.std.proofs.lemmas.Map.Text.{is_eq-slice_cmp}
+use Rattle.serde_json.specs.Data as json
+use Rattle.serde_json.specs.Data.{Data, Members}
+use Rattle.serde_json.specs.Find.{get_member}
+use Rattle.serde_json.specs.View.{view, members_view}
+use Rattle.serde_json.specs.declared.value.Value.{Value}
+use Rattle.asl_model.specs.DefinitionTable.{processor_rows}
+use Rattle.asl_model.specs.Machine.{NoScopes, NoStates, empty_scope}
+use Rattle.asl_model.specs.StandsFor.{is_processor, scope_of, states_in, states_under, scopes_in, branches_under, processor_under, scope_complaints, states_complaints, states_complaints_under, branches_complaints, branches_complaints_under, processor_complaints_under}
+
+-- ---- under one name
+
+by_order : {A : Type 0} (f : Data → A) (d : A) (v : Data) (further : Option Data) (o : Ordering)
+    → unwrap_or (option_map f (match_ordering o further (Some v) further)) d ≡ (if is_eq o then f v else unwrap_or (option_map f further) d)
+by_order f d v further Less = refl
+by_order f d v further Equal = refl
+by_order f d v further Greater = refl
+
+by_test : {A : Type 0} (here : Bool) (a b c : A) → b ≡ c → (elim here [ true ↦ a | false ↦ b ]) ≡ (if here then a else c)
+by_test true a b c e = refl
+by_test false a b c e = e
+
+-- the step of such a walk: the first member of that name, or what the walk finds in the others
+pub walk_step : {A : Type 0} (f : Data → A) (d : A) (field n : List ℕ) (v : Data) (ms : Members) (rest : A) → rest ≡ unwrap_or (option_map f (get_member field ms)) d
+    → (elim (bytes_eq field n) [ true ↦ f v | false ↦ rest ]) ≡ unwrap_or (option_map f (get_member field (json.member n v ms))) d
+walk_step f d field n v ms rest e =
+    by_test (bytes_eq field n) (f v) rest _ e
+    ∙ ap (λ here. if here then f v else unwrap_or (option_map f (get_member field ms)) d) (sym (is_eq-slice_cmp field n))
+    ∙ sym (by_order f d v (get_member field ms) (slice_cmp nat_cmp field n))
+
+pub states_under_get : (field : List ℕ) (ms : Members) → states_under field ms ≡ unwrap_or (option_map states_in (get_member field ms)) NoStates
+states_under_get field json.no_members = refl
+states_under_get field (json.member n v ms) = walk_step states_in NoStates field n v ms (states_under field ms) (states_under_get field ms)
+
+pub branches_under_get : (ms : Members) → branches_under ms ≡ unwrap_or (option_map scopes_in (get_member (codes "Branches") ms)) NoScopes
+branches_under_get json.no_members = refl
+branches_under_get (json.member n v ms) = walk_step scopes_in NoScopes (codes "Branches") n v ms (branches_under ms) (branches_under_get ms)
+
+pub states_complaints_under_get : (names : List (List ℕ)) (ms : Members) → states_complaints_under names ms ≡ unwrap_or (option_map (states_complaints names) (get_member (codes "States") ms)) []
+states_complaints_under_get names json.no_members = refl
+states_complaints_under_get names (json.member n v ms) =
+    walk_step (states_complaints names) [] (codes "States") n v ms (states_complaints_under names ms) (states_complaints_under_get names ms)
+
+pub branches_complaints_under_get : (state : List ℕ) (ms : Members) → branches_complaints_under state ms ≡ unwrap_or (option_map (branches_complaints state) (get_member (codes "Branches") ms)) []
+branches_complaints_under_get state json.no_members = refl
+branches_complaints_under_get state (json.member n v ms) =
+    walk_step (branches_complaints state) [] (codes "Branches") n v ms (branches_complaints_under state ms) (branches_complaints_under_get state ms)
+
+-- ---- a Map's processor, under either of its names
+
+-- the first member that is a processor, with its name
+abbrev pub processor_in : Members → Option (List ℕ × Data)
+processor_in json.no_members = None
+processor_in (json.member n v ms) = if is_processor n then Some (n, v) else processor_in ms
+
+processor_step : {A : Type 0} (f : List ℕ → Data → A) (d : A) (here : Bool) (n : List ℕ) (v : Data) (further : Option (List ℕ × Data)) (rest : A) → rest ≡ unwrap_or (option_map (λ p. f p.0 p.1) further) d
+    → (elim here [ true ↦ f n v | false ↦ rest ]) ≡ unwrap_or (option_map (λ p. f p.0 p.1) (if here then Some (n, v) else further)) d
+processor_step f d true n v further rest e = refl
+processor_step f d false n v further rest e = e
+
+pub processor_under_first : (ms : Members) → processor_under ms ≡ unwrap_or (option_map (λ p. scope_of p.1) (processor_in ms)) empty_scope
+processor_under_first json.no_members = refl
+processor_under_first (json.member n v ms) =
+    processor_step (λ m w. scope_of w) empty_scope (is_processor n) n v (processor_in ms) (processor_under ms) (processor_under_first ms)
+
+pub processor_complaints_under_first : (state : List ℕ) (ms : Members)
+    → processor_complaints_under state ms ≡ unwrap_or (option_map (λ p. scope_complaints (record { state = state; within = Some p.0 }) processor_rows p.1) (processor_in ms)) []
+processor_complaints_under_first state json.no_members = refl
+processor_complaints_under_first state (json.member n v ms) =
+    processor_step (λ m w. scope_complaints (record { state = state; within = Some m }) processor_rows w) [] (is_processor n) n v (processor_in ms) (processor_complaints_under state ms) (processor_complaints_under_first state ms)
+
+-- ---- the look-up in a map
+
+picked : (v : Value) (further : Option Value) (o : Ordering)
+    → match_ordering o (option_map view further) (Some (view v)) (option_map view further) ≡ option_map view (cond (is_eq o) (Some v) further)
+picked v further Less = refl
+picked v further Equal = refl
+picked v further Greater = refl
+
+-- a member of an object is what the map that it is has at the name
+pub get_member_lookup : (field : List ℕ) (es : List (String Global × Value)) → get_member field (members_view es) ≡ option_map view (lookup (is_at (λ k. slice_cmp nat_cmp field (string_bytes k))) es)
+get_member_lookup field [] = refl
+get_member_lookup field (e ∷ es) =
+    ap (λ further. match_ordering (slice_cmp nat_cmp field (string_bytes e.0)) further (Some (view e.1)) further) (get_member_lookup field es)
+    ∙ picked e.1 _ (slice_cmp nat_cmp field (string_bytes e.0))
