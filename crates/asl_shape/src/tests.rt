@@ -1,7 +1,7 @@
 // Outside examples: what each spelling reads as, and the tests of shapes on a few pairs.
 
-use crate::{Shape, ShapeRefusal, has, inhabited, read, sub};
-use asl_tree::Tree;
+use crate::{Shape, ShapeRefusal, copy, has, inhabited, read, same, sub, write};
+use asl_tree::{Tree, to_text};
 use std::alloc::Global;
 use std::process::Abort;
 
@@ -126,6 +126,53 @@ const INSIDE: [(&str, &str, bool); 9] = [
     ),
 ];
 
+const DIFFERENT: [(&str, &str); 6] = [
+    ("true", "false"),
+    (r#"{"type":"integer"}"#, r#"{"type":"string"}"#),
+    (
+        r#"{"type":"array","prefixItems":[{"type":"null"}],"minItems":1,"items":{"type":"null"}}"#,
+        r#"{"type":"array","items":{"type":"null"}}"#,
+    ),
+    (
+        r#"{"type":"object","properties":{"a":{"type":"integer"}},"required":["a"]}"#,
+        r#"{"type":"object","properties":{"a":{"type":"integer"}}}"#,
+    ),
+    (
+        r#"{"type":"object","properties":{"a":true}}"#,
+        r#"{"type":"object","properties":{"b":true}}"#,
+    ),
+    (
+        r#"{"type":"object"}"#,
+        r#"{"type":"object","additionalProperties":false}"#,
+    ),
+];
+
+const WRITTEN: [(&str, &str); 11] = [
+    ("true", "true"),
+    (r#"{"title":1}"#, "true"),
+    ("false", "false"),
+    (r#"{"type":"null"}"#, r#"{"type":"null"}"#),
+    (r#"{"type":"boolean"}"#, r#"{"type":"boolean"}"#),
+    (r#"{"type":"integer"}"#, r#"{"type":"integer"}"#),
+    (r#"{"type":"string"}"#, r#"{"type":"string"}"#),
+    (
+        r#"{"type":"object","properties":{"b":{"type":"string"},"a":{"type":"integer"}},"required":["a"],"additionalProperties":false}"#,
+        r#"{"additionalProperties":false,"properties":{"a":{"type":"integer"},"b":{"type":"string"}},"required":["a"],"type":"object"}"#,
+    ),
+    (
+        r#"{"type":"object","required":["b","a"]}"#,
+        r#"{"properties":{"a":true,"b":true},"required":["a","b"],"type":"object"}"#,
+    ),
+    (
+        r#"{"type":"array","prefixItems":[{"type":"integer"},{"type":"string"}],"minItems":2,"items":false}"#,
+        r#"{"items":false,"minItems":2,"prefixItems":[{"type":"integer"},{"type":"string"}],"type":"array"}"#,
+    ),
+    (
+        r#"{"type":"array","minItems":0,"items":{"type":"object","properties":{"a":{"type":"array","items":true}}}}"#,
+        r#"{"items":{"properties":{"a":{"type":"array"}},"type":"object"},"type":"array"}"#,
+    ),
+];
+
 fn tree(rt: &impl Abort, alloc: Global, text: &str) -> Tree {
     asl_tree::read(alloc, text.as_bytes()).expect(rt, "a tree")
 }
@@ -151,5 +198,17 @@ fn answers_as_worked_out_by_hand(rt: HostRuntime) {
     for (inner, outer, answer) in &INSIDE {
         let answered = sub(&shape(&rt, alloc, inner), &shape(&rt, alloc, outer));
         assert_eq!(rt; answered, *answer, "{inner} {outer}");
+    }
+    for (first, second) in &DIFFERENT {
+        let answered = same(&shape(&rt, alloc, first), &shape(&rt, alloc, second));
+        assert!(rt; !answered, "{first} {second}");
+    }
+    for (text, written) in &WRITTEN {
+        let given = shape(&rt, alloc, text);
+        let copied = copy(alloc, &given).expect(&rt, "a copy");
+        assert!(rt; same(&copied, &given), "{text}");
+        let tree = write(alloc, &copied).expect(&rt, "a tree");
+        let answered = to_text(alloc, &tree).expect(&rt, "a text");
+        assert_eq!(rt; answered.as_str(), *written, "{text}");
     }
 }
