@@ -11,7 +11,7 @@ use Rattle.serde_json.specs.View.{members_view}
 use Rattle.asl_model.specs.DefinitionTable as model
 use Rattle.asl_model.specs.ShapeSpelling.{is_among}
 use Rattle.asl_model.specs.StandsFor.{Complaint, members_in, names_of, name_complaints, state_complaints, duplicate_complaints, number_complaints}
-use Rattle.asl_machine.specs.declared.checking.Complaint.{Complaint as Objection}
+use Rattle.asl_machine.specs.declared.places.Complaint.{Complaint as Objection}
 use Rattle.asl_machine.specs.Unserved.{complaint_of, unserved_state}
 use Rattle.asl_machine.specs.Definition.{complaint_view, IsAmong, IsVerdict, members_told, states_told}
 use Rattle.asl_machine.proofs.Complaints.{here, in_first, in_second}

@@ -8,7 +8,7 @@ use Rattle.serde_json.specs.Find.{get_member, as_object}
 use Rattle.asl_model.specs.DefinitionTable as model
 use Rattle.asl_model.specs.ShapeSpelling.{is_among}
 use Rattle.asl_model.specs.StandsFor.{Complaint, members_in, names_of, text_at, type_of, given_among, has_row, rows_complaints, foreign_complaints, fields_complaints, type_complaints, unknown_type, state_complaints_by, state_complaints}
-use Rattle.asl_machine.specs.declared.checking.Complaint.{Complaint as Objection}
+use Rattle.asl_machine.specs.declared.places.Complaint.{Complaint as Objection}
 use Rattle.asl_machine.specs.declared.table.StateType.{StateType}
 use Rattle.asl_machine.specs.declared.table.StateType.TheVariants as code
 use Rattle.asl_machine.specs.Unserved.{complaint_of, unserved_type, unserved_fields, unserved_by, unserved_state}

@@ -10,7 +10,7 @@ use Rattle.asl_model.specs.Machine.{NoStates}
 use Rattle.asl_model.specs.ShapeSpelling.{is_among}
 use Rattle.asl_model.specs.StandsFor.{Complaint, members_in, names_of, state_names, text_at, fields_complaints, rows_complaints, foreign_complaints, target_complaints, name_complaints, state_of, states_in, each_state, state_complaints, states_complaints, each_state_complaints, names_among, names_within, duplicate_complaints, number_complaints, complaints}
 use Rattle.asl_model.proofs.ReadingLookups.{states_under-get_member, states_complaints_under-get_member}
-use Rattle.asl_machine.specs.declared.checking.Complaint.{Complaint as Objection}
+use Rattle.asl_machine.specs.declared.places.Complaint.{Complaint as Objection}
 use Rattle.asl_machine.specs.declared.table.StateType.{StateType}
 use Rattle.asl_machine.specs.declared.table.StateType.TheVariants as code
 use Rattle.asl_machine.specs.Unserved.{complaint_of, unserved_state, unserved_states, unserved}

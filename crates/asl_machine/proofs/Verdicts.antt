@@ -10,7 +10,7 @@ use Rattle.serde_json.specs.Find.{get, get_member}
 use Rattle.asl_machine.specs.declared.table.Row.{Row}
 use Rattle.asl_machine.proofs.Lookups.{got_among}
 use Rattle.asl_machine.specs.View.{def_fault_view}
-use Rattle.asl_machine.specs.declared.checking.Complaint.{Complaint as Objection}
+use Rattle.asl_machine.specs.declared.places.Complaint.{Complaint as Objection}
 use Rattle.asl_machine.specs.Definition.{told, complaint_view, IsAmong, IsVerdict, own_place, row_view, rows_view, field_complaints}
 use Rattle.asl_machine.specs.Unserved.{complaint_of}
 use Rattle.asl_machine.proofs.Complaints.{here, in_first, in_second}

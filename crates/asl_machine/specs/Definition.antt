@@ -1,5 +1,5 @@
 -- What is read of a definition so far, and what a check of it answers. No public clause cites this module.
-use Rattle.std.specs.Prelude.{◌≡◌, ℕ, List, [], ◌∷◌, ◌++◌, map, Bool, true, false, Option, Some, None, option_map, option_and_then, Result, Ok, Err, codes, ⊤}
+use Rattle.std.specs.Prelude.{◌≡◌, ℕ, if◌then◌else◌, List, [], ◌∷◌, ◌++◌, map, Bool, true, false, Option, Some, None, option_map, option_and_then, Result, Ok, Err, codes, ⊤}
 use Rattle.std.specs.Option.{unwrap_or}
 use Rattle.std.specs.List.{Contains}
 use Rattle.serde_json.specs.Data as json
@@ -7,7 +7,7 @@ use Rattle.serde_json.specs.Data.{Data, Members}
 use Rattle.serde_json.specs.Find.{as_bool, get_member}
 use Rattle.asl_model.specs.DefinitionTable as model
 use Rattle.asl_model.specs.Machine.{State, StateOf, States, NoStates, AndState, Scope, ScopeOf, Pass, Succeed, Fail}
-use Rattle.asl_model.specs.StandsFor.{Complaint, Place, text_at, path_or_null_at, members_in, type_of, names_of, field_faults, rows_complaints, fields_complaints, type_complaints, target_complaints, name_complaints, state_complaints, duplicate_complaints, number_complaints}
+use Rattle.asl_model.specs.StandsFor.{Complaint, Place, complaint_at, text_at, path_or_null_at, members_in, type_of, names_of, field_faults, rows_complaints, fields_complaints, type_complaints, target_complaints, name_complaints, state_complaints, duplicate_complaints, number_complaints}
 use Rattle.asl_machine.specs.View.{def_fault_view}
 use Rattle.asl_machine.specs.Plain.{settings_with}
 use Rattle.asl_machine.specs.Unserved.{complaint_of, unserved_state}
@@ -16,7 +16,8 @@ use Rattle.asl_machine.specs.declared.table.StateType.TheVariants as code
 use Rattle.asl_machine.specs.declared.table.Wanted.{Wanted}
 use Rattle.asl_machine.specs.declared.table.Wanted.TheVariants as wanted
 use Rattle.asl_machine.specs.declared.table.Row.{Row}
-use Rattle.asl_machine.specs.declared.checking.Complaint.{Complaint as Objection}
+use Rattle.asl_machine.specs.declared.places.Complaint.{Complaint as Objection}
+use Rattle.asl_machine.specs.declared.places.Place.{Place as Standing}
 use Rattle.asl_machine.specs.declared.refusals.DefFault.{DefFault}
 
 -- ---- what is read so far
@@ -83,17 +84,34 @@ abbrev pub complaint_view : Objection → Option Complaint
 complaint_view c = option_map (λ f. record { fault = f; state = c.state.now; field = c.field.now }) (def_fault_view c.fault)
 
 -- the value, where there is one, stands in the list
-abbrev pub IsAmong : List Complaint → Option Complaint → Type 0
+abbrev pub IsAmong : {F : Type 0} → List F → Option F → Type 0
 IsAmong wrong None = ⊤
-IsAmong wrong (Some c) = Contains wrong c
+IsAmong wrong (Some f) = Contains wrong f
 
-abbrev pub Judges : List Complaint → Result (Unit {0}) Objection → Type 0
-Judges wrong (Ok nothing) = wrong ≡ []
-Judges wrong (Err c) = IsAmong wrong (complaint_view c)
+abbrev pub Judges : {E F : Type 0} → (E → Option F) → List F → Result (Unit {0}) E → Type 0
+Judges shown wrong (Ok nothing) = wrong ≡ []
+Judges shown wrong (Err e) = IsAmong wrong (shown e)
 
--- the answer of a check for those complaints: there is none, or the one that is told is among them
-pub record IsVerdict (wrong : List Complaint) (result : Result (Unit {0}) Objection) : Type 0 where
-  pub holds : Judges wrong result
+-- the answer of a check for what can be wrong: nothing is, or what is told is among it
+pub record IsAnswer {E F : Type 0} (shown : E → Option F) (wrong : List F) (result : Result (Unit {0}) E) : Type 0 where
+  pub holds : Judges shown wrong result
+
+-- the answer of a check of a definition
+abbrev pub IsVerdict : List Complaint → Result (Unit {0}) Objection → Type 0
+IsVerdict wrong result = IsAnswer complaint_view wrong result
+
+-- the answer of a check of a value
+abbrev pub IsMisfit : List model.DefFault → Result (Unit {0}) DefFault → Type 0
+IsMisfit wrong result = IsAnswer def_fault_view wrong result
+
+-- where an object stands
+abbrev pub place_view : Standing → Place
+place_view p = record { state = p.state.now; within = option_map (λ own. own.now) p.within }
+
+-- that fault of a field, unless the test holds; of want of memory nothing is told
+abbrev pub told_unless : Bool → Place → List ℕ → Option model.DefFault → List Complaint
+told_unless right place field None = []
+told_unless right place field (Some fault) = if right then [] else complaint_at place field fault ∷ []
 
 -- a place at the state itself
 abbrev pub own_place : List ℕ → Place

@@ -10,19 +10,12 @@ ghost use Rattle.asl_machine.specs.View.{def_fault_view};
 ghost use Rattle.asl_machine.specs.Definition.{wanted_view, row_view, rows_view, told, IsVerdict, own_place, field_complaints, way_complaints, end_of, type_view, type_told, told_of, untyped_complaints, scope_told, states_told};
 ghost use Rattle.asl_machine.specs.Unserved.{unserved, unserved_state};
 
+use crate::places::Complaint;
 use crate::plain_building::{read_path, state_type, text_of};
 use crate::refusals::DefFault;
 use crate::table::{self, Row, StateType, Wanted};
 use serde_json::Value;
 use std::alloc::Global;
-
-/// A broken rule, told at a state, whose name is empty for the machine's own fields, and at a field.
-#[derive(Clone, Copy, Debug)]
-pub(crate) struct Complaint<'a> {
-    pub(crate) fault: DefFault,
-    pub(crate) state: &'a str,
-    pub(crate) field: &'a str,
-}
 
 /// Finds a broken rule of a machine, where there is one.
 pub(crate) fn check_machine<'a>(alloc: Global, machine: &'a Value) -> Result<(), Complaint<'a>>

@@ -6,10 +6,12 @@
 
 mod checking;
 mod machine;
+mod places;
 pub mod plain;
 mod plain_building;
 mod plain_reading;
 mod refusals;
+mod rows;
 mod states;
 mod table;
 

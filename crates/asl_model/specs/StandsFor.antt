@@ -248,11 +248,11 @@ pub record Place : Type 0 where
   pub within : Option (List ℕ)
 
 -- the state itself
-abbrev place_of_state : List ℕ → Place
+abbrev pub place_of_state : List ℕ → Place
 place_of_state state = record { state = state; within = None }
 
 -- an object in that field of the state
-abbrev place_within : List ℕ → List ℕ → Place
+abbrev pub place_within : List ℕ → List ℕ → Place
 place_within state field = record { state = state; within = Some field }
 
 -- faults that are told at the field's own name, in whatever object it is
@@ -282,11 +282,11 @@ told_field None field fault = field
 told_field (Some own) field fault = if is_told_by_name fault then field else own
 
 -- a fault of a field of the object that stands there
-abbrev complaint_at : Place → List ℕ → DefFault → Complaint
+abbrev pub complaint_at : Place → List ℕ → DefFault → Complaint
 complaint_at place field fault = record { fault = fault; state = place.state; field = told_field place.within field fault }
 
 -- that complaint, unless the test holds
-abbrev complain_unless : Bool → Place → List ℕ → DefFault → List Complaint
+abbrev pub complain_unless : Bool → Place → List ℕ → DefFault → List Complaint
 complain_unless right place field fault = if right then [] else complaint_at place field fault ∷ []
 
 -- ---- the fields of an object
@@ -325,17 +325,17 @@ target_complaints place names field None = []
 target_complaints place names field (Some n) = complain_unless (is_among n names) place field NoSuchState
 
 -- both are true, or both are false
-abbrev same_truth : Bool → Bool → Bool
+abbrev pub same_truth : Bool → Bool → Bool
 same_truth true b = b
 same_truth false b = not b
 
 -- `"End": true`; false counts as absent
-abbrev ends : Option Bool → Bool
+abbrev pub ends : Option Bool → Bool
 ends None = false
 ends (Some b) = b
 
 -- `End` is absent or a truth value
-abbrev has_proper_end : Members → Bool
+abbrev pub has_proper_end : Members → Bool
 has_proper_end ms = not (is_given (codes "End") ms) || is_some (option_and_then as_bool (get_member (codes "End") ms))
 
 -- exactly one of `Next` and `"End": true`, and `Next` names a state of the scope
@@ -345,7 +345,7 @@ next_complaints place names ms =
     ++ target_complaints place names (codes "Next") (text_at (codes "Next") ms)
 
 -- where both are given the heartbeat is smaller
-abbrev smaller : Option ℤ → Option ℤ → Bool
+abbrev pub smaller : Option ℤ → Option ℤ → Bool
 smaller None timeout = true
 smaller (Some heartbeat) None = true
 smaller (Some heartbeat) (Some timeout) = int_lt heartbeat timeout
@@ -396,7 +396,7 @@ abbrev pub has_proper_names : Members → Bool → Bool
 has_proper_names ms is_last = not (is_among (codes "States.ALL") (error_names ms)) || (is_last && length (error_names ms) == 1)
 
 -- no element follows
-abbrev is_last_before : Items → Bool
+abbrev pub is_last_before : Items → Bool
 is_last_before json.no_items = true
 is_last_before (json.item v vs) = false
 

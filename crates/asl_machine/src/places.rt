@@ -1,0 +1,75 @@
+// Where a rule of a definition is broken, and what is told of it.
+
+ghost use Rattle.std.specs.Prelude.{◌≡◌, Some, IfSome, option_map};
+ghost use Rattle.asl_model.specs.StandsFor.{is_told_by_name, told_field as model_told_field, complaint_at};
+ghost use Rattle.asl_machine.specs.View.{def_fault_view};
+ghost use Rattle.asl_machine.specs.Definition.{IsVerdict, complaint_view, place_view, told_unless};
+
+use crate::refusals::DefFault;
+
+/// A broken rule, told at a state, whose name is empty for the machine's own fields, and at a field.
+#[derive(Clone, Copy, Debug)]
+pub(crate) struct Complaint<'a> {
+    pub(crate) fault: DefFault,
+    pub(crate) state: &'a str,
+    pub(crate) field: &'a str,
+}
+
+/// Where an object of a definition stands.
+#[derive(Clone, Copy, Debug)]
+pub(crate) struct Place<'a> {
+    /// The state that is told, whose name is empty for the machine itself.
+    pub(crate) state: &'a str,
+    /// The state's own field in which the object stands; none for the machine and for states themselves.
+    pub(crate) within: Option<&'a str>,
+}
+
+impl<'a> Place<'a> {
+    /// A fault of a field of the object that stands there. It is told at the state's own field in which the object
+    /// stands, but for those faults that are told by the field's own name.
+    pub(crate) fn complaint(&self, field: &'a str, fault: DefFault) -> Complaint<'a>
+        ensures { complaint_view result ≡ option_map (complaint_at (place_view self.now) field.now) (def_fault_view fault) }
+    {
+        Complaint {
+            fault,
+            state: self.state,
+            field: self.told_field(field, fault),
+        }
+    }
+
+    /// The field at which such a fault is told.
+    fn told_field(&self, field: &'a str, fault: DefFault) -> &'a str
+        ensures { IfSome (def_fault_view fault) (λ f. result.now ≡ model_told_field (option_map (λ own. own.now) self.now.within) field.now f) }
+    {
+        match self.within {
+            Some(own) if !is_told_by_its_name(fault) => own,
+            _ => field,
+        }
+    }
+
+    /// Complains of such a fault, unless the test holds.
+    pub(crate) fn complain_unless(
+        &self,
+        right: bool,
+        field: &'a str,
+        fault: DefFault,
+    ) -> Result<(), Complaint<'a>>
+        ensures { IsVerdict (told_unless right (place_view self.now) field.now (def_fault_view fault)) result }
+    {
+        if right {
+            Ok(())
+        } else {
+            Err(self.complaint(field, fault))
+        }
+    }
+}
+
+/// Whether a fault is told at the field's own name, in whatever object that is.
+fn is_told_by_its_name(fault: DefFault) -> bool
+    ensures { IfSome (def_fault_view fault) (λ f. result ≡ is_told_by_name f) }
+{
+    matches!(
+        fault,
+        DefFault::MissingField | DefFault::UnknownField | DefFault::LeftOut
+    )
+}

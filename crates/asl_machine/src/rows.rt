@@ -1,0 +1,406 @@
+// The fields of a machine, of its states, and of what stands in these, a row a field (States Language, "Top-level
+// fields", "State Types", "Errors").
+
+ghost use Rattle.std.specs.Prelude.{◌≡◌, Some, option_map, map, if◌then◌else◌};
+ghost use Rattle.asl_model.specs.DefinitionTable as model;
+ghost use Rattle.asl_model.specs.ShapeSpelling.{is_among};
+ghost use Rattle.asl_model.specs.StandsFor.{has_row as model_has_row};
+ghost use Rattle.asl_machine.specs.View.{def_fault_view};
+ghost use Rattle.asl_machine.specs.Rows.{rows_view, type_view};
+
+use crate::refusals::DefFault;
+
+/// What the value of a field has to be.
+#[derive(Clone, Copy, Debug, PartialEq, Eq)]
+pub(crate) enum Wanted {
+    Text,
+    /// A whole number above 0.
+    Positive,
+    /// A whole number, 0 or more.
+    Count,
+    /// Any number.
+    Number,
+    /// `true` or `false`.
+    Truth,
+    /// The text `JSONPath`.
+    Language,
+    /// A reference path.
+    Path,
+    /// A reference path or null.
+    PathOrNull,
+    /// A payload template.
+    Template,
+    /// A payload template in which paths to a Map's item are allowed.
+    ItemTemplate,
+    /// Any value whose numbers are whole.
+    Any,
+    /// Any such object.
+    Config,
+    /// An object of states.
+    States,
+    /// A machine of its own.
+    Scope,
+    /// A list of machines of their own, not empty.
+    Scopes,
+    /// A list of rules, not empty.
+    Rules,
+    /// A list of texts, not empty.
+    Names,
+    /// A list of retriers.
+    Retriers,
+    /// A list of catchers.
+    Catchers,
+}
+
+/// A field of an object.
+#[derive(Clone, Copy, Debug)]
+pub(crate) struct Row {
+    pub(crate) name: &'static str,
+    pub(crate) wanted: Wanted,
+    pub(crate) required: bool,
+}
+
+// A field that has to be there.
+macro_rules! required {
+    ($name:literal, $wanted:ident) => {
+        Row {
+            name: $name,
+            wanted: Wanted::$wanted,
+            required: true,
+        }
+    };
+}
+
+// A field that may be absent.
+macro_rules! optional {
+    ($name:literal, $wanted:ident) => {
+        Row {
+            name: $name,
+            wanted: Wanted::$wanted,
+            required: false,
+        }
+    };
+}
+
+/// A type of states.
+#[derive(Clone, Copy, Debug, PartialEq, Eq)]
+pub(crate) enum StateType {
+    Pass,
+    Task,
+    Choice,
+    Wait,
+    Succeed,
+    Fail,
+    Parallel,
+    Map,
+}
+
+/// The fields of the machine itself.
+const MACHINE: [Row; 6] = [
+    optional!("Version", Text),
+    optional!("TimeoutSeconds", Positive),
+    required!("StartAt", Text),
+    required!("States", States),
+    optional!("Comment", Text),
+    optional!("QueryLanguage", Language),
+];
+
+/// The fields of a branch of a Parallel.
+const BRANCH: [Row; 4] = [
+    required!("StartAt", Text),
+    required!("States", States),
+    optional!("Comment", Text),
+    optional!("QueryLanguage", Language),
+];
+
+/// The fields of the processor of a Map.
+const PROCESSOR: [Row; 5] = [
+    optional!("ProcessorConfig", Config),
+    required!("StartAt", Text),
+    required!("States", States),
+    optional!("Comment", Text),
+    optional!("QueryLanguage", Language),
+];
+
+/// The fields of a state of any type.
+const EVERY_STATE: [Row; 3] = [
+    required!("Type", Text),
+    optional!("Comment", Text),
+    optional!("QueryLanguage", Language),
+];
+
+/// The fields of a Pass state.
+const PASS: [Row; 10] = [
+    optional!("Parameters", Template),
+    optional!("Result", Any),
+    optional!("ResultPath", PathOrNull),
+    optional!("Next", Text),
+    optional!("End", Truth),
+    optional!("InputPath", PathOrNull),
+    optional!("OutputPath", PathOrNull),
+    required!("Type", Text),
+    optional!("Comment", Text),
+    optional!("QueryLanguage", Language),
+];
+
+/// The fields of a Task state.
+const TASK: [Row; 15] = [
+    optional!("Parameters", Template),
+    required!("Resource", Text),
+    optional!("TimeoutSeconds", Positive),
+    optional!("HeartbeatSeconds", Positive),
+    optional!("ResultSelector", Template),
+    optional!("Retry", Retriers),
+    optional!("Catch", Catchers),
+    optional!("ResultPath", PathOrNull),
+    optional!("Next", Text),
+    optional!("End", Truth),
+    optional!("InputPath", PathOrNull),
+    optional!("OutputPath", PathOrNull),
+    required!("Type", Text),
+    optional!("Comment", Text),
+    optional!("QueryLanguage", Language),
+];
+
+/// The fields of a Choice state.
+const CHOICE: [Row; 7] = [
+    required!("Choices", Rules),
+    optional!("Default", Text),
+    optional!("InputPath", PathOrNull),
+    optional!("OutputPath", PathOrNull),
+    required!("Type", Text),
+    optional!("Comment", Text),
+    optional!("QueryLanguage", Language),
+];
+
+/// The fields of a Wait state.
+const WAIT: [Row; 11] = [
+    optional!("Seconds", Count),
+    optional!("SecondsPath", Path),
+    optional!("Timestamp", Text),
+    optional!("TimestampPath", Path),
+    optional!("Next", Text),
+    optional!("End", Truth),
+    optional!("InputPath", PathOrNull),
+    optional!("OutputPath", PathOrNull),
+    required!("Type", Text),
+    optional!("Comment", Text),
+    optional!("QueryLanguage", Language),
+];
+
+/// The fields of a Succeed state.
+const SUCCEED: [Row; 5] = [
+    optional!("InputPath", PathOrNull),
+    optional!("OutputPath", PathOrNull),
+    required!("Type", Text),
+    optional!("Comment", Text),
+    optional!("QueryLanguage", Language),
+];
+
+/// The fields of a Fail state.
+const FAIL: [Row; 5] = [
+    optional!("Error", Text),
+    optional!("Cause", Text),
+    required!("Type", Text),
+    optional!("Comment", Text),
+    optional!("QueryLanguage", Language),
+];
+
+/// The fields of a Parallel state.
+const PARALLEL: [Row; 13] = [
+    optional!("Parameters", Template),
+    required!("Branches", Scopes),
+    optional!("ResultSelector", Template),
+    optional!("Retry", Retriers),
+    optional!("Catch", Catchers),
+    optional!("ResultPath", PathOrNull),
+    optional!("Next", Text),
+    optional!("End", Truth),
+    optional!("InputPath", PathOrNull),
+    optional!("OutputPath", PathOrNull),
+    required!("Type", Text),
+    optional!("Comment", Text),
+    optional!("QueryLanguage", Language),
+];
+
+/// The fields of a Map state, the older names included.
+const MAP: [Row; 17] = [
+    optional!("ItemProcessor", Scope),
+    optional!("Iterator", Scope),
+    optional!("ItemsPath", Path),
+    optional!("ItemSelector", ItemTemplate),
+    optional!("Parameters", ItemTemplate),
+    optional!("MaxConcurrency", Count),
+    optional!("ResultSelector", Template),
+    optional!("Retry", Retriers),
+    optional!("Catch", Catchers),
+    optional!("ResultPath", PathOrNull),
+    optional!("Next", Text),
+    optional!("End", Truth),
+    optional!("InputPath", PathOrNull),
+    optional!("OutputPath", PathOrNull),
+    required!("Type", Text),
+    optional!("Comment", Text),
+    optional!("QueryLanguage", Language),
+];
+
+/// The fields of an element of `Retry`.
+const RETRIER: [Row; 7] = [
+    required!("ErrorEquals", Names),
+    optional!("IntervalSeconds", Positive),
+    optional!("MaxAttempts", Count),
+    optional!("BackoffRate", Number),
+    optional!("MaxDelaySeconds", Positive),
+    optional!("JitterStrategy", Text),
+    optional!("Comment", Text),
+];
+
+/// The fields of an element of `Catch`.
+const CATCHER: [Row; 4] = [
+    required!("ErrorEquals", Names),
+    required!("Next", Text),
+    optional!("ResultPath", PathOrNull),
+    optional!("Comment", Text),
+];
+
+/// The fields of parts of the language that are left out.
+const LEFT_OUT: [&str; 19] = [
+    "Arguments",
+    "Assign",
+    "CausePath",
+    "Condition",
+    "Credentials",
+    "ErrorPath",
+    "HeartbeatSecondsPath",
+    "ItemBatcher",
+    "ItemReader",
+    "Items",
+    "Label",
+    "MaxConcurrencyPath",
+    "Output",
+    "ResultWriter",
+    "TimeoutSecondsPath",
+    "ToleratedFailureCount",
+    "ToleratedFailureCountPath",
+    "ToleratedFailurePercentage",
+    "ToleratedFailurePercentagePath",
+];
+
+impl StateType {
+    /// The type of this name.
+    pub(crate) fn named(name: &str) -> Option<StateType>
+        ensures { option_map type_view result ≡ model.type_named name.now }
+    {
+        match name {
+            "Pass" => Some(StateType::Pass),
+            "Task" => Some(StateType::Task),
+            "Choice" => Some(StateType::Choice),
+            "Wait" => Some(StateType::Wait),
+            "Succeed" => Some(StateType::Succeed),
+            "Fail" => Some(StateType::Fail),
+            "Parallel" => Some(StateType::Parallel),
+            "Map" => Some(StateType::Map),
+            _ => None,
+        }
+    }
+
+    /// The fields of a state of this type.
+    pub(crate) fn rows(self) -> &'static [Row]
+        ensures { rows_view result.now ≡ model.rows_of (type_view self) }
+    {
+        match self {
+            StateType::Pass => &PASS,
+            StateType::Task => &TASK,
+            StateType::Choice => &CHOICE,
+            StateType::Wait => &WAIT,
+            StateType::Succeed => &SUCCEED,
+            StateType::Fail => &FAIL,
+            StateType::Parallel => &PARALLEL,
+            StateType::Map => &MAP,
+        }
+    }
+}
+
+/// The fields of the machine itself.
+pub(crate) fn machine() -> &'static [Row]
+    ensures { rows_view result.now ≡ model.machine_rows }
+{
+    &MACHINE
+}
+
+/// The fields of a branch of a Parallel.
+pub(crate) fn branch() -> &'static [Row]
+    ensures { rows_view result.now ≡ model.branch_rows }
+{
+    &BRANCH
+}
+
+/// The fields of the processor of a Map.
+pub(crate) fn processor() -> &'static [Row]
+    ensures { rows_view result.now ≡ model.processor_rows }
+{
+    &PROCESSOR
+}
+
+/// The fields of a state of any type.
+pub(crate) fn every_state() -> &'static [Row]
+    ensures { rows_view result.now ≡ model.every_state_rows }
+{
+    &EVERY_STATE
+}
+
+/// The fields of an element of `Retry`.
+pub(crate) fn retrier() -> &'static [Row]
+    ensures { rows_view result.now ≡ model.retrier_rows }
+{
+    &RETRIER
+}
+
+/// The fields of an element of `Catch`.
+pub(crate) fn catcher() -> &'static [Row]
+    ensures { rows_view result.now ≡ model.catcher_rows }
+{
+    &CATCHER
+}
+
+/// Whether one of the rows is of the field of this name.
+pub(crate) fn has_row(rows: &[Row], name: &str) -> bool
+    ensures { result ≡ model_has_row name.now (rows_view rows.now) }
+{
+    for row in rows {
+        if row.name == name {
+            return true;
+        }
+    }
+    false
+}
+
+/// What is wrong with a field that has no row: it is left out, or unknown.
+pub(crate) fn foreign(name: &str) -> DefFault
+    ensures { def_fault_view result ≡ Some (if is_among name.now model.left_out_fields then model.LeftOut else model.UnknownField) }
+{
+    if is_left_out(name) {
+        DefFault::LeftOut
+    } else {
+        DefFault::UnknownField
+    }
+}
+
+/// Whether a field of this name belongs to a part of the language that is left out.
+fn is_left_out(name: &str) -> bool
+    ensures { result ≡ is_among name.now model.left_out_fields }
+{
+    is_one_of(&LEFT_OUT, name)
+}
+
+/// Whether one of the texts is that name.
+fn is_one_of(texts: &[&str], name: &str) -> bool
+    ensures { result ≡ is_among name.now (map (λ text. text.now) texts.now) }
+{
+    for text in texts {
+        if *text == name {
+            return true;
+        }
+    }
+    false
+}
