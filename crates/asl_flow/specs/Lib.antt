@@ -1,1 +1,4 @@
+pub mod CallAnswer
+pub mod Items
 pub mod Looking
+pub mod Sources

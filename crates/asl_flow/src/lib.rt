@@ -2,10 +2,12 @@
 //! and what its rules let through (States Language, "Input and Output Processing", "Payload Template", "Choice State").
 #![tactic(auto)]
 
+mod calls;
 mod literals;
 mod looking;
 mod narrowing;
 mod putting;
+mod references;
 mod replacing;
 mod rules;
 mod templates;
