@@ -14,3 +14,4 @@ mod templates;
 
 pub use literals::literal_shape;
 pub use looking::{LookRefusal, find_shape, look};
+pub use rules::{RuleShapeRefusal, rule_shape};
