@@ -1,7 +1,9 @@
 pub mod Complaints
+pub mod Duplicates
 pub mod ExamplesUnserved
 pub mod Lookups
 pub mod Members
+pub mod Numbers
 pub mod PlainStates
 pub mod Positions
 pub mod Served

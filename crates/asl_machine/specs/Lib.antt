@@ -1,5 +1,7 @@
+pub mod Built
 pub mod Definition
 pub mod Machine
+pub mod Numbered
 pub mod Plain
 pub mod Rows
 pub mod Table

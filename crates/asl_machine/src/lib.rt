@@ -4,8 +4,10 @@
 //! First every rule is checked, then the machine is built: building looks fields up and can only run out of memory.
 #![tactic(auto)]
 
+mod building;
 mod checking;
 mod machine;
+mod numbering;
 mod places;
 pub mod plain;
 mod plain_building;

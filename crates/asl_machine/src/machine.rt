@@ -1,6 +1,6 @@
 //! Machines: one table of states, by number and by name.
 
-ghost use Rattle.std.specs.Prelude.{◌≡◌, length, option_map, slice_get, position, bytes_eq};
+ghost use Rattle.std.specs.Prelude.{◌≡◌, length, option_map, slice_get, position, bytes_eq, map, string_bytes};
 
 use crate::states::{Scope, State};
 use indexmap::IndexSet;
@@ -19,6 +19,17 @@ pub struct Machine {
 impl Machine {
     ghost use Rattle.asl_machine.specs.Machine.{state_view, scope_view};
     ghost use Rattle.asl_machine.specs.Table.{table_view};
+
+    /// A machine of those names and states by number, each with the scope that it stands in.
+    pub(crate) fn new(names: IndexSet<String>, states: Vec<State>, scopes: Vec<Scope>) -> Machine
+        ensures { table_view result ≡ record { names = map string_bytes names.keys; states = map state_view states.items; placements = map scope_view scopes.items } }
+    {
+        Machine {
+            names,
+            states,
+            scopes,
+        }
+    }
 
     /// The number of the state of that name.
     pub fn state_named(&self, name: &str) -> Option<usize>
