@@ -11,6 +11,8 @@ mod references;
 mod replacing;
 mod rules;
 mod templates;
+#[cfg(test)]
+mod tests;
 
 pub use literals::literal_shape;
 pub use looking::{LookRefusal, find_shape, look};
