@@ -6,6 +6,7 @@ pub mod Members
 pub mod Numbers
 pub mod PlainStates
 pub mod Positions
+pub mod Refused
 pub mod Served
 pub mod ServedStates
 pub mod Standing
