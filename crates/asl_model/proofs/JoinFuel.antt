@@ -49,7 +49,8 @@ insert-low k n needed s (AndFieldShape m other t shapes) h further = go (comes_b
     go true below = omega arith
     go false below = omega arith
 
-further-low : (k : ℕ) (first others : Shapes) → depth_of_elements first ≤ k → depth_of_elements others ≤ k → depth_of_elements (further_places first others) ≤ k
+-- the places that one alone has are no deeper
+pub further-low : (k : ℕ) (first others : Shapes) → depth_of_elements first ≤ k → depth_of_elements others ≤ k → depth_of_elements (further_places first others) ≤ k
 further-low k NoShapes others h further = further
 further-low k (AndShape s first) NoShapes h further = h
 further-low k (AndShape s first) (AndShape other others) h further = further-low k first others (omega arith) (omega arith)
@@ -147,6 +148,10 @@ within-low (suc n) =
 -- the join is no deeper than both
 pub join-low : Shallow join
 join-low = record { keeps = λ k a b h i. (within-low (max (depth a) (depth b))).keeps k a b h i }
+
+-- and so are all that are joined one after the other
+pub join_each-low : (k : ℕ) (s : Shape) (others : Shapes) → depth s ≤ k → depth_of_elements others ≤ k → depth (joined_with_each join s others) ≤ k
+join_each-low k s others h i = each-low join join-low k s others h i
 
 -- Two ways to join that are the same of shapes no deeper than that
 record Agree (k : ℕ) (f g : Shape → Shape → Shape) : Type 0 where

@@ -1,7 +1,9 @@
 pub mod Bounds
 pub mod Copies
+pub mod Joins
 pub mod Keywords
 pub mod Lookups
+pub mod Mentions
 pub mod Orders
 pub mod Places
 pub mod Requiring

@@ -26,7 +26,7 @@ first_then_further [] test ts = rw (all_pass (elements_view ts)) refl
 first_then_further (s ∷ ss) test [] = refl
 first_then_further (s ∷ ss) test (t ∷ ts) = both (has (view s) (trees.view t)) _ _ _ (first_then_further ss test ts)
 
-take_to_end : {A : Type 0} (n : ℕ) (xs : List A) → take (length xs - n) (drop n xs) ≡ drop n xs
+pub take_to_end : {A : Type 0} (n : ℕ) (xs : List A) → take (length xs - n) (drop n xs) ≡ drop n xs
 take_to_end n xs = search (rules, take_all, length-drop)
 
 pub list_has : (first : Vec Shape Global) (rest : Box Shape Global) (elements : Vec Tree Global) (front behind : Bool) → front ≡ elements_have (shapes_view first.items) (λ _. true) (elements_view elements.items) → behind ≡ each_element (has (view rest.value)) (elements_view (take (length elements.items - length first.items) (drop (length first.items) elements.items))) → (front && behind) ≡ has (view (TheViews.List first rest)) (trees.view (tree.List elements))
