@@ -1,5 +1,6 @@
 pub mod Complaints
 pub mod Duplicates
+pub mod Elements
 pub mod ExamplesUnserved
 pub mod Lookups
 pub mod Members

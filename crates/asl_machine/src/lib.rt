@@ -6,6 +6,7 @@
 
 mod building;
 mod checking;
+mod fields;
 mod machine;
 mod numbering;
 mod places;
@@ -14,6 +15,7 @@ mod plain_building;
 mod plain_reading;
 mod refusals;
 mod rows;
+mod settings;
 mod states;
 mod table;
 

@@ -3,14 +3,14 @@
 ghost use Rattle.std.specs.Prelude.{◌≡◌, IfOk, codes, string_bytes, option_map, []};
 ghost use Rattle.std.specs.Option.{unwrap_or};
 ghost use Rattle.serde_json.specs.View.{view, members_view};
-ghost use Rattle.asl_model.specs.PathSpelling.{path_of};
 ghost use Rattle.asl_model.specs.StandsFor.{members_in, text_at, path_or_null_at};
 ghost use Rattle.asl_machine.specs.Plain.{machine_view, states_view, state_view, after_view};
 ghost use Rattle.asl_machine.specs.Definition.{served_type, served_state, served_states, served_scope};
 
+pub(crate) use crate::fields::{read_path, text_of};
+use crate::fields::{build_path_or_null, build_text_or_empty};
 use crate::plain::{After, Machine, Paths, State};
 use crate::table::StateType;
-use asl_path::{PathRefusal, RefPath};
 use asl_tree::OutOfMemory;
 use serde_json::{Map, Value};
 use std::alloc::Global;
@@ -20,7 +20,7 @@ use std::collections::BTreeMap;
 pub(crate) fn build_machine(alloc: Global, machine: &Value) -> Result<Machine, OutOfMemory>
     ensures { IfOk result (λ m. machine_view m ≡ served_scope (members_in (view machine.now))) }
 {
-    let start_at = build_text(alloc, machine, "StartAt")?;
+    let start_at = build_text_or_empty(alloc, machine, "StartAt")?;
     let states = match machine.get("States") {
         Some(states) => build_states(alloc, states)?,
         None => BTreeMap::new(alloc),
@@ -63,8 +63,8 @@ fn build_state(alloc: Global, state: &Value) -> Result<State, OutOfMemory>
             after: build_after(alloc, state)?,
         }),
         Some(StateType::Fail) => Ok(State::Fail {
-            error: build_text(alloc, state, "Error")?,
-            cause: build_text(alloc, state, "Cause")?,
+            error: build_text_or_empty(alloc, state, "Error")?,
+            cause: build_text_or_empty(alloc, state, "Cause")?,
         }),
         Some(StateType::Succeed) | None => Ok(State::Succeed {
             paths: build_paths(alloc, state)?,
@@ -82,61 +82,15 @@ pub(crate) fn state_type(state: &Value) -> Option<StateType>
     }
 }
 
-/// The text of a field, where it has one.
-pub(crate) fn text_of<'a>(object: &'a Value, field: &'static str) -> Option<&'a str>
-    ensures { option_map (λ text. text.now) result ≡ text_at field.now (members_in (view object.now)) }
-{
-    match object.get(field) {
-        Some(value) => value.as_str(),
-        None => None,
-    }
-}
-
 /// The paths of a state.
 fn build_paths(alloc: Global, state: &Value) -> Result<Paths, OutOfMemory>
     ensures input { IfOk result (λ paths. paths.input ≡ path_or_null_at (codes "InputPath") (members_in (view state.now))) }
     ensures output { IfOk result (λ paths. paths.output ≡ path_or_null_at (codes "OutputPath") (members_in (view state.now))) }
 {
     Ok(Paths {
-        input: build_path(alloc, state, "InputPath")?,
-        output: build_path(alloc, state, "OutputPath")?,
+        input: build_path_or_null(alloc, state, "InputPath")?,
+        output: build_path_or_null(alloc, state, "OutputPath")?,
     })
-}
-
-/// The path of a field: `$` where the field isn't there or is no path, none where it is null.
-fn build_path(
-    alloc: Global,
-    state: &Value,
-    field: &'static str,
-) -> Result<Option<RefPath>, OutOfMemory>
-    ensures { IfOk result (λ path. path ≡ path_or_null_at field.now (members_in (view state.now))) }
-{
-    let value = match state.get(field) {
-        Some(value) => value,
-        None => return read_path(alloc, "$"),
-    };
-    if value.is_null() {
-        return Ok(None);
-    }
-    if let Some(text) = value.as_str() {
-        if let Some(path) = read_path(alloc, text)? {
-            return Ok(Some(path));
-        }
-    }
-    read_path(alloc, "$")
-}
-
-/// The path that a text spells, where it spells one.
-pub(crate) fn read_path(alloc: Global, text: &str) -> Result<Option<RefPath>, OutOfMemory>
-    ensures { IfOk result (λ path. path ≡ path_of text.now) }
-{
-    match asl_path::parse(alloc, text) {
-        Ok(path) => Ok(Some(path)),
-        Err(refusal) => match refusal {
-            PathRefusal::OutOfMemory => Err(OutOfMemory),
-            _ => Ok(None),
-        },
-    }
 }
 
 /// Where a run goes on after a state: to the state that `Next` names, where it names one.
@@ -146,15 +100,5 @@ fn build_after(alloc: Global, state: &Value) -> Result<After, OutOfMemory>
     match text_of(state, "Next") {
         Some(name) => Ok(After::Next(String::from_str(alloc, name)?)),
         None => Ok(After::End),
-    }
-}
-
-/// The text of a field, empty where there is none.
-fn build_text(alloc: Global, object: &Value, field: &'static str) -> Result<String, OutOfMemory>
-    ensures { IfOk result (λ text. string_bytes text ≡ unwrap_or (text_at field.now (members_in (view object.now))) []) }
-{
-    match text_of(object, field) {
-        Some(text) => Ok(String::from_str(alloc, text)?),
-        None => Ok(String::new(alloc)),
     }
 }

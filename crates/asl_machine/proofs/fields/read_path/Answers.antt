@@ -1,6 +1,6 @@
 use Rattle.std.proofs.Common.{sym}
 use Rattle.asl_model.proofs.PathReading.{Spells-path_of, path_of-none}
-use Rattle.asl_machine.proofs.plain_building.read_path.Goals as goal
+use Rattle.asl_machine.proofs.fields.read_path.Goals as goal
 
 pub returns-in-Ok : goal.returns-in-Ok
 returns-in-Ok c = sym (Spells-path_of c.args.text.now c.in-Ok.path c.in-Ok.ensures.path)
