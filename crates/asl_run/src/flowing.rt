@@ -1,0 +1,1 @@
+// The data flow through a state: input, result, output.

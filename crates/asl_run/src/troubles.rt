@@ -1,0 +1,1 @@
+// What comes of an error in a state.

@@ -1,0 +1,1 @@
+// What a state's first move comes to.
