@@ -4,5 +4,6 @@ pub mod LiteralFields
 pub mod Mentions
 pub mod Needed
 pub mod Presence
+pub mod Puts
 pub mod Replaced
 pub mod ShapeParts

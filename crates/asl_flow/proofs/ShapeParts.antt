@@ -1,5 +1,5 @@
 -- What one segment, and then the segments behind it, lead to in a shape.
-use Rattle.std.proofs.Common.{◌≡◌, ℕ, zero, suc, ◌+◌, ◌<◌, ◌≤◌, Bool, List, [], ◌∷◌, Option, Some, None, Result, Ok, Err, option_map, Bor, String, string_bytes, is_some, IfSome, length, get_or, drop, drop-cons, refl, ap, sym, ◌∙◌, arith, Vec, Box, BTreeMap}
+use Rattle.std.proofs.Common.{◌≡◌, ℕ, zero, suc, ◌<◌, ◌≤◌, Bool, List, [], ◌∷◌, Option, Some, None, Result, Ok, Err, option_map, Bor, String, string_bytes, is_some, IfSome, length, get_or, drop, drop-cons, refl, ap, sym, ◌∙◌, arith, Vec, Box, BTreeMap}
 use borrow.Author.Tests.{ltb-true, ltb-false}
 use lib.Dec.{ltb}
 use Rattle.std.specs.BTreeMap.{is_at}
@@ -9,6 +9,7 @@ use Rattle.std.specs.declared.alloc.Global.{Global}
 use Rattle.asl_model.specs.Path as path
 use Rattle.asl_model.specs.Shape as model
 use Rattle.asl_model.specs.ShapeFlow.{part_at, place_at, look_at, if_needed, one_further}
+use Rattle.asl_flow.specs.Counting.{counted_on}
 use Rattle.asl_path.specs.View.{segment_view, segments_view}
 use Rattle.asl_path.specs.declared.Segment as code
 use Rattle.asl_shape.specs.declared.shape.Field.{Field}
@@ -44,12 +45,8 @@ pub object_part : (s : Shape) (m : BTreeMap (String Global) Field) (extra : Bool
     → if_needed (option_map (λ (f : Field). (f.needed, view f.shape)) found) ≡ part_at (path.Name (string_bytes k)) (view s)
 object_part s m extra k found e l = rw (e, view_object m extra, mention_of_lookup k m.entries, ← l) refl
 
--- a refusal behind so many segments, counted with them
-abbrev pub counted_on : ℕ → Result model.Shape ℕ → Result model.Shape ℕ
-counted_on passed (Ok s) = Ok s
-counted_on passed (Err at) = Err (passed + at)
-
-counted_none : (r : Result model.Shape ℕ) → counted_on 0 r ≡ r
+-- counted behind none it is itself
+pub counted_none : (r : Result model.Shape ℕ) → counted_on 0 r ≡ r
 counted_none (Ok s) = refl
 counted_none (Err at) = ap Err (omega arith)
 

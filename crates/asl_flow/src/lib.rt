@@ -16,4 +16,5 @@ mod tests;
 
 pub use literals::literal_shape;
 pub use looking::{LookRefusal, find_shape, look};
+pub use putting::{PutRefusal, put};
 pub use rules::{RuleShapeRefusal, rule_shape};
