@@ -1,6 +1,6 @@
-// Outside examples: what each spelling reads as, and the tests of shapes on a few pairs.
+// Outside examples: what each spelling reads as, the tests of shapes on a few pairs, and what is copied, written and joined.
 
-use crate::{Shape, ShapeRefusal, copy, has, inhabited, read, same, sub, write};
+use crate::{Shape, ShapeRefusal, copy, has, inhabited, join, read, same, sub, write};
 use asl_tree::{Tree, to_text};
 use std::alloc::Global;
 use std::process::Abort;
@@ -173,6 +173,61 @@ const WRITTEN: [(&str, &str); 11] = [
     ),
 ];
 
+const JOINED: [(&str, &str, &str); 12] = [
+    (r#"{"type":"integer"}"#, r#"{"type":"string"}"#, "true"),
+    (
+        r#"{"type":"integer"}"#,
+        r#"{"type":"integer"}"#,
+        r#"{"type":"integer"}"#,
+    ),
+    (r#"{"type":"array"}"#, r#"{"type":"object"}"#, "true"),
+    (
+        r#"{"type":"integer"}"#,
+        r#"{"type":"array","prefixItems":[false],"minItems":1}"#,
+        r#"{"type":"integer"}"#,
+    ),
+    (
+        "false",
+        r#"{"type":"array","prefixItems":[false],"minItems":1}"#,
+        r#"{"minItems":1,"prefixItems":[false],"type":"array"}"#,
+    ),
+    (
+        r#"{"type":"array","prefixItems":[{"type":"integer"},{"type":"null"}],"minItems":2,"items":false}"#,
+        r#"{"type":"array","prefixItems":[{"type":"integer"}],"minItems":1,"items":false}"#,
+        r#"{"items":{"type":"null"},"minItems":1,"prefixItems":[{"type":"integer"}],"type":"array"}"#,
+    ),
+    (
+        r#"{"type":"array","items":{"type":"integer"}}"#,
+        r#"{"type":"array","prefixItems":[{"type":"integer"},{"type":"string"}],"minItems":2,"items":false}"#,
+        r#"{"type":"array"}"#,
+    ),
+    (
+        r#"{"type":"object","properties":{"a":{"type":"integer"}},"required":["a"],"additionalProperties":false}"#,
+        r#"{"type":"object","additionalProperties":false}"#,
+        r#"{"additionalProperties":false,"properties":{"a":{"type":"integer"}},"type":"object"}"#,
+    ),
+    (
+        r#"{"type":"object","properties":{"b":{"type":"null"}},"additionalProperties":false}"#,
+        r#"{"type":"object","properties":{"a":{"type":"integer"},"c":true},"required":["a"],"additionalProperties":false}"#,
+        r#"{"additionalProperties":false,"properties":{"a":{"type":"integer"},"b":{"type":"null"},"c":true},"type":"object"}"#,
+    ),
+    (
+        r#"{"type":"object","properties":{"a":{"type":"integer"}},"required":["a"]}"#,
+        r#"{"type":"object","properties":{"b":{"type":"string"}},"additionalProperties":false}"#,
+        r#"{"properties":{"a":{"type":"integer"}},"type":"object"}"#,
+    ),
+    (
+        r#"{"type":"object","properties":{"a":{"type":"integer"}}}"#,
+        r#"{"type":"object"}"#,
+        r#"{"type":"object"}"#,
+    ),
+    (
+        r#"{"type":"object","properties":{"a":{"type":"null"},"b":{"type":"null"}},"required":["a","b"],"additionalProperties":false}"#,
+        r#"{"type":"object","properties":{"a":{"type":"null"},"b":{"type":"string"}},"required":["a"],"additionalProperties":false}"#,
+        r#"{"additionalProperties":false,"properties":{"a":{"type":"null"},"b":true},"required":["a"],"type":"object"}"#,
+    ),
+];
+
 fn tree(rt: &impl Abort, alloc: Global, text: &str) -> Tree {
     asl_tree::read(alloc, text.as_bytes()).expect(rt, "a tree")
 }
@@ -210,5 +265,11 @@ fn answers_as_worked_out_by_hand(rt: HostRuntime) {
         let tree = write(alloc, &copied).expect(&rt, "a tree");
         let answered = to_text(alloc, &tree).expect(&rt, "a text");
         assert_eq!(rt; answered.as_str(), *written, "{text}");
+    }
+    for (first, second, written) in &JOINED {
+        let joined = join(alloc, &shape(&rt, alloc, first), &shape(&rt, alloc, second));
+        let tree = write(alloc, &joined.expect(&rt, "a join")).expect(&rt, "a tree");
+        let answered = to_text(alloc, &tree).expect(&rt, "a text");
+        assert_eq!(rt; answered.as_str(), *written, "{first} {second}");
     }
 }
