@@ -1,4 +1,5 @@
 pub mod ArgumentShapes
+pub mod Doubts
 pub mod FunctionShapes
 pub mod LiteralFields
 pub mod Mentions

@@ -5,3 +5,4 @@ pub mod Kept
 pub mod Looking
 pub mod Putting
 pub mod Sources
+pub mod TemplateAnswer

@@ -18,3 +18,4 @@ pub use literals::literal_shape;
 pub use looking::{LookRefusal, find_shape, look};
 pub use putting::{PutRefusal, put};
 pub use rules::{RuleShapeRefusal, rule_shape};
+pub use templates::{TemplateShapeRefusal, template_shape};
