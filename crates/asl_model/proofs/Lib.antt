@@ -29,6 +29,7 @@ pub mod FindingStates
 pub mod FindingTold
 pub mod JoinFuel
 pub mod Listed
+pub mod NumberedScopes
 pub mod Numbering
 pub mod PathPrinting
 pub mod PathReading

@@ -1,9 +1,9 @@
 -- The states of a machine in one list. A state's number is its position in it, counted from 0: the states of a scope in
 -- their order, each followed by those of its own scopes, depth first. The numbers are the profile's own: the standard
 -- knows states by their names alone.
-use Rattle.std.specs.Prelude.{ℕ, suc, List, [], ◌∷◌, ◌++◌, map, Option, Some, None, option_map, position, bytes_eq}
+use Rattle.std.specs.Prelude.{◌≡◌, ℕ, suc, List, [], ◌∷◌, ◌++◌, map, Option, Some, None, option_map, position, bytes_eq}
 use Rattle.std.specs.Option.{unwrap_or}
-use Rattle.asl_model.specs.Machine.{Scope, ScopeOf, States, NoStates, AndState, State, StateOf, Kind, Pass, Task, Choice, Wait, Succeed, Fail, Parallel, Map, Scopes, NoScopes, AndScope, start_of}
+use Rattle.asl_model.specs.Machine.{Scope, ScopeOf, States, NoStates, AndState, State, StateOf, Kind, Pass, Task, Choice, Wait, Succeed, Fail, Parallel, Map, Scopes, NoScopes, AndScope, start_of, kind_of, state_named, child_scope}
 
 -- a state where it stands
 pub record Standing : Type 0 where
@@ -108,3 +108,8 @@ table_among states = record { names = map (λ s. s.name) states; states = map (�
 -- the table of a machine: each state without the states of its scopes, which have numbers of their own
 abbrev pub table_of : Scope → Table
 table_of machine = table_among (map outlined (standing machine))
+
+-- the scopes of a machine: its own, and those of the states in its scopes
+pub data IsScopeOf (machine : Scope) : Scope → Type 0 where
+  own_scope : IsScopeOf machine machine
+  scope_of_child : {scope : Scope} (n : List ℕ) (state : State) (i : ℕ) → IsScopeOf machine scope → state_named n scope ≡ Some state → IsScopeOf machine (child_scope (kind_of state) i)
