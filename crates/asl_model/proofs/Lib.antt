@@ -30,6 +30,7 @@ pub mod FindingTold
 pub mod JoinFuel
 pub mod Listed
 pub mod NumberedScopes
+pub mod NumberedStates
 pub mod Numbering
 pub mod PathPrinting
 pub mod PathReading
