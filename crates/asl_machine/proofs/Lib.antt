@@ -1,3 +1,4 @@
+pub mod Checks
 pub mod Complaints
 pub mod Duplicates
 pub mod Elements
@@ -5,6 +6,7 @@ pub mod ExamplesUnserved
 pub mod Lookups
 pub mod Members
 pub mod Numbers
+pub mod Objects
 pub mod PlainStates
 pub mod Positions
 pub mod Refused
@@ -12,5 +14,6 @@ pub mod Served
 pub mod ServedStates
 pub mod Standing
 pub mod Told
+pub mod Values
 pub mod Verdicts
 pub mod Walks

@@ -8,6 +8,8 @@ use Rattle.serde_json.specs.Find.{as_bool, get_member}
 use Rattle.asl_model.specs.DefinitionTable as model
 use Rattle.asl_model.specs.Machine.{State, StateOf, States, NoStates, AndState, Scope, ScopeOf, Pass, Succeed, Fail}
 use Rattle.asl_model.specs.StandsFor.{Complaint, Place, complaint_at, text_at, path_or_null_at, members_in, type_of, names_of, field_faults, rows_complaints, fields_complaints, type_complaints, target_complaints, name_complaints, state_complaints, duplicate_complaints, number_complaints}
+use Rattle.asl_tree.specs.declared.TreeRefusal.{TreeRefusal}
+use Rattle.asl_tree.specs.declared.TreeRefusal.TheVariants as tree
 use Rattle.asl_machine.specs.View.{def_fault_view}
 use Rattle.asl_machine.specs.Plain.{settings_with}
 use Rattle.asl_machine.specs.Unserved.{complaint_of, unserved_state}
@@ -103,6 +105,12 @@ IsVerdict wrong result = IsAnswer complaint_view wrong result
 -- the answer of a check of a value
 abbrev pub IsMisfit : List model.DefFault → Result (Unit {0}) DefFault → Type 0
 IsMisfit wrong result = IsAnswer def_fault_view wrong result
+
+-- what is told of a value that is no tree; of want of memory nothing is
+abbrev pub tree_told : TreeRefusal → Option model.DefFault
+tree_told tree.NotJson = Some model.NotWhole
+tree_told tree.NotWhole = Some model.NotWhole
+tree_told tree.OutOfMemory = None
 
 -- where an object stands
 abbrev pub place_view : Standing → Place

@@ -6,6 +6,7 @@
 
 mod building;
 mod checking;
+mod field_checking;
 mod fields;
 mod machine;
 mod numbering;
@@ -18,6 +19,7 @@ mod rows;
 mod settings;
 mod states;
 mod table;
+mod value_checking;
 
 pub use machine::Machine;
 pub use plain_reading::read_plain;

@@ -1,9 +1,10 @@
 // Where a rule of a definition is broken, and what is told of it.
 
-ghost use Rattle.std.specs.Prelude.{◌≡◌, Some, IfSome, option_map};
+ghost use Rattle.std.specs.Prelude.{◌≡◌, List, Some, IfSome, map, option_map};
+ghost use Rattle.asl_model.specs.DefinitionTable as model;
 ghost use Rattle.asl_model.specs.StandsFor.{is_told_by_name, told_field as model_told_field, complaint_at};
 ghost use Rattle.asl_machine.specs.View.{def_fault_view};
-ghost use Rattle.asl_machine.specs.Definition.{IsVerdict, complaint_view, place_view, told_unless};
+ghost use Rattle.asl_machine.specs.Definition.{IsMisfit, IsVerdict, complaint_view, place_view, told_unless};
 
 use crate::refusals::DefFault;
 
@@ -44,6 +45,20 @@ impl<'a> Place<'a> {
         match self.within {
             Some(own) if !is_told_by_its_name(fault) => own,
             _ => field,
+        }
+    }
+
+    /// What was found wrong with the value of a field, told as such a fault.
+    pub(crate) fn told(
+        &self,
+        field: &'a str,
+        found: Result<(), DefFault>,
+    ) -> Result<(), Complaint<'a>>
+        ensures { (faults : List model.DefFault) → IsMisfit faults found → IsVerdict (map (complaint_at (place_view self.now) field.now) faults) result }
+    {
+        match found {
+            Ok(()) => Ok(()),
+            Err(fault) => Err(self.complaint(field, fault)),
         }
     }
 

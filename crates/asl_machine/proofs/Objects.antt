@@ -1,0 +1,37 @@
+-- What is told of the fields of an object, one after another.
+use Rattle.std.proofs.Common.{◌≡◌, ℕ, ◌+◌, ◌<◌, List, ◌∷◌, ◌++◌, length, map, drop, drop-cons, get_or, add-one, Option, Some, option_map, Err, false, if◌then◌else◌, refl, sym, ap, ◌∙◌, subst, arith}
+use Rattle.std.specs.List.{Contains}
+use Rattle.serde_json.specs.Data as json
+use Rattle.serde_json.specs.Data.{Data, Members}
+use Rattle.serde_json.specs.Find.{get_member}
+use Rattle.asl_model.specs.DefinitionTable as model
+use Rattle.asl_model.specs.ShapeSpelling.{is_among}
+use Rattle.asl_model.specs.StandsFor.{Complaint, Place, complaint_at, field_faults, rows_complaints, foreign_complaints, has_row}
+use Rattle.asl_machine.specs.declared.rows.Row.{Row}
+use Rattle.asl_machine.specs.declared.places.Complaint.{Complaint as Objection}
+use Rattle.asl_machine.specs.Rows.{row_view, rows_view}
+use Rattle.asl_machine.specs.Definition.{complaint_view, IsAmong, IsVerdict}
+
+-- what is wrong with the field of a row
+abbrev pub row_complaints : Place → Row → Members → List Complaint
+row_complaints place row ms = map (complaint_at place row.name.now) (field_faults (row_view row) (get_member row.name.now ms))
+
+-- with those behind it
+abbrev pub rows_behind : Place → List Row → ℕ → Members → List Complaint
+rows_behind place rows i ms = rows_complaints place (rows_view (drop (i + 1) rows)) ms
+
+-- the rows left are the first of them and those behind it
+pub rows_parts : (place : Place) (rows : List Row) (i : ℕ) (d : Row) (ms : Members) (wrong : List Complaint) → i < length rows → wrong ≡ rows_complaints place (rows_view (drop i rows)) ms
+    → wrong ≡ row_complaints place (get_or rows i d) ms ++ rows_behind place rows i ms
+rows_parts place rows i d ms wrong h all = all ∙ (rw (drop-cons rows i d, add-one) refl)
+
+-- a complaint that heads a list
+pub told_head : (x : Complaint) (xs wrong : List Complaint) (c : Objection) → wrong ≡ x ∷ xs → complaint_view c ≡ Some x → IsVerdict wrong (Err c)
+told_head x xs wrong c all told = record { holds = subst (λ o. IsAmong wrong o) (sym told) (subst (λ cs. Contains cs x) (sym all) (0, omega arith, refl)) }
+
+-- a field without a row is told as the first of those left
+pub foreign_told : (place : Place) (rows : List model.Row) (wrong : List Complaint) (n : List ℕ) (v : Data) (others : Members) (fault : Option model.DefFault) (c : Objection)
+    → wrong ≡ foreign_complaints place rows (json.member n v others) → has_row n rows ≡ false
+    → fault ≡ Some (if is_among n model.left_out_fields then model.LeftOut else model.UnknownField) → complaint_view c ≡ option_map (complaint_at place n) fault → IsVerdict wrong (Err c)
+foreign_told place rows wrong n v others fault c all none is told =
+    told_head (complaint_at place n (if is_among n model.left_out_fields then model.LeftOut else model.UnknownField)) (foreign_complaints place rows others) wrong c (all ∙ (rw none refl)) (told ∙ ap (option_map (complaint_at place n)) is)

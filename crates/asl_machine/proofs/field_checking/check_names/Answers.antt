@@ -1,0 +1,18 @@
+use Rattle.std.proofs.Common.{ap, ◌∙◌, rules, string_bytes}
+use Rattle.serde_json.specs.View.{view, members_view}
+use Rattle.asl_model.specs.StandsFor.{foreign_complaints}
+use Rattle.asl_machine.specs.Rows.{rows_view}
+use Rattle.asl_machine.specs.View.{def_fault_view}
+use Rattle.asl_machine.specs.Definition.{place_view}
+use Rattle.asl_machine.proofs.PlainStates.{Member}
+use Rattle.asl_machine.proofs.Objects.{foreign_told}
+use Rattle.asl_machine.proofs.field_checking.check_names.Goals as goal
+
+pub returns-then-not-has_row : goal.returns-then-not-has_row
+returns-then-not-has_row c =
+    let place = place_view c.args.place.now in
+    let rows = rows_view c.args.rows.now in
+    let e : Member = (c.in-Some.name.now, c.in-Some.field-0-1.now) in
+    let left = c.next.new.self in
+    let all = c.loop-name.invariant ∙ ap (λ es. foreign_complaints place rows (members_view es)) c.in-Some.ensures.steps in
+    foreign_told place rows _ (string_bytes e.0) (view e.1) (members_view left) (def_fault_view c.foreign.result) c.complaint.result all (search rules) (search rules) (search rules)

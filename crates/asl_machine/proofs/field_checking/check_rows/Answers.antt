@@ -1,0 +1,37 @@
+use Rattle.std.proofs.Common.{[], false, get_or}
+use Rattle.serde_json.specs.Find.{get_member}
+use Rattle.serde_json.specs.View.{members_view}
+use Rattle.asl_model.specs.StandsFor.{field_faults}
+use Rattle.asl_machine.specs.declared.rows.Wanted.TheVariants.{Text}
+use Rattle.asl_machine.specs.declared.rows.Row.{Row}
+use Rattle.asl_machine.specs.Rows.{row_view}
+use Rattle.asl_machine.specs.Definition.{place_view}
+use Rattle.asl_machine.proofs.Checks.{left_after, told_of_left}
+use Rattle.asl_machine.proofs.Objects.{row_complaints, rows_behind, rows_parts}
+use Rattle.asl_machine.proofs.field_checking.check_rows.Goals as goal
+
+-- what stands beyond the last row
+no_row : Row
+no_row = record { name = record { ref_ptr = (0, 0); now = [] }; wanted = Text; required = false }
+
+pub returns-in-Err : goal.returns-in-Err
+unfolding no_row
+returns-in-Err c =
+    let place = place_view c.args.place.now in
+    let rows = c.args.rows.now in
+    let i = c.loop-row.row-index in
+    let row = get_or rows i no_row in
+    let ms = members_view c.args.object.now.entries in
+    let faults = field_faults (row_view row) (get_member row.name.now ms) in
+    told_of_left _ (row_complaints place row ms) (rows_behind place rows i ms) c.in-Err.complaint (rows_parts place rows i no_row ms _ c.loop-row-test.true c.loop-row.invariant) (c.in-Err.ensures faults c.check_field.ensures)
+
+pub loop-row-preserved : goal.loop-row-preserved
+unfolding no_row
+loop-row-preserved c =
+    let place = place_view c.args.place.now in
+    let rows = c.args.rows.now in
+    let i = c.loop-row.row-index in
+    let row = get_or rows i no_row in
+    let ms = members_view c.args.object.now.entries in
+    let faults = field_faults (row_view row) (get_member row.name.now ms) in
+    left_after _ (row_complaints place row ms) (rows_behind place rows i ms) (rows_parts place rows i no_row ms _ c.loop-row-test.true c.loop-row.invariant) (c.in-Ok.ensures faults c.check_field.ensures)
