@@ -14,7 +14,7 @@ ghost use Rattle.asl_machine.specs.View.{def_fault_view};
 ghost use Rattle.asl_machine.specs.Rows.{wanted_view};
 ghost use Rattle.asl_machine.specs.Definition.{IsMisfit, tree_told};
 
-use crate::plain_building::read_path;
+use crate::fields::read_path;
 use crate::refusals::DefFault;
 use crate::rows::Wanted;
 use asl_choice::RuleRefusal;
