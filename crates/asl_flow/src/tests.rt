@@ -1,5 +1,5 @@
 //! Outside examples, worked out by hand, and each call once with ample memory.
-use crate::rule_shape;
+use crate::{literal_shape, rule_shape, template_shape};
 use asl_choice::{Test, from_tree};
 use asl_shape::{Shape, read, write};
 use asl_tree::to_text;
@@ -137,6 +137,199 @@ fn rules(rt: HostRuntime) -> Result<(), Fail> {
             Err(refusal) => format!(in alloc; "{refusal:?}")?,
         };
         assert_eq!(rt; answer.as_str(), *wanted, "at {fields} on {given}");
+    }
+    Ok(())
+}
+
+/// A template, the shape of its input, and the shape of the template's value, or the refusal; there is no item.
+const FILLED: [(&str, &str, &str); 21] = [
+    (
+        r#"{"p.$":"$"}"#,
+        r#"{"type":"object","additionalProperties":false}"#,
+        r#"{"additionalProperties":false,"properties":{"p":{"additionalProperties":false,"type":"object"}},"required":["p"],"type":"object"}"#,
+    ),
+    (
+        r#"{"p.$":"$.k"}"#,
+        r#"{"type":"object","additionalProperties":false}"#,
+        r#"MayBeMissing("p")"#,
+    ),
+    (
+        r#"{"p.$":"$.k"}"#,
+        r#"{"type":"object","properties":{"k":{"type":"null"}}}"#,
+        r#"MayBeMissing("p")"#,
+    ),
+    (
+        r#"{"p":{"b":[1,{"c.$":"$[1]"}]}}"#,
+        r#"{"type":"array","prefixItems":[true],"minItems":1}"#,
+        r#"MayBeMissing("c")"#,
+    ),
+    (
+        r#"{"p":{"b":[1,{"c.$":"$[0]"}]}}"#,
+        r#"{"type":"array","prefixItems":[{"type":"null"}],"minItems":1}"#,
+        r#"{"additionalProperties":false,"properties":{"p":{"additionalProperties":false,"properties":{"b":{"items":false,"minItems":2,"prefixItems":[{"type":"integer"},{"additionalProperties":false,"properties":{"c":{"type":"null"}},"required":["c"],"type":"object"}],"type":"array"}},"required":["b"],"type":"object"}},"required":["p"],"type":"object"}"#,
+    ),
+    (
+        r#"{"a":[1,"x"]}"#,
+        "true",
+        r#"{"additionalProperties":false,"properties":{"a":{"items":false,"minItems":2,"prefixItems":[{"type":"integer"},{"type":"string"}],"type":"array"}},"required":["a"],"type":"object"}"#,
+    ),
+    (r#"{"p.$":"$.k"}"#, "false", "false"),
+    (
+        r#"{"l.$":"States.Array(1, 'a', null, true, $, States.Array())"}"#,
+        r#"{"type":"string"}"#,
+        r#"{"additionalProperties":false,"properties":{"l":{"items":false,"minItems":6,"prefixItems":[{"type":"integer"},{"type":"string"},{"type":"null"},{"type":"boolean"},{"type":"string"},{"items":false,"type":"array"}],"type":"array"}},"required":["l"],"type":"object"}"#,
+    ),
+    (
+        r#"{"l.$":"States.Array($.k)"}"#,
+        r#"{"type":"object"}"#,
+        r#"MayFail("l")"#,
+    ),
+    (
+        r#"{"n.$":"States.ArrayLength($)"}"#,
+        r#"{"type":"array"}"#,
+        r#"{"additionalProperties":false,"properties":{"n":{"type":"integer"}},"required":["n"],"type":"object"}"#,
+    ),
+    (
+        r#"{"n.$":"States.ArrayLength($)"}"#,
+        "true",
+        r#"MayFail("n")"#,
+    ),
+    (
+        r#"{"n.$":"States.ArrayLength($, $)"}"#,
+        r#"{"type":"array"}"#,
+        r#"MayFail("n")"#,
+    ),
+    (
+        r#"{"n.$":"States.ArrayLength()"}"#,
+        r#"{"type":"array"}"#,
+        r#"MayFail("n")"#,
+    ),
+    (
+        r#"{"x.$":"States.Format('{}', $)"}"#,
+        r#"{"type":"array"}"#,
+        r#"MayFail("x")"#,
+    ),
+    (
+        r#"{"x.$":"States.Format('{}{}', $, true)"}"#,
+        r#"{"type":"integer"}"#,
+        r#"{"additionalProperties":false,"properties":{"x":{"type":"string"}},"required":["x"],"type":"object"}"#,
+    ),
+    (
+        r#"{"x.$":"States.Format('{}{}', $)"}"#,
+        r#"{"type":"integer"}"#,
+        r#"MayFail("x")"#,
+    ),
+    (
+        r#"{"x.$":"States.Format($)"}"#,
+        r#"{"type":"string"}"#,
+        r#"MayFail("x")"#,
+    ),
+    (r#"{"x.$":"States.Format()"}"#, "true", r#"MayFail("x")"#),
+    (r#"{"i.$":"$$.Map.Item.Index"}"#, "true", r#"MayFail("i")"#),
+    (r#"{"v.$":"$$.Map.Item.Value"}"#, "true", r#"MayFail("v")"#),
+    (
+        r#"{"l.$":"States.Array($$.Map.Item.Index)"}"#,
+        "true",
+        r#"MayFail("l")"#,
+    ),
+];
+
+/// A template, the shape of its input, that of the item, and the shape of the template's value, or the refusal.
+const WITH_ITEM: [(&str, &str, &str, &str); 6] = [
+    (
+        r#"{"i.$":"$$.Map.Item.Index"}"#,
+        "true",
+        "true",
+        r#"{"additionalProperties":false,"properties":{"i":{"type":"integer"}},"required":["i"],"type":"object"}"#,
+    ),
+    (
+        r#"{"v.$":"$$.Map.Item.Value.k"}"#,
+        r#"{"type":"object","properties":{"k":{"type":"null"}},"required":["k"]}"#,
+        r#"{"type":"object","properties":{"k":{"type":"boolean"}},"required":["k"]}"#,
+        r#"{"additionalProperties":false,"properties":{"v":{"type":"boolean"}},"required":["v"],"type":"object"}"#,
+    ),
+    (
+        r#"{"v.$":"$$.Map.Item.Value.k"}"#,
+        r#"{"type":"object","required":["k"]}"#,
+        r#"{"type":"object"}"#,
+        r#"MayBeMissing("v")"#,
+    ),
+    (
+        r#"{"v.$":"$$.Map.Item.Value.k"}"#,
+        "true",
+        "false",
+        r#"{"additionalProperties":false,"properties":{"v":false},"required":["v"],"type":"object"}"#,
+    ),
+    (
+        r#"{"n.$":"States.ArrayLength($$.Map.Item.Value)"}"#,
+        "true",
+        "false",
+        r#"{"additionalProperties":false,"properties":{"n":{"type":"integer"}},"required":["n"],"type":"object"}"#,
+    ),
+    (
+        r#"{"x.$":"States.Format($$.Map.Item.Value, $$.Map.Item.Value)"}"#,
+        "true",
+        "false",
+        r#"{"additionalProperties":false,"properties":{"x":{"type":"string"}},"required":["x"],"type":"object"}"#,
+    ),
+];
+
+/// The shape of the template's value as it is written, or the refusal.
+fn filled(alloc: Global, spelling: &str, input: &str, item: Option<&str>) -> Result<String, Fail> {
+    let tree = asl_tree::read(alloc, spelling.as_bytes())?;
+    let template = asl_template::from_tree(alloc, &tree, true)?;
+    let input = shape(alloc, input)?;
+    let answer = match item {
+        Some(text) => template_shape(alloc, &template, &input, Some(&shape(alloc, text)?)),
+        None => template_shape(alloc, &template, &input, None),
+    };
+    match answer {
+        Ok(filled) => written(alloc, &filled),
+        Err(refusal) => Ok(format!(in alloc; "{refusal:?}")?),
+    }
+}
+
+#[test]
+fn templates(rt: HostRuntime) -> Result<(), Fail> {
+    let alloc = rt.alloc();
+    for (spelling, input, wanted) in &FILLED {
+        let answer = filled(alloc, spelling, input, None)?;
+        assert_eq!(rt; answer.as_str(), *wanted, "at {spelling} on {input}");
+    }
+    Ok(())
+}
+
+#[test]
+fn templates_with_an_item(rt: HostRuntime) -> Result<(), Fail> {
+    let alloc = rt.alloc();
+    for (spelling, input, item, wanted) in &WITH_ITEM {
+        let answer = filled(alloc, spelling, input, Some(item))?;
+        assert_eq!(rt;
+            answer.as_str(),
+            *wanted,
+            "at {spelling} on {input} and {item}"
+        );
+    }
+    Ok(())
+}
+
+/// A value that stands for itself, and its shape.
+const LITERALS: [(&str, &str); 3] = [
+    ("-7", r#"{"type":"integer"}"#),
+    ("[]", r#"{"items":false,"type":"array"}"#),
+    (
+        r#"{"a":[1,"x"],"b":null,"c":{"d":true,"e.$":"$.x"}}"#,
+        r#"{"additionalProperties":false,"properties":{"a":{"items":false,"minItems":2,"prefixItems":[{"type":"integer"},{"type":"string"}],"type":"array"},"b":{"type":"null"},"c":{"additionalProperties":false,"properties":{"d":{"type":"boolean"},"e.$":{"type":"string"}},"required":["d","e.$"],"type":"object"}},"required":["a","b","c"],"type":"object"}"#,
+    ),
+];
+
+#[test]
+fn literals(rt: HostRuntime) -> Result<(), Fail> {
+    let alloc = rt.alloc();
+    for (value, wanted) in &LITERALS {
+        let tree = asl_tree::read(alloc, value.as_bytes())?;
+        let answer = written(alloc, &literal_shape(alloc, &tree)?)?;
+        assert_eq!(rt; answer.as_str(), *wanted, "at {value}");
     }
     Ok(())
 }
