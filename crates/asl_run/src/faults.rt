@@ -58,3 +58,13 @@ impl From<OutOfMemory> for Stop {
         Stop::OutOfMemory
     }
 }
+
+impl From<Fault> for Stop {
+    ghost use Rattle.asl_run.specs.declared.faults.Stop.{Stop};
+
+    ghost from_gives = { λ fault stop. stop ≡ Stop.Fault fault };
+
+    fn from(fault: Fault) -> Stop {
+        Stop::Fault(fault)
+    }
+}

@@ -1,1 +1,154 @@
-// The data flow through a state: input, result, output.
+//! The data flow through a state: from its raw input to its effective input, and from its result to its output
+//! (States Language, "Input and Output Processing").
+
+ghost use Rattle.std.specs.Prelude.{◌≡◌, IsTrue, ◌↔◌, [], Some};
+ghost use Rattle.asl_intrinsic.specs.View.{at_hand};
+ghost use Rattle.asl_machine.specs.Machine.{settings_view};
+ghost use Rattle.asl_model.specs.Flow as model;
+ghost use Rattle.asl_model.specs.Template.{template_value};
+ghost use Rattle.asl_run.specs.Answer.{Answers, Decides, data_view};
+ghost use Rattle.asl_template.specs.View as templates;
+ghost use Rattle.asl_tree.specs.View.{view};
+
+use crate::data::Data;
+use crate::faults::{DataFlowError, Fault, Stop};
+use asl_intrinsic::Item;
+use asl_machine::Settings;
+use asl_path::{PlaceRefusal, RefPath, find, place};
+use asl_template::{Template, TemplateRefusal, eval};
+use asl_tree::{Tree, copy};
+use std::alloc::Global;
+
+/// What stands after `InputPath` and `Parameters`. Where no template makes it, it is lent by the raw input.
+pub(crate) fn effective_input<'t>(
+    alloc: Global,
+    settings: &Settings,
+    raw: &'t Tree,
+) -> Result<Data<'t>, Stop>
+    ensures { Answers data_view result (model.effective_input (settings_view settings.now) (view raw.now)) }
+{
+    let input = at_path(alloc, "InputPath", &settings.input_path, raw)?;
+    match &settings.parameters {
+        Some(template) => {
+            let value = by_template(alloc, "Parameters", template, input.as_tree(), None)?;
+            Ok(Data::Made(value))
+        }
+        None => Ok(input),
+    }
+}
+
+/// What `InputPath` or `OutputPath` gives: the empty object where it is null, else what the path names.
+fn at_path<'t>(
+    alloc: Global,
+    field: &'static str,
+    path: &Option<RefPath>,
+    tree: &'t Tree,
+) -> Result<Data<'t>, Fault>
+    ensures { Decides data_view result (model.at_path field.now path.now (view tree.now)) }
+{
+    match path {
+        Some(path) => Ok(Data::Lent(named_in(field, path, tree)?)),
+        None => Ok(Data::empty(alloc)),
+    }
+}
+
+/// What the path in that field names.
+pub(crate) fn named_in<'t>(
+    field: &'static str,
+    path: &RefPath,
+    tree: &'t Tree,
+) -> Result<&'t Tree, Fault>
+    ensures { Decides (λ t. view t.now) result (model.named_in field.now path.now (view tree.now)) }
+{
+    match find(tree, path) {
+        Some(node) => Ok(node),
+        None => Err(Fault {
+            error: DataFlowError::NamesNothing,
+            field,
+        }),
+    }
+}
+
+/// The value of the template in that field for an input and the item at hand.
+pub(crate) fn by_template(
+    alloc: Global,
+    field: &'static str,
+    template: &Template,
+    input: &Tree,
+    item: Option<Item>,
+) -> Result<Tree, Stop>
+    ensures { Answers view result (model.met_in field.now (template_value (templates.view template.now) (view input.now) (at_hand item.entry))) }
+{
+    let error = match eval(alloc, template, input, item) {
+        Ok(value) => return Ok(value),
+        Err(TemplateRefusal::ParameterPathFailure) => DataFlowError::ParameterPathFailure,
+        Err(TemplateRefusal::IntrinsicFailure) => DataFlowError::IntrinsicFailure,
+        Err(TemplateRefusal::OutOfMemory) => return Err(Stop::OutOfMemory),
+    };
+    Err(Stop::Fault(Fault { error, field }))
+}
+
+/// What `OutputPath` leaves of a tree: the empty object where it is null, else what the path names.
+pub(crate) fn at_output_path(alloc: Global, settings: &Settings, tree: Tree) -> Result<Tree, Stop>
+    ensures { Answers view result (model.at_output_path (settings_view settings.now) (view tree)) }
+{
+    if is_whole(&settings.output_path) {
+        return Ok(tree);
+    }
+    let output = at_path(alloc, "OutputPath", &settings.output_path, &tree)?;
+    Ok(output.into_tree(alloc)?)
+}
+
+/// The output of a state with that raw input and that value as its result: `ResultSelector`, `ResultPath` and
+/// `OutputPath`, in turn.
+pub(crate) fn output_of(
+    alloc: Global,
+    settings: &Settings,
+    raw: &Tree,
+    value: Tree,
+) -> Result<Tree, Stop>
+    ensures { Answers view result (model.output_of (settings_view settings.now) (view raw.now) (view value)) }
+{
+    let selected = match &settings.result_selector {
+        Some(template) => by_template(alloc, "ResultSelector", template, &value, None)?,
+        None => value,
+    };
+    let placed = place_result(alloc, &settings.result_path, raw, selected)?;
+    at_output_path(alloc, settings, placed)
+}
+
+/// The value placed in the raw input; with `ResultPath` null the raw input itself.
+fn place_result(
+    alloc: Global,
+    path: &Option<RefPath>,
+    raw: &Tree,
+    value: Tree,
+) -> Result<Tree, Stop>
+    ensures { Answers view result (model.result_placed path.now (view raw.now) (view value)) }
+{
+    if is_whole(path) {
+        return Ok(value);
+    }
+    let copied = copy(alloc, raw)?;
+    let Some(path) = path else {
+        return Ok(copied);
+    };
+    match place(alloc, copied, path, value) {
+        Ok(tree) => Ok(tree),
+        Err((PlaceRefusal::CannotPlace, _, _)) => Err(Stop::Fault(Fault {
+            error: DataFlowError::ResultPathMatchFailure,
+            field: "ResultPath",
+        })),
+        Err((PlaceRefusal::OutOfMemory, _, _)) => Err(Stop::OutOfMemory),
+    }
+}
+
+/// Whether the path is `$`, which names the whole tree.
+fn is_whole(path: &Option<RefPath>) -> bool
+    ensures { IsTrue result ↔ path.now ≡ Some [] }
+{
+    match path {
+        Some(path) => path.segments().is_empty(),
+        None => false,
+    }
+}
