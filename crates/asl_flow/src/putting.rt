@@ -6,7 +6,6 @@ ghost use Rattle.asl_model.specs.Placing.{Places};
 ghost use Rattle.asl_model.specs.Shape as model;
 ghost use Rattle.asl_model.specs.Shape.{Has};
 ghost use Rattle.asl_model.specs.ShapeFlow.{built_shape, join_results, put as put_shape, put_mentioned, put_under};
-ghost use Rattle.asl_model.specs.ShapeOrder.{join as joined};
 ghost use Rattle.asl_model.specs.Tree.{Tree};
 ghost use Rattle.asl_flow.specs.Counting.{counted_on};
 ghost use Rattle.asl_flow.specs.Putting.{Answers, mentioned};
@@ -17,9 +16,9 @@ ghost use Rattle.asl_shape.specs.View.{view};
 use crate::replacing::{with_needed_field, with_place};
 use asl_model::shape_laws::put_means_placed;
 use asl_path::{RefPath, Segment};
-use asl_shape::{Field, Shape, copy, inhabited};
+use asl_shape::{Field, Shape, copy, inhabited, join};
 use asl_tree::OutOfMemory;
-use std::alloc::{AllocError, AllocFailed, Global};
+use std::alloc::{AllocFailed, Global};
 use std::collections::BTreeMap;
 
 /// Why a shape can't be put into another.
@@ -29,16 +28,6 @@ pub enum PutRefusal {
     MayNotFit(usize),
     /// An allocation was refused.
     OutOfMemory,
-}
-
-impl From<AllocError> for PutRefusal {
-    ghost use Rattle.asl_flow.specs.declared.putting.PutRefusal.{PutRefusal};
-
-    ghost from_gives = { λ _ refusal. refusal ≡ PutRefusal.OutOfMemory };
-
-    fn from(_error: AllocError) -> PutRefusal {
-        PutRefusal::OutOfMemory
-    }
 }
 
 impl<T: Drop> From<AllocFailed<T>> for PutRefusal {
@@ -106,7 +95,7 @@ fn put_at(
     };
     match segment {
         Segment::Name(name) => put_in_object(alloc, shape, name, further, at, placed),
-        Segment::Index(index) => { put_in_list(alloc, shape, *index as usize, further, at, placed) }
+        Segment::Index(index) => put_in_list(alloc, shape, *index, further, at, placed),
     }
 }
 
@@ -194,7 +183,7 @@ fn put_in_optional(
 fn put_in_list(
     alloc: Global,
     shape: &Shape,
-    index: usize,
+    index: u32,
     further: &[Segment],
     at: usize,
     placed: &Shape,
@@ -205,11 +194,11 @@ fn put_in_list(
     ensures { Answers (counted_on at (put_under (put_shape (segments_view further.now) (view placed.now)) (Index index) (segments_view further.now) (view placed.now) (view shape.now))) result }
 {
     match shape {
-        Shape::List { first, rest } => match first.get(index) {
+        Shape::List { first, rest } => match first.get(index as usize) {
             Some(place) => {
                 let changed = put_at(alloc, place, further, at + 1, placed)?;
                 Ok(Shape::List {
-                    first: with_place(alloc, first, index, changed)?,
+                    first: with_place(alloc, first, index as usize, changed)?,
                     rest: Box::new(alloc, copy(alloc, rest)?)?,
                 })
             }
@@ -266,11 +255,4 @@ fn around(alloc: Global, name: &String, shape: Shape) -> Result<Shape, OutOfMemo
         fields,
         extra: false,
     })
-}
-
-/// A shape that both are inside; refused until shapes can be joined.
-fn join(_alloc: Global, first: &Shape, second: &Shape) -> Result<Shape, OutOfMemory>
-    ensures { IfOk result (λ s. view s ≡ joined (view first.now) (view second.now)) }
-{
-    Err(OutOfMemory)
 }

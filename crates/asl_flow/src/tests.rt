@@ -1,6 +1,7 @@
 //! Outside examples, worked out by hand, and each call once with ample memory.
-use crate::{literal_shape, rule_shape, template_shape};
+use crate::{literal_shape, look, put, rule_shape, template_shape};
 use asl_choice::{Test, from_tree};
+use asl_path::parse;
 use asl_shape::{Shape, read, write};
 use asl_tree::to_text;
 use std::alloc::Global;
@@ -330,6 +331,161 @@ fn literals(rt: HostRuntime) -> Result<(), Fail> {
         let tree = asl_tree::read(alloc, value.as_bytes())?;
         let answer = written(alloc, &literal_shape(alloc, &tree)?)?;
         assert_eq!(rt; answer.as_str(), *wanted, "at {value}");
+    }
+    Ok(())
+}
+
+/// A shape, a path, and the shape of what it names in every tree of that one, or the refusal.
+const NAMED: [(&str, &str, &str); 11] = [
+    (
+        r#"{"type":"object","properties":{"a":{"type":"integer"}},"additionalProperties":false}"#,
+        "$.a",
+        "MayBeMissing(0)",
+    ),
+    (
+        r#"{"type":"object","properties":{"a":{"type":"integer"}},"required":["a"]}"#,
+        "$.a",
+        r#"{"type":"integer"}"#,
+    ),
+    (
+        r#"{"type":"object","properties":{"a":{"type":"object","required":["b"]}},"required":["a"]}"#,
+        "$.a.b",
+        "true",
+    ),
+    (
+        r#"{"type":"object","properties":{"a":{"type":"object","required":["b"]}},"required":["a"]}"#,
+        "$.a.c",
+        "MayBeMissing(1)",
+    ),
+    (
+        r#"{"type":"array","prefixItems":[{"type":"integer"},{"type":"string"}],"minItems":2}"#,
+        "$[1]",
+        r#"{"type":"string"}"#,
+    ),
+    (
+        r#"{"type":"array","prefixItems":[{"type":"integer"},{"type":"string"}],"minItems":2}"#,
+        "$[2]",
+        "MayBeMissing(0)",
+    ),
+    (r#"{"type":"string"}"#, "$", r#"{"type":"string"}"#),
+    (r#"{"type":"string"}"#, "$.a", "MayBeMissing(0)"),
+    ("true", "$[0]", "MayBeMissing(0)"),
+    ("false", "$.a", "false"),
+    (
+        r#"{"type":"object","properties":{"b":false},"required":["b"]}"#,
+        "$.a",
+        "false",
+    ),
+];
+
+/// A shape, a path, what is put there, and the shape that comes out, or the refusal.
+const PUT: [(&str, &str, &str, &str); 17] = [
+    (
+        r#"{"type":"object","additionalProperties":false}"#,
+        "$.a.b",
+        r#"{"type":"integer"}"#,
+        r#"{"additionalProperties":false,"properties":{"a":{"additionalProperties":false,"properties":{"b":{"type":"integer"}},"required":["b"],"type":"object"}},"required":["a"],"type":"object"}"#,
+    ),
+    (
+        r#"{"type":"object"}"#,
+        "$.a.b",
+        r#"{"type":"integer"}"#,
+        "MayNotFit(1)",
+    ),
+    (
+        r#"{"type":"object"}"#,
+        "$.a",
+        r#"{"type":"integer"}"#,
+        r#"{"properties":{"a":{"type":"integer"}},"required":["a"],"type":"object"}"#,
+    ),
+    (
+        r#"{"type":"object","additionalProperties":false}"#,
+        "$.a[0]",
+        r#"{"type":"integer"}"#,
+        "MayNotFit(1)",
+    ),
+    (
+        r#"{"type":"object","properties":{"a":{"type":"string"},"b":{"type":"null"}},"required":["a"]}"#,
+        "$.a",
+        r#"{"type":"integer"}"#,
+        r#"{"properties":{"a":{"type":"integer"},"b":{"type":"null"}},"required":["a"],"type":"object"}"#,
+    ),
+    (
+        r#"{"type":"object","properties":{"a":{"type":"object","properties":{"c":{"type":"string"}},"required":["c"],"additionalProperties":false}},"additionalProperties":false}"#,
+        "$.a.b",
+        r#"{"type":"integer"}"#,
+        r#"{"additionalProperties":false,"properties":{"a":{"additionalProperties":false,"properties":{"b":{"type":"integer"},"c":{"type":"string"}},"required":["b"],"type":"object"}},"required":["a"],"type":"object"}"#,
+    ),
+    (
+        r#"{"type":"object","properties":{"a":{"type":"string"}}}"#,
+        "$.a",
+        r#"{"type":"integer"}"#,
+        r#"{"properties":{"a":{"type":"integer"}},"required":["a"],"type":"object"}"#,
+    ),
+    (
+        r#"{"type":"object","properties":{"a":false}}"#,
+        "$.a.b",
+        r#"{"type":"integer"}"#,
+        r#"{"properties":{"a":{"additionalProperties":false,"properties":{"b":{"type":"integer"}},"required":["b"],"type":"object"}},"required":["a"],"type":"object"}"#,
+    ),
+    (
+        r#"{"type":"object","properties":{"a":{"type":"string"}}}"#,
+        "$.a.b",
+        r#"{"type":"integer"}"#,
+        "MayNotFit(1)",
+    ),
+    (
+        r#"{"type":"array","prefixItems":[{"type":"string"},{"type":"null"}],"minItems":2}"#,
+        "$[0]",
+        r#"{"type":"integer"}"#,
+        r#"{"minItems":2,"prefixItems":[{"type":"integer"},{"type":"null"}],"type":"array"}"#,
+    ),
+    (
+        r#"{"type":"array","prefixItems":[{"type":"string"}],"minItems":1}"#,
+        "$[1]",
+        r#"{"type":"integer"}"#,
+        "MayNotFit(0)",
+    ),
+    (
+        r#"{"type":"array","prefixItems":[{"type":"object"}],"minItems":1,"items":false}"#,
+        "$[0].a",
+        r#"{"type":"integer"}"#,
+        r#"{"items":false,"minItems":1,"prefixItems":[{"properties":{"a":{"type":"integer"}},"required":["a"],"type":"object"}],"type":"array"}"#,
+    ),
+    (
+        r#"{"type":"string"}"#,
+        "$",
+        r#"{"type":"integer"}"#,
+        r#"{"type":"integer"}"#,
+    ),
+    (
+        r#"{"type":"string"}"#,
+        "$.a",
+        r#"{"type":"integer"}"#,
+        "MayNotFit(0)",
+    ),
+    ("true", "$.a", r#"{"type":"integer"}"#, "MayNotFit(0)"),
+    ("false", "$.a", r#"{"type":"integer"}"#, "false"),
+    (r#"{"type":"string"}"#, "$.a", "false", "false"),
+];
+
+#[test]
+fn paths(rt: HostRuntime) -> Result<(), Fail> {
+    let alloc = rt.alloc();
+    for (given, path, wanted) in &NAMED {
+        let answer = match look(alloc, &shape(alloc, given)?, &parse(alloc, path)?) {
+            Ok(found) => written(alloc, &found)?,
+            Err(refusal) => format!(in alloc; "{refusal:?}")?,
+        };
+        assert_eq!(rt; answer.as_str(), *wanted, "at {path} in {given}");
+    }
+    for (given, path, placed, wanted) in &PUT {
+        let steps = parse(alloc, path)?;
+        let answer = match put(alloc, &shape(alloc, given)?, &steps, &shape(alloc, placed)?) {
+            Ok(changed) => written(alloc, &changed)?,
+            Err(refusal) => format!(in alloc; "{refusal:?}")?,
+        };
+        assert_eq!(rt; answer.as_str(), *wanted, "at {path} in {given}");
     }
     Ok(())
 }
