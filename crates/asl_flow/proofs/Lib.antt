@@ -1,6 +1,7 @@
 pub mod ArgumentShapes
 pub mod Doubts
 pub mod FunctionShapes
+pub mod Leavings
 pub mod LiteralFields
 pub mod Mentions
 pub mod Needed

@@ -2,6 +2,7 @@ pub mod CallAnswer
 pub mod Counting
 pub mod Items
 pub mod Kept
+pub mod Leaving
 pub mod Looking
 pub mod Putting
 pub mod Sources

@@ -3,6 +3,7 @@
 #![tactic(auto)]
 
 mod calls;
+mod leaving;
 mod literals;
 mod looking;
 mod narrowing;
@@ -14,6 +15,7 @@ mod templates;
 #[cfg(test)]
 mod tests;
 
+pub use leaving::{FlowFault, leave};
 pub use literals::literal_shape;
 pub use looking::{LookRefusal, find_shape, look};
 pub use putting::{PutRefusal, put};
