@@ -1,5 +1,5 @@
 -- What narrowing by a path does to a shape under its first segment.
-use Rattle.std.proofs.Common.{◌≡◌, ℕ, zero, suc, ◌<◌, ◌≤◌, List, [], ◌∷◌, Bool, true, if◌then◌else◌, Option, Some, None, Result, IfOk, OnOk, Ok, Err, String, Global, BTreeMap, MutBor, string_bytes, string_cmp, length, get_or, slice_set, refl, sym, ap, ◌∙◌, arith}
+use Rattle.std.proofs.Common.{◌≡◌, ℕ, zero, suc, ◌<◌, ◌≤◌, List, [], ◌∷◌, Bool, true, if◌then◌else◌, Option, Some, None, Result, IfOk, OnOk, Ok, Err, String, Global, BTreeMap, MutBor, string_bytes, string_cmp, length, get_or, slice_set, refl, sym, ap, ◌∙◌}
 use Rattle.std.specs.BTreeMap.{is_at}
 use Rattle.std.specs.List.Sorted.{IsStrictlySortedBy}
 use Rattle.std.specs.Map.{keys_of, lookup, set_value}
@@ -15,8 +15,10 @@ use Rattle.asl_shape.specs.declared.shape.Field.{Field}
 use Rattle.asl_shape.specs.declared.shape.Shape.{Shape}
 use Rattle.asl_shape.specs.declared.shape.Shape as shape
 use Rattle.asl_shape.proofs.Lookups.{mention_of_lookup}
+use Rattle.asl_shape.proofs.Spellings.{Mention}
 use Rattle.asl_shape.proofs.Views.{view_any, view_object}
-use Rattle.asl_flow.proofs.Mentions.{Entry, written_mention}
+use Rattle.asl_flow.proofs.Mentions.{written_mention}
+use Rattle.asl_flow.proofs.ShapeParts.{place_past, place_within}
 
 -- a field that is added
 pub added : (go_on : model.Shape → model.Shape) (extra : Bool) (n : List ℕ) (ms ns : model.FieldShapes) → mention_of n ms ≡ None → extra ≡ true → ns ≡ set_mention n true (view shape.Any) ms
@@ -36,7 +38,7 @@ narrowed_object (Err e) go_on s fields given new extra open_now segment n is sam
 -- ---- the mention of a field
 
 -- where none is lent, none is mentioned
-pub unmentioned : (n : String Global) (es : List Entry) (r : Option (MutBor Field)) → option_copied_mut r ≡ lookup (is_at (string_cmp n)) es → r ≡ None → mention_of (string_bytes n) (fields_view es) ≡ None
+pub unmentioned : (n : String Global) (es : List Mention) (r : Option (MutBor Field)) → option_copied_mut r ≡ lookup (is_at (string_cmp n)) es → r ≡ None → mention_of (string_bytes n) (fields_view es) ≡ None
 unmentioned n es r value is =
     let found : lookup (is_at (string_cmp n)) es ≡ None = sym value ∙ ap option_copied_mut is in
     rw (mention_of_lookup n es, found) refl
@@ -49,7 +51,7 @@ at_one (Ok possible) go_on n ms lent new extra same h = rw (← same) (h go_on)
 at_one (Err e) go_on n ms lent new extra same h = tt
 
 -- the field that is lent, needed and narrowed
-pub narrowed_mention : (go_on : model.Shape → model.Shape) (n : String Global) (es new : List Entry) (r : Option (MutBor Field)) (x : MutBor Field) (w : Field) (extra : Bool) → option_copied_mut r ≡ lookup (is_at (string_cmp n)) es → r ≡ Some x → IsStrictlySortedBy string_cmp (keys_of es) → new ≡ set_value (is_at (string_cmp n)) es w
+pub narrowed_mention : (go_on : model.Shape → model.Shape) (n : String Global) (es new : List Mention) (r : Option (MutBor Field)) (x : MutBor Field) (w : Field) (extra : Bool) → option_copied_mut r ≡ lookup (is_at (string_cmp n)) es → r ≡ Some x → IsStrictlySortedBy string_cmp (keys_of es) → new ≡ set_value (is_at (string_cmp n)) es w
     → w.needed ≡ true → view w.shape ≡ go_on (view x.now.shape)
     → narrow_under go_on (path.Name (string_bytes n)) (model.ObjectShape (fields_view es) extra) ≡ model.ObjectShape (fields_view new) extra
 narrowed_mention go_on n es new r x w extra value is ordered written needed shown =
@@ -58,16 +60,6 @@ narrowed_mention go_on n es new r x w extra value is ordered written needed show
     rw (mention_of_lookup n es, found, set, needed, shown) refl
 
 -- ---- the place at an index
-
-place_within : (ss : List Shape) (i : ℕ) (d : Shape) → i < length ss → place_at i (shapes_view ss) ≡ Some (view (get_or ss i d))
-place_within [] i d h = absurd (omega arith)
-place_within (s ∷ ss) zero d h = refl
-place_within (s ∷ ss) (suc i) d h = place_within ss i d (omega arith)
-
-place_past : (ss : List Shape) (i : ℕ) → length ss ≤ i → place_at i (shapes_view ss) ≡ None
-place_past [] i h = refl
-place_past (s ∷ ss) zero h = absurd (omega arith)
-place_past (s ∷ ss) (suc i) h = place_past ss i (omega arith)
 
 place_set : (i : ℕ) (w : Shape) (ss : List Shape) → shapes_view (slice_set ss i w) ≡ set_place i (view w) (shapes_view ss)
 place_set i w [] = refl
@@ -78,10 +70,10 @@ place_set (suc i) w (s ∷ ss) = ap (model.AndShape (view s)) (place_set i w ss)
 pub narrowed_place : {A E : Type 0} (r : Result A E) (go_on : model.Shape → model.Shape) (i : ℕ) (ss : List Shape) (x w : Shape) → i < length ss → x ≡ get_or ss i x → OnOk r (view w ≡ go_on (view x))
     → OnOk r ((further : model.Shape) → narrow_under go_on (path.Index i) (model.ArrayShape (shapes_view ss) further) ≡ model.ArrayShape (shapes_view (slice_set ss i w)) further)
 narrowed_place (Ok a) go_on i ss x w within is shown =
-    let found : place_at i (shapes_view ss) ≡ Some (view x) = place_within ss i x within ∙ ap (λ s. Some (view s)) (sym is) in
+    let found : place_at i (shapes_view ss) ≡ Some (view x) = sym (place_within ss i x within) ∙ ap (λ s. Some (view s)) (sym is) in
     λ further. rw (found, place_set i w ss, shown) refl
 narrowed_place (Err e) go_on i ss x w within is shown = tt
 
 -- further elements stay
 pub further_place : (go_on : model.Shape → model.Shape) (i : ℕ) (ss : List Shape) (further : model.Shape) → length ss ≤ i → narrow_under go_on (path.Index i) (model.ArrayShape (shapes_view ss) further) ≡ model.ArrayShape (shapes_view ss) further
-further_place go_on i ss further past = rw (place_past ss i past) refl
+further_place go_on i ss further past = rw (← place_past ss i past) refl

@@ -19,12 +19,14 @@ use Rattle.asl_shape.specs.View.{view, shapes_view}
 use Rattle.asl_shape.proofs.Lookups.{mention_of_lookup}
 use Rattle.asl_shape.proofs.Views.{view_list, view_object}
 
-place_within : (ss : List Shape) (i : ℕ) (d : Shape) → i < length ss → Some (view (get_or ss i d)) ≡ place_at i (shapes_view ss)
+-- the place at an index that a list has
+pub place_within : (ss : List Shape) (i : ℕ) (d : Shape) → i < length ss → Some (view (get_or ss i d)) ≡ place_at i (shapes_view ss)
 place_within [] i d h = absurd (omega arith)
 place_within (s ∷ ss) zero d h = refl
 place_within (s ∷ ss) (suc i) d h = place_within ss i d (omega arith)
 
-place_past : (ss : List Shape) (i : ℕ) → length ss ≤ i → None ≡ place_at i (shapes_view ss)
+-- no place is at an index behind a list
+pub place_past : (ss : List Shape) (i : ℕ) → length ss ≤ i → None ≡ place_at i (shapes_view ss)
 place_past [] i h = refl
 place_past (s ∷ ss) zero h = absurd (omega arith)
 place_past (s ∷ ss) (suc i) h = place_past ss i (omega arith)
