@@ -1,18 +1,14 @@
 -- What a walk over the members of an object finds under a name is what the look-up of that name gives.
-use Rattle.std.proofs.Common.{◌≡◌, ℕ, List, [], ◌∷◌, Bool, true, false, if◌then◌else◌, Option, Some, None, option_map, unwrap_or, bytes_eq, codes, is_eq, Ordering, Less, Equal, Greater, String, Global, string_bytes, cond, refl, sym, ap, ◌∙◌}
-use Rattle.std.specs.BTreeMap.{is_at}
+use Rattle.std.proofs.Common.{◌≡◌, ℕ, List, [], Bool, true, false, if◌then◌else◌, Option, Some, None, option_map, unwrap_or, bytes_eq, codes, is_eq, Ordering, Less, Equal, Greater, refl, sym, ap, ◌∙◌}
 use Rattle.std.specs.Cmp.Lexicographic.{slice_cmp}
-use Rattle.std.specs.Map.{lookup}
 use Rattle.std.specs.Ordering.{nat_cmp, match_ordering}
 use Rattle.std.proofs.lemmas.Map.Text.{is_eq-slice_cmp}
 use Rattle.serde_json.specs.Data as json
 use Rattle.serde_json.specs.Data.{Data, Members}
 use Rattle.serde_json.specs.Find.{get_member}
-use Rattle.serde_json.specs.View.{view, members_view}
-use Rattle.serde_json.specs.declared.value.Value.{Value}
 use Rattle.asl_model.specs.DefinitionTable.{processor_rows}
 use Rattle.asl_model.specs.Machine.{NoScopes, NoStates, empty_scope}
-use Rattle.asl_model.specs.StandsFor.{is_processor, scope_of, states_in, states_under, scopes_in, branches_under, processor_under, scope_complaints, states_complaints, states_complaints_under, branches_complaints, branches_complaints_under, processor_complaints_under}
+use Rattle.asl_model.specs.StandsFor.{is_processor, scope_of, states_in, states_under, scopes_in, each_scope, items_in, items_at, branches_under, processor_under, scope_complaints, states_complaints, states_complaints_under, branches_complaints, branches_complaints_under, processor_complaints_under}
 
 -- ---- under one name
 
@@ -52,6 +48,22 @@ branches_complaints_under_get state json.no_members = refl
 branches_complaints_under_get state (json.member n v ms) =
     walk_step (branches_complaints state) [] (codes "Branches") n v ms (branches_complaints_under state ms) (branches_complaints_under_get state ms)
 
+scopes_listed : (v : Data) → scopes_in v ≡ each_scope (items_in v)
+scopes_listed json.null = refl
+scopes_listed (json.boolean b) = refl
+scopes_listed (json.number n) = refl
+scopes_listed (json.string s) = refl
+scopes_listed (json.array vs) = refl
+scopes_listed (json.object ms) = refl
+
+scopes_or_none : (o : Option Data) → unwrap_or (option_map scopes_in o) NoScopes ≡ each_scope (unwrap_or (option_map items_in o) json.no_items)
+scopes_or_none None = refl
+scopes_or_none (Some v) = scopes_listed v
+
+-- the branches are the scopes of the elements of the field
+pub branches_under_items : (ms : Members) → branches_under ms ≡ each_scope (items_at (codes "Branches") ms)
+branches_under_items ms = branches_under_get ms ∙ scopes_or_none (get_member (codes "Branches") ms)
+
 -- ---- a Map's processor, under either of its names
 
 -- the first member that is a processor, with its name
@@ -64,6 +76,10 @@ processor_step : {A : Type 0} (f : List ℕ → Data → A) (d : A) (here : Bool
 processor_step f d true n v further rest e = refl
 processor_step f d false n v further rest e = e
 
+-- a member that isn't a processor is passed over
+pub processor_past : (n : List ℕ) (v : Data) (ms : Members) → is_processor n ≡ false → processor_under (json.member n v ms) ≡ processor_under ms
+processor_past n v ms other = rw other refl
+
 pub processor_under_first : (ms : Members) → processor_under ms ≡ unwrap_or (option_map (λ p. scope_of p.1) (processor_in ms)) empty_scope
 processor_under_first json.no_members = refl
 processor_under_first (json.member n v ms) =
@@ -74,18 +90,3 @@ pub processor_complaints_under_first : (state : List ℕ) (ms : Members)
 processor_complaints_under_first state json.no_members = refl
 processor_complaints_under_first state (json.member n v ms) =
     processor_step (λ m w. scope_complaints (record { state = state; within = Some m }) processor_rows w) [] (is_processor n) n v (processor_in ms) (processor_complaints_under state ms) (processor_complaints_under_first state ms)
-
--- ---- the look-up in a map
-
-picked : (v : Value) (further : Option Value) (o : Ordering)
-    → match_ordering o (option_map view further) (Some (view v)) (option_map view further) ≡ option_map view (cond (is_eq o) (Some v) further)
-picked v further Less = refl
-picked v further Equal = refl
-picked v further Greater = refl
-
--- a member of an object is what the map that it is has at the name
-pub get_member_lookup : (field : List ℕ) (es : List (String Global × Value)) → get_member field (members_view es) ≡ option_map view (lookup (is_at (λ k. slice_cmp nat_cmp field (string_bytes k))) es)
-get_member_lookup field [] = refl
-get_member_lookup field (e ∷ es) =
-    ap (λ further. match_ordering (slice_cmp nat_cmp field (string_bytes e.0)) further (Some (view e.1)) further) (get_member_lookup field es)
-    ∙ picked e.1 _ (slice_cmp nat_cmp field (string_bytes e.0))

@@ -6,7 +6,7 @@ ghost use Rattle.serde_json.specs.Find.{get_member};
 ghost use Rattle.serde_json.specs.View.{view, items_view};
 ghost use Rattle.asl_model.specs.Json.{tree_of};
 ghost use Rattle.asl_model.specs.PathSpelling.{path_of};
-ghost use Rattle.asl_model.specs.StandsFor.{members_in, items_at, text_at, path_at, path_or_null_at, natural_at, template_at, error_names};
+ghost use Rattle.asl_model.specs.StandsFor.{members_in, items_at, text_at, path_at, path_or_null_at, natural_at, template_at, is_given as model_is_given};
 ghost use Rattle.asl_model.specs.TemplateSpelling.{template_of};
 ghost use Rattle.asl_template.specs.View as templates;
 ghost use Rattle.asl_tree.specs.View as trees;
@@ -25,6 +25,23 @@ pub(crate) fn text_of<'a>(object: &'a Value, field: &'static str) -> Option<&'a 
         Some(value) => value.as_str(),
         None => None,
     }
+}
+
+/// The text of a field, empty where it has none.
+pub(crate) fn text_or_empty<'a>(object: &'a Value, field: &'static str) -> &'a str
+    ensures { result.now ≡ unwrap_or (text_at field.now (members_in (view object.now))) [] }
+{
+    match text_of(object, field) {
+        Some(text) => text,
+        None => "",
+    }
+}
+
+/// Whether an object has the field.
+pub(crate) fn is_given(object: &Value, field: &'static str) -> bool
+    ensures { result ≡ model_is_given field.now (members_in (view object.now)) }
+{
+    object.get(field).is_some()
 }
 
 /// The text of a field, where it has one.
@@ -49,10 +66,7 @@ pub(crate) fn build_text_or_empty(
 ) -> Result<String, OutOfMemory>
     ensures { IfOk result (λ text. string_bytes text ≡ unwrap_or (text_at field.now (members_in (view object.now))) []) }
 {
-    match text_of(object, field) {
-        Some(text) => Ok(String::from_str(alloc, text)?),
-        None => Ok(String::new(alloc)),
-    }
+    Ok(String::from_str(alloc, text_or_empty(object, field))?)
 }
 
 /// The path of a field: `$` where the field isn't there or is no path, none where it is null.
@@ -139,8 +153,7 @@ pub(crate) fn read_tree(alloc: Global, value: &Value) -> Result<Option<Tree>, Ou
         Ok(tree) => Ok(Some(tree)),
         Err(refusal) => match refusal {
             TreeRefusal::OutOfMemory => Err(OutOfMemory),
-            TreeRefusal::NotWhole => Ok(None),
-            TreeRefusal::NotJson => Ok(None),
+            TreeRefusal::NotWhole | TreeRefusal::NotJson => Ok(None),
         },
     }
 }

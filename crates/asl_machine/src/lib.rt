@@ -6,8 +6,10 @@
 
 mod building;
 mod checking;
+mod choices;
 mod field_checking;
 mod fields;
+mod kinds;
 mod machine;
 mod numbering;
 mod places;
@@ -16,6 +18,7 @@ mod plain_building;
 mod plain_reading;
 mod refusals;
 mod rows;
+mod scopes;
 mod settings;
 mod states;
 mod table;

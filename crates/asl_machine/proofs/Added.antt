@@ -1,0 +1,37 @@
+-- States that are added one after another.
+use Rattle.std.proofs.Common.{◌≡◌, List, [], ◌∷◌, ◌++◌, map, sym, ap, ◌∙◌, append-nil, append_assoc}
+use Rattle.std.proofs.lemmas.List.{map-append}
+use Rattle.asl_model.specs.Numbering.{Standing}
+use Rattle.asl_machine.specs.Built.{built_view, outlined, Adds}
+use Rattle.asl_machine.specs.declared.building.BuiltState.{BuiltState}
+
+-- some states and then others
+pub adds_then : (a b c xs ys : List Standing) → Adds a b xs → Adds b c ys → Adds a c (xs ++ ys)
+adds_then a b c xs ys first second =
+    record { holds = second.holds ∙ ap (λ rows. rows ++ map outlined ys) first.holds ∙ append_assoc a (map outlined xs) (map outlined ys) ∙ ap (λ rows. a ++ rows) (sym (map-append outlined xs ys)) }
+
+-- one state
+pub adds_one : (rows more : List BuiltState) (row : BuiltState) (s : Standing) → more ≡ rows ++ row ∷ [] → built_view row ≡ outlined s → Adds (map built_view rows) (map built_view more) (s ∷ [])
+adds_one rows more row s pushed is = record { holds = ap (map built_view) pushed ∙ map-append built_view rows (row ∷ []) ∙ ap (λ r. map built_view rows ++ r ∷ []) is }
+
+-- of all states those before the ones left were added
+pub record AddsBefore (before after all left : List Standing) : Type 0 where
+  pub done : List Standing
+  pub added : Adds before after done
+  pub rest : all ≡ done ++ left
+
+pub none_yet : (a all left : List Standing) → all ≡ left → AddsBefore a a all left
+none_yet a all left same = record { done = []; added = record { holds = sym (append-nil a) }; rest = same }
+
+pub some_more : (a b c all left xs more : List Standing) → AddsBefore a b all left → left ≡ xs ++ more → Adds b c xs → AddsBefore a c all more
+some_more a b c all left xs more so_far parted next = record {
+  done = so_far.done ++ xs;
+  added = adds_then a b c so_far.done xs so_far.added next;
+  rest = so_far.rest ∙ ap (λ ss. so_far.done ++ ss) parted ∙ sym (append_assoc so_far.done xs more);
+}
+
+pub all_added : (a b all left : List Standing) → AddsBefore a b all left → left ≡ [] → Adds a b all
+all_added a b all left so_far none = record { holds = so_far.added.holds ∙ ap (λ ss. a ++ map outlined ss) (sym (so_far.rest ∙ ap (λ ss. so_far.done ++ ss) none ∙ append-nil so_far.done)) }
+
+pub adds_none : (rows : List Standing) → Adds rows rows []
+adds_none rows = record { holds = sym (append-nil rows) }

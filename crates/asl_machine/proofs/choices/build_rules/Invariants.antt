@@ -1,0 +1,11 @@
+use Rattle.std.proofs.Common.{◌≡◌, map, take, option_and_then}
+use Rattle.std.specs.List.{filter_map}
+use Rattle.serde_json.specs.View.{view}
+use Rattle.asl_model.specs.Json.{tree_of}
+use Rattle.asl_model.specs.RuleSpelling.{rule_of}
+use Rattle.asl_choice.specs.View.{rule_view}
+use Rattle.asl_machine.proofs.choices.build_rules.Given as goal
+
+abbrev pub invariant-loop-element : goal.invariant-loop-element
+invariant-loop-element l =
+    map rule_view l.rules.items ≡ filter_map (λ v. option_and_then rule_of (tree_of (view v))) (take l.element-index l.elements)
