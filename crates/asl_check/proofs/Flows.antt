@@ -8,7 +8,6 @@ use Rattle.asl_model.specs.ShapeOrder.{mention_of}
 use Rattle.asl_model.specs.ShapeFlow.{Flow, MissingAt, look, look_at, part_at, place_at, if_needed, through, one_further, path_flow, through_path}
 use Rattle.asl_model.specs.Finding.{Breach, PathMayBeMissing, OutputNotCertified, NextInput, breaches_then, breach_unless_sub, end_breaches, output_breaches}
 use Rattle.asl_check.specs.Checking.{Told, Flows}
-use Rattle.asl_check.specs.Looking.{looked_at}
 
 -- ---- what a path names in an inhabited shape is inhabited
 
@@ -45,47 +44,35 @@ part-inhabited (Index i) (ArrayShape first rest) t h e = place-inhabited i first
 part-inhabited (Name n) (ObjectShape shapes extra) t h e = needed-inhabited n shapes t h e
 part-inhabited (Index i) (ObjectShape shapes extra) t h e = absurd (cc)
 
--- a refusal counted on is one still
-not-further : (r : Result Shape ℕ) → looked_at (one_further r) ≡ looked_at r
-not-further (Ok s) = refl
-not-further (Err at) = refl
+-- what is found behind a segment is found
+found-further : (r : Result Shape ℕ) (t : Shape) → one_further r ≡ Ok t → r ≡ Ok t
+found-further (Ok s) t e = e
+found-further (Err at) t e = absurd (cc)
 
 -- and for what a whole path names
-pub at-inhabited : (path : List Segment) (s t : Shape) → IsTrue (inhabited s) → looked_at (look_at path s) ≡ Some t → IsTrue (inhabited t)
+pub at-inhabited : (path : List Segment) (s t : Shape) → IsTrue (inhabited s) → look_at path s ≡ Ok t → IsTrue (inhabited t)
 at-inhabited [] s t h e =
     let is : s ≡ t = cc in
     rw (sym is) h
 at-inhabited (segment ∷ path) s t h e = go (part_at segment s) refl e (λ u. at-inhabited path u t)
   where
-    go : (part : Option Shape) → part_at segment s ≡ part → looked_at (through (look_at path) part) ≡ Some t → ((u : Shape) → IsTrue (inhabited u) → looked_at (look_at path u) ≡ Some t → IsTrue (inhabited t)) → IsTrue (inhabited t)
+    go : (part : Option Shape) → part_at segment s ≡ part → through (look_at path) part ≡ Ok t → ((u : Shape) → IsTrue (inhabited u) → look_at path u ≡ Ok t → IsTrue (inhabited t)) → IsTrue (inhabited t)
     go None is e' below = absurd (cc)
-    go (Some u) is e' below = below u (part-inhabited segment s u h is) (sym (not-further (look_at path u)) ∙ e')
+    go (Some u) is e' below = below u (part-inhabited segment s u h is) (found-further (look_at path u) t e')
 
 -- ---- a path
-
--- what is found goes on
-flow-found : (field : List ℕ) (r : Result Shape ℕ) (t : Shape) → looked_at r ≡ Some t → path_flow field r ≡ Ok t
-flow-found field (Ok s) t e =
-    let is : s ≡ t = cc in
-    rw is refl
-flow-found field (Err at) t e = absurd (cc)
-
--- what is missing stops the flow
-flow-missing : (field : List ℕ) (r : Result Shape ℕ) → looked_at r ≡ None → path_flow field r ≡ Err (MissingAt field ∷ [])
-flow-missing field (Ok s) e = absurd (cc)
-flow-missing field (Err at) e = refl
 
 -- an inhabited shape is looked into
 pub look-inhabited : (path : List Segment) (s : Shape) → IsTrue (inhabited s) → look path s ≡ look_at path s
 look-inhabited path s h = rw h refl
 
 -- a path that names something comes to its shape
-pub path-found : (field : List ℕ) (path : List Segment) (s t : Shape) → IsTrue (inhabited s) → Some t ≡ looked_at (look_at path s) → Flows (through_path field (Some path) s) (Ok t)
-path-found field path s t h e = record { flows = ap (path_flow field) (look-inhabited path s h) ∙ flow-found field (look_at path s) t (sym e) }
+pub path-found : (field : List ℕ) (path : List Segment) (s t : Shape) → IsTrue (inhabited s) → look_at path s ≡ Ok t → Flows (through_path field (Some path) s) (Ok t)
+path-found field path s t h e = record { flows = ap (path_flow field) (look-inhabited path s h ∙ e) }
 
 -- a path that may name nothing stops there
-pub path-missing : (field : List ℕ) (path : List Segment) (s : Shape) (b : Breach) → IsTrue (inhabited s) → None ≡ looked_at (look_at path s) → b ≡ record { field = field; fault = PathMayBeMissing } → Flows (through_path field (Some path) s) (Err b)
-path-missing field path s b h e is = rw is (record { flows = (ap (path_flow field) (look-inhabited path s h) ∙ flow-missing field (look_at path s) (sym e), refl) })
+pub path-missing : (field : List ℕ) (path : List Segment) (s : Shape) (at : ℕ) (b : Breach) → IsTrue (inhabited s) → look_at path s ≡ Err at → b ≡ record { field = field; fault = PathMayBeMissing } → Flows (through_path field (Some path) s) (Err b)
+path-missing field path s at b h e is = rw is (record { flows = (ap (path_flow field) (look-inhabited path s h ∙ e), refl) })
 
 -- ---- states
 

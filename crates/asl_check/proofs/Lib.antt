@@ -4,6 +4,5 @@ pub mod Members
 pub mod Names
 pub mod Notes
 pub mod Passes
-pub mod ShapeParts
 pub mod StateFlows
 pub mod Telling

@@ -17,7 +17,6 @@ use Rattle.asl_records.specs.View.{certificate_view, entry_view}
 use Rattle.asl_records.specs.declared.records.Certificate.{Certificate}
 use Rattle.asl_records.specs.declared.records.StateShapes.{StateShapes as Entry}
 use Rattle.asl_shape.specs.View.{view}
-use Rattle.asl_check.specs.Looking.{looked_at}
 use Rattle.asl_check.proofs.Flows.{at-inhabited, look-inhabited}
 use Rattle.asl_check.proofs.Names.{entry_looked_up}
 
@@ -31,7 +30,7 @@ through_inhabited field (Some path) s t h e = go (look path s) (look-inhabited p
     go : (r : Result Shape ℕ) → r ≡ look_at path s → path_flow field r ≡ Ok t → IsTrue (inhabited t)
     go (Ok u) is e' =
         let same : u ≡ t = cc in
-        at-inhabited path s t h (ap looked_at (sym is) ∙ ap Some same)
+        at-inhabited path s t h (sym is ∙ ap Ok same)
     go (Err at) is e' = absurd (cc)
 
 -- going on with the shape as it is changes nothing

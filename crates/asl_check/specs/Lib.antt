@@ -1,4 +1,3 @@
 pub mod Checking
-pub mod Looking
 pub mod Noting
 pub mod View

@@ -13,9 +13,9 @@ ghost use Rattle.asl_check.specs.Noting.{broken_view};
 ghost use Rattle.asl_check.specs.View.{finding_fault_view};
 
 use crate::checker::Checker;
-use crate::looking::look;
 use crate::noting::{Broken, breach, breach_unless};
 use crate::verdicts::FindingFault;
+use asl_flow::find_shape;
 use asl_machine::plain::{After, Paths, State};
 use asl_path::RefPath;
 use asl_records::StateShapes;
@@ -186,9 +186,9 @@ fn through_path<'s>(
     ensures inhabited { IfOk result (λ s. IsTrue (model.inhabited (view s.now))) }
 {
     match path {
-        Some(path) => match look(shape, path) {
-            Some(found) => Ok(found),
-            None => Err(breach(field, FindingFault::PathMayBeMissing)),
+        Some(path) => match find_shape(shape, path) {
+            Ok(found) => Ok(found),
+            Err(_) => Err(breach(field, FindingFault::PathMayBeMissing)),
         },
         None => Ok(nothing),
     }

@@ -3,7 +3,6 @@
 
 mod checker;
 mod flowing;
-mod looking;
 mod noting;
 mod verdicts;
 
