@@ -118,7 +118,7 @@ fn narrow_by_all<'s>(
     Ok(narrowed)
 }
 
-// Whether each of the tests is true or false of every tree of the shape.
+// Refuses where one of the tests may be neither true nor false of a tree of the shape.
 #[cycle(narrow)]
 fn check_all(alloc: Global, tests: &[Test], shape: &Shape) -> Result<(), RuleShapeRefusal>
     ensures as_defined { OnOk result (model.each_found (tests_view tests.now) (view shape.now) ≡ Some (view shape.now)) }
@@ -130,7 +130,8 @@ fn check_all(alloc: Global, tests: &[Test], shape: &Shape) -> Result<(), RuleSha
     Ok(())
 }
 
-// Whether the test is true or false of every tree of the shape.
+// Refuses where the test may be neither true nor false of a tree of the shape. `IsPresent` always is one of them, so
+// nothing is narrowed for it.
 #[cycle(narrow)]
 fn check(alloc: Global, test: &Test, shape: &Shape) -> Result<(), RuleShapeRefusal>
     ensures as_defined { OnOk result (IsSome (model.true_of (test_view test.now) (view shape.now))) }
