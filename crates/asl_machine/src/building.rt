@@ -122,12 +122,14 @@ fn add_inside<'a>(
         Value::Object(members) => match type_of(state) {
             Some(StateType::Parallel) => add_branches(alloc, members, name, rows),
             Some(StateType::Map) => add_processor(alloc, members, name, rows),
-            Some(StateType::Pass)
-            | Some(StateType::Task)
-            | Some(StateType::Choice)
-            | Some(StateType::Wait)
-            | Some(StateType::Succeed)
-            | Some(StateType::Fail)
+            Some(
+                StateType::Pass
+                | StateType::Task
+                | StateType::Choice
+                | StateType::Wait
+                | StateType::Succeed
+                | StateType::Fail,
+            )
             | None => Ok(()),
         },
         Value::Null | Value::Bool(_) | Value::Number(_) | Value::String(_) | Value::Array(_) => {

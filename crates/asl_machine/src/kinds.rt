@@ -41,14 +41,16 @@ pub(crate) fn build_parameters(
     ensures { IfOk result (λ p. option_map templates.view p ≡ (settings_of (state_by (option_map type_view state_type) (members_in (view state.now)) NoScopes empty_scope)).parameters) }
 {
     match state_type {
-        Some(StateType::Pass) | Some(StateType::Task) | Some(StateType::Parallel) => {
+        Some(StateType::Pass | StateType::Task | StateType::Parallel) => {
             build_template(alloc, state, "Parameters", false)
         }
-        Some(StateType::Choice)
-        | Some(StateType::Wait)
-        | Some(StateType::Succeed)
-        | Some(StateType::Fail)
-        | Some(StateType::Map)
+        Some(
+            StateType::Choice
+            | StateType::Wait
+            | StateType::Succeed
+            | StateType::Fail
+            | StateType::Map,
+        )
         | None => Ok(None),
     }
 }
