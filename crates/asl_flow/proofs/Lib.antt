@@ -3,7 +3,6 @@ pub mod Doubts
 pub mod FunctionShapes
 pub mod Leavings
 pub mod LiteralFields
-pub mod Mentions
 pub mod Needed
 pub mod Presence
 pub mod Puts

@@ -15,9 +15,9 @@ use Rattle.asl_shape.specs.declared.shape.Field.{Field}
 use Rattle.asl_shape.specs.declared.shape.Shape.{Shape}
 use Rattle.asl_shape.specs.declared.shape.Shape as shape
 use Rattle.asl_shape.proofs.Lookups.{mention_of_lookup}
+use Rattle.asl_shape.proofs.Mentions.{written_mention}
 use Rattle.asl_shape.proofs.Spellings.{Mention}
 use Rattle.asl_shape.proofs.Views.{view_any, view_object}
-use Rattle.asl_flow.proofs.Mentions.{written_mention}
 use Rattle.asl_flow.proofs.ShapeParts.{place_past, place_within}
 
 -- a field that is added

@@ -1,6 +1,6 @@
 use Rattle.std.proofs.Common.{string_bytes}
 use Rattle.asl_shape.specs.View.{fields_view}
-use Rattle.asl_flow.proofs.Mentions.{inserted_mention}
+use Rattle.asl_shape.proofs.Mentions.{inserted_mention}
 use Rattle.asl_flow.proofs.Presence.{added}
 use Rattle.asl_flow.proofs.narrowing.add_field.Goals as goal
 
