@@ -1,13 +1,8 @@
 -- What a shape on its way through a state comes to, and what that means.
-use Rattle.std.proofs.Common.{◌≡◌, refl, sym, ap, subst, String, string_bytes, option_map, ℕ, zero, suc, ◌<◌, length, get_or, arith, List, [], ◌∷◌, map, Option, Some, None, Result, Ok, Err, IfOk, codes}
-use Rattle.std.specs.List.{Contains}
+use Rattle.std.proofs.Common.{◌≡◌, refl, sym, ap, subst, String, string_bytes, option_map, ℕ, zero, suc, ◌<◌, length, get_or, arith, List, [], ◌∷◌, map, Option, Some, Result, Ok, Err, IfOk}
 use Rattle.std.specs.declared.alloc.Global.{Global}
-use Rattle.asl_model.specs.Flow.{at_output_path, output_of}
-use Rattle.asl_model.specs.Machine.{Settings, Kind}
 use Rattle.asl_model.specs.Shape as shapes
-use Rattle.asl_model.specs.Shape.{Has}
 use Rattle.asl_model.specs.ShapeFlow as model
-use Rattle.asl_model.specs.Tree as trees
 use Rattle.asl_flow.specs.declared.leaving.FlowFault.{FlowFault}
 use Rattle.asl_flow.specs.Leaving.{stops}
 use Rattle.asl_flow.specs.declared.templates.TemplateShapeRefusal.{TemplateShapeRefusal}

@@ -1,5 +1,5 @@
 -- What a shape on its way through a state comes to.
-use Rattle.std.specs.Prelude.{◌≡◌, List, Option, Some, None, Result, Ok, Err, IfOk, IfErr}
+use Rattle.std.specs.Prelude.{◌≡◌, Option, Some, None, Result, Ok, Err, IfOk, IfErr}
 use Rattle.std.specs.List.{Contains}
 use Rattle.asl_model.specs.Shape as shapes
 use Rattle.asl_model.specs.ShapeFlow as model

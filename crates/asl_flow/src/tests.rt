@@ -1,7 +1,8 @@
 //! Outside examples, worked out by hand, and each call once with ample memory.
-use crate::{literal_shape, look, put, rule_shape, template_shape};
+use crate::{leave, literal_shape, look, put, rule_shape, template_shape};
 use asl_choice::{Test, from_tree};
-use asl_path::parse;
+use asl_machine::{Kind, Settings, State};
+use asl_path::{RefPath, parse};
 use asl_shape::{Shape, read, write};
 use asl_tree::to_text;
 use std::alloc::Global;
@@ -487,5 +488,121 @@ fn paths(rt: HostRuntime) -> Result<(), Fail> {
         };
         assert_eq!(rt; answer.as_str(), *wanted, "at {path} in {given}");
     }
+    Ok(())
+}
+
+/// The path that a text spells, none where there is no text.
+fn path_or_null(alloc: Global, text: &str) -> Result<Option<RefPath>, Fail> {
+    if text.is_empty() {
+        Ok(None)
+    } else {
+        Ok(Some(parse(alloc, text)?))
+    }
+}
+
+/// A state with that `ResultSelector`, `ResultPath` and `OutputPath`; no text is none and null.
+fn state(alloc: Global, kind: Kind, fields: (&str, &str, &str)) -> Result<State, Fail> {
+    let (selector, result_path, output_path) = fields;
+    let result_selector = if selector.is_empty() {
+        None
+    } else {
+        let tree = asl_tree::read(alloc, selector.as_bytes())?;
+        Some(asl_template::from_tree(alloc, &tree, false)?)
+    };
+    let settings = Settings {
+        input_path: Some(parse(alloc, "$")?),
+        parameters: None,
+        result_selector,
+        result_path: path_or_null(alloc, result_path)?,
+        output_path: path_or_null(alloc, output_path)?,
+        next: None,
+        retriers: Vec::new(alloc),
+        catchers: Vec::new(alloc),
+    };
+    Ok(State { settings, kind })
+}
+
+/// `ResultSelector`, `ResultPath` and `OutputPath` of a Pass, the shapes of its raw input and of its result, and the
+/// shape of its output, or the refusal.
+const OUTPUTS: [((&str, &str, &str), &str, &str, &str); 9] = [
+    (
+        ("", "$", "$"),
+        r#"{"type":"integer"}"#,
+        r#"{"type":"integer"}"#,
+        r#"{"type":"integer"}"#,
+    ),
+    (
+        ("", "$.a.b", "$.a"),
+        r#"{"type":"object","additionalProperties":false}"#,
+        r#"{"type":"integer"}"#,
+        r#"{"additionalProperties":false,"properties":{"b":{"type":"integer"}},"required":["b"],"type":"object"}"#,
+    ),
+    (
+        ("", "", "$"),
+        r#"{"type":"string"}"#,
+        r#"{"type":"integer"}"#,
+        r#"{"type":"string"}"#,
+    ),
+    (
+        ("", "$", ""),
+        r#"{"type":"string"}"#,
+        r#"{"type":"integer"}"#,
+        r#"{"additionalProperties":false,"type":"object"}"#,
+    ),
+    (
+        (r#"{"n.$":"$"}"#, "$", "$.n"),
+        r#"{"type":"string"}"#,
+        r#"{"type":"integer"}"#,
+        r#"{"type":"integer"}"#,
+    ),
+    (
+        ("", "$", "$.b"),
+        "true",
+        r#"{"type":"object"}"#,
+        r#"MayBeMissing("OutputPath")"#,
+    ),
+    (
+        ("", "$.a.b", "$"),
+        r#"{"type":"object","properties":{"a":{"type":"string"}},"required":["a"]}"#,
+        "true",
+        r#"MayNotFit("ResultPath")"#,
+    ),
+    (
+        (r#"{"n.$":"States.ArrayLength($)"}"#, "$", "$"),
+        "true",
+        r#"{"type":"integer"}"#,
+        r#"MayFail("ResultSelector")"#,
+    ),
+    (("", "$", "$.b"), "false", "true", "false"),
+];
+
+#[test]
+fn outputs(rt: HostRuntime) -> Result<(), Fail> {
+    let alloc = rt.alloc();
+    for (fields, raw, work, wanted) in OUTPUTS {
+        let pass = state(alloc, Kind::Pass { result: None }, fields)?;
+        let answer = match leave(alloc, &pass, &shape(alloc, raw)?, &shape(alloc, work)?) {
+            Ok(output) => written(alloc, &output)?,
+            Err(fault) => format!(in alloc; "{fault:?}")?,
+        };
+        assert_eq!(rt; answer.as_str(), wanted);
+    }
+
+    // Nothing leaves a Fail, and of a Succeed's effective input `OutputPath` alone makes the output.
+    let integer = shape(alloc, r#"{"type":"integer"}"#)?;
+    let failing = Kind::Fail {
+        error: String::new(alloc),
+        cause: String::new(alloc),
+    };
+    let output = leave(
+        alloc,
+        &state(alloc, failing, ("", "$", "$"))?,
+        &integer,
+        &integer,
+    )?;
+    assert_eq!(rt; written(alloc, &output)?.as_str(), "false");
+    let succeeding = state(alloc, Kind::Succeed, ("", "$.a", "$"))?;
+    let output = leave(alloc, &succeeding, &integer, &integer)?;
+    assert_eq!(rt; written(alloc, &output)?.as_str(), r#"{"type":"integer"}"#);
     Ok(())
 }
