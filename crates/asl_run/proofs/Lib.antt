@@ -1,1 +1,3 @@
+pub mod Counts
+pub mod Misfits
 pub mod Told

@@ -20,7 +20,7 @@ fault_told seen fault defined is = record {
 }
 
 -- where there is no placing, nothing is placed
-nothing_placed : (p : List Segment) (w v : Tree) → ((u : Tree) → ¬ Places p w v u) → placed p w v ≡ None
+pub nothing_placed : (p : List Segment) (w v : Tree) → ((u : Tree) → ¬ Places p w v u) → placed p w v ≡ None
 nothing_placed p w v none = go (placed p w v) refl
   where
     go : (there : Option Tree) → placed p w v ≡ there → placed p w v ≡ None

@@ -1,3 +1,4 @@
 pub mod Answer
 pub mod Entries
 pub mod Faults
+pub mod Troubles
