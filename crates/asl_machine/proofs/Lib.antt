@@ -18,6 +18,7 @@ pub mod ServedStates
 pub mod Standing
 pub mod Starts
 pub mod Told
+pub mod Troubles
 pub mod Values
 pub mod Verdicts
 pub mod Walks

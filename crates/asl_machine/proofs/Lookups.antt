@@ -1,5 +1,5 @@
 -- Looking fields up in a value.
-use Rattle.std.proofs.Common.{◌≡◌, ℕ, suc, ◌+◌, ◌/◌, ◌==◌, List, [], ◌∷◌, Option, Some, None, is_some, Bool, true, false, not, cond, if◌then◌else◌, ◌||◌, bytes_eq, refl, sym, ap, ◌∙◌, zero-add, add-zero, arith, is_eq, Ordering, Less, Equal, Greater}
+use Rattle.std.proofs.Common.{◌≡◌, ℕ, codes, option_map, unwrap_or, suc, ◌+◌, ◌/◌, ◌==◌, List, [], ◌∷◌, Option, Some, None, is_some, Bool, true, false, not, cond, if◌then◌else◌, ◌||◌, bytes_eq, refl, sym, ap, ◌∙◌, zero-add, add-zero, arith, is_eq, Ordering, Less, Equal, Greater}
 use Rattle.std.specs.List.{count_by, fold}
 use Rattle.std.proofs.lemmas.Slice.Eq.{bytes_eq-Decides}
 use Rattle.std.specs.Ordering.{nat_cmp, match_ordering}
@@ -9,7 +9,7 @@ use Rattle.serde_json.specs.Data as json
 use Rattle.serde_json.specs.Data.{Data, Members}
 use Rattle.serde_json.specs.Find.{get, get_member}
 use Rattle.asl_model.specs.ShapeSpelling.{is_among}
-use Rattle.asl_model.specs.StandsFor.{members_in, names_of, characters}
+use Rattle.asl_model.specs.StandsFor.{members_in, names_of, state_names, characters}
 
 pub none_from : (o : Option Data) → is_some o ≡ false → o ≡ None
 none_from None e = refl
@@ -67,3 +67,7 @@ counted_on (b ∷ bs) a = counted (b / 64 == 2) a (characters bs) ∙ counted_on
 
 pub characters_counted : (bs : List ℕ) → characters bs ≡ count_by (λ b. not (b / 64 == 2)) bs
 characters_counted bs = sym (zero-add (characters bs)) ∙ counted_on bs 0
+
+-- the names of the states of a scope are those of what stands in `States`
+pub state_names_at : (v states : Data) → get (codes "States") v ≡ Some states → state_names (members_in v) ≡ names_of (members_in states)
+state_names_at v states e = ap (λ o. names_of (unwrap_or (option_map members_in o) json.no_members)) (sym (got_among (codes "States") v) ∙ e)

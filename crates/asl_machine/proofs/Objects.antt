@@ -3,27 +3,30 @@ use Rattle.std.proofs.Common.{◌≡◌, ℕ, ◌+◌, ◌<◌, List, ◌∷◌,
 use Rattle.std.specs.List.{Contains}
 use Rattle.serde_json.specs.Data as json
 use Rattle.serde_json.specs.Data.{Data, Members}
-use Rattle.serde_json.specs.Find.{get_member}
+use Rattle.serde_json.specs.Find.{get}
 use Rattle.asl_model.specs.DefinitionTable as model
 use Rattle.asl_model.specs.ShapeSpelling.{is_among}
-use Rattle.asl_model.specs.StandsFor.{Complaint, Place, complaint_at, field_faults, rows_complaints, foreign_complaints, has_row}
+use Rattle.asl_model.specs.StandsFor.{Complaint, Place, members_in, complaint_at, field_faults, rows_complaints, foreign_complaints, has_row}
 use Rattle.asl_machine.specs.declared.rows.Row.{Row}
 use Rattle.asl_machine.specs.declared.places.Complaint.{Complaint as Objection}
 use Rattle.asl_machine.specs.Rows.{row_view, rows_view}
 use Rattle.asl_machine.specs.Definition.{complaint_view, IsAmong, IsVerdict}
+use Rattle.asl_machine.proofs.Lookups.{got_among}
 
 -- what is wrong with the field of a row
-abbrev pub row_complaints : Place → Row → Members → List Complaint
-row_complaints place row ms = map (complaint_at place row.name.now) (field_faults (row_view row) (get_member row.name.now ms))
+abbrev pub row_complaints : Place → Row → Data → List Complaint
+row_complaints place row v = map (complaint_at place row.name.now) (field_faults (row_view row) (get row.name.now v))
 
 -- with those behind it
-abbrev pub rows_behind : Place → List Row → ℕ → Members → List Complaint
-rows_behind place rows i ms = rows_complaints place (rows_view (drop (i + 1) rows)) ms
+abbrev pub rows_behind : Place → List Row → ℕ → Data → List Complaint
+rows_behind place rows i v = rows_complaints place (rows_view (drop (i + 1) rows)) (members_in v)
 
 -- the rows left are the first of them and those behind it
-pub rows_parts : (place : Place) (rows : List Row) (i : ℕ) (d : Row) (ms : Members) (wrong : List Complaint) → i < length rows → wrong ≡ rows_complaints place (rows_view (drop i rows)) ms
-    → wrong ≡ row_complaints place (get_or rows i d) ms ++ rows_behind place rows i ms
-rows_parts place rows i d ms wrong h all = all ∙ (rw (drop-cons rows i d, add-one) refl)
+pub rows_parts : (place : Place) (rows : List Row) (i : ℕ) (d : Row) (v : Data) (wrong : List Complaint) → i < length rows → wrong ≡ rows_complaints place (rows_view (drop i rows)) (members_in v)
+    → wrong ≡ row_complaints place (get_or rows i d) v ++ rows_behind place rows i v
+rows_parts place rows i d v wrong h all =
+    all ∙ ap (λ left. rows_complaints place (rows_view left) (members_in v)) (drop-cons rows i d h)
+    ∙ (rw (add-one, got_among (get_or rows i d).name.now v) refl)
 
 -- a complaint that heads a list
 pub told_head : (x : Complaint) (xs wrong : List Complaint) (c : Objection) → wrong ≡ x ∷ xs → complaint_view c ≡ Some x → IsVerdict wrong (Err c)

@@ -1,25 +1,24 @@
 -- What is told of values that are read as trees, templates and rules, and of values one after another.
-use Rattle.std.proofs.Common.{◌≡◌, ℕ, ◌+◌, ◌<◌, List, [], ◌∷◌, length, drop, drop-cons, get_or, add-one, Option, Some, None, option_map, is_some, Result, Ok, Err, false, if◌then◌else◌, IfSome, refl, arith, sym, ap, ◌∙◌, subst}
-use Rattle.std.specs.List.{Contains}
+use Rattle.std.proofs.Common.{◌≡◌, ℕ, cond, ◌+◌, ◌<◌, List, [], ◌∷◌, length, drop, drop-cons, get_or, add-one, Option, Some, None, option_map, is_some, Result, Ok, Err, false, if◌then◌else◌, IfSome, refl, arith, sym, ap, ◌∙◌, subst}
+use Rattle.std.specs.List.{Contains, count_by, filter_map, cons_option}
+use Rattle.std.proofs.lemmas.List.Recursion.{is_count_by}
 use Rattle.serde_json.specs.Data as json
 use Rattle.serde_json.specs.Data.{Data, Items}
+use Rattle.serde_json.specs.Find.{as_str}
 use Rattle.serde_json.specs.View.{view, items_view}
 use Rattle.serde_json.specs.declared.value.Value.{Value}
 use Rattle.asl_model.specs.DefinitionTable as model
 use Rattle.asl_model.specs.Tree.{Tree}
-use Rattle.asl_model.specs.Json.{tree_of}
+use Rattle.asl_model.specs.StandsFor.{listed}
 use Rattle.asl_model.specs.Test as test
 use Rattle.asl_model.specs.RuleSpelling as rule
-use Rattle.asl_tree.specs.declared.Tree.{Tree as ReadTree}
-use Rattle.asl_tree.specs.declared.TreeRefusal.{TreeRefusal}
-use Rattle.asl_tree.specs.declared.TreeRefusal.TheVariants as tree
 use Rattle.asl_choice.specs.declared.Rule.{Rule}
 use Rattle.asl_choice.specs.declared.refusal.RuleRefusal.{RuleRefusal}
 use Rattle.asl_choice.specs.declared.refusal.RuleRefusal.TheVariants as of_rule
 use Rattle.asl_choice.specs.Refusal as rules
 use Rattle.asl_machine.specs.declared.refusals.DefFault.{DefFault}
 use Rattle.asl_machine.specs.View.{def_fault_view}
-use Rattle.asl_machine.specs.Definition.{IsAmong, IsMisfit, tree_told}
+use Rattle.asl_machine.specs.Definition.{IsAmong, IsMisfit}
 use Rattle.asl_machine.proofs.Checks.{told_of_left}
 
 -- a fault alone in its list
@@ -29,19 +28,8 @@ told_alone f fault e = record { holds = subst (λ o. IsAmong (f ∷ []) o) (sym 
 pub no_memory_told : (wrong : List model.DefFault) (fault : DefFault) → def_fault_view fault ≡ None → IsMisfit wrong (Err fault)
 no_memory_told wrong fault e = record { holds = subst (λ o. IsAmong wrong o) (sym e) tt }
 
-abbrev refused_tree : TreeRefusal → Result ReadTree TreeRefusal
-refused_tree = Err
-
 abbrev refused_rule : RuleRefusal → Result Rule RuleRefusal
 refused_rule = Err
-
--- a value that is no tree
-pub no_tree_told : (v : Data) (of_tree : Option Tree → List model.DefFault) (refusal : TreeRefusal) (fault : DefFault) → of_tree None ≡ model.NotWhole ∷ []
-    → ((refused_tree refusal ≡ Err tree.NotWhole) → tree_of v ≡ None) → ((refused_tree refusal ≡ Err tree.NotJson) → ⊥)
-    → def_fault_view fault ≡ tree_told refusal → IsMisfit (of_tree (tree_of v)) (Err fault)
-no_tree_told v of_tree tree.NotJson fault none whole json told = absurd (json refl)
-no_tree_told v of_tree tree.NotWhole fault none whole json told = rw (whole refl, none) (told_alone model.NotWhole fault told)
-no_tree_told v of_tree tree.OutOfMemory fault none whole json told = no_memory_told (of_tree (tree_of v)) fault told
 
 -- ---- rules
 
@@ -89,3 +77,11 @@ pub each_told : (of : Data → List model.DefFault) (vs : List Value) (i : ℕ) 
     → IsMisfit (model.wrong_with_each of (items_view vs)) (Err fault)
 each_told of vs i x fault h e all told =
     told_of_left (model.wrong_with_each of (items_view vs)) (of (view x)) (model.wrong_with_each of (items_view (drop (i + 1) vs))) fault (items_parts (model.wrong_with_each of) (model.wrong_with_each of (items_view vs)) vs i x h e all) told
+
+one_counted : {A : Type 0} (o : Option A) (rest : List A) → length (cons_option o rest) ≡ cond (is_some o) (1 + length rest) (length rest)
+one_counted None rest = refl
+one_counted (Some a) rest = omega arith
+
+-- those that are texts are as many as the texts
+pub texts_counted : (vs : List Value) → count_by (λ v. is_some (as_str (view v))) vs ≡ length (filter_map as_str (listed (items_view vs)))
+texts_counted vs = sym (is_count_by (λ vs. length (filter_map as_str (listed (items_view vs)))) (λ v. is_some (as_str (view v))) refl (λ v vs. one_counted (as_str (view v)) (filter_map as_str (listed (items_view vs)))) vs)

@@ -3,13 +3,11 @@ use Rattle.std.specs.Prelude.{◌≡◌, ℕ, if◌then◌else◌, List, [], ◌
 use Rattle.std.specs.Option.{unwrap_or}
 use Rattle.std.specs.List.{Contains}
 use Rattle.serde_json.specs.Data as json
-use Rattle.serde_json.specs.Data.{Data, Members}
+use Rattle.serde_json.specs.Data.{Data, Members, Items}
 use Rattle.serde_json.specs.Find.{as_bool, get_member}
 use Rattle.asl_model.specs.DefinitionTable as model
 use Rattle.asl_model.specs.Machine.{State, StateOf, States, NoStates, AndState, Scope, ScopeOf, Pass, Succeed, Fail}
-use Rattle.asl_model.specs.StandsFor.{Complaint, Place, complaint_at, text_at, path_or_null_at, members_in, type_of, names_of, field_faults, rows_complaints, fields_complaints, type_complaints, target_complaints, name_complaints, state_complaints, duplicate_complaints, number_complaints}
-use Rattle.asl_tree.specs.declared.TreeRefusal.{TreeRefusal}
-use Rattle.asl_tree.specs.declared.TreeRefusal.TheVariants as tree
+use Rattle.asl_model.specs.StandsFor.{Complaint, Place, one_of_complaints, last_of, place_of_state, items_at, complaint_at, text_at, path_or_null_at, members_in, type_of, names_of, field_faults, rows_complaints, fields_complaints, type_complaints, target_complaints, name_complaints, state_complaints, duplicate_complaints, number_complaints}
 use Rattle.asl_machine.specs.View.{def_fault_view}
 use Rattle.asl_machine.specs.Plain.{settings_with}
 use Rattle.asl_machine.specs.Unserved.{complaint_of, unserved_state}
@@ -106,12 +104,6 @@ IsVerdict wrong result = IsAnswer complaint_view wrong result
 abbrev pub IsMisfit : List model.DefFault → Result (Unit {0}) DefFault → Type 0
 IsMisfit wrong result = IsAnswer def_fault_view wrong result
 
--- what is told of a value that is no tree; of want of memory nothing is
-abbrev pub tree_told : TreeRefusal → Option model.DefFault
-tree_told tree.NotJson = Some model.NotWhole
-tree_told tree.NotWhole = Some model.NotWhole
-tree_told tree.OutOfMemory = None
-
 -- where an object stands
 abbrev pub place_view : Standing → Place
 place_view p = record { state = p.state.now; within = option_map (λ own. own.now) p.within }
@@ -120,6 +112,31 @@ place_view p = record { state = p.state.now; within = option_map (λ own. own.no
 abbrev pub told_unless : Bool → Place → List ℕ → Option model.DefFault → List Complaint
 told_unless right place field None = []
 told_unless right place field (Some fault) = if right then [] else complaint_at place field fault ∷ []
+
+-- ---- the rules on several fields
+
+-- each of these goes on to a state of the scope
+abbrev pub rule_targets : Place → List (List ℕ) → Items → List Complaint
+rule_targets place names json.no_items = []
+rule_targets place names (json.item v vs) = target_complaints place names (codes "Choices") (text_at (codes "Next") (members_in v)) ++ rule_targets place names vs
+
+-- exactly one of some fields, of which the last that was found is given, and whether it wasn't the first; the others
+-- are left
+abbrev pub one_of_left : Place → List ℕ → Option (List ℕ) → Bool → List (List ℕ) → List Complaint
+one_of_left place first None several ns = one_of_complaints place first ns
+one_of_left place first (Some n) true ns = complaint_at place (last_of n ns) model.WrongKind ∷ []
+one_of_left place first (Some n) false ns = one_of_complaints place first (n ∷ ns)
+
+-- the rules on several fields of a type, where the fields are in order one by one
+abbrev pub rules_of_type : model.StateType → List ℕ → List (List ℕ) → Members → List Complaint
+rules_of_type model.PassState state names ms = type_complaints model.PassState state names ms
+rules_of_type model.TaskState state names ms = type_complaints model.TaskState state names ms
+rules_of_type model.ChoiceState state names ms = target_complaints (place_of_state state) names (codes "Default") (text_at (codes "Default") ms) ++ rule_targets (place_of_state state) names (items_at (codes "Choices") ms)
+rules_of_type model.WaitState state names ms = type_complaints model.WaitState state names ms
+rules_of_type model.SucceedState state names ms = []
+rules_of_type model.FailState state names ms = []
+rules_of_type model.ParallelState state names ms = type_complaints model.ParallelState state names ms
+rules_of_type model.MapState state names ms = type_complaints model.MapState state names ms
 
 -- a place at the state itself
 abbrev pub own_place : List ℕ → Place

@@ -20,8 +20,10 @@ mod refusals;
 mod rows;
 mod scopes;
 mod settings;
+mod state_checking;
 mod states;
 mod table;
+mod trouble_checking;
 mod value_checking;
 
 pub use machine::Machine;

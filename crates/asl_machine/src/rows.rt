@@ -96,7 +96,7 @@ pub(crate) enum StateType {
 }
 
 /// The fields of the machine itself.
-const MACHINE: [Row; 6] = [
+pub(crate) const MACHINE: [Row; 6] = [
     optional!("Version", Text),
     optional!("TimeoutSeconds", Positive),
     required!("StartAt", Text),
@@ -106,7 +106,7 @@ const MACHINE: [Row; 6] = [
 ];
 
 /// The fields of a branch of a Parallel.
-const BRANCH: [Row; 4] = [
+pub(crate) const BRANCH: [Row; 4] = [
     required!("StartAt", Text),
     required!("States", States),
     optional!("Comment", Text),
@@ -114,7 +114,7 @@ const BRANCH: [Row; 4] = [
 ];
 
 /// The fields of the processor of a Map.
-const PROCESSOR: [Row; 5] = [
+pub(crate) const PROCESSOR: [Row; 5] = [
     optional!("ProcessorConfig", Config),
     required!("StartAt", Text),
     required!("States", States),
@@ -123,7 +123,7 @@ const PROCESSOR: [Row; 5] = [
 ];
 
 /// The fields of a state of any type.
-const EVERY_STATE: [Row; 3] = [
+pub(crate) const EVERY_STATE: [Row; 3] = [
     required!("Type", Text),
     optional!("Comment", Text),
     optional!("QueryLanguage", Language),
@@ -245,7 +245,7 @@ const MAP: [Row; 17] = [
 ];
 
 /// The fields of an element of `Retry`.
-const RETRIER: [Row; 7] = [
+pub(crate) const RETRIER: [Row; 7] = [
     required!("ErrorEquals", Names),
     optional!("IntervalSeconds", Positive),
     optional!("MaxAttempts", Count),
@@ -256,7 +256,7 @@ const RETRIER: [Row; 7] = [
 ];
 
 /// The fields of an element of `Catch`.
-const CATCHER: [Row; 4] = [
+pub(crate) const CATCHER: [Row; 4] = [
     required!("ErrorEquals", Names),
     required!("Next", Text),
     optional!("ResultPath", PathOrNull),
@@ -319,48 +319,6 @@ impl StateType {
             StateType::Map => &MAP,
         }
     }
-}
-
-/// The fields of the machine itself.
-pub(crate) fn machine() -> &'static [Row]
-    ensures { rows_view result.now ≡ model.machine_rows }
-{
-    &MACHINE
-}
-
-/// The fields of a branch of a Parallel.
-pub(crate) fn branch() -> &'static [Row]
-    ensures { rows_view result.now ≡ model.branch_rows }
-{
-    &BRANCH
-}
-
-/// The fields of the processor of a Map.
-pub(crate) fn processor() -> &'static [Row]
-    ensures { rows_view result.now ≡ model.processor_rows }
-{
-    &PROCESSOR
-}
-
-/// The fields of a state of any type.
-pub(crate) fn every_state() -> &'static [Row]
-    ensures { rows_view result.now ≡ model.every_state_rows }
-{
-    &EVERY_STATE
-}
-
-/// The fields of an element of `Retry`.
-pub(crate) fn retrier() -> &'static [Row]
-    ensures { rows_view result.now ≡ model.retrier_rows }
-{
-    &RETRIER
-}
-
-/// The fields of an element of `Catch`.
-pub(crate) fn catcher() -> &'static [Row]
-    ensures { rows_view result.now ≡ model.catcher_rows }
-{
-    &CATCHER
 }
 
 /// Whether one of the rows is of the field of this name.

@@ -8,18 +8,16 @@ ghost use Rattle.asl_model.specs.PathSpelling.{path_of};
 ghost use Rattle.asl_model.specs.TemplateSpelling.{template_of};
 ghost use Rattle.asl_model.specs.RuleSpelling.{rule_of};
 ghost use Rattle.asl_tree.specs.View as trees;
-ghost use Rattle.asl_template.specs.Refusal as templates;
 ghost use Rattle.asl_choice.specs.Refusal as rules;
 ghost use Rattle.asl_machine.specs.View.{def_fault_view};
 ghost use Rattle.asl_machine.specs.Rows.{wanted_view};
-ghost use Rattle.asl_machine.specs.Definition.{IsMisfit, tree_told};
+ghost use Rattle.asl_machine.specs.Definition.{IsMisfit};
 
-use crate::fields::read_path;
+use crate::fields::{read_path, read_template, read_tree};
 use crate::refusals::DefFault;
 use crate::rows::Wanted;
 use asl_choice::RuleRefusal;
-use asl_template::SpellingRefusal;
-use asl_tree::{Tree, TreeRefusal};
+use asl_tree::Tree;
 use serde_json::Value;
 use std::alloc::Global;
 
@@ -128,9 +126,10 @@ fn check_path_or_null(alloc: Global, value: &Value) -> Result<(), DefFault>
 fn check_template(alloc: Global, value: &Value, item: bool) -> Result<(), DefFault>
     ensures { IsMisfit (model.template_misfits item (tree_of (view value.now))) result }
 {
-    match asl_tree::from_value(alloc, value) {
-        Ok(tree) => check_template_tree(alloc, &tree, item),
-        Err(refusal) => Err(tree_fault(&refusal)),
+    match read_tree(alloc, value) {
+        Ok(Some(tree)) => check_template_tree(alloc, &tree, item),
+        Ok(None) => Err(DefFault::NotWhole),
+        Err(_) => Err(DefFault::OutOfMemory),
     }
 }
 
@@ -138,34 +137,10 @@ fn check_template(alloc: Global, value: &Value, item: bool) -> Result<(), DefFau
 fn check_template_tree(alloc: Global, tree: &Tree, item: bool) -> Result<(), DefFault>
     ensures { IsMisfit (model.unless (is_some (template_of item (trees.view tree.now))) model.BadTemplate) result }
 {
-    match asl_template::from_tree(alloc, tree, item) {
-        Ok(_) => Ok(()),
-        Err(refusal) => Err(template_fault(&refusal)),
-    }
-}
-
-/// What is told of a template that is none.
-fn template_fault(refusal: &SpellingRefusal) -> DefFault
-    ensures { def_fault_view result ≡ option_map (λ _. model.BadTemplate) (templates.fault_named refusal.now) }
-{
-    match refusal {
-        SpellingRefusal::NotObject
-        | SpellingRefusal::NotText
-        | SpellingRefusal::BadPath
-        | SpellingRefusal::BadIntrinsic
-        | SpellingRefusal::DuplicateAfterStrip
-        | SpellingRefusal::LeftOutContext => DefFault::BadTemplate,
-        SpellingRefusal::OutOfMemory => DefFault::OutOfMemory,
-    }
-}
-
-/// What is told of a value that is no tree.
-fn tree_fault(refusal: &TreeRefusal) -> DefFault
-    ensures { def_fault_view result ≡ tree_told refusal.now }
-{
-    match refusal {
-        TreeRefusal::NotJson | TreeRefusal::NotWhole => DefFault::NotWhole,
-        TreeRefusal::OutOfMemory => DefFault::OutOfMemory,
+    match read_template(alloc, tree, item) {
+        Ok(Some(_)) => Ok(()),
+        Ok(None) => Err(DefFault::BadTemplate),
+        Err(_) => Err(DefFault::OutOfMemory),
     }
 }
 
@@ -210,9 +185,10 @@ fn check_each_rule(alloc: Global, rules: &[Value]) -> Result<(), DefFault>
 fn check_rule(alloc: Global, value: &Value) -> Result<(), DefFault>
     ensures { IsMisfit (model.rule_misfits (tree_of (view value.now))) result }
 {
-    match asl_tree::from_value(alloc, value) {
-        Ok(tree) => check_rule_tree(alloc, &tree),
-        Err(refusal) => Err(tree_fault(&refusal)),
+    match read_tree(alloc, value) {
+        Ok(Some(tree)) => check_rule_tree(alloc, &tree),
+        Ok(None) => Err(DefFault::NotWhole),
+        Err(_) => Err(DefFault::OutOfMemory),
     }
 }
 

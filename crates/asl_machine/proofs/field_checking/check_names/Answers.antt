@@ -12,7 +12,7 @@ pub returns-then-not-has_row : goal.returns-then-not-has_row
 returns-then-not-has_row c =
     let place = place_view c.args.place.now in
     let rows = rows_view c.args.rows.now in
-    let e : Member = (c.in-Some.name.now, c.in-Some.field-0-1.now) in
+    let e : Member = (c.in-Some-2.name.now, c.in-Some-2.field-0-1.now) in
     let left = c.next.new.self in
-    let all = c.loop-name.invariant ∙ ap (λ es. foreign_complaints place rows (members_view es)) c.in-Some.ensures.steps in
+    let all = c.loop-name.invariant ∙ ap (λ es. foreign_complaints place rows (members_view es)) c.in-Some-2.ensures.steps in
     foreign_told place rows _ (string_bytes e.0) (view e.1) (members_view left) (def_fault_view c.foreign.result) c.complaint.result all (search rules) (search rules) (search rules)

@@ -1,6 +1,6 @@
 use Rattle.std.proofs.Common.{[], false, get_or}
-use Rattle.serde_json.specs.Find.{get_member}
-use Rattle.serde_json.specs.View.{members_view}
+use Rattle.serde_json.specs.Find.{get}
+use Rattle.serde_json.specs.View.{view}
 use Rattle.asl_model.specs.StandsFor.{field_faults}
 use Rattle.asl_machine.specs.declared.rows.Wanted.TheVariants.{Text}
 use Rattle.asl_machine.specs.declared.rows.Row.{Row}
@@ -21,9 +21,9 @@ returns-in-Err c =
     let rows = c.args.rows.now in
     let i = c.loop-row.row-index in
     let row = get_or rows i no_row in
-    let ms = members_view c.args.object.now.entries in
-    let faults = field_faults (row_view row) (get_member row.name.now ms) in
-    told_of_left _ (row_complaints place row ms) (rows_behind place rows i ms) c.in-Err.complaint (rows_parts place rows i no_row ms _ c.loop-row-test.true c.loop-row.invariant) (c.in-Err.ensures faults c.check_field.ensures)
+    let v = view c.args.object.now in
+    let faults = field_faults (row_view row) (get row.name.now v) in
+    told_of_left _ (row_complaints place row v) (rows_behind place rows i v) c.in-Err.complaint (rows_parts place rows i no_row v _ c.loop-row-test.true c.loop-row.invariant) (c.in-Err.ensures faults c.check_field.ensures)
 
 pub loop-row-preserved : goal.loop-row-preserved
 unfolding no_row
@@ -32,6 +32,6 @@ loop-row-preserved c =
     let rows = c.args.rows.now in
     let i = c.loop-row.row-index in
     let row = get_or rows i no_row in
-    let ms = members_view c.args.object.now.entries in
-    let faults = field_faults (row_view row) (get_member row.name.now ms) in
-    left_after _ (row_complaints place row ms) (rows_behind place rows i ms) (rows_parts place rows i no_row ms _ c.loop-row-test.true c.loop-row.invariant) (c.in-Ok.ensures faults c.check_field.ensures)
+    let v = view c.args.object.now in
+    let faults = field_faults (row_view row) (get row.name.now v) in
+    left_after _ (row_complaints place row v) (rows_behind place rows i v) (rows_parts place rows i no_row v _ c.loop-row-test.true c.loop-row.invariant) (c.in-Ok.ensures faults c.check_field.ensures)

@@ -1,10 +1,10 @@
 use Rattle.std.proofs.Common.{◌≡◌, drop}
-use Rattle.serde_json.specs.View.{members_view}
-use Rattle.asl_model.specs.StandsFor.{rows_complaints}
+use Rattle.serde_json.specs.View.{view}
+use Rattle.asl_model.specs.StandsFor.{members_in, rows_complaints}
 use Rattle.asl_machine.specs.Rows.{rows_view}
 use Rattle.asl_machine.specs.Definition.{place_view}
 use Rattle.asl_machine.proofs.field_checking.check_rows.Given as goal
 
 abbrev pub invariant-loop-row : goal.invariant-loop-row
 invariant-loop-row l =
-    rows_complaints (place_view l.place) (rows_view l.rows) (members_view l.object.entries) ≡ rows_complaints (place_view l.place) (rows_view (drop l.row-index l.rows)) (members_view l.object.entries)
+    rows_complaints (place_view l.place) (rows_view l.rows) (members_in (view l.object)) ≡ rows_complaints (place_view l.place) (rows_view (drop l.row-index l.rows)) (members_in (view l.object))

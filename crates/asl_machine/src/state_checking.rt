@@ -1,0 +1,259 @@
+// Checking the rules on several fields of a state (States Language, "State Types").
+
+ghost use Rattle.std.specs.Prelude.{◌≡◌, ◌++◌, ◌&&◌, not, [], map, codes, option_map, option_and_then};
+ghost use Rattle.serde_json.specs.Find.{as_bool, get_member};
+ghost use Rattle.serde_json.specs.View.{view, items_view};
+ghost use Rattle.asl_model.specs.DefinitionTable.{as_whole};
+ghost use Rattle.asl_model.specs.ShapeSpelling.{is_among};
+ghost use Rattle.asl_model.specs.StandsFor as model;
+ghost use Rattle.asl_model.specs.StandsFor.{members_in, state_names};
+ghost use Rattle.asl_machine.specs.Rows.{type_view};
+ghost use Rattle.asl_machine.specs.Definition.{IsVerdict, place_view, rules_of_type, rule_targets};
+
+use crate::fields::{elements_of, text_of};
+use crate::places::{Complaint, Place};
+use crate::refusals::DefFault;
+use crate::rows::StateType;
+use crate::trouble_checking::check_trouble;
+use serde_json::Value;
+use std::alloc::Global;
+
+/// What a Wait may wait for.
+const DELAYS: [&str; 4] = ["Seconds", "SecondsPath", "Timestamp", "TimestampPath"];
+
+/// A Map's processor and its older name.
+const PROCESSORS: [&str; 2] = ["ItemProcessor", "Iterator"];
+
+/// Checks the rules on several fields of a state of that type, whose fields are in order one by one. The states that it
+/// may go on to are those of `scope`.
+pub(crate) fn check_type_rules<'a>(
+    alloc: Global,
+    name: &'a str,
+    state: &'a Value,
+    scope: &Value,
+    state_type: StateType,
+) -> Result<(), Complaint<'a>>
+    ensures { IsVerdict (rules_of_type (type_view state_type) name.now (state_names (members_in (view scope.now))) (members_in (view state.now))) result }
+{
+    let place = Place {
+        state: name,
+        within: None,
+    };
+    match state_type {
+        StateType::Pass => check_next(&place, state, scope),
+        StateType::Task => check_task(alloc, &place, state, scope),
+        StateType::Choice => check_choice(&place, state, scope),
+        StateType::Wait => check_wait(&place, state, scope),
+        StateType::Succeed | StateType::Fail => Ok(()),
+        StateType::Parallel => check_parallel(alloc, &place, state, scope),
+        StateType::Map => check_map(alloc, &place, state, scope),
+    }
+}
+
+/// Checks the rules on several fields of a Task.
+fn check_task<'a>(
+    alloc: Global,
+    place: &Place<'a>,
+    state: &'a Value,
+    scope: &Value,
+) -> Result<(), Complaint<'a>>
+    ensures { IsVerdict (model.next_complaints (place_view place.now) (state_names (members_in (view scope.now))) (members_in (view state.now)) ++ (model.heartbeat_complaints (place_view place.now) (members_in (view state.now)) ++ model.trouble_complaints place.now.state.now (state_names (members_in (view scope.now))) (members_in (view state.now)))) result }
+{
+    match check_next(place, state, scope) {
+        Ok(()) => {}
+        Err(complaint) => return Err(complaint),
+    }
+    match check_heartbeat(place, state) {
+        Ok(()) => check_trouble(alloc, place.state, state, scope),
+        Err(complaint) => Err(complaint),
+    }
+}
+
+/// Checks where a Choice goes on to, by its rules and without one.
+fn check_choice<'a>(place: &Place<'a>, state: &Value, scope: &Value) -> Result<(), Complaint<'a>>
+    ensures { IsVerdict (model.target_complaints (place_view place.now) (state_names (members_in (view scope.now))) (codes "Default") (model.text_at (codes "Default") (members_in (view state.now))) ++ rule_targets (place_view place.now) (state_names (members_in (view scope.now))) (model.items_at (codes "Choices") (members_in (view state.now)))) result }
+{
+    match check_target(place, "Default", state, "Default", scope) {
+        Ok(()) => check_rule_targets(place, elements_of(state, "Choices"), scope),
+        Err(complaint) => Err(complaint),
+    }
+}
+
+/// Checks that each rule goes on to a state of the scope.
+fn check_rule_targets<'a>(
+    place: &Place<'a>,
+    rules: &[Value],
+    scope: &Value,
+) -> Result<(), Complaint<'a>>
+    ensures { IsVerdict (rule_targets (place_view place.now) (state_names (members_in (view scope.now))) (items_view rules.now)) result }
+{
+    for rule in rules {
+        match check_target(place, "Choices", rule, "Next", scope) {
+            Ok(()) => {}
+            Err(complaint) => return Err(complaint),
+        }
+    }
+    Ok(())
+}
+
+/// Checks the rules on several fields of a Wait.
+fn check_wait<'a>(place: &Place<'a>, state: &Value, scope: &Value) -> Result<(), Complaint<'a>>
+    ensures { IsVerdict (model.next_complaints (place_view place.now) (state_names (members_in (view scope.now))) (members_in (view state.now)) ++ model.wait_complaints (place_view place.now) (members_in (view state.now))) result }
+{
+    match check_next(place, state, scope) {
+        Ok(()) => check_one_of(place, state, "Seconds", &DELAYS),
+        Err(complaint) => Err(complaint),
+    }
+}
+
+/// Checks the rules on several fields of a Parallel.
+fn check_parallel<'a>(
+    alloc: Global,
+    place: &Place<'a>,
+    state: &'a Value,
+    scope: &Value,
+) -> Result<(), Complaint<'a>>
+    ensures { IsVerdict (model.next_complaints (place_view place.now) (state_names (members_in (view scope.now))) (members_in (view state.now)) ++ model.trouble_complaints place.now.state.now (state_names (members_in (view scope.now))) (members_in (view state.now))) result }
+{
+    match check_next(place, state, scope) {
+        Ok(()) => check_trouble(alloc, place.state, state, scope),
+        Err(complaint) => Err(complaint),
+    }
+}
+
+/// Checks the rules on several fields of a Map.
+fn check_map<'a>(
+    alloc: Global,
+    place: &Place<'a>,
+    state: &'a Value,
+    scope: &Value,
+) -> Result<(), Complaint<'a>>
+    ensures { IsVerdict (model.next_complaints (place_view place.now) (state_names (members_in (view scope.now))) (members_in (view state.now)) ++ (model.processor_complaints (place_view place.now) (members_in (view state.now)) ++ (model.selector_complaints (place_view place.now) (members_in (view state.now)) ++ model.trouble_complaints place.now.state.now (state_names (members_in (view scope.now))) (members_in (view state.now))))) result }
+{
+    match check_next(place, state, scope) {
+        Ok(()) => {}
+        Err(complaint) => return Err(complaint),
+    }
+    match check_one_of(place, state, "ItemProcessor", &PROCESSORS) {
+        Ok(()) => {}
+        Err(complaint) => return Err(complaint),
+    }
+    match check_selector(place, state) {
+        Ok(()) => check_trouble(alloc, place.state, state, scope),
+        Err(complaint) => Err(complaint),
+    }
+}
+
+/// Checks where a state goes on to.
+fn check_next<'a>(place: &Place<'a>, state: &Value, scope: &Value) -> Result<(), Complaint<'a>>
+    ensures { IsVerdict (model.next_complaints (place_view place.now) (state_names (members_in (view scope.now))) (members_in (view state.now))) result }
+{
+    match place.complain_unless(goes_on_once(state), "Next", DefFault::NextOrEnd) {
+        Ok(()) => check_target(place, "Next", state, "Next", scope),
+        Err(complaint) => Err(complaint),
+    }
+}
+
+/// Whether a state goes on in one way: it has exactly one of `Next` and `"End": true`. Of an `End` that is no truth value
+/// nothing is said.
+fn goes_on_once(state: &Value) -> bool
+    ensures { result ≡ not (model.has_proper_end (members_in (view state.now)) && model.same_truth (model.is_given (codes "Next") (members_in (view state.now))) (model.ends (option_and_then as_bool (get_member (codes "End") (members_in (view state.now)))))) }
+{
+    let end = match state.get("End") {
+        Some(end) => end.as_bool(),
+        None => Some(false),
+    };
+    match end {
+        Some(ends) => is_given(state, "Next") != ends,
+        None => true,
+    }
+}
+
+/// Checks that the text in a field of an object, where there is one, names a state of the scope. `told` is the field at
+/// which a fault is told.
+pub(crate) fn check_target<'a>(
+    place: &Place<'a>,
+    told: &'static str,
+    object: &Value,
+    field: &'static str,
+    scope: &Value,
+) -> Result<(), Complaint<'a>>
+    ensures { IsVerdict (model.target_complaints (place_view place.now) (state_names (members_in (view scope.now))) told.now (model.text_at field.now (members_in (view object.now)))) result }
+{
+    match text_of(object, field) {
+        Some(name) => place.complain_unless(has_state(scope, name), told, DefFault::NoSuchState),
+        None => Ok(()),
+    }
+}
+
+/// Whether a scope has a state of that name.
+fn has_state(scope: &Value, name: &str) -> bool
+    ensures { result ≡ is_among name.now (state_names (members_in (view scope.now))) }
+{
+    match scope.get("States") {
+        Some(states) => states.get(name).is_some(),
+        None => false,
+    }
+}
+
+/// Checks that a heartbeat is smaller than its timeout, where both are given.
+fn check_heartbeat<'a>(place: &Place<'a>, state: &Value) -> Result<(), Complaint<'a>>
+    ensures { IsVerdict (model.heartbeat_complaints (place_view place.now) (members_in (view state.now))) result }
+{
+    let right = match (
+        whole_of(state, "HeartbeatSeconds"),
+        whole_of(state, "TimeoutSeconds"),
+    ) {
+        (Some(heartbeat), Some(timeout)) => heartbeat < timeout,
+        _ => true,
+    };
+    place.complain_unless(right, "HeartbeatSeconds", DefFault::HeartbeatNotSmaller)
+}
+
+/// The whole number of a field, where it has one.
+fn whole_of(object: &Value, field: &str) -> Option<i64>
+    ensures { result ≡ option_and_then as_whole (get_member field.now (members_in (view object.now))) }
+{
+    match object.get(field) {
+        Some(value) => value.as_i64(),
+        None => None,
+    }
+}
+
+/// Checks that at most one of a Map's `ItemSelector` and its older name is there.
+fn check_selector<'a>(place: &Place<'a>, state: &Value) -> Result<(), Complaint<'a>>
+    ensures { IsVerdict (model.selector_complaints (place_view place.now) (members_in (view state.now))) result }
+{
+    let right = !(is_given(state, "ItemSelector") && is_given(state, "Parameters"));
+    place.complain_unless(right, "Parameters", DefFault::WrongKind)
+}
+
+/// Checks that exactly one of the fields is there. None is told at `first`, several at the last of them.
+fn check_one_of<'a>(
+    place: &Place<'a>,
+    state: &Value,
+    first: &'static str,
+    fields: &'static [&'static str],
+) -> Result<(), Complaint<'a>>
+    ensures { IsVerdict (model.one_of_complaints (place_view place.now) first.now (model.given_among (map (λ field. field.now) fields.now) (members_in (view state.now)))) result }
+{
+    let mut last = None;
+    let mut are_several = false;
+    for field in fields {
+        if is_given(state, field) {
+            are_several = last.is_some();
+            last = Some(*field);
+        }
+    }
+    match last {
+        Some(field) => place.complain_unless(!are_several, field, DefFault::WrongKind),
+        None => Err(place.complaint(first, DefFault::MissingField)),
+    }
+}
+
+/// Whether an object has the field.
+fn is_given(object: &Value, field: &str) -> bool
+    ensures { result ≡ model.is_given field.now (members_in (view object.now)) }
+{
+    object.get(field).is_some()
+}
