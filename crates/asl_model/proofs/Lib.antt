@@ -32,6 +32,7 @@ pub mod Listed
 pub mod NumberedScopes
 pub mod NumberedStates
 pub mod Numbering
+pub mod Outlines
 pub mod PathPrinting
 pub mod PathReading
 pub mod PlacingExactly

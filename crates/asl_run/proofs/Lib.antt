@@ -1,3 +1,4 @@
 pub mod Counts
 pub mod Misfits
+pub mod Inputs
 pub mod Told

@@ -6,14 +6,14 @@ use Rattle.asl_model.specs.Path.{Segment}
 use Rattle.asl_model.specs.Placing.{Places, placed}
 use Rattle.asl_model.specs.Tree.{Tree}
 use Rattle.asl_model.proofs.PlacingExactly.{placed_so}
-use Rattle.asl_run.specs.Answer.{Answers}
+use Rattle.asl_run.specs.Flowing.{Flows}
 use Rattle.asl_run.specs.Faults.{fault_view}
 use Rattle.asl_run.specs.declared.faults.Fault.{Fault}
 use Rattle.asl_run.specs.declared.faults.Stop.TheVariants as stops
 use Rattle.asl_tree.specs.View.{view}
 
 -- the fault that is defined is answered
-pub fault_told : {A B : Type 0} (seen : A → B) (fault : Fault) (defined : Result B model.Fault) → defined ≡ Err (fault_view fault) → Answers seen (Err (stops.Fault fault)) defined
+pub fault_told : {A B : Type 0} (seen : A → B) (fault : Fault) (defined : Result B model.Fault) → defined ≡ Err (fault_view fault) → Flows seen (Err (stops.Fault fault)) defined
 fault_told seen fault defined is = record {
   gives = tt;
   fails = λ other same. let e : fault ≡ other = cc in is ∙ ap (λ f. Err (fault_view f)) e;
@@ -29,6 +29,6 @@ nothing_placed p w v none = go (placed p w v) refl
 
 -- so placing a result is refused
 pub misfit_told : (path : Option (List Segment)) (p : List Segment) (w v raw : Tree) (fault : Fault) → path ≡ Some p → v ≡ raw → ((u : Tree) → ¬ Places p w v u)
-    → fault_view fault ≡ record { error = model.ResultPathMatchFailure; field = codes "ResultPath" } → Answers view (Err (stops.Fault fault)) (result_placed path raw w)
+    → fault_view fault ≡ record { error = model.ResultPathMatchFailure; field = codes "ResultPath" } → Flows view (Err (stops.Fault fault)) (result_placed path raw w)
 misfit_told path p w v raw fault given same none is =
     fault_told view fault (result_placed path raw w) (rw (given, sym same, nothing_placed p w v none) (ap Err (sym is)))

@@ -1,4 +1,5 @@
-pub mod Answer
 pub mod Entries
 pub mod Faults
 pub mod Troubles
+pub mod Flowing
+pub mod Working

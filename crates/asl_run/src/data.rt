@@ -2,7 +2,7 @@
 
 ghost use Rattle.std.specs.Prelude.{◌≡◌, IfOk};
 ghost use Rattle.asl_model.specs.Tree.{NoFields, Object};
-ghost use Rattle.asl_run.specs.Answer.{data_view};
+ghost use Rattle.asl_run.specs.Flowing.{data_view};
 ghost use Rattle.asl_tree.specs.View.{view};
 
 use asl_tree::{OutOfMemory, Tree, copy};

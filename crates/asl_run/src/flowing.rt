@@ -6,7 +6,7 @@ ghost use Rattle.asl_intrinsic.specs.View.{at_hand};
 ghost use Rattle.asl_machine.specs.Machine.{settings_view};
 ghost use Rattle.asl_model.specs.Flow as model;
 ghost use Rattle.asl_model.specs.Template.{template_value};
-ghost use Rattle.asl_run.specs.Answer.{Answers, Decides, data_view};
+ghost use Rattle.asl_run.specs.Flowing.{Flows, Finds, data_view};
 ghost use Rattle.asl_template.specs.View as templates;
 ghost use Rattle.asl_tree.specs.View.{view};
 
@@ -25,7 +25,7 @@ pub(crate) fn effective_input<'t>(
     settings: &Settings,
     raw: &'t Tree,
 ) -> Result<Data<'t>, Stop>
-    ensures { Answers data_view result (model.effective_input (settings_view settings.now) (view raw.now)) }
+    ensures { Flows data_view result (model.effective_input (settings_view settings.now) (view raw.now)) }
 {
     let input = at_path(alloc, "InputPath", &settings.input_path, raw)?;
     match &settings.parameters {
@@ -44,7 +44,7 @@ fn at_path<'t>(
     path: &Option<RefPath>,
     tree: &'t Tree,
 ) -> Result<Data<'t>, Fault>
-    ensures { Decides data_view result (model.at_path field.now path.now (view tree.now)) }
+    ensures { Finds data_view result (model.at_path field.now path.now (view tree.now)) }
 {
     match path {
         Some(path) => Ok(Data::Lent(named_in(field, path, tree)?)),
@@ -58,7 +58,7 @@ pub(crate) fn named_in<'t>(
     path: &RefPath,
     tree: &'t Tree,
 ) -> Result<&'t Tree, Fault>
-    ensures { Decides (λ t. view t.now) result (model.named_in field.now path.now (view tree.now)) }
+    ensures { Finds (λ t. view t.now) result (model.named_in field.now path.now (view tree.now)) }
 {
     match find(tree, path) {
         Some(node) => Ok(node),
@@ -77,7 +77,7 @@ pub(crate) fn by_template(
     input: &Tree,
     item: Option<Item>,
 ) -> Result<Tree, Stop>
-    ensures { Answers view result (model.met_in field.now (template_value (templates.view template.now) (view input.now) (at_hand item.entry))) }
+    ensures { Flows view result (model.met_in field.now (template_value (templates.view template.now) (view input.now) (at_hand item.entry))) }
 {
     let error = match eval(alloc, template, input, item) {
         Ok(value) => return Ok(value),
@@ -90,7 +90,7 @@ pub(crate) fn by_template(
 
 /// What `OutputPath` leaves of a tree: the empty object where it is null, else what the path names.
 pub(crate) fn at_output_path(alloc: Global, settings: &Settings, tree: Tree) -> Result<Tree, Stop>
-    ensures { Answers view result (model.at_output_path (settings_view settings.now) (view tree)) }
+    ensures { Flows view result (model.at_output_path (settings_view settings.now) (view tree)) }
 {
     if is_whole(&settings.output_path) {
         return Ok(tree);
@@ -107,7 +107,7 @@ pub(crate) fn output_of(
     raw: &Tree,
     value: Tree,
 ) -> Result<Tree, Stop>
-    ensures { Answers view result (model.output_of (settings_view settings.now) (view raw.now) (view value)) }
+    ensures { Flows view result (model.output_of (settings_view settings.now) (view raw.now) (view value)) }
 {
     let selected = match &settings.result_selector {
         Some(template) => by_template(alloc, "ResultSelector", template, &value, None)?,
@@ -124,7 +124,7 @@ fn place_result(
     raw: &Tree,
     value: Tree,
 ) -> Result<Tree, Stop>
-    ensures { Answers view result (model.result_placed path.now (view raw.now) (view value)) }
+    ensures { Flows view result (model.result_placed path.now (view raw.now) (view value)) }
 {
     if is_whole(path) {
         return Ok(value);

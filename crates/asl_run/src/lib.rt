@@ -1,10 +1,13 @@
 //! Runs of machines: what happens at each move and each answer of a task (States Language, "State Types", "Errors").
 #![tactic(auto)]
 
+mod choosing;
 mod data;
+mod delays;
 mod entries;
 mod faults;
 mod flowing;
+mod items;
 mod troubles;
 mod working;
 
