@@ -10,7 +10,6 @@ use Rattle.asl_run.specs.Flowing.{Flows}
 use Rattle.asl_run.specs.Faults.{fault_view}
 use Rattle.asl_run.specs.declared.faults.Fault.{Fault}
 use Rattle.asl_run.specs.declared.faults.Stop.TheVariants as stops
-use Rattle.asl_tree.specs.View.{view}
 
 -- the fault that is defined is answered
 pub fault_told : {A B : Type 0} (seen : A → B) (fault : Fault) (defined : Result B model.Fault) → defined ≡ Err (fault_view fault) → Flows seen (Err (stops.Fault fault)) defined
@@ -28,7 +27,7 @@ nothing_placed p w v none = go (placed p w v) refl
     go (Some u) e = absurd (none u (placed_so p w v u e))
 
 -- so placing a result is refused
-pub misfit_told : (path : Option (List Segment)) (p : List Segment) (w v raw : Tree) (fault : Fault) → path ≡ Some p → v ≡ raw → ((u : Tree) → ¬ Places p w v u)
-    → fault_view fault ≡ record { error = model.ResultPathMatchFailure; field = codes "ResultPath" } → Flows view (Err (stops.Fault fault)) (result_placed path raw w)
-misfit_told path p w v raw fault given same none is =
-    fault_told view fault (result_placed path raw w) (rw (given, sym same, nothing_placed p w v none) (ap Err (sym is)))
+pub misfit_told : {A : Type 0} (seen : A → Tree) (path : Option (List Segment)) (p : List Segment) (w result v raw : Tree) (fault : Fault) → path ≡ Some p → w ≡ result → v ≡ raw → ((u : Tree) → ¬ Places p w v u)
+    → fault_view fault ≡ record { error = model.ResultPathMatchFailure; field = codes "ResultPath" } → Flows seen (Err (stops.Fault fault)) (result_placed path raw result)
+misfit_told seen path p w result v raw fault given same_result same_raw none is =
+    fault_told seen fault (result_placed path raw result) (rw (given, sym same_result, sym same_raw, nothing_placed p w v none) (ap Err (sym is)))

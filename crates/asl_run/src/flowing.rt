@@ -89,13 +89,13 @@ pub(crate) fn by_template(
 }
 
 /// What `OutputPath` leaves of a tree: the empty object where it is null, else what the path names.
-pub(crate) fn at_output_path(alloc: Global, settings: &Settings, tree: Tree) -> Result<Tree, Stop>
-    ensures { Flows view result (model.at_output_path (settings_view settings.now) (view tree)) }
+pub(crate) fn at_output_path(alloc: Global, settings: &Settings, data: Data) -> Result<Tree, Stop>
+    ensures { Flows view result (model.at_output_path (settings_view settings.now) (data_view data.entry)) }
 {
     if is_whole(&settings.output_path) {
-        return Ok(tree);
+        return Ok(data.into_tree(alloc)?);
     }
-    let output = at_path(alloc, "OutputPath", &settings.output_path, &tree)?;
+    let output = at_path(alloc, "OutputPath", &settings.output_path, data.as_tree())?;
     Ok(output.into_tree(alloc)?)
 }
 
@@ -105,12 +105,15 @@ pub(crate) fn output_of(
     alloc: Global,
     settings: &Settings,
     raw: &Tree,
-    value: Tree,
+    value: Data,
 ) -> Result<Tree, Stop>
-    ensures { Flows view result (model.output_of (settings_view settings.now) (view raw.now) (view value)) }
+    ensures { Flows view result (model.output_of (settings_view settings.now) (view raw.now) (data_view value.entry)) }
 {
     let selected = match &settings.result_selector {
-        Some(template) => by_template(alloc, "ResultSelector", template, &value, None)?,
+        Some(template) => {
+            let selection = by_template(alloc, "ResultSelector", template, value.as_tree(), None)?;
+            Data::Made(selection)
+        }
         None => value,
     };
     let placed = place_result(alloc, &settings.result_path, raw, selected)?;
@@ -118,23 +121,24 @@ pub(crate) fn output_of(
 }
 
 /// The value placed in the raw input; with `ResultPath` null the raw input itself.
-fn place_result(
+fn place_result<'t>(
     alloc: Global,
     path: &Option<RefPath>,
-    raw: &Tree,
-    value: Tree,
-) -> Result<Tree, Stop>
-    ensures { Flows view result (model.result_placed path.now (view raw.now) (view value)) }
+    raw: &'t Tree,
+    value: Data<'t>,
+) -> Result<Data<'t>, Stop>
+    ensures { Flows data_view result (model.result_placed path.now (view raw.now) (data_view value.entry)) }
 {
-    if is_whole(path) {
+    let Some(path) = path else {
+        return Ok(Data::Lent(raw));
+    };
+    if path.segments().is_empty() {
         return Ok(value);
     }
     let copied = copy(alloc, raw)?;
-    let Some(path) = path else {
-        return Ok(copied);
-    };
-    match place(alloc, copied, path, value) {
-        Ok(tree) => Ok(tree),
+    let own = value.into_tree(alloc)?;
+    match place(alloc, copied, path, own) {
+        Ok(tree) => Ok(Data::Made(tree)),
         Err((PlaceRefusal::CannotPlace, _, _)) => Err(Stop::Fault(Fault {
             error: DataFlowError::ResultPathMatchFailure,
             field: "ResultPath",

@@ -2,15 +2,15 @@
 
 ghost use Rattle.std.specs.Prelude.{◌≡◌, IfOk, map, option_map, string_bytes};
 ghost use Rattle.asl_choice.specs.View.{rule_view};
-ghost use Rattle.asl_machine.specs.Machine.{branches_view, delay_view, kind_view, settings_view, started_at, state_view};
+ghost use Rattle.asl_machine.specs.Machine.{branches_view, delay_view, kind_view, settings_view, state_view};
 ghost use Rattle.asl_model.specs.Flow as model;
 ghost use Rattle.asl_model.specs.Machine as machine;
-ghost use Rattle.asl_run.specs.Flowing.{Flows};
 ghost use Rattle.asl_run.specs.Working.{Works, work_view};
 ghost use Rattle.asl_template.specs.View as templates;
 ghost use Rattle.asl_tree.specs.View.{view};
 
 use crate::choosing::choose;
+use crate::data::Data;
 use crate::delays::find_delay;
 use crate::faults::{Fault, Stop};
 use crate::flowing::effective_input;
@@ -19,20 +19,26 @@ use asl_choice::Rule;
 use asl_machine::{Delay, Kind, Settings, State};
 use asl_path::RefPath;
 use asl_template::Template;
-use asl_tree::{OutOfMemory, Tree, copy};
+use asl_tree::{OutOfMemory, Tree};
 use std::alloc::Global;
 
 /// What a state's first move comes to.
 #[derive(Drop)]
 pub(crate) enum Work<'m> {
     /// It has a result.
-    Finishes(Tree),
+    Finishes(Data<'m>),
     /// It leaves with its effective input, for that next state or for the end of its scope.
-    Leaves { next: Option<&'m str>, input: Tree },
+    Leaves {
+        next: Option<&'m str>,
+        input: Data<'m>,
+    },
     /// It fails, with an error and a cause.
-    Fails { error: &'m str, cause: &'m str },
+    Fails {
+        error: &'m str,
+        cause: &'m str,
+    },
     /// It asks its task, with a payload.
-    Asks(Tree),
+    Asks(Data<'m>),
     /// It starts a child for each of these inputs.
     Splits(Vec<Tree>),
     /// A data-flow fault.
@@ -43,7 +49,7 @@ pub(crate) enum Work<'m> {
 pub(crate) fn first_move<'m>(
     alloc: Global,
     state: &'m State,
-    raw: &Tree,
+    raw: &'m Tree,
 ) -> Result<Work<'m>, OutOfMemory>
     ensures { IfOk result (λ w. work_view w ≡ model.first_move (state_view state.now) (view raw.now)) }
 {
@@ -55,18 +61,18 @@ pub(crate) fn first_move<'m>(
 }
 
 /// The same by the state's type.
-fn work_of<'m>(alloc: Global, state: &'m State, raw: &Tree) -> Result<Work<'m>, Stop>
+fn work_of<'m>(alloc: Global, state: &'m State, raw: &'m Tree) -> Result<Work<'m>, Stop>
     ensures { Works result (model.work_of (kind_view state.now.kind) (settings_view state.now.settings) (view raw.now)) }
 {
     let settings = &state.settings;
     match &state.kind {
         Kind::Pass { result } => pass(alloc, settings, result, raw),
-        Kind::Task { resource: _ } => Ok(Work::Asks(own_input(alloc, settings, raw)?)),
+        Kind::Task { resource: _ } => Ok(Work::Asks(effective_input(alloc, settings, raw)?)),
         Kind::Choice { choices, default } => choice(alloc, settings, choices, default, raw),
         Kind::Wait { delay } => wait(alloc, settings, delay, raw),
         Kind::Succeed => Ok(Work::Leaves {
             next: None,
-            input: own_input(alloc, settings, raw)?,
+            input: effective_input(alloc, settings, raw)?,
         }),
         Kind::Fail { error, cause } => Ok(Work::Fails { error, cause }),
         Kind::Parallel { branches } => parallel(alloc, settings, branches, raw),
@@ -78,28 +84,20 @@ fn work_of<'m>(alloc: Global, state: &'m State, raw: &Tree) -> Result<Work<'m>, 
     }
 }
 
-/// The effective input as a tree of its own.
-fn own_input(alloc: Global, settings: &Settings, raw: &Tree) -> Result<Tree, Stop>
-    ensures { Flows view result (model.effective_input (settings_view settings.now) (view raw.now)) }
-{
-    Ok(effective_input(alloc, settings, raw)?.into_tree(alloc)?)
-}
-
 /// A Pass finishes with `Result`, or else its effective input.
 fn pass<'m>(
     alloc: Global,
     settings: &Settings,
-    value: &Option<Tree>,
-    raw: &Tree,
+    value: &'m Option<Tree>,
+    raw: &'m Tree,
 ) -> Result<Work<'m>, Stop>
     ensures { Works result (model.work_of (machine.Pass (option_map view value.now)) (settings_view settings.now) (view raw.now)) }
 {
     let input = effective_input(alloc, settings, raw)?;
-    let value = match value {
-        Some(value) => copy(alloc, value)?,
-        None => input.into_tree(alloc)?,
-    };
-    Ok(Work::Finishes(value))
+    match value {
+        Some(value) => Ok(Work::Finishes(Data::Lent(value))),
+        None => Ok(Work::Finishes(input)),
+    }
 }
 
 /// A Choice leaves for the state that is chosen by its effective input.
@@ -108,7 +106,7 @@ fn choice<'m>(
     settings: &Settings,
     rules: &'m [Rule],
     default: &'m Option<String>,
-    raw: &Tree,
+    raw: &'m Tree,
 ) -> Result<Work<'m>, Stop>
     ensures { Works result (model.work_of (machine.Choice (map rule_view rules.now) (option_map string_bytes default.now)) (settings_view settings.now) (view raw.now)) }
 {
@@ -116,7 +114,7 @@ fn choice<'m>(
     let next = choose(rules, default, input.as_tree())?;
     Ok(Work::Leaves {
         next: Some(next),
-        input: input.into_tree(alloc)?,
+        input,
     })
 }
 
@@ -125,7 +123,7 @@ fn wait<'m>(
     alloc: Global,
     settings: &'m Settings,
     delay: &Delay,
-    raw: &Tree,
+    raw: &'m Tree,
 ) -> Result<Work<'m>, Stop>
     ensures { Works result (model.work_of (machine.Wait (delay_view delay.now)) (settings_view settings.now) (view raw.now)) }
 {
@@ -133,7 +131,7 @@ fn wait<'m>(
     find_delay(delay, input.as_tree())?;
     Ok(Work::Leaves {
         next: settings.next.as_deref(),
-        input: input.into_tree(alloc)?,
+        input,
     })
 }
 
