@@ -1,5 +1,5 @@
-pub mod Checks
 pub mod Added
+pub mod Checks
 pub mod Complaints
 pub mod Duplicates
 pub mod Elements
@@ -7,12 +7,14 @@ pub mod ExamplesUnserved
 pub mod Lookups
 pub mod Members
 pub mod Nested
+pub mod Nesting
 pub mod Numbers
 pub mod Objects
 pub mod Outlines
 pub mod PlainStates
 pub mod Positions
 pub mod Refused
+pub mod RuleTargets
 pub mod Served
 pub mod ServedStates
 pub mod Standing

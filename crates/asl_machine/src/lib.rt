@@ -18,6 +18,7 @@ mod plain_building;
 mod plain_reading;
 mod refusals;
 mod rows;
+mod scope_checking;
 mod scopes;
 mod settings;
 mod state_checking;
