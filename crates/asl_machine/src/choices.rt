@@ -39,7 +39,7 @@ fn build_rule(alloc: Global, element: &Value) -> Result<Option<Rule>, OutOfMemor
 }
 
 /// The rule that a tree spells, where it spells one.
-fn read_rule(alloc: Global, tree: &Tree) -> Result<Option<Rule>, OutOfMemory>
+pub(crate) fn read_rule(alloc: Global, tree: &Tree) -> Result<Option<Rule>, OutOfMemory>
     ensures { IfOk result (λ rule. option_map rule_view rule ≡ rule_of (trees.view tree.now)) }
 {
     match asl_choice::from_tree(alloc, tree) {

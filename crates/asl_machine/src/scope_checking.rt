@@ -1,11 +1,11 @@
 // Checking the scopes of a definition, which nest: the machine, the branches of Parallels and the processors of Maps
 // (States Language, "Structure of a State Machine", "Parallel State", "Map State").
 
-ghost use Rattle.std.specs.Prelude.{◌≡◌, ◌++◌, [], Some, is_some, codes, option_map};
+ghost use Rattle.std.specs.Prelude.{◌≡◌, ◌++◌, [], Some, is_some, codes};
 ghost use Rattle.serde_json.specs.Data.{object};
 ghost use Rattle.serde_json.specs.Find.{as_object};
 ghost use Rattle.serde_json.specs.View.{view, items_view, members_view};
-ghost use Rattle.asl_model.specs.DefinitionTable.{type_named, wrong_kind as model_wrong_kind, machine_rows, branch_rows, every_state_rows, rows_of};
+ghost use Rattle.asl_model.specs.DefinitionTable.{wrong_kind as model_wrong_kind, machine_rows, branch_rows, every_state_rows, rows_of};
 ghost use Rattle.asl_model.specs.StandsFor as model;
 ghost use Rattle.asl_model.specs.StandsFor.{members_in, state_names, place_of_state, place_within, branches_complaints_under, processor_complaints_under};
 ghost use Rattle.asl_machine.specs.Rows.{rows_view, type_view};
@@ -13,9 +13,11 @@ ghost use Rattle.asl_machine.specs.Definition.{IsVerdict, place_view};
 
 use crate::field_checking::{check_fields, check_rows};
 use crate::fields::text_of;
+use crate::kinds::type_of;
 use crate::places::{Complaint, Place};
 use crate::refusals::DefFault;
 use crate::rows::{self, Row, StateType};
+use crate::scopes::is_processor;
 use crate::state_checking::{check_target, check_type_rules};
 use crate::value_checking::wrong_kind;
 use serde_json::{Map, Value};
@@ -170,16 +172,6 @@ fn check_state<'a>(
     match type_of(state) {
         Some(state_type) => check_typed(alloc, state, name, scope, state_type),
         None => check_untyped(alloc, state, name),
-    }
-}
-
-/// The type of a state, where it has one.
-fn type_of(state: &Value) -> Option<StateType>
-    ensures { option_map type_view result ≡ model.type_of (members_in (view state.now)) }
-{
-    match text_of(state, "Type") {
-        Some(name) => StateType::named(name),
-        None => None,
     }
 }
 
@@ -364,11 +356,4 @@ fn check_first_processor<'a>(
         }
     }
     Ok(())
-}
-
-/// Whether a field of that name holds a Map's processor.
-fn is_processor(field: &str) -> bool
-    ensures { result ≡ model.is_processor field.now }
-{
-    matches!(field, "ItemProcessor" | "Iterator")
 }

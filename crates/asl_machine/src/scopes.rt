@@ -78,7 +78,7 @@ pub(crate) fn processor_of(members: &Map<String, Value>) -> Option<&Value>
 }
 
 /// Whether a Map's field of that name is its processor.
-fn is_processor(name: &str) -> bool
+pub(crate) fn is_processor(name: &str) -> bool
     ensures { result ≡ model_is_processor name.now }
 {
     name == "ItemProcessor" || name == "Iterator"

@@ -10,7 +10,7 @@ ghost use Rattle.asl_model.specs.StandsFor.{members_in, state_names};
 ghost use Rattle.asl_machine.specs.Rows.{type_view};
 ghost use Rattle.asl_machine.specs.Definition.{IsVerdict, place_view, rules_of_type, rule_targets};
 
-use crate::fields::{elements_of, text_of};
+use crate::fields::{elements_of, is_given, text_of};
 use crate::places::{Complaint, Place};
 use crate::refusals::DefFault;
 use crate::rows::StateType;
@@ -249,11 +249,4 @@ fn check_one_of<'a>(
         Some(field) => place.complain_unless(!are_several, field, DefFault::WrongKind),
         None => Err(place.complaint(first, DefFault::MissingField)),
     }
-}
-
-/// Whether an object has the field.
-fn is_given(object: &Value, field: &str) -> bool
-    ensures { result ≡ model.is_given field.now (members_in (view object.now)) }
-{
-    object.get(field).is_some()
 }

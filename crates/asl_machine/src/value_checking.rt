@@ -1,6 +1,6 @@
 // Checking the values of fields.
 
-ghost use Rattle.std.specs.Prelude.{◌≡◌, ◌++◌, Some, option_map, is_some};
+ghost use Rattle.std.specs.Prelude.{◌≡◌, ◌++◌, Some, is_some};
 ghost use Rattle.serde_json.specs.View.{view, items_view};
 ghost use Rattle.asl_model.specs.DefinitionTable as model;
 ghost use Rattle.asl_model.specs.Json.{tree_of};
@@ -8,15 +8,14 @@ ghost use Rattle.asl_model.specs.PathSpelling.{path_of};
 ghost use Rattle.asl_model.specs.TemplateSpelling.{template_of};
 ghost use Rattle.asl_model.specs.RuleSpelling.{rule_of};
 ghost use Rattle.asl_tree.specs.View as trees;
-ghost use Rattle.asl_choice.specs.Refusal as rules;
 ghost use Rattle.asl_machine.specs.View.{def_fault_view};
 ghost use Rattle.asl_machine.specs.Rows.{wanted_view};
 ghost use Rattle.asl_machine.specs.Definition.{IsMisfit};
 
+use crate::choices::read_rule;
 use crate::fields::{read_path, read_template, read_tree};
 use crate::refusals::DefFault;
 use crate::rows::Wanted;
-use asl_choice::RuleRefusal;
 use asl_tree::Tree;
 use serde_json::Value;
 use std::alloc::Global;
@@ -196,28 +195,13 @@ fn check_rule(alloc: Global, value: &Value) -> Result<(), DefFault>
 fn check_rule_tree(alloc: Global, tree: &Tree) -> Result<(), DefFault>
     ensures { IsMisfit (model.unless (is_some (rule_of (trees.view tree.now))) model.BadRule) result }
 {
-    match asl_choice::from_tree(alloc, tree) {
-        Ok(rule) => {
+    match read_rule(alloc, tree) {
+        Ok(Some(rule)) => {
             drop(rule);
             Ok(())
         }
-        Err(refusal) => Err(rule_fault(&refusal)),
-    }
-}
-
-/// What is told of a rule that is none.
-fn rule_fault(refusal: &RuleRefusal) -> DefFault
-    ensures { def_fault_view result ≡ option_map (λ _. model.BadRule) (rules.fault_named refusal.now) }
-{
-    match refusal {
-        RuleRefusal::NotARule
-        | RuleRefusal::UnknownOperator
-        | RuleRefusal::BadOperand
-        | RuleRefusal::BadPath
-        | RuleRefusal::BadPattern
-        | RuleRefusal::EmptyList
-        | RuleRefusal::NextInside => DefFault::BadRule,
-        RuleRefusal::OutOfMemory => DefFault::OutOfMemory,
+        Ok(None) => Err(DefFault::BadRule),
+        Err(_) => Err(DefFault::OutOfMemory),
     }
 }
 
