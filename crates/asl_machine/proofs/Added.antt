@@ -1,8 +1,8 @@
 -- States that are added one after another.
 use Rattle.std.proofs.Common.{◌≡◌, List, [], ◌∷◌, ◌++◌, map, sym, ap, ◌∙◌, append-nil, append_assoc}
 use Rattle.std.proofs.lemmas.List.{map-append}
-use Rattle.asl_model.specs.Numbering.{Standing}
-use Rattle.asl_machine.specs.Built.{built_view, outlined, Adds}
+use Rattle.asl_model.specs.Numbering.{Standing, outlined}
+use Rattle.asl_machine.specs.Built.{built_view, Adds}
 use Rattle.asl_machine.specs.declared.building.BuiltState.{BuiltState}
 
 -- some states and then others

@@ -2,9 +2,9 @@
 
 ghost use Rattle.std.specs.Prelude.{◌≡◌, ◌++◌, [], IfOk, OnOk, Some, map};
 ghost use Rattle.serde_json.specs.View.{view, items_view, members_view};
-ghost use Rattle.asl_model.specs.Numbering.{outline, standing_in, standing_among, standing_inside, standing_each};
+ghost use Rattle.asl_model.specs.Numbering.{outline, standing_in, standing_among, standing_inside, standing_each, outlined};
 ghost use Rattle.asl_model.specs.StandsFor.{scope_of, states_in, each_state, state_of, scopes_in, each_scope, branches_under, processor_under};
-ghost use Rattle.asl_machine.specs.Built.{built_view, owner_view, outlined, Adds};
+ghost use Rattle.asl_machine.specs.Built.{built_view, owner_view, Adds};
 ghost use Rattle.asl_machine.specs.Machine.{state_view};
 
 use crate::fields::text_or_empty;

@@ -16,6 +16,7 @@ mod places;
 pub mod plain;
 mod plain_building;
 mod plain_reading;
+mod reading;
 mod refusals;
 mod rows;
 mod scope_checking;
@@ -24,10 +25,13 @@ mod settings;
 mod state_checking;
 mod states;
 mod table;
+#[cfg(test)]
+mod tests;
 mod trouble_checking;
 mod value_checking;
 
 pub use machine::Machine;
 pub use plain_reading::read_plain;
+pub use reading::read;
 pub use refusals::{DefFault, DefRefusal};
 pub use states::{Catcher, Delay, Kind, Retrier, Scope, Settings, State};

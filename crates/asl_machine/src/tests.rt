@@ -1,0 +1,176 @@
+//! Definitions and what they are read as, each call once with ample memory.
+use crate::{DefFault, read};
+use asl_tree::read_value;
+use std::alloc::Global;
+use std::test::Fail;
+
+/// The number of states, or the refusal as it is printed.
+fn answered(alloc: Global, definition: &str) -> Result<String, Fail> {
+    let value = read_value(alloc, definition.as_bytes())?;
+    match read(alloc, &value) {
+        Ok(machine) => {
+            let states = machine.states();
+            Ok(format!(in alloc; "{states}")?)
+        }
+        Err(refusal) => {
+            let fault = refusal.fault.name();
+            let state = refusal.state.as_str();
+            let field = refusal.field.as_str();
+            Ok(format!(in alloc; "{fault} {state} {field}")?)
+        }
+    }
+}
+
+/// The scope of the state of that number: its start, and its owner.
+fn scope(alloc: Global, machine: &crate::Machine, number: usize) -> Result<String, Fail> {
+    match machine.scope_of(number) {
+        Some(scope) => {
+            let start = scope.start;
+            match scope.owner {
+                Some((owner, branch)) => Ok(format!(in alloc; "{start} {owner} {branch}")?),
+                None => Ok(format!(in alloc; "{start}")?),
+            }
+        }
+        None => Ok(String::new(alloc)),
+    }
+}
+
+#[test]
+fn definitions(rt: HostRuntime) -> Result<(), Fail> {
+    let alloc = rt.alloc();
+    let vectors = [
+        (
+            r#"{"StartAt":"A","States":{"A":{"Type":"Pass","End":true}}}"#,
+            "1",
+        ),
+        (r#"[]"#, "NotObject  "),
+        (
+            r#"{"States":{"A":{"Type":"Pass","End":true}}}"#,
+            "MissingField  StartAt",
+        ),
+        (
+            r#"{"StartAt":"A","States":{"A":{"Type":"Pass","End":1,"Next":"A"}}}"#,
+            "WrongKind A End",
+        ),
+        (
+            r#"{"StartAt":"A","States":{"A":{"Type":"Pass","End":true,"Colour":1}}}"#,
+            "UnknownField A Colour",
+        ),
+        (
+            r#"{"StartAt":"A","States":{"A":{"Type":"Pass","End":true,"Assign":{}}}}"#,
+            "LeftOut A Assign",
+        ),
+        (
+            r#"{"StartAt":"A","States":{"A":{"Type":"Parallel","End":true,"Branches":[{"StartAt":"A","States":{"A":{"Type":"Pass","End":true}}}]}}}"#,
+            "DuplicateName A States",
+        ),
+        (
+            r#"{"StartAt":"A","States":{"A":{"Type":"Pass","Next":"Z"}}}"#,
+            "NoSuchState A Next",
+        ),
+        (
+            r#"{"StartAt":"A","States":{"A":{"Type":"Pass"}}}"#,
+            "NextOrEnd A Next",
+        ),
+        (
+            r#"{"StartAt":"A","States":{"A":{"Type":"Pass","End":true,"InputPath":"a"}}}"#,
+            "BadPath A InputPath",
+        ),
+        (
+            r#"{"StartAt":"A","States":{"A":{"Type":"Choice","Choices":[{}]}}}"#,
+            "BadRule A Choices",
+        ),
+        (
+            r#"{"StartAt":"A","States":{"A":{"Type":"Choice","Choices":[]}}}"#,
+            "EmptyList A Choices",
+        ),
+        (
+            r#"{"StartAt":"A","States":{"A":{"Type":"Task","Resource":"r","End":true,"Retry":[{"ErrorEquals":["States.ALL","E"]}]}}}"#,
+            "BadErrorEquals A Retry",
+        ),
+        (
+            r#"{"StartAt":"A","States":{"A":{"Type":"Task","Resource":"r","End":true,"TimeoutSeconds":5,"HeartbeatSeconds":5}}}"#,
+            "HeartbeatNotSmaller A HeartbeatSeconds",
+        ),
+        (
+            r#"{"StartAt":"A","States":{"A":{"Type":"Choise","End":true}}}"#,
+            "UnknownType A Type",
+        ),
+        (
+            r#"{"StartAt":"A","States":{"A":{"Type":"Pass","End":true,"Result":1.5}}}"#,
+            "NotWhole A Result",
+        ),
+        (
+            r#"{"StartAt":"A","States":{"A":{"Type":"Pass","End":true,"Parameters":{"x.$":"$.n","x":1}}}}"#,
+            "BadTemplate A Parameters",
+        ),
+        (
+            r#"{"StartAt":"A","States":{"A":{"Type":"Task","Resource":"r","End":true,"Retry":[{"ErrorEquals":["E"],"BackoffRate":1.5}]}}}"#,
+            "1",
+        ),
+        (
+            r#"{"StartAt":"A","States":{"A":{"Type":"Task","Resource":"r","End":true,"Retry":[{"ErrorEquals":["E"],"MaxAttempts":-1}]}}}"#,
+            "WrongKind A Retry",
+        ),
+        (
+            r#"{"StartAt":"A","States":{"A":{"Type":"Task","Resource":"r","End":true,"Catch":[{"ErrorEquals":["E"],"Next":"Z"}]}}}"#,
+            "NoSuchState A Catch",
+        ),
+        (
+            r#"{"StartAt":"A","States":{"A":{"Type":"Choice","Choices":[{"Variable":"$.a","IsNull":true,"Next":"Z"}]}}}"#,
+            "NoSuchState A Choices",
+        ),
+        (
+            r#"{"StartAt":"A","States":{"A":{"Type":"Wait","End":true}}}"#,
+            "MissingField A Seconds",
+        ),
+        (
+            r#"{"StartAt":"A","States":{"A":{"Type":"Wait","End":true,"Seconds":1,"Timestamp":"t"}}}"#,
+            "WrongKind A Timestamp",
+        ),
+        (
+            r#"{"StartAt":"A","States":{"A":{"Type":"Map","End":true}}}"#,
+            "MissingField A ItemProcessor",
+        ),
+        (
+            r#"{"StartAt":"A","States":{"A":{"Type":"Map","End":true,"Iterator":{"StartAt":"B","States":{"B":{"Type":"Succeed"}}},"Parameters":{"i.$":"$$.Map.Item.Index"}}}}"#,
+            "2",
+        ),
+        (
+            r#"{"StartAt":"A","States":{"A":{"Type":"Parallel","End":true,"Branches":[{"StartAt":"Z","States":{"B":{"Type":"Succeed"}}}]}}}"#,
+            "NoSuchState A Branches",
+        ),
+    ];
+    for (definition, wanted) in vectors {
+        let answer = answered(alloc, definition)?;
+        assert_eq!(rt; answer.as_str(), wanted);
+    }
+
+    let value = read_value(
+        alloc,
+        br#"{"StartAt":"P","States":{
+            "P":{"Type":"Parallel","Next":"N","Branches":[
+                {"StartAt":"T0","States":{"T0":{"Type":"Task","Resource":"r","End":true}}},
+                {"StartAt":"T1","States":{"T1":{"Type":"Task","Resource":"r","End":true}}}]},
+            "N":{"Type":"Pass","InputPath":"$[1]","End":true}}}"#,
+    )?;
+    let machine = read(alloc, &value)?;
+    assert_eq!(rt; machine.states(), 4);
+    for (name, number) in [
+        ("N", Some(0)),
+        ("P", Some(1)),
+        ("T0", Some(2)),
+        ("T1", Some(3)),
+        ("t0", None),
+    ] {
+        assert_eq!(rt; machine.state_named(name), number);
+    }
+    for (number, wanted) in [(0, "1"), (1, "1"), (2, "2 1 0"), (3, "3 1 1"), (4, "")] {
+        let answer = scope(alloc, &machine, number)?;
+        assert_eq!(rt; answer.as_str(), wanted);
+    }
+    assert_eq!(rt; machine.state(4).is_none(), true);
+    assert_eq!(rt; machine.name(3), Some("T1"));
+    assert_eq!(rt; machine.name(4), None);
+    Ok(())
+}
