@@ -3,6 +3,7 @@ pub mod CallMeaning
 pub mod CallReading
 pub mod CallWriting
 pub mod ClosedScopes
+pub mod DefinitionFields
 pub mod ExamplesAnswers
 pub mod ExamplesCalls
 pub mod ExamplesClosed
@@ -29,6 +30,8 @@ pub mod FindingStates
 pub mod FindingTold
 pub mod JoinFuel
 pub mod Listed
+pub mod NamesLead
+pub mod NumberedRows
 pub mod NumberedScopes
 pub mod NumberedStates
 pub mod Numbering
@@ -69,4 +72,6 @@ pub mod ShapeValid
 pub mod ShapeWitness
 pub mod SpellingLookups
 pub mod SpellingWritten
+pub mod TargetsAmong
 pub mod TemplateGrammar
+pub mod WellNamed

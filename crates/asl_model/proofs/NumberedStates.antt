@@ -1,5 +1,5 @@
 -- A state's number is its position in the list of all states, where no name stands twice.
-use Rattle.std.proofs.Common.{◌≡◌, refl, sym, ap, ◌∙◌, subst, ℕ, zero, suc, ◌+◌, ◌<◌, length, List, [], ◌∷◌, map, Bool, true, false, not, ◌||◌, ◌&&◌, cond, if◌then◌else◌, bytes_eq, position, slice_get, Option, Some, None, ◌⊎◌, inl, inr, nat_lt, lt-ltb, arith, add-one}
+use Rattle.std.proofs.Common.{◌≡◌, refl, sym, ap, ◌∙◌, subst, ℕ, suc, ◌+◌, ◌<◌, length, List, [], ◌∷◌, map, Bool, true, false, not, ◌||◌, ◌&&◌, cond, bytes_eq, slice_get, Some, None, inl, inr, nat_lt, lt-ltb, arith}
 use Rattle.std.specs.List.{position_or_len}
 use Rattle.std.proofs.lemmas.List.{length-map}
 use Rattle.std.proofs.lemmas.Slice.Eq.{bytes_eq-Decides}
