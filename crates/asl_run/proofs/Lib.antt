@@ -1,4 +1,11 @@
 pub mod Counts
-pub mod Misfits
+pub mod Following
+pub mod GoingOn
 pub mod Inputs
+pub mod KeptStanding
+pub mod Leading
+pub mod Misfits
+pub mod Numbers
+pub mod OpenPlaces
 pub mod Told
+pub mod Turns

@@ -3,3 +3,8 @@ pub mod Faults
 pub mod Troubles
 pub mod Flowing
 pub mod Working
+pub mod Driving
+pub mod Enabling
+pub mod Answering
+pub mod Activities
+pub mod Standing

@@ -1,6 +1,8 @@
 //! Runs of machines: what happens at each move and each answer of a task (States Language, "State Types", "Errors").
 #![tactic(auto)]
 
+mod activities;
+mod answers;
 mod choosing;
 mod data;
 mod delays;
@@ -8,7 +10,10 @@ mod entries;
 mod faults;
 mod flowing;
 mod items;
+mod orders;
 mod troubles;
 mod working;
 
+pub use answers::{Answers, ListAnswers};
 pub use entries::{Answer, Entry, Event, Outcome, Place, Want};
+pub use orders::{First, Last, Order};
