@@ -80,24 +80,27 @@ pub note_new : (notes : List Note) (k : String Global) (n : List ℕ) (b : Broke
     → AreNoted (found_at n (option_to_list (option_map broken_view (Some b)))) (notes_view notes) (notes_view (insert_entry string_cmp notes k b))
 note_new notes k n b same none = subst (λ m. (IsNew m notes → AreNoted (found_at m (option_to_list (option_map broken_view (Some b)))) (notes_view notes) (notes_view (insert_entry string_cmp notes k b)))) same (λ h. noted_by (note_view (k, b)) (notes_view notes) (notes_view (insert_entry string_cmp notes k b)) (inserted notes k b (none_there _ h))) none
 
+-- a note has the name
+abbrev IsNoted : List ℕ → List Note → Type 0
+IsNoted n notes = is_some (lookup (is_at (λ (k : String Global). slice_cmp nat_cmp n (string_bytes k))) notes) ≡ true
+
 -- a name that is looked up has a note
-told_of : (notes : List Note) (name : String Global) → is_some (lookup (is_at (string_cmp name)) notes) ≡ true → TellsOf (notes_view notes) (string_bytes name)
-told_of [] name h = absurd (cc)
-told_of (e ∷ es) name h = go (string_cmp name e.0) refl h (told_of es name)
+told_of : (notes : List Note) (n : List ℕ) → IsNoted n notes → TellsOf (notes_view notes) n
+told_of [] n h = absurd (cc)
+told_of (e ∷ es) n h = go (slice_cmp nat_cmp n (string_bytes e.0)) refl h (told_of es n)
   where
-    among : TellsOf (notes_view es) (string_bytes name) → TellsOf (notes_view (e ∷ es)) (string_bytes name)
+    among : TellsOf (notes_view es) n → TellsOf (notes_view (e ∷ es)) n
     among t = (t.0, later (note_view e) (notes_view es) t.0 t.1, t.2)
 
-    go : (o : Ordering) → string_cmp name e.0 ≡ o → is_some (cond (is_eq o) (Some e.1) (lookup (is_at (string_cmp name)) es)) ≡ true → (is_some (lookup (is_at (string_cmp name)) es) ≡ true → TellsOf (notes_view es) (string_bytes name)) → TellsOf (notes_view (e ∷ es)) (string_bytes name)
+    go : (o : Ordering) → slice_cmp nat_cmp n (string_bytes e.0) ≡ o → is_some (cond (is_eq o) (Some e.1) (lookup (is_at (λ (k : String Global). slice_cmp nat_cmp n (string_bytes k))) es)) ≡ true → (IsNoted n es → TellsOf (notes_view es) n) → TellsOf (notes_view (e ∷ es)) n
     go Less is h' below = among (below h')
-    go Equal is h' below = (note_view e, first (note_view e) (notes_view es), sym (exact_bytes (string_bytes name) (string_bytes e.0) is))
+    go Equal is h' below = (note_view e, first (note_view e) (notes_view es), sym (exact_bytes n (string_bytes e.0) is))
     go Greater is h' below = among (below h')
 
 -- a rule of a name that has a note needs none
-pub note_old : (notes : List Note) (name : String Global) (rule : Option Broken) → is_some (lookup (is_at (string_cmp name)) notes) ≡ true
-    → AreNoted (found_at (string_bytes name) (option_to_list (option_map broken_view rule))) (notes_view notes) (notes_view notes)
-note_old notes name None h = record { stays = λ f g. g; further = λ f g. inl g; each = λ f g. absurd (no_member f g) }
-note_old notes name (Some b) h = record { stays = λ f g. g; further = λ f g. inl g; each = λ f g. subst (TellsOf (notes_view notes)) (ap (λ (x : finding.Finding). x.state) (only (record { state = string_bytes name; field = b.field.now; fault = (broken_view b).fault }) f g)) (told_of notes name h) }
+pub note_old : (notes : List Note) (n : List ℕ) (rule : Option Broken) → IsNoted n notes → AreNoted (found_at n (option_to_list (option_map broken_view rule))) (notes_view notes) (notes_view notes)
+note_old notes n None h = record { stays = λ f g. g; further = λ f g. inl g; each = λ f g. absurd (no_member f g) }
+note_old notes n (Some b) h = record { stays = λ f g. g; further = λ f g. inl g; each = λ f g. subst (TellsOf (notes_view notes)) (ap (λ (x : finding.Finding). x.state) (only (record { state = n; field = b.field.now; fault = (broken_view b).fault }) f g)) (told_of notes n h) }
 
 -- ---- what the notes tell
 

@@ -1,3 +1,5 @@
 pub mod Checking
+pub mod Children
 pub mod Noting
+pub mod Rules
 pub mod View

@@ -1,195 +1,260 @@
-// The rules on what flows through a state, from its certified input to its output.
+// The way of a shape through a state: to its effective input, and from a result to its output.
 
-ghost use Rattle.std.specs.Prelude.{◌≡◌, ◌++◌, ℕ, List, IfOk, IsTrue, Some, codes, option_map, option_to_list, string_bytes};
+ghost use Rattle.std.specs.Prelude.{◌≡◌, IfOk, IsTrue, Some, codes, option_map, string_bytes};
+ghost use Rattle.asl_model.specs.Finding.{breach_of, breaches_then, effective_flow, next_breaches, end_breaches, output_breaches, result_breaches, chosen_breaches};
 ghost use Rattle.asl_model.specs.Shape as model;
-ghost use Rattle.asl_model.specs.Finding.{OutputNotCertified, breach_unless_sub, breaches_then, end_breaches, output_breaches, flow_breaches, input_to_compare as inputs};
-ghost use Rattle.asl_model.specs.Machine.{settings_of, kind_of};
-ghost use Rattle.asl_model.specs.ShapeFlow.{empty_object, through_path as path_flow_of};
+ghost use Rattle.asl_model.specs.ShapeFlow as flows;
 ghost use Rattle.asl_shape.specs.View.{view};
-ghost use Rattle.asl_machine.specs.Plain.{machine_view, state_view, after_view};
-ghost use Rattle.asl_records.specs.View.{declared_view, certificate_view, entry_view};
-ghost use Rattle.asl_check.specs.Checking.{Flows, Told, flow_rules, paths_flow, shape_or_breach};
+ghost use Rattle.asl_template.specs.View as templates;
+ghost use Rattle.asl_machine.specs.Machine.{settings_view, kind_view};
+ghost use Rattle.asl_machine.specs.Table.{table_view};
+ghost use Rattle.asl_records.specs.View.{certificate_view, entry_view};
+ghost use Rattle.asl_flow.specs.Items.{item_view};
+ghost use Rattle.asl_flow.specs.Leaving.{fault_view};
+ghost use Rattle.asl_flow.specs.TemplateAnswer.{doubt_told};
+ghost use Rattle.asl_check.specs.Checking.{Flows, Told, flowing_view};
 ghost use Rattle.asl_check.specs.Noting.{broken_view};
-ghost use Rattle.asl_check.specs.View.{finding_fault_view};
+ghost use Rattle.asl_check.specs.Rules.{inputs_in};
 
 use crate::checker::Checker;
-use crate::noting::{Broken, breach, breach_unless};
+use crate::comparing::broken_by_output;
+use crate::noting::{Broken, breach};
 use crate::verdicts::FindingFault;
-use asl_flow::find_shape;
-use asl_machine::plain::{After, Paths, State};
+use asl_flow::{FlowFault, TemplateShapeRefusal, find_shape, leave, template_shape};
+use asl_machine::{Settings, State};
 use asl_path::RefPath;
 use asl_records::StateShapes;
-use asl_shape::{Shape, inhabited, sub};
+use asl_shape::Shape;
+use asl_template::Template;
+use asl_tree::OutOfMemory;
+use std::alloc::Global;
+use std::collections::BTreeMap;
+
+/// A shape on its way through a state: one that was lent, or one that was made on the way.
+#[derive(Drop)]
+pub(crate) enum Flowing<'s> {
+    Lent(&'s Shape),
+    Made(Shape),
+}
+
+impl Flowing<'_> {
+    /// Lends the shape.
+    pub(crate) fn as_shape(&self) -> &Shape
+        ensures { view result.now ≡ flowing_view self.now }
+    {
+        match self {
+            Flowing::Lent(shape) => shape,
+            Flowing::Made(shape) => shape,
+        }
+    }
+}
+
+/// Why a shape doesn't come through: a broken rule, or want of memory.
+#[derive(Clone, Copy, Drop)]
+pub(crate) enum Stopped {
+    Broken(Broken),
+    OutOfMemory,
+}
+
+impl From<OutOfMemory> for Stopped {
+    ghost use Rattle.asl_check.specs.declared.flowing.Stopped.{Stopped};
+
+    ghost from_gives = { λ _ stopped. stopped ≡ Stopped.OutOfMemory };
+
+    fn from(_error: OutOfMemory) -> Stopped {
+        Stopped::OutOfMemory
+    }
+}
 
 impl Checker<'_> {
-    /// The first broken rule on what flows through the state of that name; none is told where it has no entry.
-    pub(crate) fn broken_flow(&self, name: &String, state: &State) -> Option<Broken>
-        requires nothing { view self.now.nothing.now ≡ empty_object }
-        requires never { view self.now.never.now ≡ model.Never }
-        ensures { Told (flow_rules (machine_view self.now.machine.now) (declared_view self.now.declared.now) (certificate_view self.now.certificate.now) (string_bytes name.now) (state_view state.now)) (option_map broken_view result) }
-    {
-        match self.certificate.states.get(name) {
-            Some(shapes) => self.broken_by_state(state, shapes),
-            None => None,
-        }
-    }
-
-    /// The first broken rule on what flows through a state with that entry; none where no tree has its certified input.
-    fn broken_by_state(&self, state: &State, shapes: &StateShapes) -> Option<Broken>
-        requires nothing { view self.now.nothing.now ≡ empty_object }
-        requires never { view self.now.never.now ≡ model.Never }
-        ensures { (n : List ℕ) → Told (flow_breaches (declared_view self.now.declared.now) (inputs (machine_view self.now.machine.now) (certificate_view self.now.certificate.now)) (Some (view self.now.certificate.now.output)) n (settings_of (state_view state.now)) (kind_of (state_view state.now)) (Some (entry_view shapes.now))) (option_map broken_view result) }
-    {
-        if !inhabited(&shapes.input) {
-            return None;
-        }
-        match state {
-            State::Pass { paths, after } => self.broken_by_pass(paths, after, shapes),
-            State::Succeed { paths } => self.broken_by_end(paths, shapes, "Type"),
-            State::Fail { error: _, cause: _ } => None,
-        }
-    }
-
-    /// The first broken rule on what a Pass state makes of its input.
-    fn broken_by_pass(&self, paths: &Paths, after: &After, shapes: &StateShapes) -> Option<Broken>
-        requires inhabited { IsTrue (model.inhabited (view shapes.now.input)) }
-        requires nothing { view self.now.nothing.now ≡ empty_object }
-        requires never { view self.now.never.now ≡ model.Never }
-        ensures { Told (breaches_then (output_breaches (inputs (machine_view self.now.machine.now) (certificate_view self.now.certificate.now)) (view shapes.now.output) (Some (view self.now.certificate.now.output)) (after_view after.now)) (paths_flow paths.now (view shapes.now.input))) (option_map broken_view result) }
-    {
-        match after {
-            After::Next(next) => {
-                let expected = self.input_to_compare(next);
-                self.broken_by_paths(paths, shapes, expected, "Next", FindingFault::NextInput)
-            }
-            After::End => self.broken_by_end(paths, shapes, "End"),
-        }
-    }
-
-    /// The first broken rule of a state that a scope may end with, told of its output at that field.
-    fn broken_by_end(
+    /// The shape of a state's effective input, of which `InputPath` and `Parameters` leave no doubt.
+    pub(crate) fn effective<'s>(
         &self,
-        paths: &Paths,
-        shapes: &StateShapes,
-        field: &'static str,
-    ) -> Option<Broken>
-        requires inhabited { IsTrue (model.inhabited (view shapes.now.input)) }
-        requires nothing { view self.now.nothing.now ≡ empty_object }
-        ensures { Told (breaches_then (end_breaches (view shapes.now.output) field.now (Some (view self.now.certificate.now.output))) (paths_flow paths.now (view shapes.now.input))) (option_map broken_view result) }
+        settings: &'s Settings,
+        input: &'s Shape,
+    ) -> Result<Flowing<'s>, Stopped>
+        requires inhabited { IsTrue (model.inhabited (view input.now)) }
+        ensures { Flows (effective_flow (settings_view settings.now) (view input.now)) result }
     {
-        self.broken_by_paths(
-            paths,
-            shapes,
-            Some(&self.certificate.output),
+        match taken(self.alloc, &settings.input_path, input) {
+            Ok(taken) => self.payload(&settings.parameters, taken),
+            Err(stopped) => Err(stopped),
+        }
+    }
+
+    /// What `Parameters` make of what was taken; without them it goes through.
+    fn payload<'s>(
+        &self,
+        parameters: &Option<Template>,
+        taken: Flowing<'s>,
+    ) -> Result<Flowing<'s>, Stopped>
+        ensures { Flows (flows.through_template (codes "Parameters") (option_map templates.view parameters.now) (flowing_view taken.entry)) result }
+    {
+        match parameters {
+            None => Ok(taken),
+            Some(template) => self.made(template, taken.as_shape(), None, "Parameters"),
+        }
+    }
+
+    /// What the template in that field makes of an input, and of an item where there is one.
+    pub(crate) fn made<'s>(
+        &self,
+        template: &Template,
+        input: &Shape,
+        item: Option<&Shape>,
+        field: &'static str,
+    ) -> Result<Flowing<'s>, Stopped>
+        ensures { Flows (flows.template_flow field.now (flows.template_shape (templates.view template.now) (view input.now) (item_view item.entry))) result }
+    {
+        match template_shape(self.alloc, template, input, item) {
+            Ok(shape) => Ok(Flowing::Made(shape)),
+            Err(refusal) => Err(Stopped::Broken(broken_by_doubt(&refusal, field)?)),
+        }
+    }
+
+    /// The first broken rule on a result's way to the output, and on that output.
+    pub(crate) fn broken_by_result(
+        &self,
+        state: &State,
+        entry: &StateShapes,
+        end: Option<&Shape>,
+        work: &Shape,
+    ) -> Result<Option<Broken>, OutOfMemory>
+        requires never { view self.now.never.now ≡ model.Never }
+        ensures { IfOk result (λ told. Told (result_breaches (inputs_in (table_view self.now.machine.now) (certificate_view self.now.certificate.now)) (option_map (λ s. view s.now) end.entry) (entry_view entry.now) (settings_view state.now.settings) (kind_view state.now.kind) (view work.now)) (option_map broken_view told)) }
+    {
+        match leave(self.alloc, state, &entry.input, work) {
+            Ok(output) => Ok(self.broken_at_next(&state.settings, entry, end, &output)),
+            Err(fault) => Ok(Some(broken_by_fault(fault)?)),
+        }
+    }
+
+    /// The first broken rule on the output for an effective input that goes to the state which that field names.
+    pub(crate) fn broken_by_chosen(
+        &self,
+        state: &State,
+        entry: &StateShapes,
+        field: &'static str,
+        next: &str,
+        work: &Shape,
+    ) -> Result<Option<Broken>, OutOfMemory>
+        requires never { view self.now.never.now ≡ model.Never }
+        ensures { IfOk result (λ told. Told (chosen_breaches (inputs_in (table_view self.now.machine.now) (certificate_view self.now.certificate.now)) (entry_view entry.now) (settings_view state.now.settings) (kind_view state.now.kind) field.now next.now (view work.now)) (option_map broken_view told)) }
+    {
+        match leave(self.alloc, state, &entry.input, work) {
+            Ok(output) => Ok(self.broken_by_next(entry, field, next, &output)),
+            Err(fault) => Ok(Some(broken_by_fault(fault)?)),
+        }
+    }
+
+    /// The first broken rule on the output for an effective input that ends the scope, as that field says.
+    pub(crate) fn broken_by_end(
+        &self,
+        state: &State,
+        entry: &StateShapes,
+        end: Option<&Shape>,
+        field: &'static str,
+        work: &Shape,
+    ) -> Result<Option<Broken>, OutOfMemory>
+        ensures { IfOk result (λ told. Told (breaches_then (end_breaches (view entry.now.output) field.now (option_map (λ s. view s.now) end.entry)) (flows.leave (settings_view state.now.settings) (kind_view state.now.kind) (view entry.now.input) (view work.now))) (option_map broken_view told)) }
+    {
+        match leave(self.alloc, state, &entry.input, work) {
+            Ok(output) => Ok(broken_by_output(
+                &output,
+                &entry.output,
+                end,
+                field,
+                FindingFault::ScopeOutput,
+            )),
+            Err(fault) => Ok(Some(broken_by_fault(fault)?)),
+        }
+    }
+
+    /// The first broken rule on an output that goes on by `Next`, or ends the scope.
+    fn broken_at_next(
+        &self,
+        settings: &Settings,
+        entry: &StateShapes,
+        end: Option<&Shape>,
+        output: &Shape,
+    ) -> Option<Broken>
+        requires never { view self.now.never.now ≡ model.Never }
+        ensures { Told (output_breaches (inputs_in (table_view self.now.machine.now) (certificate_view self.now.certificate.now)) (view entry.now.output) (option_map (λ s. view s.now) end.entry) (option_map string_bytes settings.now.next) (view output.now)) (option_map broken_view result) }
+    {
+        match &settings.next {
+            Some(next) => self.broken_by_next(entry, "Next", next, output),
+            None => broken_by_output(output, &entry.output, end, "End", FindingFault::ScopeOutput),
+        }
+    }
+
+    /// The first broken rule on an output that goes to the state which that field names.
+    fn broken_by_next(
+        &self,
+        entry: &StateShapes,
+        field: &'static str,
+        next: &str,
+        output: &Shape,
+    ) -> Option<Broken>
+        requires never { view self.now.never.now ≡ model.Never }
+        ensures { Told (next_breaches (inputs_in (table_view self.now.machine.now) (certificate_view self.now.certificate.now)) (view entry.now.output) field.now next.now (view output.now)) (option_map broken_view result) }
+    {
+        let expected = self.input_to_compare(next);
+        broken_by_output(
+            output,
+            &entry.output,
+            expected,
             field,
-            FindingFault::ScopeOutput,
+            FindingFault::NextInput,
         )
     }
-
-    /// The first broken rule on the way of a state's input to its output, and on that output, which is compared with the
-    /// certified one and with what is expected where it goes.
-    fn broken_by_paths(
-        &self,
-        paths: &Paths,
-        shapes: &StateShapes,
-        expected: Option<&Shape>,
-        field: &'static str,
-        fault: FindingFault,
-    ) -> Option<Broken>
-        requires inhabited { IsTrue (model.inhabited (view shapes.now.input)) }
-        requires nothing { view self.now.nothing.now ≡ empty_object }
-        ensures { Told (breaches_then (λ s. breach_unless_sub (codes "OutputPath") OutputNotCertified s (Some (view shapes.now.output)) ++ breach_unless_sub field.now (finding_fault_view fault) s (option_map (λ s. view s.now) expected.entry))
-            (paths_flow paths.now (view shapes.now.input))) (option_map broken_view result) }
-    {
-        match self.output_of(paths, &shapes.input) {
-            Ok(output) => broken_by_output(output, &shapes.output, expected, field, fault),
-            Err(rule) => Some(rule),
-        }
-    }
-
-    /// The shape of the output of a state that hands its effective input on.
-    fn output_of<'s>(&'s self, paths: &Paths, input: &'s Shape) -> Result<&'s Shape, Broken>
-        requires inhabited { IsTrue (model.inhabited (view input.now)) }
-        requires nothing { view self.now.nothing.now ≡ empty_object }
-        ensures { Flows (paths_flow paths.now (view input.now)) (shape_or_breach result) }
-    {
-        match through_path(input, &paths.input, self.nothing, "InputPath") {
-            Ok(effective) => through_path(effective, &paths.output, self.nothing, "OutputPath"),
-            Err(rule) => Err(rule),
-        }
-    }
-
-    /// The input that is compared with what goes on to a name: a state's certified one, if any; what is no state takes
-    /// no tree.
-    pub(crate) fn input_to_compare(&self, name: &String) -> Option<&Shape>
-        requires never { view self.now.never.now ≡ model.Never }
-        ensures { option_map (λ s. view s.now) result ≡ inputs (machine_view self.now.machine.now) (certificate_view self.now.certificate.now) (string_bytes name.now) }
-    {
-        match self.certificate.states.get(name) {
-            Some(shapes) => Some(input_of(shapes)),
-            None if self.machine.states.contains_key(name) => None,
-            None => Some(self.never),
-        }
-    }
 }
 
-/// The certified input of an entry.
-fn input_of(shapes: &StateShapes) -> &Shape
-    ensures { result.now ≡ shapes.now.input }
-{
-    &shapes.input
-}
-
-/// The first broken rule on an output, which is compared with the certified one and with what is expected where it goes.
-fn broken_by_output(
-    output: &Shape,
-    certified: &Shape,
-    expected: Option<&Shape>,
-    field: &'static str,
-    fault: FindingFault,
-) -> Option<Broken>
-    ensures { Told (breach_unless_sub (codes "OutputPath") OutputNotCertified (view output.now) (Some (view certified.now)) ++ breach_unless_sub field.now (finding_fault_view fault) (view output.now) (option_map (λ s. view s.now) expected.entry)) (option_map broken_view result) }
-{
-    if sub(output, certified) {
-        broken_unless_sub(output, expected, field, fault)
-    } else {
-        Some(breach("OutputPath", FindingFault::OutputNotCertified))
-    }
-}
-
-/// The broken rule where a shape isn't inside what is expected, if anything is.
-pub(crate) fn broken_unless_sub(
-    shape: &Shape,
-    expected: Option<&Shape>,
-    field: &'static str,
-    fault: FindingFault,
-) -> Option<Broken>
-    ensures { option_to_list (option_map broken_view result) ≡ breach_unless_sub field.now (finding_fault_view fault) (view shape.now) (option_map (λ s. view s.now) expected.entry) }
-{
-    match expected {
-        Some(expected) => breach_unless(sub(shape, expected), field, fault),
-        None => None,
-    }
-}
-
-/// The shape of what a path names in each tree of an inhabited shape, where it names something in each of them. No path
-/// is null, which gives `{}`.
-fn through_path<'s>(
-    shape: &'s Shape,
+/// What `InputPath` takes of an input; where it is null, `{}`.
+fn taken<'s>(
+    alloc: Global,
     path: &Option<RefPath>,
-    nothing: &'s Shape,
-    field: &'static str,
-) -> Result<&'s Shape, Broken>
-    requires inhabited { IsTrue (model.inhabited (view shape.now)) }
-    requires nothing { view nothing.now ≡ empty_object }
-    ensures comes_to { Flows (path_flow_of field.now path.now (view shape.now)) (shape_or_breach result) }
-    ensures inhabited { IfOk result (λ s. IsTrue (model.inhabited (view s.now))) }
+    input: &'s Shape,
+) -> Result<Flowing<'s>, Stopped>
+    requires inhabited { IsTrue (model.inhabited (view input.now)) }
+    ensures { Flows (flows.through_path (codes "InputPath") path.now (view input.now)) result }
 {
     match path {
-        Some(path) => match find_shape(shape, path) {
-            Ok(found) => Ok(found),
-            Err(_) => Err(breach(field, FindingFault::PathMayBeMissing)),
+        None => Ok(Flowing::Made(Shape::Object {
+            fields: BTreeMap::new(alloc),
+            extra: false,
+        })),
+        Some(path) => match find_shape(input, path) {
+            Ok(taken) => Ok(Flowing::Lent(taken)),
+            Err(_) => {
+                let rule = breach("InputPath", FindingFault::PathMayBeMissing);
+                Err(Stopped::Broken(rule))
+            }
         },
-        None => Ok(nothing),
+    }
+}
+
+/// The rule that a doubt about the template in that field breaks.
+fn broken_by_doubt(
+    refusal: &TemplateShapeRefusal,
+    field: &'static str,
+) -> Result<Broken, OutOfMemory>
+    ensures { IfOk result (λ rule. option_map (λ d. breach_of (flows.doubt_fault field.now d.1)) (doubt_told refusal.now) ≡ Some (broken_view rule)) }
+{
+    match refusal {
+        TemplateShapeRefusal::MayBeMissing(_) => Ok(breach(field, FindingFault::PathMayBeMissing)),
+        TemplateShapeRefusal::MayFail(_) => Ok(breach(field, FindingFault::IntrinsicMayFail)),
+        TemplateShapeRefusal::OutOfMemory => Err(OutOfMemory),
+    }
+}
+
+/// The rule that a fault on the way to a state's output breaks.
+fn broken_by_fault(fault: FlowFault) -> Result<Broken, OutOfMemory>
+    ensures { IfOk result (λ rule. option_map breach_of (fault_view fault) ≡ Some (broken_view rule)) }
+{
+    match fault {
+        FlowFault::MayBeMissing(field) => Ok(breach(field, FindingFault::PathMayBeMissing)),
+        FlowFault::MayFail(field) => Ok(breach(field, FindingFault::IntrinsicMayFail)),
+        FlowFault::MayNotFit(field) => Ok(breach(field, FindingFault::ResultMayNotFit)),
+        FlowFault::OutOfMemory => Err(OutOfMemory),
     }
 }

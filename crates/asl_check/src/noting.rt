@@ -1,6 +1,6 @@
 // Noting broken rules: of each name that has one, the first.
 
-ghost use Rattle.std.specs.Prelude.{◌≡◌, IfOk, OnOk, option_map, option_to_list, string_bytes};
+ghost use Rattle.std.specs.Prelude.{◌≡◌, IfOk, OnOk, option_map, option_to_list};
 ghost use Rattle.asl_model.specs.Finding as model;
 ghost use Rattle.asl_model.specs.Finding.{found_at};
 ghost use Rattle.asl_check.specs.Noting.{AreNoted, IsToldBy, broken_view, notes_view};
@@ -41,15 +41,17 @@ pub(crate) fn breach_unless(holds: bool, field: &'static str, fault: FindingFaul
 
 /// Notes a broken rule of a name, if there is one and the name has none yet.
 pub(crate) fn note(
+    alloc: Global,
     notes: &mut BrokenRules,
-    name: &String,
+    name: &str,
     rule: Option<Broken>,
 ) -> Result<(), OutOfMemory>
-    ensures { OnOk result (AreNoted (found_at (string_bytes name.now) (option_to_list (option_map broken_view rule))) (notes_view notes.old.entries) (notes_view notes.new.entries)) }
+    ensures { OnOk result (AreNoted (found_at name.now (option_to_list (option_map broken_view rule))) (notes_view notes.old.entries) (notes_view notes.new.entries)) }
 {
     if let Some(rule) = rule {
         if !notes.contains_key(name) {
-            drop(notes.insert(name.clone()?, rule)?);
+            let name = String::from_str(alloc, name)?;
+            drop(notes.insert(name, rule)?);
         }
     }
     Ok(())

@@ -20,18 +20,12 @@ pub record AddsBefore (before after all left : List Standing) : Type 0 where
   pub added : Adds before after done
   pub rest : all ≡ done ++ left
 
-pub none_yet : (a all left : List Standing) → all ≡ left → AddsBefore a a all left
-none_yet a all left same = record { done = []; added = record { holds = sym (append-nil a) }; rest = same }
-
 pub some_more : (a b c all left xs more : List Standing) → AddsBefore a b all left → left ≡ xs ++ more → Adds b c xs → AddsBefore a c all more
 some_more a b c all left xs more so_far parted next = record {
   done = so_far.done ++ xs;
   added = adds_then a b c so_far.done xs so_far.added next;
   rest = so_far.rest ∙ ap (λ ss. so_far.done ++ ss) parted ∙ sym (append_assoc so_far.done xs more);
 }
-
-pub all_added : (a b all left : List Standing) → AddsBefore a b all left → left ≡ [] → Adds a b all
-all_added a b all left so_far none = record { holds = so_far.added.holds ∙ ap (λ ss. a ++ map outlined ss) (sym (so_far.rest ∙ ap (λ ss. so_far.done ++ ss) none ∙ append-nil so_far.done)) }
 
 pub adds_none : (rows : List Standing) → Adds rows rows []
 adds_none rows = record { holds = sym (append-nil rows) }

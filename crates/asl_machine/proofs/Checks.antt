@@ -3,20 +3,17 @@ use Rattle.std.proofs.Common.{◌≡◌, List, ◌++◌, Option, Some, None, Res
 use Rattle.std.proofs.lemmas.List.Elements.{Contains-append_left, Contains-append_right}
 use Rattle.asl_machine.specs.Definition.{IsAmong, IsAnswer}
 
-among_first : {F : Type 0} (xs ys : List F) (o : Option F) → IsAmong xs o → IsAmong (xs ++ ys) o
+pub among_first : {F : Type 0} (xs ys : List F) (o : Option F) → IsAmong xs o → IsAmong (xs ++ ys) o
 among_first xs ys None h = tt
 among_first xs ys (Some f) h = Contains-append_left xs ys f h
 
-among_second : {F : Type 0} (xs ys : List F) (o : Option F) → IsAmong ys o → IsAmong (xs ++ ys) o
+pub among_second : {F : Type 0} (xs ys : List F) (o : Option F) → IsAmong ys o → IsAmong (xs ++ ys) o
 among_second xs ys None h = tt
 among_second xs ys (Some f) h = Contains-append_right xs ys f h
 
 -- what is told of the first of two lists is told of both
 pub told_first : {E F : Type 0} {shown : E → Option F} (xs ys : List F) (e : E) → IsAnswer shown xs (Err e) → IsAnswer shown (xs ++ ys) (Err e)
 told_first {shown = shown} xs ys e h = record { holds = among_first xs ys (shown e) h.holds }
-
-pub told_second : {E F : Type 0} {shown : E → Option F} (xs ys : List F) (e : E) → IsAnswer shown ys (Err e) → IsAnswer shown (xs ++ ys) (Err e)
-told_second {shown = shown} xs ys e h = record { holds = among_second xs ys (shown e) h.holds }
 
 -- after a check that finds nothing the next answers for both
 pub told_next : {E F : Type 0} {shown : E → Option F} (xs ys : List F) (result : Result (Unit {0}) E) → IsAnswer shown xs (Ok tt) → IsAnswer shown ys result → IsAnswer shown (xs ++ ys) result

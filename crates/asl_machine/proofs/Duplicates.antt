@@ -6,21 +6,12 @@ use Rattle.asl_model.specs.DefinitionTable.{DuplicateName}
 use Rattle.asl_model.specs.ShapeSpelling.{is_among}
 use Rattle.asl_model.specs.StandsFor.{Complaint, duplicate_complaints}
 use Rattle.asl_model.proofs.ShapeWitness.{bytes_eq-comm}
-use Rattle.asl_machine.specs.Unserved.{complaint_of}
+use Rattle.asl_machine.specs.View.{complaint_of}
 use Rattle.asl_machine.proofs.Complaints.{here, further}
 
 -- the name is told as standing twice
 abbrev pub twice : List ℕ → Complaint
 twice n = complaint_of n (codes "States") DuplicateName
-
--- a name in a list is among that list and more
-among_more : (n : List ℕ) (ns ms : List (List ℕ)) → is_among n ns ≡ true → is_among n (ns ++ ms) ≡ true
-among_more n [] ms h = absurd (cc)
-among_more n (k ∷ ns) ms h = by (bytes_eq k n) h (among_more n ns ms)
-  where
-    by : (b : Bool) → (b || is_among n ns) ≡ true → (is_among n ns ≡ true → is_among n (ns ++ ms) ≡ true) → (b || is_among n (ns ++ ms)) ≡ true
-    by true g go = refl
-    by false g go = go g
 
 -- one that is the first of what comes behind, or further back
 among_behind : (n : List ℕ) (ns ms : List (List ℕ)) → is_among n (ns ++ n ∷ ms) ≡ true

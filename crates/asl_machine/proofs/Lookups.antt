@@ -1,5 +1,5 @@
 -- Looking fields up in a value.
-use Rattle.std.proofs.Common.{◌≡◌, ℕ, codes, option_map, unwrap_or, suc, ◌+◌, ◌/◌, ◌==◌, List, [], ◌∷◌, Option, Some, None, is_some, Bool, true, false, not, cond, if◌then◌else◌, ◌||◌, bytes_eq, refl, sym, ap, ◌∙◌, zero-add, add-zero, arith, is_eq, Ordering, Less, Equal, Greater}
+use Rattle.std.proofs.Common.{◌≡◌, ℕ, codes, option_map, unwrap_or, suc, ◌+◌, ◌/◌, ◌==◌, List, [], ◌∷◌, Option, Some, is_some, Bool, true, false, not, cond, if◌then◌else◌, ◌||◌, bytes_eq, refl, sym, ap, ◌∙◌, zero-add, add-zero, arith, is_eq, Ordering, Less, Equal, Greater}
 use Rattle.std.specs.List.{count_by, fold}
 use Rattle.std.proofs.lemmas.Slice.Eq.{bytes_eq-Decides}
 use Rattle.std.specs.Ordering.{nat_cmp, match_ordering}
@@ -10,10 +10,6 @@ use Rattle.serde_json.specs.Data.{Data, Members}
 use Rattle.serde_json.specs.Find.{get, get_member}
 use Rattle.asl_model.specs.ShapeSpelling.{is_among}
 use Rattle.asl_model.specs.StandsFor.{members_in, names_of, state_names, characters}
-
-pub none_from : (o : Option Data) → is_some o ≡ false → o ≡ None
-none_from None e = refl
-none_from (Some v) e = absurd (cc)
 
 -- a field of a value is one of its members
 pub got_among : (field : List ℕ) (v : Data) → get field v ≡ get_member field (members_in v)

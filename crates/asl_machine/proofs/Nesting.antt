@@ -13,7 +13,7 @@ use Rattle.serde_json.proofs.Views.{view-Object, view-lookup}
 use Rattle.asl_model.specs.DefinitionTable.{wrong_kind, branch_rows, processor_rows}
 use Rattle.asl_model.specs.DefinitionTable as model
 use Rattle.asl_model.specs.StandsFor.{Complaint, Place, members_in, state_names, text_at, type_of, place_within, complain_unless, fields_complaints, target_complaints, is_processor, name_complaints, scope_complaints, states_complaints_under, states_complaints, each_state_complaints, state_complaints, state_complaints_by, branches_complaints_under, branches_complaints, each_branch_complaints, processor_complaints_under}
-use Rattle.asl_machine.proofs.PlainStates.{Member}
+use Rattle.asl_machine.proofs.Nested.{Member}
 use Rattle.asl_machine.proofs.Values.{items_parts}
 use Rattle.asl_machine.proofs.Walks.{states_complaints_under_get, branches_complaints_under_get}
 

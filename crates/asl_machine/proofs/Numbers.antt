@@ -19,10 +19,10 @@ use Rattle.asl_machine.specs.Definition.{IsAmong}
 use Rattle.asl_machine.specs.Machine.{state_view}
 use Rattle.asl_machine.specs.Numbered.{Holds, home_view, home_of, names_of_all, placed_in}
 use Rattle.asl_machine.specs.Built.{built_view}
-use Rattle.asl_machine.specs.Unserved.{complaint_of}
+use Rattle.asl_machine.specs.View.{complaint_of}
 use Rattle.asl_machine.proofs.Complaints.{here}
 use Rattle.asl_machine.proofs.Duplicates.{none_again, told_again, twice}
-use Rattle.asl_machine.proofs.Verdicts.{among_second}
+use Rattle.asl_machine.proofs.Checks.{among_second}
 
 -- the comparison of two names either way round
 swapped : (m n : List ℕ) → bytes_eq m n ≡ bytes_eq n m

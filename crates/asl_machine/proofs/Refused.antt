@@ -1,19 +1,19 @@
 -- What is wrong with a definition is what its rules say, and what its states' names say.
-use Rattle.std.proofs.Common.{◌≡◌, refl, sym, ap, ◌∙◌, subst, ℕ, List, [], ◌++◌, map, append_assoc, Option, Some, None, option_map, Result, Ok, Err, IfSome, IfOk, IfErr}
-use Rattle.std.specs.List.{Contains}
+use Rattle.std.proofs.Common.{◌≡◌, refl, sym, ap, ◌∙◌, subst, ℕ, List, [], ◌++◌, map, append_assoc, Option, Some, None, Result, Ok, Err, IfSome, IfOk, IfErr}
 use Rattle.serde_json.specs.Data.{Data}
 use Rattle.asl_model.specs.DefinitionTable.{machine_rows}
-use Rattle.asl_model.specs.Numbering.{Standing, standing_in, outlined}
-use Rattle.asl_model.specs.StandsFor.{Complaint, HasComplaint, StandsFor, scope_of, all_names, complaints, no_object_complaints, scope_complaints, duplicate_complaints, number_complaints, place_of_state}
+use Rattle.asl_model.specs.Numbering.{Standing, standing_in, outlined, table_among}
+use Rattle.asl_model.specs.StandsFor.{Complaint, StandsFor, scope_of, all_names, complaints, no_object_complaints, scope_complaints, duplicate_complaints, number_complaints, place_of_state}
 use Rattle.asl_model.proofs.Numbering.{names_of_standing, outlined_names}
+use Rattle.asl_model.proofs.WellNamed.{well_named}
 use Rattle.asl_machine.specs.declared.machine.Machine.{Machine}
 use Rattle.asl_machine.specs.declared.refusals.DefRefusal.{DefRefusal}
 use Rattle.asl_machine.specs.Definition.{IsAmong}
 use Rattle.asl_machine.specs.Numbered.{names_of_all}
 use Rattle.asl_machine.specs.Refusal.{IsRefused, without_memory, for_broken_rule}
+use Rattle.asl_machine.specs.Table.{table_view, Shows}
 use Rattle.asl_machine.specs.View.{refusal_view}
-use Rattle.asl_machine.proofs.Complaints.{in_first, in_second}
-use Rattle.asl_machine.proofs.Verdicts.{among_first, among_second}
+use Rattle.asl_machine.proofs.Checks.{among_first, among_second}
 
 -- what is wrong but for the names of states
 abbrev pub rules_broken : Data → List Complaint
@@ -58,7 +58,12 @@ pub stands_numbered : (v : Data) (built : List Standing) (result : Result Machin
 stands_numbered v built (Ok machine) e rules distinct few = stands v built e rules distinct few
 stands_numbered v built (Err refusal) e rules distinct few = tt
 
--- and where they aren't that is a reason to refuse
+-- and the machine that is built shows that one
+pub shown_numbered : (v : Data) (built : List Standing) (result : Result Machine DefRefusal) → built ≡ map outlined (standing_in None (scope_of v)) → rules_broken v ≡ [] → IfOk result (λ machine. table_view machine ≡ table_among built) → IfOk result (λ _. duplicate_complaints (names_of_all built) ≡ []) → IfOk result (λ _. number_complaints (names_of_all built) ≡ []) → IfOk result (λ machine. Shows machine (scope_of v))
+shown_numbered v built (Ok machine) e rules table distinct few = record { table = table ∙ ap table_among e; well_named = well_named v (scope_of v) (stands v built e rules distinct few) }
+shown_numbered v built (Err refusal) e rules table distinct few = tt
+
+-- where they aren't numbered that is a reason to refuse
 pub refused_numbered : (v : Data) (built : List Standing) (result : Result Machine DefRefusal) → built ≡ map outlined (standing_in None (scope_of v)) → IfErr result (λ refusal. IsAmong (names_broken (names_of_all built)) (refusal_view refusal)) → IfErr result (λ refusal. IsRefused v (refusal_view refusal))
 refused_numbered v built (Ok machine) e h = tt
 refused_numbered v built (Err refusal) e h = names_refused v built e (refusal_view refusal) h

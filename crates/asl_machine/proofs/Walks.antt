@@ -6,9 +6,8 @@ use Rattle.std.proofs.lemmas.Map.Text.{is_eq-slice_cmp}
 use Rattle.serde_json.specs.Data as json
 use Rattle.serde_json.specs.Data.{Data, Members}
 use Rattle.serde_json.specs.Find.{get_member}
-use Rattle.asl_model.specs.DefinitionTable.{processor_rows}
-use Rattle.asl_model.specs.Machine.{NoScopes, NoStates, empty_scope}
-use Rattle.asl_model.specs.StandsFor.{is_processor, scope_of, states_in, states_under, scopes_in, each_scope, items_in, items_at, branches_under, processor_under, scope_complaints, states_complaints, states_complaints_under, branches_complaints, branches_complaints_under, processor_complaints_under}
+use Rattle.asl_model.specs.Machine.{NoScopes, NoStates}
+use Rattle.asl_model.specs.StandsFor.{is_processor, states_in, states_under, scopes_in, each_scope, items_in, items_at, branches_under, processor_under, states_complaints, states_complaints_under, branches_complaints, branches_complaints_under}
 
 -- ---- under one name
 
@@ -64,29 +63,6 @@ scopes_or_none (Some v) = scopes_listed v
 pub branches_under_items : (ms : Members) → branches_under ms ≡ each_scope (items_at (codes "Branches") ms)
 branches_under_items ms = branches_under_get ms ∙ scopes_or_none (get_member (codes "Branches") ms)
 
--- ---- a Map's processor, under either of its names
-
--- the first member that is a processor, with its name
-abbrev pub processor_in : Members → Option (List ℕ × Data)
-processor_in json.no_members = None
-processor_in (json.member n v ms) = if is_processor n then Some (n, v) else processor_in ms
-
-processor_step : {A : Type 0} (f : List ℕ → Data → A) (d : A) (here : Bool) (n : List ℕ) (v : Data) (further : Option (List ℕ × Data)) (rest : A) → rest ≡ unwrap_or (option_map (λ p. f p.0 p.1) further) d
-    → (elim here [ true ↦ f n v | false ↦ rest ]) ≡ unwrap_or (option_map (λ p. f p.0 p.1) (if here then Some (n, v) else further)) d
-processor_step f d true n v further rest e = refl
-processor_step f d false n v further rest e = e
-
 -- a member that isn't a processor is passed over
 pub processor_past : (n : List ℕ) (v : Data) (ms : Members) → is_processor n ≡ false → processor_under (json.member n v ms) ≡ processor_under ms
 processor_past n v ms other = rw other refl
-
-pub processor_under_first : (ms : Members) → processor_under ms ≡ unwrap_or (option_map (λ p. scope_of p.1) (processor_in ms)) empty_scope
-processor_under_first json.no_members = refl
-processor_under_first (json.member n v ms) =
-    processor_step (λ m w. scope_of w) empty_scope (is_processor n) n v (processor_in ms) (processor_under ms) (processor_under_first ms)
-
-pub processor_complaints_under_first : (state : List ℕ) (ms : Members)
-    → processor_complaints_under state ms ≡ unwrap_or (option_map (λ p. scope_complaints (record { state = state; within = Some p.0 }) processor_rows p.1) (processor_in ms)) []
-processor_complaints_under_first state json.no_members = refl
-processor_complaints_under_first state (json.member n v ms) =
-    processor_step (λ m w. scope_complaints (record { state = state; within = Some m }) processor_rows w) [] (is_processor n) n v (processor_in ms) (processor_complaints_under state ms) (processor_complaints_under_first state ms)

@@ -2,9 +2,7 @@ pub mod Built
 pub mod Definition
 pub mod Machine
 pub mod Numbered
-pub mod Plain
 pub mod Refusal
 pub mod Rows
 pub mod Table
-pub mod Unserved
 pub mod View

@@ -1,5 +1,5 @@
 -- What the faults and refusals of a definition stand for in the definitions.
-use Rattle.std.specs.Prelude.{Option, Some, None, option_map, string_bytes}
+use Rattle.std.specs.Prelude.{ℕ, List, Option, Some, None, option_map, string_bytes}
 use Rattle.asl_model.specs.DefinitionTable as definition
 use Rattle.asl_model.specs.StandsFor.{Complaint}
 use Rattle.asl_machine.specs.declared.refusals.DefRefusal.{DefRefusal}
@@ -28,6 +28,10 @@ def_fault_view def.TooLarge = Some definition.TooLarge
 def_fault_view def.OutOfMemory = None
 def_fault_view def.NotWhole = Some definition.NotWhole
 
+-- a fault of that field of that state
+abbrev pub complaint_of : List ℕ → List ℕ → definition.DefFault → Complaint
+complaint_of state field fault = record { fault = fault; state = state; field = field }
+
 -- what a refusal tells; none is want of memory
 abbrev pub refusal_view : DefRefusal → Option Complaint
-refusal_view r = option_map (λ f. record { fault = f; state = string_bytes r.state; field = string_bytes r.field }) (def_fault_view r.fault)
+refusal_view r = option_map (complaint_of (string_bytes r.state) (string_bytes r.field)) (def_fault_view r.fault)

@@ -5,7 +5,6 @@
 #![tactic(auto)]
 
 mod building;
-mod checking;
 mod choices;
 mod field_checking;
 mod fields;
@@ -13,9 +12,6 @@ mod kinds;
 mod machine;
 mod numbering;
 mod places;
-pub mod plain;
-mod plain_building;
-mod plain_reading;
 mod reading;
 mod refusals;
 mod rows;
@@ -24,14 +20,12 @@ mod scopes;
 mod settings;
 mod state_checking;
 mod states;
-mod table;
 #[cfg(test)]
 mod tests;
 mod trouble_checking;
 mod value_checking;
 
 pub use machine::Machine;
-pub use plain_reading::read_plain;
 pub use reading::read;
 pub use refusals::{DefFault, DefRefusal};
 pub use states::{Catcher, Delay, Kind, Retrier, Scope, Settings, State};

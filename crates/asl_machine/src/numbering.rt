@@ -15,10 +15,12 @@ use crate::building::BuiltState;
 use crate::machine::Machine;
 use crate::refusals::{DefFault, DefRefusal};
 use crate::states::{Scope, State};
-use crate::table;
 use asl_tree::OutOfMemory;
 use indexmap::IndexSet;
 use std::alloc::Global;
+
+/// How many states a machine may have.
+const MOST_STATES: usize = 10000;
 
 /// Where a state stands, by names.
 #[derive(Clone, Copy, Debug)]
@@ -44,7 +46,7 @@ pub(crate) fn number(alloc: Global, rows: Vec<BuiltState>) -> Result<Machine, De
     ensures few { IfOk result (λ _. number_complaints (names_of_all (map built_view rows.entry.items)) ≡ []) }
     ensures refused { IfErr result (λ e. IsAmong (duplicate_complaints (names_of_all (map built_view rows.entry.items)) ++ number_complaints (names_of_all (map built_view rows.entry.items))) (refusal_view e)) }
 {
-    if rows.len() > table::MOST_STATES {
+    if rows.len() > MOST_STATES {
         return Err(DefRefusal::new(alloc, DefFault::TooLarge, "", "States"));
     }
     let numbered = match number_all(alloc, rows) {

@@ -5,7 +5,7 @@ ghost use Rattle.serde_json.specs.View.{view};
 ghost use Rattle.asl_model.specs.Numbering.{table_of};
 ghost use Rattle.asl_model.specs.StandsFor.{StandsFor, scope_of};
 ghost use Rattle.asl_machine.specs.Refusal.{IsRefused};
-ghost use Rattle.asl_machine.specs.Table.{table_view};
+ghost use Rattle.asl_machine.specs.Table.{table_view, Shows};
 ghost use Rattle.asl_machine.specs.View.{refusal_view};
 
 use crate::building::build_scope;
@@ -23,6 +23,7 @@ use std::alloc::Global;
 pub fn read(alloc: Global, value: &Value) -> Result<Machine, DefRefusal>
     ensures machine { IfOk result (λ _. StandsFor (view value.now) (scope_of (view value.now))) }
     ensures table { IfOk result (λ machine. table_view machine ≡ table_of (scope_of (view value.now))) }
+    ensures shown { IfOk result (λ machine. Shows machine (scope_of (view value.now))) }
     ensures refused { IfErr result (λ refusal. IsRefused (view value.now) (refusal_view refusal)) }
 {
     match check_rules(alloc, value) {

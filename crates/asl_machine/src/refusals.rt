@@ -88,8 +88,7 @@ pub struct DefRefusal {
 }
 
 impl DefRefusal {
-    ghost use Rattle.asl_machine.specs.View.{refusal_view};
-    ghost use Rattle.asl_machine.specs.Unserved.{complaint_of};
+    ghost use Rattle.asl_machine.specs.View.{complaint_of, refusal_view};
 
     /// A fault at a state and a field. Where there is no memory for their names, that is what is told.
     pub(crate) fn new(alloc: Global, fault: DefFault, state: &str, field: &str) -> DefRefusal

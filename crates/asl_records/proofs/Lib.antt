@@ -1,9 +1,10 @@
 pub mod Certified
 pub mod Entries
+pub mod Lists
 pub mod Members
 pub mod Numbers
 pub mod Objects
-pub mod Served
 pub mod Shapes
+pub mod Stated
 pub mod Telling
 pub mod Versions

@@ -6,7 +6,7 @@ use Rattle.std.proofs.lemmas.Map.Text.{btree_map_updates_text}
 use Rattle.std.specs.BTreeMap.{UpdatesBy, get_by_text}
 use Rattle.std.specs.Cmp.Lexicographic.{slice_cmp}
 use Rattle.serde_json.proofs.Views.{view-lookup}
-use Rattle.serde_json.specs.Find.{as_object, get_member}
+use Rattle.serde_json.specs.Find.{as_array, as_object, get_member}
 use Rattle.serde_json.specs.View.{view, members_view}
 use Rattle.serde_json.specs.declared.number.Number.{Number}
 use Rattle.serde_json.specs.declared.value.Value.{Value, Null, the_lemmas}
@@ -43,6 +43,18 @@ no_object v (inr (inl (b, e))) = rw e (search (rules, the_lemmas))
 no_object v (inr (inr (inl (n, e)))) = rw e (search (rules, the_lemmas))
 no_object v (inr (inr (inr (inl (s, e))))) = rw e (search (rules, the_lemmas))
 no_object v (inr (inr (inr (inr (vs, e))))) = rw e (search (rules, the_lemmas))
+
+-- the value is of a kind other than lists
+abbrev pub IsNoList : Value → Type 0
+IsNoList v = (v ≡ Null) ⊎ (((b : Bool) × (v ≡ value.Bool b)) ⊎ (((n : Number) × (v ≡ value.Number n)) ⊎ (((s : String Global) × (v ≡ value.String s)) ⊎ ((m : BTreeMap (String Global) Value) × (v ≡ value.Object m)))))
+
+-- and then it is no list
+pub no_list : (v : Value) → IsNoList v → as_array (view v) ≡ None
+no_list v (inl e) = rw e (search (rules, the_lemmas))
+no_list v (inr (inl (b, e))) = rw e (search (rules, the_lemmas))
+no_list v (inr (inr (inl (n, e)))) = rw e (search (rules, the_lemmas))
+no_list v (inr (inr (inr (inl (s, e))))) = rw e (search (rules, the_lemmas))
+no_list v (inr (inr (inr (inr (m, e))))) = rw e (search (rules, the_lemmas))
 
 -- ---- look-ups
 

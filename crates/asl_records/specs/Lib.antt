@@ -1,4 +1,3 @@
 pub mod Parts
 pub mod Refusal
-pub mod Unserved
 pub mod View

@@ -1,13 +1,14 @@
 -- What is wrong with the parts of a record, and what a part is refused with. No public clause cites this module.
-use Rattle.std.specs.Prelude.{ℕ, List, [], ◌∷◌, ◌++◌, map, Bool, true, if◌then◌else◌, Option, option_map, codes, ⊤, IsTrue, is_some}
+use Rattle.std.specs.Prelude.{ℕ, List, [], ◌∷◌, map, Bool, true, false, if◌then◌else◌, Option, option_map, option_and_then, codes, ⊤, IsTrue, is_some}
 use Rattle.std.specs.Option.{unwrap_or}
 use Rattle.std.specs.List.{Contains}
 use Rattle.serde_json.specs.Data as json
-use Rattle.serde_json.specs.Data.{Data, Members}
+use Rattle.serde_json.specs.Data.{Data, Items, Members}
+use Rattle.serde_json.specs.Find.{as_array}
 use Rattle.asl_model.specs.Shape.{Shape, Any}
 use Rattle.asl_model.specs.ShapeSpelling.{is_among}
-use Rattle.asl_model.specs.Json.{tree_of, members_of}
-use Rattle.asl_model.specs.Records.{RecordFault, UnknownField, RecordComplaint, RecordRow, ShapeValue, EntriesValue, VersionValue, certificate_rows, entries_complaints, field_faults, members_in, members_under, object_complaints, shape_from, shape_misfits}
+use Rattle.asl_model.specs.Json.{tree_of, elements_of, members_of}
+use Rattle.asl_model.specs.Records.{RecordFault, UnknownField, RecordComplaint, RecordRow, ShapeValue, ShapesValue, EntriesValue, VersionValue, field_faults, members_in, shape_from, shapes_from, shape_misfits, shapes_misfits}
 use Rattle.asl_records.specs.Refusal.{Tells}
 use Rattle.asl_records.specs.declared.refusals.ReadFault.{ReadFault}
 use Rattle.asl_records.specs.declared.refusals.ReadFault.TheVariants as kept
@@ -23,12 +24,15 @@ Blames wrong kept.OutOfMemory = ⊤
 pub record TellsOneOf (wrong : List RecordComplaint) (fault : ReadFault) : Type 0 where
   pub told : Blames wrong fault
 
--- all numbers in the value are whole, and in the members: it is a tree
+-- all numbers in the value are whole, in the members, and in the elements: it is a tree
 pub record IsWhole (v : Data) : Type 0 where
   pub whole : IsTrue (is_some (tree_of v))
 
 pub record AreWhole (ms : Members) : Type 0 where
   pub whole : IsTrue (is_some (members_of ms))
+
+pub record ElementsAreWhole (vs : Items) : Type 0 where
+  pub whole : IsTrue (is_some (elements_of vs))
 
 -- ---- complaints
 
@@ -40,6 +44,10 @@ complaint_of name field fault = record { fault = fault; name = name; field = fie
 abbrev pub shape_complaints : List ℕ → List ℕ → Data → List RecordComplaint
 shape_complaints name field v = map (complaint_of name field) (shape_misfits v)
 
+-- what is wrong with values that should be shapes
+abbrev pub shapes_complaints : List ℕ → List ℕ → Items → List RecordComplaint
+shapes_complaints name field vs = map (complaint_of name field) (shapes_misfits vs)
+
 -- what is wrong with what stands in a field
 abbrev pub field_complaints : List ℕ → RecordRow → Option Data → List RecordComplaint
 field_complaints name row value = map (complaint_of name row.field) (field_faults row value)
@@ -47,6 +55,10 @@ field_complaints name row value = map (complaint_of name row.field) (field_fault
 -- a field with a shape
 abbrev pub shape_row : List ℕ → Bool → RecordRow
 shape_row field required = record { field = field; value = ShapeValue; required = required }
+
+-- a field that may have a list of shapes
+abbrev pub shapes_row : List ℕ → RecordRow
+shapes_row field = record { field = field; value = ShapesValue; required = false }
 
 -- a field with entries
 abbrev pub entries_row : List ℕ → Bool → RecordRow
@@ -61,14 +73,6 @@ abbrev pub foreign_complaints : List ℕ → List (List ℕ) → Members → Lis
 foreign_complaints name known json.no_members = []
 foreign_complaints name known (json.member n v ms) = if is_among n known then foreign_complaints name known ms else complaint_of name n UnknownField ∷ foreign_complaints name known ms
 
--- the fields that are served of a state's entry
-abbrev pub served_rows : List RecordRow
-served_rows = shape_row (codes "input") true ∷ shape_row (codes "output") true ∷ []
-
--- what is wrong with a value as a certificate, of whose states only that is served
-abbrev pub served_complaints : Data → List RecordComplaint
-served_complaints v = object_complaints [] certificate_rows v ++ entries_complaints served_rows (members_under (codes "states") v)
-
 -- ---- what stands there
 
 -- the members of the object that stands there
@@ -78,3 +82,7 @@ members_there value = unwrap_or (option_map members_in value) json.no_members
 -- the shape that stands there, Any where nothing does
 abbrev pub shape_there : Option Data → Shape
 shape_there value = unwrap_or (option_map shape_from value) Any
+
+-- the shapes of the list that stands there, none where nothing does
+abbrev pub shapes_there : Option Data → List Shape
+shapes_there value = unwrap_or (option_map shapes_from (option_and_then as_array value)) []

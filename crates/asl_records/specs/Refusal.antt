@@ -1,10 +1,9 @@
 -- Why a JSON value is refused.
-use Rattle.std.specs.Prelude.{◌≡◌, Some, None, ◌⊎◌, ⊤}
+use Rattle.std.specs.Prelude.{◌≡◌, Some, None, ⊤}
 use Rattle.serde_json.specs.Data.{Data}
 use Rattle.asl_model.specs.Json.{tree_of}
 use Rattle.asl_model.specs.Records.{RecordComplaint, HasDeclaredFault, HasCertificateFault}
 use Rattle.asl_records.specs.View.{complaint_view}
-use Rattle.asl_records.specs.Unserved.{IsUnserved}
 use Rattle.asl_records.specs.declared.refusals.RecordRefusal.{RecordRefusal}
 use Rattle.asl_records.specs.declared.refusals.ReadFault.{ReadFault}
 use Rattle.asl_records.specs.declared.refusals.ReadFault.TheVariants as kept
@@ -19,8 +18,8 @@ IsDeclaredRefusal v kept.NotWhole = tree_of v ≡ None
 IsDeclaredRefusal v (kept.Record refusal) = Tells refusal (HasDeclaredFault v)
 IsDeclaredRefusal v kept.OutOfMemory = ⊤
 
--- why it isn't read as a certificate: it breaks a rule, or has what isn't served
+-- why it isn't read as a certificate
 abbrev pub IsCertificateRefusal : Data → ReadFault → Type 0
 IsCertificateRefusal v kept.NotWhole = tree_of v ≡ None
-IsCertificateRefusal v (kept.Record refusal) = Tells refusal (λ c. HasCertificateFault v c ⊎ IsUnserved v c)
+IsCertificateRefusal v (kept.Record refusal) = Tells refusal (HasCertificateFault v)
 IsCertificateRefusal v kept.OutOfMemory = ⊤

@@ -1,5 +1,5 @@
 -- What declared shapes, certificates and their refusals stand for in the definitions.
-use Rattle.std.specs.Prelude.{ℕ, List, [], map, Option, Some, None, option_map, String, string_bytes}
+use Rattle.std.specs.Prelude.{ℕ, List, map, Option, Some, None, option_map, String, string_bytes}
 use Rattle.std.specs.declared.alloc.Global.{Global}
 use Rattle.asl_model.specs.Certificate as model
 use Rattle.asl_model.specs.Records as records
@@ -25,9 +25,9 @@ tasks_view entries = map (λ entry. (string_bytes entry.0, task_view entry.1)) e
 abbrev pub declared_view : Declared → model.Declared
 declared_view declared = record { input = view declared.input; tasks = tasks_view declared.tasks.entries }
 
--- what is certified of a state; none of the types that are served has branches or items
+-- what is certified of a state
 abbrev pub entry_view : StateShapes → model.StateShapes
-entry_view entry = record { input = view entry.input; output = view entry.output; branches = []; item = None }
+entry_view entry = record { input = view entry.input; output = view entry.output; branches = map view entry.branches.items; item = option_map view entry.item }
 
 -- the entries of a map, in the order of their names
 abbrev pub entries_view : List (String Global × StateShapes) → List (List ℕ × model.StateShapes)

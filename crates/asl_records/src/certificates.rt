@@ -3,12 +3,14 @@
 ghost use Rattle.std.specs.Prelude.{◌≡◌, ◌++◌, [], IfOk, IfErr, IfSome, OnOk, option_map, true, codes};
 ghost use Rattle.serde_json.specs.Find.{get_member};
 ghost use Rattle.serde_json.specs.View.{view, members_view};
-ghost use Rattle.asl_model.specs.Records.{StandsForCertificate, certificate_from, object_complaints, entries_complaints, entries_from, state_from};
+ghost use Rattle.asl_model.specs.Records.{StandsForCertificate, certificate_complaints, certificate_from, object_complaints, entries_complaints, entries_from, state_rows, state_from};
 ghost use Rattle.asl_records.specs.View.{certificate_view, entry_view, entries_view};
 ghost use Rattle.asl_records.specs.Refusal.{IsCertificateRefusal};
-ghost use Rattle.asl_records.specs.Parts.{TellsOneOf, IsWhole, AreWhole, field_complaints, entries_row, version_row, served_rows, served_complaints, members_there};
+ghost use Rattle.asl_records.specs.Parts.{TellsOneOf, IsWhole, AreWhole, field_complaints, entries_row, version_row, members_there};
 
-use crate::fields::{check_fields, entries, members, required_shape, take};
+use crate::fields::{
+    check_fields, entries, members, optional_shape, optional_shapes, required_shape, take,
+};
 use crate::records::{Certificate, StateShapes};
 use crate::refusals::{ReadFault, RecordFault};
 use serde_json::{Map, Value};
@@ -30,9 +32,9 @@ pub fn read_certificate(alloc: Global, value: Value) -> Result<Certificate, Read
 /// The certificate that a JSON value with whole numbers stands for.
 fn read_record(alloc: Global, value: Value) -> Result<Certificate, ReadFault>
     requires { IsWhole (view value) }
-    ensures right { OnOk result (served_complaints (view value) ≡ []) }
+    ensures right { OnOk result (certificate_complaints (view value) ≡ []) }
     ensures certificate { IfOk result (λ certificate. certificate_view certificate ≡ certificate_from (view value)) }
-    ensures refused { IfErr result (TellsOneOf (served_complaints (view value))) }
+    ensures refused { IfErr result (TellsOneOf (certificate_complaints (view value))) }
 {
     let mut fields = members(alloc, "", value)?;
     check_fields(alloc, "", &fields, &["version", "output", "states"])?;
@@ -69,9 +71,9 @@ fn read_states(
     fields: &mut Map<String, Value>,
 ) -> Result<BTreeMap<String, StateShapes>, ReadFault>
     requires { AreWhole (members_view fields.old.entries) }
-    ensures right { OnOk result (field_complaints [] (entries_row (codes "states") true) (get_member (codes "states") (members_view fields.old.entries)) ++ entries_complaints served_rows (members_there (get_member (codes "states") (members_view fields.old.entries))) ≡ []) }
+    ensures right { OnOk result (field_complaints [] (entries_row (codes "states") true) (get_member (codes "states") (members_view fields.old.entries)) ++ entries_complaints state_rows (members_there (get_member (codes "states") (members_view fields.old.entries))) ≡ []) }
     ensures states { IfOk result (λ states. entries_view states.entries ≡ entries_from state_from (members_there (get_member (codes "states") (members_view fields.old.entries)))) }
-    ensures refused { IfErr result (TellsOneOf (field_complaints [] (entries_row (codes "states") true) (get_member (codes "states") (members_view fields.old.entries)) ++ entries_complaints served_rows (members_there (get_member (codes "states") (members_view fields.old.entries))))) }
+    ensures refused { IfErr result (TellsOneOf (field_complaints [] (entries_row (codes "states") true) (get_member (codes "states") (members_view fields.old.entries)) ++ entries_complaints state_rows (members_there (get_member (codes "states") (members_view fields.old.entries))))) }
 {
     match take(fields, "states") {
         Some(states) => read_entries(alloc, entries(alloc, "states", states)?),
@@ -85,9 +87,9 @@ fn read_entries(
     entries: Map<String, Value>,
 ) -> Result<BTreeMap<String, StateShapes>, ReadFault>
     requires { AreWhole (members_view entries.entries) }
-    ensures right { OnOk result (entries_complaints served_rows (members_view entries.entries) ≡ []) }
+    ensures right { OnOk result (entries_complaints state_rows (members_view entries.entries) ≡ []) }
     ensures states { IfOk result (λ states. entries_view states.entries ≡ entries_from state_from (members_view entries.entries)) }
-    ensures refused { IfErr result (TellsOneOf (entries_complaints served_rows (members_view entries.entries))) }
+    ensures refused { IfErr result (TellsOneOf (entries_complaints state_rows (members_view entries.entries))) }
 {
     let mut states = BTreeMap::new(alloc);
     for (name, state) in entries {
@@ -100,14 +102,21 @@ fn read_entries(
 /// The shapes of the state of this name.
 fn read_state(alloc: Global, name: &str, value: Value) -> Result<StateShapes, ReadFault>
     requires { IsWhole (view value) }
-    ensures right { OnOk result (object_complaints name.now served_rows (view value) ≡ []) }
+    ensures right { OnOk result (object_complaints name.now state_rows (view value) ≡ []) }
     ensures shapes { IfOk result (λ shapes. entry_view shapes ≡ state_from (view value)) }
-    ensures refused { IfErr result (TellsOneOf (object_complaints name.now served_rows (view value))) }
+    ensures refused { IfErr result (TellsOneOf (object_complaints name.now state_rows (view value))) }
 {
     let mut fields = members(alloc, name, value)?;
-    check_fields(alloc, name, &fields, &["input", "output"])?;
+    check_fields(
+        alloc,
+        name,
+        &fields,
+        &["input", "output", "branches", "item"],
+    )?;
     Ok(StateShapes {
         input: required_shape(alloc, name, "input", &mut fields)?,
         output: required_shape(alloc, name, "output", &mut fields)?,
+        branches: optional_shapes(alloc, name, "branches", &mut fields)?,
+        item: optional_shape(alloc, name, "item", &mut fields)?,
     })
 }

@@ -11,6 +11,7 @@ ghost use Rattle.asl_records.specs.Parts.{TellsOneOf, IsWhole, AreWhole, field_c
 use crate::fields::{check_fields, entries, members, optional_shape, required_shape, take};
 use crate::records::{Declared, TaskShapes};
 use crate::refusals::ReadFault;
+use asl_shape::Shape;
 use serde_json::{Map, Value};
 use std::alloc::Global;
 use std::collections::BTreeMap;
@@ -86,7 +87,7 @@ fn read_task(alloc: Global, name: &str, value: Value) -> Result<TaskShapes, Read
     let mut fields = members(alloc, name, value)?;
     check_fields(alloc, name, &fields, &["takes", "gives"])?;
     Ok(TaskShapes {
-        takes: optional_shape(alloc, name, "takes", &mut fields)?,
+        takes: optional_shape(alloc, name, "takes", &mut fields)?.unwrap_or(Shape::Any),
         gives: required_shape(alloc, name, "gives", &mut fields)?,
     })
 }

@@ -37,4 +37,8 @@ pub struct StateShapes {
     pub input: Shape,
     /// Of its output.
     pub output: Shape,
+    /// Of the end of each branch of a Parallel, in order; none for another type.
+    pub branches: Vec<Shape>,
+    /// Of the end of a Map's processor; none for another type.
+    pub item: Option<Shape>,
 }

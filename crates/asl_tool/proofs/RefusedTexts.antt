@@ -1,5 +1,5 @@
 -- What a refusal of one text comes to, and of which of the three.
-use Rattle.std.proofs.Common.{◌≡◌, ℕ, List, Option, Some, None, option_map, sym, subst, ◌⊎◌, inl, inr}
+use Rattle.std.proofs.Common.{◌≡◌, ℕ, List, Option, Some, None, option_map}
 use Rattle.std.specs.Option.{unwrap_or}
 use Rattle.serde_json.specs.Data.{Data}
 use Rattle.asl_model.specs.Machine.{Scope}
@@ -7,11 +7,11 @@ use Rattle.asl_model.specs.Certificate.{Declared}
 use Rattle.asl_model.specs.StandsFor.{Complaint}
 use Rattle.asl_model.specs.Json.{ReadsAsValue}
 use Rattle.asl_model.specs.Texts.{DefinitionText, DeclaredText, CertificateText, TextFault, NotJson, NotWhole, BadDefinition, BadRecord, BadAnswer, NoMemory, definition_no_json, definition_complaint, declared_no_json, declared_not_whole, declared_complaint, certificate_no_json, certificate_not_whole, certificate_complaint, definition_refused, declared_refused, certificate_refused, ReadsAsMachine, ReadsAsDeclared}
-use Rattle.asl_machine.specs.Unserved.{RefusalStands, no_memory as told_no_memory, rule_broken, not_served}
+use Rattle.asl_machine.specs.Refusal.{IsRefused as IsRefusedValue, without_memory, for_broken_rule}
 use Rattle.asl_records.specs.Refusal.{IsDeclaredRefusal, IsCertificateRefusal}
 use Rattle.asl_records.specs.declared.refusals.ReadFault.{ReadFault}
 use Rattle.asl_records.specs.declared.refusals.ReadFault.TheVariants as kept
-use Rattle.asl_tool.specs.Verifying.{UnreadableStands, no_json, unread, record_fault_of, RefusesDefinition, definition_fault, definition_not_served, definition_no_memory, RefusesDeclared, declared_fault, declared_no_memory, RefusesCertificate, certificate_fault, certificate_not_served, certificate_no_memory, IsRefused, fault_stands, definition_unserved, certificate_unserved, no_memory}
+use Rattle.asl_tool.specs.Verifying.{UnreadableStands, no_json, unread, record_fault_of, RefusesDefinition, definition_fault, definition_no_memory, RefusesDeclared, declared_fault, declared_no_memory, RefusesCertificate, certificate_fault, certificate_no_memory, IsRefused, fault_stands, no_memory}
 
 -- ---- a text that gives no JSON value
 
@@ -41,10 +41,9 @@ unread-certificate text NoMemory unread = certificate_no_memory
 
 -- ---- a value that is refused
 
-pub refused-definition : (text : List ℕ) (v : Data) (told : Option Complaint) → ReadsAsValue text v → RefusalStands v told → RefusesDefinition text (unwrap_or (option_map BadDefinition told) NoMemory)
-refused-definition text v None reads told_no_memory = definition_no_memory
-refused-definition text v (Some c) reads (rule_broken h) = definition_fault (definition_complaint reads h)
-refused-definition text v (Some c) reads (not_served h) = definition_not_served reads h
+pub refused-definition : (text : List ℕ) (v : Data) (told : Option Complaint) → ReadsAsValue text v → IsRefusedValue v told → RefusesDefinition text (unwrap_or (option_map BadDefinition told) NoMemory)
+refused-definition text v None reads without_memory = definition_no_memory
+refused-definition text v (Some c) reads (for_broken_rule h) = definition_fault (definition_complaint reads h)
 
 pub refused-declared : (text : List ℕ) (v : Data) (fault : ReadFault) → ReadsAsValue text v → IsDeclaredRefusal v fault → RefusesDeclared text (record_fault_of fault)
 refused-declared text v kept.NotWhole reads h = declared_fault (declared_not_whole reads h)
@@ -53,14 +52,13 @@ refused-declared text v kept.OutOfMemory reads h = declared_no_memory
 
 pub refused-certificate : (text : List ℕ) (v : Data) (fault : ReadFault) → ReadsAsValue text v → IsCertificateRefusal v fault → RefusesCertificate text (record_fault_of fault)
 refused-certificate text v kept.NotWhole reads h = certificate_fault (certificate_not_whole reads h)
-refused-certificate text v (kept.Record refusal) reads h = rw h.1 (elim h.2 [ inl stands ↦ certificate_fault (certificate_complaint reads stands) | inr unserved ↦ certificate_not_served reads unserved ])
+refused-certificate text v (kept.Record refusal) reads h = rw h.1 (certificate_fault (certificate_complaint reads h.2))
 refused-certificate text v kept.OutOfMemory reads h = certificate_no_memory
 
 -- ---- which of the three texts
 
 pub definition-first : (definition declared certificate : List ℕ) (f : TextFault) → RefusesDefinition definition f → IsRefused definition declared certificate DefinitionText f
 definition-first definition declared certificate f (definition_fault h) = fault_stands (definition_refused h)
-definition-first definition declared certificate (BadDefinition c) (definition_not_served reads h) = definition_unserved reads h
 definition-first definition declared certificate NoMemory definition_no_memory = no_memory
 
 pub declared-first : (definition declared certificate : List ℕ) (machine : Scope) (f : TextFault) → ReadsAsMachine definition machine → RefusesDeclared declared f → IsRefused definition declared certificate DeclaredText f
@@ -69,5 +67,4 @@ declared-first definition declared certificate machine NoMemory m declared_no_me
 
 pub certificate-first : (definition declared certificate : List ℕ) (machine : Scope) (shapes : Declared) (f : TextFault) → ReadsAsMachine definition machine → ReadsAsDeclared declared shapes → RefusesCertificate certificate f → IsRefused definition declared certificate CertificateText f
 certificate-first definition declared certificate machine shapes f m d (certificate_fault h) = fault_stands (certificate_refused m d h)
-certificate-first definition declared certificate machine shapes (BadRecord c) m d (certificate_not_served reads h) = certificate_unserved m d reads h
 certificate-first definition declared certificate machine shapes NoMemory m d certificate_no_memory = no_memory

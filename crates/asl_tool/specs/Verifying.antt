@@ -1,15 +1,10 @@
 -- What is said of refused texts, and of the lines that texts are taken from.
 use Rattle.std.specs.Prelude.{ℕ, List, Option, option_map, ⊤}
 use Rattle.std.specs.Option.{unwrap_or}
-use Rattle.serde_json.specs.Data.{Data}
 use Rattle.asl_model.specs.Machine.{Scope}
-use Rattle.asl_model.specs.Certificate.{Declared}
-use Rattle.asl_model.specs.StandsFor.{Complaint}
-use Rattle.asl_model.specs.Records.{RecordComplaint}
-use Rattle.asl_model.specs.Json.{ReadsAsValue}
-use Rattle.asl_model.specs.Texts.{Which, DefinitionText, CertificateText, TextFault, NotJson, NotWhole, BadDefinition, BadRecord, NoMemory, IsNoJson, IsDefinitionFault, IsDeclaredFault, IsCertificateFault, IsRefusal, ReadsAsMachine, ReadsAsDeclared}
-use Rattle.asl_machine.specs.Unserved.{IsUnserved}
-use Rattle.asl_records.specs.Unserved.{IsUnserved as IsUnservedEntry}
+use Rattle.asl_model.specs.Texts.{Which, TextFault, NotJson, NotWhole, BadRecord, NoMemory, IsNoJson, IsDefinitionFault, IsDeclaredFault, IsCertificateFault, IsRefusal, ReadsAsMachine}
+use Rattle.asl_machine.specs.Table.{Shows}
+use Rattle.asl_machine.specs.declared.machine.Machine.{Machine}
 use Rattle.asl_records.specs.View.{complaint_view}
 use Rattle.asl_records.specs.declared.refusals.ReadFault.{ReadFault}
 use Rattle.asl_records.specs.declared.refusals.ReadFault.TheVariants as kept
@@ -29,10 +24,15 @@ record_fault_of kept.NotWhole = NotWhole
 record_fault_of (kept.Record refusal) = unwrap_or (option_map BadRecord (complaint_view refusal)) NoMemory
 record_fault_of kept.OutOfMemory = NoMemory
 
--- why a text is refused as a definition: the fault stands in it, or it has what isn't served yet, or there was no memory
+-- the text reads as a definition that the machine shows
+pub record ReadsInto (text : List ℕ) (machine : Machine) : Type 0 where
+  pub definition : Scope
+  pub reads : ReadsAsMachine text definition
+  pub shown : Shows machine definition
+
+-- why a text is refused as a definition: the fault stands in it, or there was no memory
 pub data RefusesDefinition (text : List ℕ) : TextFault → Type 0 where
   definition_fault : {f : TextFault} → IsDefinitionFault text f → RefusesDefinition text f
-  definition_not_served : {v : Data} {c : Complaint} → ReadsAsValue text v → IsUnserved v c → RefusesDefinition text (BadDefinition c)
   definition_no_memory : RefusesDefinition text NoMemory
 
 -- as declared shapes
@@ -43,15 +43,11 @@ pub data RefusesDeclared (text : List ℕ) : TextFault → Type 0 where
 -- as a certificate
 pub data RefusesCertificate (text : List ℕ) : TextFault → Type 0 where
   certificate_fault : {f : TextFault} → IsCertificateFault text f → RefusesCertificate text f
-  certificate_not_served : {v : Data} {c : RecordComplaint} → ReadsAsValue text v → IsUnservedEntry v c → RefusesCertificate text (BadRecord c)
   certificate_no_memory : RefusesCertificate text NoMemory
 
--- The text is the first of the three that is refused, and the fault stands in it; or it is the first that has what isn't
--- served yet, which the fault tells; or there was no memory to say.
+-- the text is the first of the three that is refused, and the fault stands in it; or there was no memory to say
 pub data IsRefused (definition declared certificate : List ℕ) : Which → TextFault → Type 0 where
   fault_stands : {which : Which} {f : TextFault} → IsRefusal definition declared certificate which f → IsRefused definition declared certificate which f
-  definition_unserved : {v : Data} {c : Complaint} → ReadsAsValue definition v → IsUnserved v c → IsRefused definition declared certificate DefinitionText (BadDefinition c)
-  certificate_unserved : {machine : Scope} {shapes : Declared} {v : Data} {c : RecordComplaint} → ReadsAsMachine definition machine → ReadsAsDeclared declared shapes → ReadsAsValue certificate v → IsUnservedEntry v c → IsRefused definition declared certificate CertificateText (BadRecord c)
   no_memory : {which : Which} → IsRefused definition declared certificate which NoMemory
 
 -- that is so of the first three lines of known bytes; of three lines, where the bytes aren't known

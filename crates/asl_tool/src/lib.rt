@@ -21,7 +21,10 @@ pub use asl_check::{Finding, FindingFault, Verdict};
 pub use asl_machine::{DefFault, DefRefusal};
 pub use asl_records::{RecordFault, RecordRefusal};
 pub use endings::Closing;
-pub use laws::activities_stay_as_certified;
+pub use laws::{
+    activities_stay_as_certified, nesting_activities_stay_as_certified,
+    working_activities_stay_as_certified,
+};
 pub use printing::{closing, verdict_text};
 pub use refusals::{RunFault, TextFault, TextRefusal, Which};
 pub use sinks::{Sink, ToWrite};

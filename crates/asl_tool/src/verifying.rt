@@ -5,13 +5,12 @@ ghost use Rattle.std.specs.Io.KnownBytes.{Appends};
 ghost use Rattle.serde_json.specs.View.{view as json_view};
 ghost use Rattle.asl_model.specs.Json.{ReadsAsValue};
 ghost use Rattle.asl_model.specs.Printed.{verdict_text};
-ghost use Rattle.asl_model.specs.Texts.{IsNoJson, ReadsAsMachine, ReadsAsDeclared, ReadsAsCertificate};
+ghost use Rattle.asl_model.specs.Texts.{IsNoJson, ReadsAsDeclared, ReadsAsCertificate};
 ghost use Rattle.asl_model.specs.Headline.{AreClosed, NeverFaults, AreRejected, IsVerdictOn, WhereAccepted, WhereRejected};
-ghost use Rattle.asl_machine.specs.Plain.{machine_view};
 ghost use Rattle.asl_records.specs.View.{declared_view, certificate_view};
 ghost use Rattle.asl_check.specs.View.{verdict_view};
 ghost use Rattle.asl_tool.specs.Lines.{NoLineIsLong};
-ghost use Rattle.asl_tool.specs.Verifying.{IsRefused, RefusesDefinition, RefusesDeclared, RefusesCertificate, OfLines, TellsRefusal, UnreadableStands, record_fault_of};
+ghost use Rattle.asl_tool.specs.Verifying.{IsRefused, ReadsInto, RefusesDefinition, RefusesDeclared, RefusesCertificate, OfLines, TellsRefusal, UnreadableStands, record_fault_of};
 ghost use Rattle.asl_tool.specs.View.{which_view, text_fault_view};
 ghost use Rattle.asl_tool.specs.Writing.{CheckFaultStands};
 
@@ -21,8 +20,7 @@ use crate::refusals::{RunFault, TextFault, TextRefusal, Which};
 use crate::sinks::{Sink, write_all};
 use crate::sources::Source;
 use asl_check::{Verdict, check};
-use asl_machine::DefFault;
-use asl_machine::plain::Machine;
+use asl_machine::{DefFault, Machine};
 use asl_model::run_laws::{closed_runs_never_fault, closed_runs_tell_no_fault};
 use asl_model::shape_laws::no_broken_rule_means_closed;
 use asl_records::{Certificate, Declared, ReadFault, read_certificate, read_declared};
@@ -37,8 +35,8 @@ use std::alloc::Global;
 /// raises none of the six data-flow faults, and every state's input, every task's payload and every output has its
 /// certified shape. Otherwise No, with one finding for each name that has a broken rule.
 ///
-/// The texts are read in this order, and the first refused one is told, with a fault that stands in it; or with what
-/// isn't served yet; or with want of memory.
+/// The texts are read in this order, and the first refused one is told, with a fault that stands in it; or with want of
+/// memory.
 pub fn verify_texts(
     alloc: Global,
     definition: &[u8],
@@ -132,16 +130,16 @@ pub fn check_lines<R: Source, W: Sink>(
     }
 }
 
-/// The machine that a text stands for.
+/// The machine that shows the definition which a text stands for.
 fn machine_text(alloc: Global, text: &[u8]) -> Result<Machine, TextFault>
-    ensures machine { IfOk result (λ machine. ReadsAsMachine text.now (machine_view machine)) }
+    ensures machine { IfOk result (λ machine. ReadsInto text.now machine) }
     ensures refused { IfErr result (λ fault. RefusesDefinition text.now (text_fault_view fault)) }
 {
     let value = match json_value(alloc, text) {
         Ok(value) => value,
         Err(fault) => return Err(fault),
     };
-    match asl_machine::read_plain(alloc, &value) {
+    match asl_machine::read(alloc, &value) {
         Ok(machine) => Ok(machine),
         Err(refusal) => match refusal.fault {
             DefFault::OutOfMemory => Err(TextFault::OutOfMemory),

@@ -4,7 +4,7 @@ use Rattle.asl_model.specs.StandsFor.{foreign_complaints}
 use Rattle.asl_machine.specs.Rows.{rows_view}
 use Rattle.asl_machine.specs.View.{def_fault_view}
 use Rattle.asl_machine.specs.Definition.{place_view}
-use Rattle.asl_machine.proofs.PlainStates.{Member}
+use Rattle.asl_machine.proofs.Nested.{Member}
 use Rattle.asl_machine.proofs.Objects.{foreign_told}
 use Rattle.asl_machine.proofs.field_checking.check_names.Goals as goal
 

@@ -6,7 +6,7 @@ use Rattle.asl_machine.specs.Numbered.{names_of_all, placed_in, home_view}
 use Rattle.asl_machine.specs.Built.{built_view}
 use Rattle.asl_machine.specs.View.{refusal_view}
 use Rattle.asl_machine.proofs.Numbers.{too_many, table_held}
-use Rattle.asl_machine.proofs.Verdicts.{among_first}
+use Rattle.asl_machine.proofs.Checks.{among_first}
 use Rattle.asl_machine.proofs.numbering.number.Goals as goal
 
 pub returns-then-len-gt-MOST_STATES-clause-refused : goal.returns-then-len-gt-MOST_STATES-clause-refused

@@ -6,7 +6,7 @@ use Rattle.asl_model.specs.DefinitionTable.{rows_of}
 use Rattle.asl_machine.specs.Rows.{rows_view, type_view}
 use Rattle.asl_machine.specs.Definition.{IsVerdict, place_view}
 use Rattle.asl_machine.proofs.Checks.{told_first, told_next, told_of_left}
-use Rattle.asl_machine.proofs.PlainStates.{Member}
+use Rattle.asl_machine.proofs.Nested.{Member}
 use Rattle.asl_machine.proofs.RuleTargets.{typed_told}
 use Rattle.asl_machine.proofs.Nesting.{scope_object, state_object, states_found, branches_found, processor_found, states_parts, branches_parts}
 use Rattle.asl_machine.proofs.scope_checking.+check.Goals as goal

@@ -1,7 +1,7 @@
 use Rattle.std.proofs.Common.{◌≡◌, [], ◌∷◌, ◌++◌, false, string_bytes, sym, ap, ◌∙◌, append_assoc}
 use Rattle.serde_json.specs.View.{view, members_view}
 use Rattle.asl_model.specs.StandsFor.{is_processor, processor_under}
-use Rattle.asl_machine.proofs.PlainStates.{Member}
+use Rattle.asl_machine.proofs.Nested.{Member}
 use Rattle.asl_machine.proofs.Walks.{processor_past}
 use Rattle.asl_machine.proofs.scopes.processor_of.Goals as goal
 

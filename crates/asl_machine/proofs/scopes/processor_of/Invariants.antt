@@ -1,7 +1,7 @@
 use Rattle.std.proofs.Common.{◌≡◌, List, ◌++◌}
 use Rattle.serde_json.specs.View.{members_view}
 use Rattle.asl_model.specs.StandsFor.{processor_under}
-use Rattle.asl_machine.proofs.PlainStates.{Member}
+use Rattle.asl_machine.proofs.Nested.{Member}
 use Rattle.asl_machine.proofs.scopes.processor_of.Given as goal
 
 abbrev pub invariant-loop-name : goal.invariant-loop-name

@@ -1,20 +1,21 @@
-use Rattle.std.proofs.Common.{string_bytes, subst}
-use Rattle.asl_machine.specs.Plain.{machine_view, state_view, states_view}
+use Rattle.std.proofs.Common.{◌<◌, length, option_map, subst}
+use Rattle.asl_machine.specs.Table.{table_view}
 use Rattle.asl_records.specs.View.{declared_view, certificate_view}
-use Rattle.asl_check.specs.Checking.{flow_rules, flow_findings}
-use Rattle.asl_check.specs.Noting.{notes_view}
-use Rattle.asl_check.proofs.Passes.{AreLeft, left_less, told_noted}
+use Rattle.asl_check.specs.Checking.{row_view}
+use Rattle.asl_check.specs.Noting.{AreNoted, broken_view, notes_view}
+use Rattle.asl_check.specs.Rules.{flow_rules, found_in, row_at}
+use Rattle.asl_check.proofs.RowsLeft.{left_row, row_noted, no_row}
 use Rattle.asl_check.proofs.checker.Checker.note_flows.Goals as goal
+use Rattle.asl_check.proofs.checker.Checker.note_flows.Goals.{in-Some+in_ok-broken_by_flow+in_ok-note, in_default}
 
-pub loop-name-preserved : goal.loop-name-preserved
-loop-name-preserved c =
-    let machine = machine_view c.args.self.now.machine.now in
-    let declared = declared_view c.args.self.now.declared.now in
-    let certificate = certificate_view c.args.self.now.certificate.now in
-    let found = flow_findings machine declared certificate in
-    let all = found (states_view c.args.self.now.machine.now.states.entries) in
-    let before = notes_view c.args.notes.now.entries in
-    let now = notes_view c.loop-name.notes.entries in
-    let n = string_bytes c.in-Some.name.now in
-    let left = subst (λ es. AreLeft all (found (states_view es)) before now) c.in-Some.ensures.steps c.loop-name.invariant in
-    left_less all _ (found (states_view c.next.new.self)) before now _ left (told_noted n (flow_rules machine declared certificate n (state_view c.in-Some.state.now)) _ now _ c.broken_flow.ensures c.in_ok-note.ensures)
+pub loop-number-preserved : goal.loop-number-preserved
+loop-number-preserved c =
+    let checker = c.args.self.now in
+    let table = table_view checker.machine.now in
+    let rules = flow_rules table (declared_view checker.declared.now) (certificate_view checker.certificate.now) in
+    let row = row_at table c.loop-number.number in
+    let noted : AreNoted (found_in rules row) (notes_view c.loop-number.notes.entries) (notes_view c.match-row.notes.entries) = elim c.match-row.branch [
+      | in-Some+in_ok-broken_by_flow+in_ok-note w ↦ rw w.notes-is (row_noted rules (row_view w.in-Some.row) row (option_map broken_view w.in_ok-broken_by_flow.field-0) _ _ w.in-Some.ensures w.in_ok-broken_by_flow.ensures w.in_ok-note.ensures)
+      | in_default w ↦ rw w.notes-is (no_row rules row _ w.in_default.ensures)
+    ] in
+    left_row (λ i. found_in rules (row_at table i)) (length table.states) c.loop-number.number _ _ _ _ (subst (λ n. c.loop-number.number < n) c.states-number-end.ensures.number c.loop-number-test.true) c.loop-number.invariant noted

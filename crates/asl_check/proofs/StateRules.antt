@@ -1,0 +1,57 @@
+-- What is told of one state's rules, part by part.
+use Rattle.std.proofs.Common.{◌≡◌, suc, List, [], ◌∷◌, ◌++◌, Contains, Bool, true, false, not, ◌||◌, length, String, Option, Some, option_to_list, Ok, Err, codes, refl, sym, ap, subst}
+use Rattle.std.specs.declared.alloc.Global.{Global}
+use Rattle.asl_machine.specs.Machine.{branches_view}
+use Rattle.asl_model.specs.Machine.{how_many}
+use Rattle.asl_model.specs.Shape.{Shape}
+use Rattle.asl_model.specs.ShapeFlow.{Flow}
+use Rattle.asl_model.specs.Finding.{Breach, NotCertified, TaskUndeclared, breach_unless, breaches_then}
+use Rattle.asl_check.specs.Checking.{Told, Flows, StopsWith}
+use Rattle.asl_check.specs.Noting.{broken_view}
+use Rattle.asl_check.specs.declared.flowing.Stopped.{Stopped}
+use Rattle.asl_check.specs.declared.flowing.Stopped.TheVariants as stops
+use Rattle.asl_check.specs.declared.noting.Broken.{Broken}
+use Rattle.asl_check.proofs.Members.{first}
+use Rattle.asl_check.proofs.OneAfterAnother.{one_told}
+
+-- ---- the entry
+
+-- the rules on an entry, by whether it is there and of the right form, and whether what it needs is declared
+abbrev rules_by : Bool → Bool → List Breach
+rules_by certified declared = breach_unless certified (codes "states") NotCertified ++ breach_unless declared (codes "Resource") TaskUndeclared
+
+pub uncertified_told : (certified declared : Bool) (b : Breach) → certified ≡ false → b ≡ record { field = codes "states"; fault = NotCertified } → Told (rules_by certified declared) (Some b)
+uncertified_told true declared b e is = absurd (cc)
+uncertified_told false declared b e is = record { one = subst (λ c. Contains (record { field = codes "states"; fault = NotCertified } ∷ breach_unless declared (codes "Resource") TaskUndeclared) c) (sym is) (first (record { field = codes "states"; fault = NotCertified }) (breach_unless declared (codes "Resource") TaskUndeclared)) }
+
+pub certified_told : (certified declared : Bool) (told : Option Breach) → certified ≡ true → option_to_list told ≡ breach_unless declared (codes "Resource") TaskUndeclared → Told (rules_by certified declared) told
+certified_told true declared told e is = one_told (breach_unless declared (codes "Resource") TaskUndeclared) told is
+certified_told false declared told e is = absurd (cc)
+
+-- as many branches as starts
+pub one_each : (starts : List (String Global)) → how_many (branches_view starts) ≡ length starts
+one_each [] = refl
+one_each (start ∷ starts) = ap suc (one_each starts)
+
+-- what isn't a Task needs no declaration
+pub undeclared_passed : (task known declared : Bool) → task ≡ false → declared ≡ true → declared ≡ (not task || known)
+undeclared_passed false known declared e is = is
+undeclared_passed true known declared e is = absurd (cc)
+
+-- a Task needs one
+pub task_declared : (task known declared : Bool) → task ≡ true → declared ≡ known → declared ≡ (not task || known)
+task_declared true known declared e is = is
+task_declared false known declared e is = absurd (cc)
+
+-- ---- the way of a shape
+
+-- it stops
+pub stops_told : (go_on : Shape → List Breach) (flow : Flow) (b : Breach) → StopsWith flow b → Told (breaches_then go_on flow) (Some b)
+stops_told go_on (Ok s) b h = absurd h
+stops_told go_on (Err faults) b h = record { one = h }
+
+-- the code tells what stopped it
+pub stopped_told : (go_on : Shape → List Breach) (flow : Flow) (stopped : Stopped) (b : Broken) → stopped ≡ stops.Broken b → Flows flow (Err stopped) → Told (breaches_then go_on flow) (Some (broken_view b))
+stopped_told go_on flow stopped b is f =
+    let stopping : Flows flow (Err (stops.Broken b)) = subst (λ s. Flows flow (Err s)) is f in
+    stops_told go_on flow (broken_view b) stopping.flows

@@ -1,0 +1,21 @@
+use Rattle.std.proofs.Common.{◌<◌, length, option_map, subst}
+use Rattle.asl_machine.specs.Table.{table_view}
+use Rattle.asl_records.specs.View.{declared_view, certificate_view}
+use Rattle.asl_check.specs.Checking.{row_view}
+use Rattle.asl_check.specs.Noting.{AreNoted, broken_view, notes_view}
+use Rattle.asl_check.specs.Rules.{entry_rules, found_in, row_at}
+use Rattle.asl_check.proofs.RowsLeft.{left_row, row_noted, no_row}
+use Rattle.asl_check.proofs.checker.Checker.note_entries.Goals as goal
+use Rattle.asl_check.proofs.checker.Checker.note_entries.Goals.{in-Some+in_ok-note, in_default}
+
+pub loop-number-preserved : goal.loop-number-preserved
+loop-number-preserved c =
+    let checker = c.args.self.now in
+    let table = table_view checker.machine.now in
+    let rules = entry_rules (declared_view checker.declared.now) (certificate_view checker.certificate.now) in
+    let row = row_at table c.loop-number.number in
+    let noted : AreNoted (found_in rules row) (notes_view c.loop-number.notes.entries) (notes_view c.match-row.notes.entries) = elim c.match-row.branch [
+      | in-Some+in_ok-note w ↦ rw w.notes-is (row_noted rules (row_view w.in-Some.row) row (option_map broken_view w.broken_by_entry.result) _ _ w.in-Some.ensures w.broken_by_entry.ensures w.in_ok-note.ensures)
+      | in_default w ↦ rw w.notes-is (no_row rules row _ w.in_default.ensures)
+    ] in
+    left_row (λ i. found_in rules (row_at table i)) (length table.states) c.loop-number.number _ _ _ _ (subst (λ n. c.loop-number.number < n) c.states-number-end.ensures.number c.loop-number-test.true) c.loop-number.invariant noted

@@ -1,0 +1,113 @@
+// What the rules look up in the machine's table and in the certificate.
+
+ghost use Rattle.std.specs.Prelude.{◌≡◌, Some, option_map};
+ghost use Rattle.asl_model.specs.Certificate.{certified, child_end};
+ghost use Rattle.asl_model.specs.Machine as machine;
+ghost use Rattle.asl_model.specs.Shape as model;
+ghost use Rattle.asl_shape.specs.View.{view};
+ghost use Rattle.asl_machine.specs.Machine.{kind_view, scope_view};
+ghost use Rattle.asl_machine.specs.Table.{table_view};
+ghost use Rattle.asl_records.specs.View.{certificate_view};
+ghost use Rattle.asl_check.specs.Checking.{row_view};
+ghost use Rattle.asl_check.specs.Rules.{end_in, inputs_in, names_task_in, row_at, start_in};
+
+use crate::checker::Checker;
+use asl_machine::{Kind, Scope, State};
+use asl_shape::Shape;
+
+/// A state of the machine: its name, itself, and the scope that it stands in.
+#[derive(Clone, Copy)]
+pub(crate) struct Row<'m> {
+    pub(crate) name: &'m str,
+    pub(crate) state: &'m State,
+    pub(crate) scope: &'m Scope,
+}
+
+impl Checker<'_> {
+    /// The state of that number.
+    pub(crate) fn row(&self, number: usize) -> Option<Row<'_>>
+        ensures { option_map row_view result ≡ row_at (table_view self.now.machine.now) number }
+    {
+        let name = self.machine.name(number)?;
+        let state = self.machine.state(number)?;
+        let scope = self.machine.scope_of(number)?;
+        Some(Row { name, state, scope })
+    }
+
+    /// The name of the machine's start state.
+    pub(crate) fn start(&self) -> Option<&str>
+        ensures { option_map (λ n. n.now) result ≡ start_in (table_view self.now.machine.now) }
+    {
+        let scope = self.machine.scope_of(0)?;
+        self.machine.name(scope.start)
+    }
+
+    /// Whether a Task has that name.
+    pub(crate) fn names_task(&self, name: &str) -> bool
+        ensures { result ≡ names_task_in (table_view self.now.machine.now) name.now }
+    {
+        let Some(number) = self.machine.state_named(name) else {
+            return false;
+        };
+        match self.machine.state(number) {
+            Some(state) => is_task(&state.kind),
+            None => false,
+        }
+    }
+
+    /// The input that is compared with what goes on to a name: a state's certified one, if any; what is no state takes
+    /// no tree.
+    pub(crate) fn input_to_compare(&self, name: &str) -> Option<&Shape>
+        requires never { view self.now.never.now ≡ model.Never }
+        ensures { option_map (λ s. view s.now) result ≡ inputs_in (table_view self.now.machine.now) (certificate_view self.now.certificate.now) name.now }
+    {
+        match self.certificate.states.get(name) {
+            Some(entry) => Some(&entry.input),
+            None if self.machine.state_named(name).is_some() => None,
+            None => Some(self.never),
+        }
+    }
+
+    /// The shape certified for the end of a scope, if any is.
+    pub(crate) fn end_of(&self, scope: &Scope) -> Option<&Shape>
+        ensures { option_map (λ s. view s.now) result ≡ end_in (table_view self.now.machine.now) (certificate_view self.now.certificate.now) (scope_view scope.now) }
+    {
+        let Some((number, child)) = scope.owner else {
+            return Some(&self.certificate.output);
+        };
+        let name = self.machine.name(number)?;
+        let state = self.machine.state(number)?;
+        self.end_of_child(name, &state.kind, child)
+    }
+
+    /// The shape certified for the end of the child of that number, of a state of that name.
+    fn end_of_child(&self, name: &str, kind: &Kind, child: usize) -> Option<&Shape>
+        ensures { option_map (λ s. view s.now) result ≡ child_end (kind_view kind.now) (certified (certificate_view self.now.certificate.now) name.now) child }
+    {
+        let entry = self.certificate.states.get(name)?;
+        match kind {
+            Kind::Parallel { branches: _ } => entry.branches.get(child),
+            Kind::Map {
+                items_path: _,
+                item_selector: _,
+                processor: _,
+            } => entry.item.as_ref(),
+            Kind::Pass { result: _ }
+            | Kind::Task { resource: _ }
+            | Kind::Choice {
+                choices: _,
+                default: _,
+            }
+            | Kind::Wait { delay: _ }
+            | Kind::Succeed
+            | Kind::Fail { error: _, cause: _ } => None,
+        }
+    }
+}
+
+/// Whether a state of that type is a Task.
+pub(crate) fn is_task(kind: &Kind) -> bool
+    ensures { result ≡ machine.is_task (kind_view kind.now) }
+{
+    matches!(kind, Kind::Task { resource: _ })
+}
