@@ -53,6 +53,8 @@ impl Answers for ListAnswers {
     /// Never wants memory.
     fn next(&mut self, _state: &str, _payload: &Tree) -> Result<Option<Answer>, OutOfMemory>
         ensures answered { OnErr result ⊥ }
+        ensures front { TakesFront result (map answer_view self.old.list.items) (map answer_view self.new.list.items) }
+        ensures silent { result ≡ Ok None → self.new.list.items ≡ [] }
     {
         Ok(self.list.pop_front())
     }
