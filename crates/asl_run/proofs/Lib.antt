@@ -9,3 +9,4 @@ pub mod Numbers
 pub mod OpenPlaces
 pub mod Told
 pub mod Turns
+pub mod Visits

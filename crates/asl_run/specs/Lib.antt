@@ -8,3 +8,4 @@ pub mod Enabling
 pub mod Answering
 pub mod Activities
 pub mod Standing
+pub mod Changing

@@ -3,6 +3,7 @@
 
 mod activities;
 mod answers;
+mod changing;
 mod choosing;
 mod data;
 mod delays;
