@@ -1,8 +1,8 @@
 -- A run that hasn't ended goes on: an event is enabled.
-use Rattle.std.proofs.Common.{◌≡◌, ℕ, zero, suc, ◌<◌, ◌+◌, List, [], ◌∷◌, ◌++◌, map, length, Option, Some, None, refl, sym, ap, ◌∙◌, subst, arith, is_some, IsTrue}
+use Rattle.std.proofs.Common.{◌≡◌, ℕ, suc, ◌<◌, ◌+◌, List, [], ◌∷◌, ◌++◌, map, length, Option, Some, None, refl, ap, ◌∙◌, subst, arith, is_some, IsTrue}
 use Rattle.asl_model.specs.Machine.{Scope, State, state_named}
 use Rattle.asl_model.specs.Numbering.{HasNamed}
-use Rattle.asl_model.specs.Run.{Activity, Ready, Waiting, Split, Done, Failed, Activities, NoActivities, AndActivity, Joining, AllDone, OneFailed, StillRunning, joining, child_before, done_before, running_before, scope_below, Want, WantsMove, WantsAnswer, wanted_here, join_wanted, down_from, enabled, enabled_below, outcome_of}
+use Rattle.asl_model.specs.Run.{Activity, Ready, Waiting, Split, Done, Failed, Activities, NoActivities, AndActivity, Joining, AllDone, OneFailed, StillRunning, joining, done_before, scope_below, Want, WantsMove, WantsAnswer, wanted_here, join_wanted, down_from, enabled, enabled_below, outcome_of}
 use Rattle.asl_run.specs.Standing.{StandsIn, EachStandsIn}
 
 -- the list has elements

@@ -1,18 +1,18 @@
 -- A step leaves states that stand in their scopes.
-use Rattle.std.proofs.Common.{◌≡◌, ◌<◌, ◌⊎◌, refl, sym, ap, ◌∙◌, subst, arith, ℕ, zero, suc, List, [], ◌∷◌, ◌++◌, map, Bool, true, false, if◌then◌else◌, Option, Some, None, option_map, option_and_then, is_some, IsTrue, Result, Ok, Err, bytes_eq, codes}
+use Rattle.std.proofs.Common.{◌≡◌, ◌<◌, refl, sym, ap, ◌∙◌, subst, arith, ℕ, zero, suc, List, [], ◌∷◌, ◌++◌, map, Bool, true, false, if◌then◌else◌, Option, Some, None, option_and_then, is_some, IsTrue, Result, Ok, Err}
 use Rattle.std.specs.Prelude.{Contains, option_to_list}
 use Rattle.std.proofs.lemmas.List.Elements.{Contains-append_left, Contains-append_right}
 use Rattle.asl_model.specs.Tree.{Tree, Trees, NoTrees, AndTree, Array}
 use Rattle.asl_model.specs.Path.{Segment}
 use Rattle.asl_model.specs.Template.{Template}
 use Rattle.asl_model.specs.Test.{Rule, truth}
-use Rattle.asl_model.specs.Faults.{Fault, error_name, and_then, or_fault, NoChoiceMatched}
-use Rattle.asl_model.specs.Machine.{Scope, ScopeOf, Scopes, NoScopes, AndScope, State, StateOf, Settings, Catcher, Kind, Pass, Task, Choice, Wait, Succeed, Fail, Parallel, Map, settings_of, kind_of, start_of, state_named, scope_at, child_scope, empty_scope, how_many}
-use Rattle.asl_model.specs.Numbering.{IsScopeOf, own_scope, scope_of_child, HasNamed, targets_by, targets_of, IsWellNamed}
+use Rattle.asl_model.specs.Faults.{Fault, error_name, and_then}
+use Rattle.asl_model.specs.Machine.{Scope, Scopes, NoScopes, AndScope, State, StateOf, Settings, Catcher, Kind, Pass, Task, Choice, Wait, Succeed, Fail, Parallel, Map, settings_of, kind_of, start_of, state_named, scope_at, child_scope, how_many}
+use Rattle.asl_model.specs.Numbering.{IsScopeOf, scope_of_child, HasNamed, targets_by, targets_of, IsWellNamed}
 use Rattle.asl_model.specs.Flow.{Work, Finishes, Leaves, FailsWith, Asks, Splits, Raises, works_on, by_truth, chosen, delay_in, branch_inputs, item_inputs, map_items, effective_input, at_output_path, output_of, work_of, first_move}
-use Rattle.asl_model.specs.Run.{Activity, Ready, Waiting, Split, Done, Failed, Activities, NoActivities, AndActivity, Action, Move, Gives, FailsTask, Step, Trouble, Retries, Catches, Misfits, Escapes, Joining, AllDone, OneFailed, StillRunning, caught_input, caught_as, caught_by, catching, takes_error, retrying, unless_retrying, trouble_of, by_trouble, troubled, leaves_for, leaves_with, started, by_work, enters, joining, join_error, joins, moves_ready, moves_waiting, moves_split, acts, scope_under, scope_below, child_at, set_child, within, step_at, start}
+use Rattle.asl_model.specs.Run.{Activity, Ready, Waiting, Split, Done, Failed, Activities, NoActivities, AndActivity, Action, Move, Gives, FailsTask, Step, Trouble, Retries, Catches, Misfits, Escapes, Joining, AllDone, OneFailed, StillRunning, caught_input, caught_as, caught_by, catching, takes_error, retrying, unless_retrying, trouble_of, by_trouble, troubled, leaves_with, started, by_work, joining, join_error, joins, moves_ready, moves_waiting, moves_split, acts, scope_under, scope_below, child_at, set_child, step_at, start}
 use Rattle.asl_model.proofs.RunOptions.{some_inj, none_some, same_ok, ok_or_err}
-use Rattle.asl_model.proofs.RunApart.{step_below, IsStepBelow}
+use Rattle.asl_model.proofs.RunApart.{step_below}
 use Rattle.asl_run.specs.Standing.{StandsIn, EachStandsIn}
 
 -- where one follows, it is a state of the scope

@@ -1,4 +1,6 @@
 pub mod Counts
+pub mod Driven
+pub mod FewEntries
 pub mod Following
 pub mod GoingOn
 pub mod Inputs
@@ -7,6 +9,9 @@ pub mod Leading
 pub mod Misfits
 pub mod Numbers
 pub mod OpenPlaces
+pub mod Places
+pub mod Stopping
 pub mod Told
 pub mod Turns
 pub mod Visits
+pub mod Waits

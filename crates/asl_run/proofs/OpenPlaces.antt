@@ -1,10 +1,10 @@
 -- The places that want an event, and those that are defined to have one.
-use Rattle.std.proofs.Common.{◌≡◌, ◌≢◌, refl, sym, ap, ◌∙◌, subst, arith, ℕ, zero, suc, ◌+◌, List, [], ◌∷◌, ◌++◌, map, Option, Some, None, option_and_then, is_some, IsTrue, append_assoc}
+use Rattle.std.proofs.Common.{◌≡◌, ◌≢◌, refl, sym, ap, ◌∙◌, subst, arith, ℕ, suc, ◌+◌, List, [], ◌∷◌, ◌++◌, map, Option, Some, None, is_some, IsTrue, append_assoc}
 use Rattle.std.specs.Option.{IsSome}
 use Rattle.asl_model.specs.Tree.{Tree}
 use Rattle.asl_model.specs.Machine.{Scope, State, state_named}
 use Rattle.asl_model.specs.Numbering.{HasNamed}
-use Rattle.asl_model.specs.Run.{Activity, Ready, Waiting, Split, Done, Failed, Activities, NoActivities, AndActivity, Action, Move, Gives, FailsTask, Joining, AllDone, OneFailed, StillRunning, joining, joins, moves_ready, moves_waiting, moves_split, acts, scope_below, Want, WantsMove, WantsAnswer, want_of, wanted_here, join_wanted, down_from, enabled, enabled_below}
+use Rattle.asl_model.specs.Run.{Activity, Ready, Waiting, Split, Done, Failed, Activities, NoActivities, AndActivity, Action, Move, Gives, FailsTask, Joining, AllDone, OneFailed, StillRunning, joining, joins, acts, scope_below, Want, WantsMove, WantsAnswer, want_of, wanted_here, join_wanted, down_from, enabled, enabled_below}
 use Rattle.asl_model.proofs.RunOptions.{some_there}
 use Rattle.asl_run.specs.Standing.{StandsIn, EachStandsIn}
 use Rattle.asl_run.specs.Enabling.{wanted_by_join, wanted_by, own_place, open_in, open_below, seen_from, Adds}

@@ -1,5 +1,5 @@
 -- The events and entries of the definitions that those of the code stand for.
-use Rattle.std.specs.Prelude.{ℕ, List, Bool, true, false, Option, Some, None, if◌then◌else◌, bytes_eq, codes, string_bytes, option_map}
+use Rattle.std.specs.Prelude.{ℕ, List, Option, Some, None, if◌then◌else◌, bytes_eq, codes, string_bytes, option_map}
 use Rattle.asl_model.specs.Faults as faults
 use Rattle.asl_model.specs.Run as model
 use Rattle.asl_tree.specs.View as trees

@@ -9,3 +9,4 @@ pub mod Answering
 pub mod Activities
 pub mod Standing
 pub mod Changing
+pub mod Waiting

@@ -7,14 +7,17 @@ mod changing;
 mod choosing;
 mod data;
 mod delays;
+mod driving;
 mod entries;
 mod faults;
 mod flowing;
 mod items;
 mod orders;
 mod troubles;
+mod waiting;
 mod working;
 
 pub use answers::{Answers, ListAnswers};
+pub use driving::{DriveRefusal, Stop};
 pub use entries::{Answer, Entry, Event, Outcome, Place, Want};
 pub use orders::{First, Last, Order};
