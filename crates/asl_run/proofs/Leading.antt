@@ -12,7 +12,7 @@ use Rattle.asl_run.specs.Standing.{name_in, IsNamed, EachIsNamed, LeadsOn}
 use Rattle.asl_run.proofs.Numbers.{found_again, stands_at}
 
 -- a name of a scope
-is_named : (machine scope : Scope) → IsWellNamed machine → IsScopeOf machine scope → (n : List ℕ) → HasNamed scope n → IsNamed (table_of machine).names n
+pub is_named : (machine scope : Scope) → IsWellNamed machine → IsScopeOf machine scope → (n : List ℕ) → HasNamed scope n → IsNamed (table_of machine).names n
 is_named machine scope well is n has =
     let at : LeadsToRow machine scope n = leads_to_row machine scope well is n has in
     found_again (table_of machine).names n at.row.number at.row.found at.row.named

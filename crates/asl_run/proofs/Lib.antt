@@ -15,3 +15,6 @@ pub mod Told
 pub mod Turns
 pub mod Visits
 pub mod Waits
+pub mod Adding
+pub mod Joinable
+pub mod Started

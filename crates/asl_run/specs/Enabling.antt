@@ -1,5 +1,10 @@
 -- The places where an event is enabled, in an activity whose states all stand in their scopes.
-use Rattle.std.specs.Prelude.{◌≡◌, ℕ, suc, Bool, true, false, List, [], ◌∷◌, ◌++◌, map, Option, Some, None}
+use Rattle.std.specs.declared.alloc.Global.{Global}
+use Rattle.std.specs.Prelude.{Vec, ◌≡◌, ℕ, suc, Bool, true, false, List, [], ◌∷◌, ◌++◌, map, Option, Some, None}
+use Rattle.asl_run.specs.Activities.{activity_view, children_view}
+use Rattle.asl_run.specs.Entries.{want_view}
+use Rattle.asl_run.specs.declared.activities.Activity as activities
+use Rattle.asl_run.specs.declared.entries.Want as code
 use Rattle.asl_model.specs.Run.{Activity, Ready, Waiting, Split, Done, Failed, Activities, NoActivities, AndActivity, Joining, AllDone, OneFailed, StillRunning, joining, Want, WantsMove, WantsAnswer, down_from}
 
 -- a Split wants its move where its children are far enough
@@ -13,6 +18,22 @@ abbrev pub is_joinable : Joining → Bool
 is_joinable (AllDone outputs) = true
 is_joinable (OneFailed i error cause) = true
 is_joinable StillRunning = false
+
+-- a scope has ended there with an error
+abbrev pub has_failed : Activity → Bool
+has_failed (Ready n raw counts) = false
+has_failed (Waiting n raw counts payload) = false
+has_failed (Split n raw counts children) = false
+has_failed (Done output) = false
+has_failed (Failed error cause) = true
+
+-- a scope has ended there
+abbrev pub has_ended : Activity → Bool
+has_ended (Ready n raw counts) = false
+has_ended (Waiting n raw counts payload) = false
+has_ended (Split n raw counts children) = false
+has_ended (Done output) = true
+has_ended (Failed error cause) = true
 
 -- the kind of event that the activity itself wants
 abbrev pub wanted_by : Activity → Option Want
@@ -48,3 +69,19 @@ seen_from place wanted = (place ++ wanted.0, wanted.1)
 -- those places, below that one, are added to a list
 pub record Adds (place : List ℕ) (more before after : List (List ℕ × Want)) : Type 0 where
   pub added : after ≡ before ++ map (seen_from place) more
+
+-- a place that was found, with the kind of event that it wants
+abbrev pub found_view : Vec ℕ Global × code.Want → List ℕ × Want
+found_view found = (found.0.items, want_view found.1)
+
+-- those of an activity of the code, whatever its states are called
+pub record AddsPlaces (a : activities.Activity) (place : List ℕ) (before after : List (List ℕ × Want)) : Type 0 where
+  pub adds : (names : List (List ℕ)) → Adds place (open_in (activity_view names a)) before after
+
+-- those of its children
+pub record AddsPlacesBelow (children : List activities.Activity) (place : List ℕ) (before after : List (List ℕ × Want)) : Type 0 where
+  pub adds : (names : List (List ℕ)) → Adds place (open_below (children_view names children) 0) before after
+
+-- its own
+pub record AddsOwn (a : activities.Activity) (place : List ℕ) (before after : List (List ℕ × Want)) : Type 0 where
+  pub adds : (names : List (List ℕ)) → Adds place (own_place (wanted_by (activity_view names a))) before after

@@ -10,3 +10,4 @@ pub mod Activities
 pub mod Standing
 pub mod Changing
 pub mod Waiting
+pub mod Running

@@ -1,0 +1,63 @@
+-- A run's start, in the machine's table.
+use Rattle.std.proofs.Common.{◌≡◌, refl, sym, ap, ◌∙◌, subst, ℕ, List, [], slice_get, Option, Some, None, option_map, rules}
+use Rattle.asl_machine.specs.Table.{Shows, table_view}
+use Rattle.asl_machine.specs.declared.machine.Machine.{Machine}
+use Rattle.asl_model.specs.Machine.{Scope, ScopeOf, NoStates, AndState, start_of}
+use Rattle.asl_model.specs.Numbering.{Placement, Table, table_of, own_scope, HasNamed, IsWellNamed}
+use Rattle.asl_model.specs.Run as model
+use Rattle.asl_model.specs.Tree.{Tree}
+use Rattle.asl_model.proofs.RunOptions.{some_inj, none_some}
+use Rattle.asl_run.specs.Enabling.{Adds, open_in}
+use Rattle.asl_run.specs.Standing.{name_in, number_in, StandsIn}
+use Rattle.asl_run.specs.Activities.{activity_view}
+use Rattle.asl_run.specs.declared.activities.Activity.{the_lemmas}
+use Rattle.asl_run.specs.declared.activities.Activity.TheVariants.{Ready}
+use Rattle.asl_run.specs.declared.activities.Visit.{Visit}
+use Rattle.asl_tree.specs.View.{view}
+use Rattle.asl_run.proofs.KeptStanding.{start_stands}
+use Rattle.asl_run.proofs.Leading.{is_named}
+use Rattle.asl_run.proofs.OpenPlaces.{adds_to_none, enabled_is_open}
+
+-- the start of the scope in which the first state of a table stands
+abbrev first_start : Table → Option ℕ
+first_start table = option_map (λ (p : Placement). p.start) (slice_get table.placements 0)
+
+-- the first state stands in the machine's own scope
+first_placed : (machine : Scope) → HasNamed machine (start_of machine) → first_start (table_of machine) ≡ Some (number_in (table_of machine).names (start_of machine))
+first_placed (ScopeOf start NoStates) h = absurd (cc)
+first_placed (ScopeOf start (AndState n state others)) h = refl
+
+-- so the start of its scope is the machine's
+start_named : (machine : Scope) → IsWellNamed machine → (i : ℕ) → first_start (table_of machine) ≡ Some i → name_in (table_of machine).names i ≡ start_of machine
+start_named machine well i e =
+    let names = (table_of machine).names in
+    let number : number_in names (start_of machine) ≡ i = some_inj (sym (first_placed machine well.start) ∙ e) in
+    ap (name_in names) (sym number) ∙ (is_named machine machine well own_scope (start_of machine) well.start).again
+
+-- the machine's table has that start
+pub start_found : (machine : Machine) (m : Scope) → Shows machine m → (p : Placement) → slice_get (table_view machine).placements 0 ≡ Some p → name_in (table_view machine).names p.start ≡ start_of m
+start_found machine m shown p e =
+    subst (λ (t : Table). slice_get t.placements 0 ≡ Some p → name_in t.names p.start ≡ start_of m) (sym shown.table)
+    (λ f. start_named m shown.well_named p.start (ap (option_map (λ (q : Placement). q.start)) f)) e
+
+-- it has one
+pub start_missing : {A : Type 0} (machine : Machine) (m : Scope) → Shows machine m → slice_get (table_view machine).placements 0 ≡ None → A
+start_missing {A = A} machine m shown e =
+    subst (λ (t : Table). slice_get t.placements 0 ≡ None → A) (sym shown.table)
+    (λ f. none_some (sym (ap (option_map (λ (q : Placement). q.start)) f) ∙ first_placed m shown.well_named.start)) e
+
+ready_shown : (names : List (List ℕ)) (visit : Visit) → activity_view names (Ready visit) ≡ model.Ready (name_in names visit.state) (view visit.raw) visit.counts.items
+ready_shown names visit = search (rules, the_lemmas)
+
+-- an activity that is about to enter the start
+pub is_start : (m : Scope) (names : List (List ℕ)) (visit : Visit) → name_in names visit.state ≡ start_of m → visit.counts.items ≡ [] → activity_view names (Ready visit) ≡ model.start m (view visit.raw)
+is_start m names visit named none = ready_shown names visit ∙ ap (λ k. model.Ready k (view visit.raw) visit.counts.items) named ∙ ap (model.Ready (start_of m) (view visit.raw)) none
+
+-- stands in the machine's scope
+pub starts_standing : (machine : Machine) (m : Scope) → Shows machine m → (a : model.Activity) (input : Tree) → a ≡ model.start m input → StandsIn a m
+starts_standing machine m shown a input is = subst (λ b. StandsIn b m) (sym is) (start_stands m shown.well_named input)
+
+-- the places that were added to none are those where an event is enabled
+pub all_enabled : (m : Scope) (a : model.Activity) (place : List ℕ) (before after : List (List ℕ × model.Want)) → StandsIn a m → place ≡ [] → before ≡ [] → Adds place (open_in a) before after → after ≡ model.enabled a m
+all_enabled m a place before after stands own none added =
+    adds_to_none (subst (λ b. Adds [] (open_in a) b after) none (subst (λ p. Adds p (open_in a) before after) own added)) ∙ sym (enabled_is_open a m stands)

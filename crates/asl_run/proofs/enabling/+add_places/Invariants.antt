@@ -1,0 +1,11 @@
+use Rattle.std.proofs.Common.{◌≡◌, map}
+use Rattle.asl_run.specs.Enabling.{found_view}
+use Rattle.asl_run.proofs.Adding.{AreAdded}
+use Rattle.asl_run.proofs.enabling.+add_places.Given as goal
+
+abbrev pub invariant-add_places_below-loop-number : goal.invariant-add_places_below-loop-number
+invariant-add_places_below-loop-number l =
+    record {
+      place : l.place.items ≡ l.initial.place.items;
+      added : AreAdded l.children l.initial.place.items (map found_view l.initial.found.items) l.number (map found_view l.found.items);
+    }
