@@ -11,8 +11,6 @@ mod patterns;
 mod reading;
 mod refusal;
 mod rule;
-#[cfg(test)]
-mod tests;
 mod variables;
 
 pub use deciding::{NamesNothing, holds};

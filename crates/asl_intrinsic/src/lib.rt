@@ -18,8 +18,6 @@ mod meaning;
 mod parsing;
 mod references;
 mod scanning;
-#[cfg(test)]
-mod tests;
 mod value;
 mod words;
 

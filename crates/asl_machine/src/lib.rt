@@ -20,8 +20,6 @@ mod scopes;
 mod settings;
 mod state_checking;
 mod states;
-#[cfg(test)]
-mod tests;
 mod trouble_checking;
 mod value_checking;
 

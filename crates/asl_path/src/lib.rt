@@ -16,8 +16,6 @@ mod parsing;
 mod placing;
 mod printing;
 mod scanning;
-#[cfg(test)]
-mod tests;
 
 pub use finding::find;
 pub use parsing::parse;

@@ -9,8 +9,6 @@ mod paths;
 mod reading;
 mod refusal;
 mod template;
-#[cfg(test)]
-mod tests;
 
 pub use evaluating::eval;
 pub use reading::from_tree;

@@ -13,8 +13,6 @@ use std::collections::BTreeMap;
 mod comparing;
 mod copying;
 mod reading;
-#[cfg(test)]
-mod tests;
 mod wholeness;
 mod writing;
 

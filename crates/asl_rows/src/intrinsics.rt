@@ -1,5 +1,5 @@
 //! Vectors for calls and their values, and each call once with ample memory.
-use crate::{Item, eval, parse};
+use asl_intrinsic::{Item, eval, parse};
 use asl_tree::{Tree, read, to_text};
 use std::alloc::Global;
 use std::test::Fail;

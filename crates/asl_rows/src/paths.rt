@@ -1,5 +1,5 @@
 //! Vectors for paths, and each call once with ample memory.
-use crate::{PathRefusal, RefPath, find, parse, place, print};
+use asl_path::{PathRefusal, RefPath, find, parse, place, print};
 use asl_tree::{Tree, read, to_text};
 use std::alloc::Global;
 use std::test::Fail;

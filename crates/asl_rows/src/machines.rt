@@ -1,5 +1,5 @@
 //! Definitions and what they are read as, each call once with ample memory.
-use crate::{DefFault, read};
+use asl_machine::{DefFault, read};
 use asl_tree::read_value;
 use std::alloc::Global;
 use std::test::Fail;
@@ -22,7 +22,7 @@ fn answered(alloc: Global, definition: &str) -> Result<String, Fail> {
 }
 
 /// The scope of the state of that number: its start, and its owner.
-fn scope(alloc: Global, machine: &crate::Machine, number: usize) -> Result<String, Fail> {
+fn scope(alloc: Global, machine: &asl_machine::Machine, number: usize) -> Result<String, Fail> {
     match machine.scope_of(number) {
         Some(scope) => {
             let start = scope.start;

@@ -1,5 +1,5 @@
 //! Vectors for texts and trees, and each call once with ample memory.
-use crate::{copy, from_value, read, read_value, same, to_text};
+use asl_tree::{copy, from_value, read, read_value, same, to_text};
 use std::alloc::Global;
 use std::test::Fail;
 

@@ -1,6 +1,6 @@
 //! Vectors for templates, and each call once with ample memory.
-use crate::{eval, from_tree};
 use asl_intrinsic::Item;
+use asl_template::{eval, from_tree};
 use asl_tree::{read, to_text};
 use std::alloc::Global;
 use std::test::Fail;

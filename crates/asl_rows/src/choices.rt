@@ -1,5 +1,5 @@
 //! Vectors for rules and tests, and each call once with ample memory.
-use crate::{Rule, RuleRefusal, from_tree, holds};
+use asl_choice::{Rule, RuleRefusal, from_tree, holds};
 use asl_tree::{Tree, read};
 use std::alloc::Global;
 use std::test::Fail;

@@ -1,0 +1,17 @@
+//! Tests of the libraries by tables of vectors: each call with what it must answer, and once with ample memory.
+//!
+//! They stand apart from the crates they test, since a crate with tests is proved twice.
+#![tactic(auto)]
+
+#[cfg(test)]
+mod choices;
+#[cfg(test)]
+mod intrinsics;
+#[cfg(test)]
+mod machines;
+#[cfg(test)]
+mod paths;
+#[cfg(test)]
+mod templates;
+#[cfg(test)]
+mod trees;
