@@ -10,6 +10,7 @@ pub mod Misfits
 pub mod Numbers
 pub mod OpenPlaces
 pub mod Places
+pub mod Planned
 pub mod Stopping
 pub mod Told
 pub mod Turns

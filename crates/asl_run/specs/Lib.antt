@@ -11,3 +11,4 @@ pub mod Standing
 pub mod Changing
 pub mod Waiting
 pub mod Running
+pub mod Acting

@@ -14,8 +14,10 @@ mod faults;
 mod flowing;
 mod items;
 mod orders;
+mod planning;
 mod running;
 mod troubles;
+mod troubling;
 mod waiting;
 mod working;
 

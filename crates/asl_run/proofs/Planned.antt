@@ -1,0 +1,195 @@
+-- Plans from their parts.
+use Rattle.std.proofs.Common.{◌≡◌, refl, ap, ◌∙◌, ℕ, List, [], ◌∷◌, map, subst, sym, Option, Some, None, option_map, string_bytes, Result, Ok, Err, IfOk, codes}
+use Rattle.asl_machine.specs.Machine.{kind_view, settings_view}
+use Rattle.asl_model.specs.Faults as faults
+use Rattle.asl_model.specs.Faults.{ResultPathMatchFailure, error_name}
+use Rattle.asl_model.specs.Flow as flow
+use Rattle.asl_model.specs.Flow.{output_of}
+use Rattle.asl_model.specs.Machine.{child_scope}
+use Rattle.asl_model.specs.Run as model
+use Rattle.asl_model.specs.Tree.{Tree, Trees}
+use Rattle.asl_tree.specs.View.{view}
+use Rattle.asl_tree.specs.declared.Tree as code
+use Rattle.asl_run.specs.Acting.{IsAt, Plans, by_settings, by_state, by_trouble_at, names_at, state_at, told_at}
+use Rattle.asl_run.specs.Activities.{activity_view}
+use Rattle.asl_run.specs.Changing.{changed}
+use Rattle.asl_run.specs.Entries.{entry_view}
+use Rattle.asl_run.specs.Faults.{error_view, fault_view}
+use Rattle.asl_run.specs.Flowing.{Flows}
+use Rattle.asl_run.specs.Standing.{EachIsNamed, MayFollow, name_in, number_in}
+use Rattle.asl_run.specs.Troubles.{CanRise, trouble_view}
+use Rattle.asl_run.specs.declared.activities.Activity.{Activity}
+use Rattle.asl_run.specs.declared.changing.Change.{Change}
+use Rattle.asl_run.specs.declared.changing.Change.TheVariants.{Become, Retry}
+use Rattle.asl_run.specs.declared.entries.Entry.{Entry}
+use Rattle.asl_run.specs.declared.faults.Fault.{Fault}
+use Rattle.asl_run.specs.declared.faults.Stop.{Stop}
+use Rattle.asl_run.specs.declared.faults.Stop.TheVariants as stops
+use Rattle.asl_run.specs.declared.planning.Here.{Here}
+use Rattle.asl_run.specs.declared.planning.Plan.{Plan}
+use Rattle.asl_run.specs.declared.troubles.Trouble.{Trouble}
+use Rattle.asl_run.proofs.Following.{caught_follows, leaving_follows, next_follows}
+
+-- a change leaves that, and a count that is to rise can
+pub record Leaves (here : Here) (change : Change) (after : model.Activity) : Type 0 where
+  pub left : IsAt here → changed (names_at here) here.visit.now change ≡ after
+  pub rises : (i : ℕ) → change ≡ Retry i → CanRise here.visit.now.counts.items i
+
+-- another activity stands there
+pub becomes : (here : Here) (a : Activity) (after : model.Activity) → (IsAt here → changed (names_at here) here.visit.now (Become a) ≡ after) → Leaves here (Become a) after
+becomes here a after is = record { left = is; rises = λ i e. absurd (cc) }
+
+-- a plan without an entry
+pub begun : (here : Here) (plan : Plan) (change : Change) (after : model.Activity) → plan.entries.items ≡ [] → plan.change ≡ change → Leaves here change after → Plans here plan (record { entries = []; after = after })
+begun here plan change after none is leaves = record {
+  told = ap (map entry_view) none;
+  left = λ stands. ap (changed (names_at here) here.visit.now) is ∙ leaves.left stands;
+  rises = λ i e. leaves.rises i (sym is ∙ e);
+}
+
+-- with one more entry in front
+pub preceded : (here : Here) (plan before : Plan) (made : Entry) (entry : model.Entry) (step : model.Step) → plan.entries.items ≡ made ∷ before.entries.items → plan.change ≡ before.change → entry_view made ≡ told_at here.at.now entry → Plans here before step
+    → Plans here plan (model.entry_then entry step)
+preceded here plan before made entry step first same told plans = record {
+  told = ap (map entry_view) first ∙ ap (λ e. e ∷ map entry_view before.entries.items) told ∙ ap (λ es. told_at here.at.now entry ∷ es) plans.told;
+  left = λ stands. ap (changed (names_at here) here.visit.now) same ∙ plans.left stands;
+  rises = λ i e. plans.rises i (sym same ∙ e);
+}
+
+-- with an entry alone
+pub told_once : (here : Here) (plan before : Plan) (made : Entry) (entry : model.Entry) (change : Change) (after : model.Activity) → before.entries.items ≡ [] → before.change ≡ change → plan.entries.items ≡ made ∷ before.entries.items → plan.change ≡ before.change
+    → entry_view made ≡ told_at here.at.now entry → Leaves here change after → Plans here plan (record { entries = entry ∷ []; after = after })
+told_once here plan before made entry change after none is first same told leaves =
+    preceded here plan before made entry (record { entries = []; after = after }) first same told (begun here before change after none is leaves)
+
+-- the execution goes on at a state that may follow
+pub moves_on : (here : Here) (a : Activity) (next : List ℕ) (input : Tree) → activity_view (names_at here) a ≡ model.Ready (name_in (names_at here) (number_in (names_at here) next)) input [] → MayFollow (state_at here) (Some next) → Leaves here (Become a) (model.Ready next input [])
+moves_on here a next input is follows = becomes here a (model.Ready next input []) (λ stands. let named = stands.leads.targets next follows in is ∙ ap (λ n. model.Ready n input []) named.again)
+
+-- ---- what comes of what may want memory
+
+-- under a further premise
+pub with_premise : {E : Type 0} (here : Here) (r : Result Plan E) (premise : Type 0) (step : model.Step) → IfOk r (λ p. Plans here p step) → IfOk r (λ p. premise → Plans here p step)
+with_premise here (Ok p) premise step plans = λ h. plans
+with_premise here (Err e) premise step plans = tt
+
+-- one more entry in front
+pub preceded_so : {E : Type 0} (here : Here) (r : Result Plan E) (before : Plan) (made : Entry) (entry : model.Entry) (step : model.Step) → IfOk r (λ p. p.entries.items ≡ made ∷ before.entries.items) → IfOk r (λ p. p.change ≡ before.change)
+    → entry_view made ≡ told_at here.at.now entry → Plans here before step → IfOk r (λ p. Plans here p (model.entry_then entry step))
+preceded_so here (Ok p) before made entry step first same told plans = preceded here p before made entry step first same told plans
+preceded_so here (Err e) before made entry step first same told plans = tt
+
+-- ---- errors
+
+-- what comes of an error is the step in trouble
+pub troubled_so : {E : Type 0} (here : Here) (r : Result Plan E) (error cause counts : List ℕ) (met : Trouble) (trouble : model.Trouble) → trouble_view met ≡ trouble → counts ≡ here.visit.now.counts.items
+    → trouble_view met ≡ model.trouble_of (settings_view here.state.now.settings) (view here.visit.now.raw) counts error cause → IfOk r (λ p. (e k : List ℕ) → Plans here p (by_trouble_at here e k trouble)) → IfOk r (λ p. Plans here p (by_settings model.troubled here error cause))
+troubled_so here (Ok p) error cause counts met trouble seen same is plans =
+    subst (λ t. Plans here p (by_trouble_at here error cause t)) (sym seen ∙ is ∙ ap (λ cs. model.trouble_of (settings_view here.state.now.settings) (view here.visit.now.raw) cs error cause) same) (plans error cause)
+troubled_so here (Err e) error cause counts met trouble seen same is plans = tt
+
+-- a catcher hands on to a state that may follow
+pub handed_on : {E : Type 0} (here : Here) (r : Result Plan E) (before : Plan) (made : Entry) (a : Activity) (i : ℕ) (next : List ℕ) (input : Tree) → before.entries.items ≡ [] → before.change ≡ Become a
+    → IfOk r (λ p. p.entries.items ≡ made ∷ before.entries.items) → IfOk r (λ p. p.change ≡ before.change) → entry_view made ≡ told_at here.at.now (model.Caught here.name.now i next)
+    → activity_view (names_at here) a ≡ model.Ready (name_in (names_at here) (number_in (names_at here) next)) input []
+    → IfOk r (λ p. MayFollow (state_at here) (Some next) → (e k : List ℕ) → Plans here p (by_trouble_at here e k (model.Catches i next input)))
+handed_on here (Ok p) before made a i next input none is first same told seen = λ follows e k. told_once here p before made (model.Caught here.name.now i next) (Become a) (model.Ready next input []) none is first same told (moves_on here a next input seen follows)
+handed_on here (Err x) before made a i next input none is first same told seen = tt
+
+-- so it does where it takes the error
+pub caught_so : {E : Type 0} (here : Here) (r : Result Plan E) (error cause counts : List ℕ) (met : Trouble) (i : ℕ) (next : List ℕ) (input : Tree) → trouble_view met ≡ model.Catches i next input → counts ≡ here.visit.now.counts.items
+    → trouble_view met ≡ model.trouble_of (settings_view here.state.now.settings) (view here.visit.now.raw) counts error cause → IfOk r (λ p. MayFollow (state_at here) (Some next) → (e k : List ℕ) → Plans here p (by_trouble_at here e k (model.Catches i next input)))
+    → IfOk r (λ p. Plans here p (by_settings model.troubled here error cause))
+caught_so here (Ok p) error cause counts met i next input seen same is plans =
+    let so : model.Catches i next input ≡ model.trouble_of (settings_view here.state.now.settings) (view here.visit.now.raw) here.visit.now.counts.items error cause = sym seen ∙ is ∙ ap (λ cs. model.trouble_of (settings_view here.state.now.settings) (view here.visit.now.raw) cs error cause) same in
+    let follows : MayFollow (state_at here) (Some next) = caught_follows (state_at here) (view here.visit.now.raw) here.visit.now.counts.items error cause i next input (sym so) in
+    subst (λ t. Plans here p (by_trouble_at here error cause t)) so (plans follows error cause)
+caught_so here (Err e) error cause counts met i next input seen same is plans = tt
+
+-- its output can't be placed
+pub misfitted : {E : Type 0} (here : Here) (r : Result Plan E) (before : Plan) (made : Entry) (name : List ℕ) → name ≡ error_name ResultPathMatchFailure → Plans here before (model.ends_failing name (codes "Catch"))
+    → IfOk r (λ p. p.entries.items ≡ made ∷ before.entries.items) → IfOk r (λ p. p.change ≡ before.change) → entry_view made ≡ told_at here.at.now (model.Raised here.name.now (record { error = ResultPathMatchFailure; field = codes "Catch" }))
+    → IfOk r (λ p. (e k : List ℕ) → Plans here p (by_trouble_at here e k model.Misfits))
+misfitted here (Ok p) before made name is plans first same told = λ e k.
+    preceded here p before made (model.Raised here.name.now (record { error = ResultPathMatchFailure; field = codes "Catch" })) (model.ends_failing (error_name ResultPathMatchFailure) (codes "Catch")) first same told
+    (subst (λ n. Plans here before (model.ends_failing n (codes "Catch"))) is plans)
+misfitted here (Err x) before made name is plans first same told = tt
+
+-- a fault is raised
+pub raised_so : {E : Type 0} (here : Here) (r : Result Plan E) (before : Plan) (made : Entry) (fault : Fault) (name : List ℕ) → name ≡ error_name (error_view fault.error) → Plans here before (by_settings model.troubled here name fault.field.now)
+    → IfOk r (λ p. p.entries.items ≡ made ∷ before.entries.items) → IfOk r (λ p. p.change ≡ before.change) → entry_view made ≡ told_at here.at.now (model.Raised here.name.now (fault_view fault)) → IfOk r (λ p. Plans here p (by_settings model.faulted here (fault_view fault)))
+raised_so here r before made fault name is plans first same told =
+    preceded_so here r before made (model.Raised here.name.now (fault_view fault)) (by_settings model.troubled here (error_name (error_view fault.error)) fault.field.now) first same told
+    (subst (λ n. Plans here before (by_settings model.troubled here n fault.field.now)) is plans)
+
+-- ---- leaving
+
+-- for the next state
+pub left_on : {E : Type 0} (here : Here) (r : Result Plan E) (before : Plan) (made : Entry) (a : Activity) (next : List ℕ) (output : Tree) → before.entries.items ≡ [] → before.change ≡ Become a
+    → IfOk r (λ p. p.entries.items ≡ made ∷ before.entries.items) → IfOk r (λ p. p.change ≡ before.change) → entry_view made ≡ told_at here.at.now (model.Left here.name.now output)
+    → activity_view (names_at here) a ≡ model.Ready (name_in (names_at here) (number_in (names_at here) next)) output []
+    → IfOk r (λ p. MayFollow (state_at here) (Some next) → Plans here p (model.leaves_for here.name.now (Some next) output))
+left_on here (Ok p) before made a next output none is first same told seen = λ follows. told_once here p before made (model.Left here.name.now output) (Become a) (model.Ready next output []) none is first same told (moves_on here a next output seen follows)
+left_on here (Err e) before made a next output none is first same told seen = tt
+
+-- for the end of its scope
+pub left_last : {E : Type 0} (here : Here) (r : Result Plan E) (before : Plan) (made : Entry) (output : Tree) → Plans here before (record { entries = model.Ended (model.Output output) ∷ []; after = model.Done output })
+    → IfOk r (λ p. p.entries.items ≡ made ∷ before.entries.items) → IfOk r (λ p. p.change ≡ before.change) → entry_view made ≡ told_at here.at.now (model.Left here.name.now output) → IfOk r (λ p. Plans here p (model.leaves_for here.name.now None output))
+left_last here r before made output plans first same told = preceded_so here r before made (model.Left here.name.now output) (record { entries = model.Ended (model.Output output) ∷ []; after = model.Done output }) first same told plans
+
+-- with an output
+pub left_with : {E : Type 0} (here : Here) (r : Result Plan E) (next : Option (List ℕ)) (t : code.Tree) → IfOk r (λ p. MayFollow (state_at here) next → Plans here p (model.leaves_for here.name.now next (view t)))
+    → IfOk r (λ p. (defined : Result Tree faults.Fault) → Flows view (Ok t) defined → MayFollow (state_at here) next → Plans here p (by_settings model.leaves_with here next defined))
+left_with here (Ok p) next t plans = λ defined flows follows. let is : defined ≡ Ok (view t) = flows.gives in subst (λ d. Plans here p (by_settings model.leaves_with here next d)) (sym is) (plans follows)
+left_with here (Err e) next t plans = tt
+
+-- with a fault in its place
+pub left_raising : {E : Type 0} (here : Here) (r : Result Plan E) (next : Option (List ℕ)) (output : Result code.Tree Stop) (fault : Fault) → output ≡ Err (stops.Fault fault) → IfOk r (λ p. Plans here p (by_settings model.faulted here (fault_view fault)))
+    → IfOk r (λ p. (defined : Result Tree faults.Fault) → Flows view output defined → MayFollow (state_at here) next → Plans here p (by_settings model.leaves_with here next defined))
+left_raising here (Ok p) next output fault met plans = λ defined flows follows. let is : defined ≡ Err (fault_view fault) = flows.fails fault met in subst (λ d. Plans here p (by_settings model.leaves_with here next d)) (sym is) plans
+left_raising here (Err e) next output fault met plans = tt
+
+-- with what comes of its result
+pub finished_so : {E : Type 0} (here : Here) (r : Result Plan E) (next : Option (List ℕ)) (output : Result code.Tree Stop) (result : Tree) → next ≡ option_map string_bytes here.state.now.settings.next
+    → Flows view output (output_of (settings_view here.state.now.settings) (view here.visit.now.raw) result)
+    → IfOk r (λ p. (defined : Result Tree faults.Fault) → Flows view output defined → MayFollow (state_at here) next → Plans here p (by_settings model.leaves_with here next defined)) → IfOk r (λ p. Plans here p (by_settings model.finishes here result))
+finished_so here (Ok p) next output result is flows plans =
+    let defined = output_of (settings_view here.state.now.settings) (view here.visit.now.raw) result in
+    let follows : MayFollow (state_at here) next = subst (MayFollow (state_at here)) (sym is) (next_follows (state_at here)) in
+    subst (λ o. Plans here p (by_settings model.leaves_with here o defined)) is (plans defined flows follows)
+finished_so here (Err e) next output result is flows plans = tt
+
+-- ---- entering
+
+-- its first move
+pub entered_so : {E : Type 0} (here : Here) (r : Result Plan E) (before : Plan) (made : Entry) (work : flow.Work) → work ≡ flow.first_move (state_at here) (view here.visit.now.raw)
+    → (flow.first_move (state_at here) (view here.visit.now.raw) ≡ work → Plans here before (by_state model.by_work here work))
+    → IfOk r (λ p. p.entries.items ≡ made ∷ before.entries.items) → IfOk r (λ p. p.change ≡ before.change) → entry_view made ≡ told_at here.at.now (model.Entered here.name.now (view here.visit.now.raw))
+    → IfOk r (λ p. Plans here p (by_state model.enters here))
+entered_so here r before made work is plans first same told =
+    preceded_so here r before made (model.Entered here.name.now (view here.visit.now.raw)) (by_state model.by_work here (flow.first_move (state_at here) (view here.visit.now.raw))) first same told
+    (subst (λ w. Plans here before (by_state model.by_work here w)) is (plans (sym is)))
+
+-- a first move that leaves
+pub carried_off : {E : Type 0} (here : Here) (r : Result Plan E) (next : Option (List ℕ)) (output : Result code.Tree Stop) (v : Tree) → Flows view output (flow.at_output_path (settings_view here.state.now.settings) v)
+    → IfOk r (λ p. (defined : Result Tree faults.Fault) → Flows view output defined → MayFollow (state_at here) next → Plans here p (by_settings model.leaves_with here next defined))
+    → IfOk r (λ p. flow.first_move (state_at here) (view here.visit.now.raw) ≡ flow.Leaves next v → Plans here p (by_state model.by_work here (flow.Leaves next v)))
+carried_off here (Ok p) next output v flows plans = λ move. plans (flow.at_output_path (settings_view here.state.now.settings) v) flows (leaving_follows (state_at here) (view here.visit.now.raw) next v move)
+carried_off here (Err e) next output v flows plans = tt
+
+-- one that asks
+pub asked_so : {E : Type 0} (here : Here) (r : Result Plan E) (t v : Tree) → t ≡ v → IfOk r (λ p. Plans here p (by_state model.by_work here (flow.Asks t))) → IfOk r (λ p. Plans here p (by_state model.by_work here (flow.Asks v)))
+asked_so here (Ok p) t v is plans = subst (λ u. Plans here p (by_state model.by_work here (flow.Asks u))) is plans
+asked_so here (Err e) t v is plans = tt
+
+-- one that splits
+pub split_so : (here : Here) (plan : Plan) (change : Change) (children : model.Activities) (inputs : Trees) → plan.entries.items ≡ [] → plan.change ≡ change
+    → changed (names_at here) here.visit.now change ≡ model.Split (name_in (names_at here) here.visit.now.state) (view here.visit.now.raw) here.visit.now.counts.items children → ((i : ℕ) → change ≡ Retry i → ⊥)
+    → (EachIsNamed (names_at here) (model.started (child_scope (kind_view here.state.now.kind)) inputs) → children ≡ model.started (child_scope (kind_view here.state.now.kind)) inputs)
+    → flow.first_move (state_at here) (view here.visit.now.raw) ≡ flow.Splits inputs → Plans here plan (by_state model.by_work here (flow.Splits inputs))
+split_so here plan change children inputs none is split no_retry alike move =
+    begun here plan change (model.Split here.name.now (view here.visit.now.raw) here.visit.now.counts.items (model.started (child_scope (kind_view here.state.now.kind)) inputs)) none is (record {
+      left = λ stands. split ∙ ap (model.Split (name_in (names_at here) here.visit.now.state) (view here.visit.now.raw) here.visit.now.counts.items) (alike (stands.leads.starts (view here.visit.now.raw) inputs move))
+          ∙ ap (λ n. model.Split n (view here.visit.now.raw) here.visit.now.counts.items (model.started (child_scope (kind_view here.state.now.kind)) inputs)) (sym stands.named);
+      rises = λ i e. absurd (no_retry i e);
+    })

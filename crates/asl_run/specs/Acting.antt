@@ -1,0 +1,129 @@
+-- What is to be done in one step of one activity.
+use Rattle.std.specs.Prelude.{◌≡◌, ℕ, List, map, Option, Some, None, IfSome, slice_get}
+use Rattle.asl_machine.specs.Machine.{settings_view, state_view}
+use Rattle.asl_machine.specs.Table.{table_view}
+use Rattle.asl_machine.specs.declared.machine.Machine.{Machine}
+use Rattle.asl_model.specs.Machine.{State, Settings}
+use Rattle.asl_model.specs.Run as model
+use Rattle.asl_model.specs.Tree.{Tree}
+use Rattle.asl_tree.specs.View.{view}
+use Rattle.asl_run.specs.Activities.{activity_view}
+use Rattle.asl_run.specs.Changing.{changed}
+use Rattle.asl_run.specs.Entries.{entry_view}
+use Rattle.asl_run.specs.Standing.{name_in, LeadsOn}
+use Rattle.asl_run.specs.Troubles.{CanRise}
+use Rattle.asl_run.specs.declared.activities.Activity.{Activity, fold-Activity}
+use Rattle.asl_run.specs.declared.activities.Activity.TheOpen.{Activity-F}
+use Rattle.asl_run.specs.declared.activities.Visit.{Visit}
+use Rattle.asl_run.specs.declared.changing.Change.TheVariants.{Retry}
+use Rattle.asl_run.specs.declared.planning.Here.{Here}
+use Rattle.asl_run.specs.declared.planning.Plan.{Plan}
+
+-- ---- one execution of a state, where it stands
+
+-- the names of the machine's states, by number
+abbrev pub names_at : Here → List (List ℕ)
+names_at here = (table_view here.machine.now).names
+
+-- the state, without the states of its scopes
+abbrev pub state_at : Here → State
+state_at here = state_view here.state.now
+
+-- what is defined for a state's name, its settings, its raw input and its counts, of those here
+abbrev pub by_settings : {A : Type 0} → (List ℕ → Settings → Tree → List ℕ → A) → Here → A
+by_settings defined here = defined here.name.now (settings_view here.state.now.settings) (view here.visit.now.raw) here.visit.now.counts.items
+
+-- the same for the state itself
+abbrev pub by_state : {A : Type 0} → (List ℕ → State → Tree → List ℕ → A) → Here → A
+by_state defined here = defined here.name.now (state_at here) (view here.visit.now.raw) here.visit.now.counts.items
+
+-- the step that comes of an error so
+abbrev pub by_trouble_at : Here → List ℕ → List ℕ → model.Trouble → model.Step
+by_trouble_at here error cause trouble = model.by_trouble here.name.now (view here.visit.now.raw) here.visit.now.counts.items error cause trouble
+
+-- the name is that of the execution's state, and its names lead on
+pub record IsAt (here : Here) : Type 0 where
+  pub named : here.name.now ≡ name_in (names_at here) here.visit.now.state
+  pub leads : LeadsOn (names_at here) (state_at here)
+
+-- ---- plans
+
+-- an entry with its place, as the code's entries are seen
+abbrev pub told_at : List ℕ → model.Entry → List ℕ × Option model.Entry
+told_at place entry = (place, Some entry)
+
+-- A plan is that of a step: its entries are the step's, at the place; its change leaves what the step leaves; a count
+-- that is to rise can.
+pub record Plans (here : Here) (plan : Plan) (step : model.Step) : Type 0 where
+  pub told : map entry_view plan.entries.items ≡ map (told_at here.at.now) step.entries
+  pub left : IsAt here → changed (names_at here) here.visit.now plan.change ≡ step.after
+  pub rises : (i : ℕ) → plan.change ≡ Retry i → CanRise here.visit.now.counts.items i
+
+-- there is a step, and the plan is that of it
+pub record PlansOne (here : Here) (plan : Plan) (step : Option model.Step) : Type 0 where
+  pub that : model.Step
+  pub is : step ≡ Some that
+  pub plans : Plans here plan that
+
+-- the plan, if any, is that of the step, if any
+pub record PlansAs (here : Here) (plan : Option Plan) (step : Option model.Step) : Type 0 where
+  pub planned : IfSome plan (λ p. PlansOne here p step)
+  pub nothing : plan ≡ None → step ≡ None
+
+-- ---- at an activity
+
+-- one level: the execution of a state that stands there
+abbrev pub visit_step : Activity-F (Option Visit) → Option Visit
+visit_step (Activity-F.Ready visit) = Some visit
+visit_step (Activity-F.Waiting visit payload) = Some visit
+visit_step (Activity-F.Split visit children) = Some visit
+visit_step (Activity-F.Ended outcome) = None
+
+-- the execution of a state that stands there; none where the scope has ended
+abbrev pub visit_in : Activity → Option Visit
+visit_in = fold-Activity (Option Visit) visit_step
+
+-- the execution's state, found by its number in the machine's table, and its names lead on
+pub record StandsAt (machine : Machine) (visit : Visit) (state : State) : Type 0 where
+  pub name : slice_get (table_view machine).names visit.state ≡ Some (name_in (table_view machine).names visit.state)
+  pub shown : slice_get (table_view machine).states visit.state ≡ Some state
+  pub leads : LeadsOn (table_view machine).names state
+
+-- an execution with its state, as the machine has it by its number, at that place
+pub record IsFoundBy (machine : Machine) (place : List ℕ) (visit : Visit) (here : Here) : Type 0 where
+  pub same_machine : here.machine.now ≡ machine
+  pub same_place : here.at.now ≡ place
+  pub same_visit : here.visit.now ≡ visit
+  pub name : slice_get (table_view machine).names visit.state ≡ Some here.name.now
+  pub state : slice_get (table_view machine).states visit.state ≡ Some (state_at here)
+
+-- what an action does at an activity of that state
+abbrev pub moves : model.Activity → model.Action → State → Option model.Step
+moves (model.Ready n raw counts) action state = model.moves_ready n raw counts action state
+moves (model.Waiting n raw counts payload) action state = model.moves_waiting n raw counts action state
+moves (model.Split n raw counts children) action state = model.moves_split n raw counts children action state
+moves (model.Done output) action state = None
+moves (model.Failed error cause) action state = None
+
+-- the plan does what the step does where that execution stands
+pub record Does (names : List (List ℕ)) (place : List ℕ) (visit : Visit) (plan : Plan) (step : model.Step) : Type 0 where
+  pub told : map entry_view plan.entries.items ≡ map (told_at place) step.entries
+  pub left : changed names visit plan.change ≡ step.after
+  pub rises : (i : ℕ) → plan.change ≡ Retry i → CanRise visit.counts.items i
+
+-- there is a step, and the plan does it
+pub record DoesOne (names : List (List ℕ)) (place : List ℕ) (visit : Visit) (plan : Plan) (step : Option model.Step) : Type 0 where
+  pub that : model.Step
+  pub is : step ≡ Some that
+  pub does : Does names place visit plan that
+
+-- a plan is that of what the action does at the activity
+pub record ActsSo (machine : Machine) (place : List ℕ) (a : Activity) (action : model.Action) (plan : Plan) : Type 0 where
+  pub visit : Visit
+  pub stands : visit_in a ≡ Some visit
+  pub does : (state : State) → StandsAt machine visit state → DoesOne (table_view machine).names place visit plan (moves (activity_view (table_view machine).names a) action state)
+
+-- so is the plan, if there is one; there is none only where the action does nothing there
+pub record Acts (machine : Machine) (place : List ℕ) (a : Activity) (action : model.Action) (plan : Option Plan) : Type 0 where
+  pub planned : IfSome plan (λ p. ActsSo machine place a action p)
+  pub nothing : plan ≡ None → (state : State) → IfSome (visit_in a) (λ visit. StandsAt machine visit state) → moves (activity_view (table_view machine).names a) action state ≡ None

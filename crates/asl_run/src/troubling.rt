@@ -1,0 +1,78 @@
+//! The steps that an error leads to (States Language, "Retrying after error", "Fallback States").
+
+ghost use Rattle.std.specs.Prelude.{IfOk, List, Some, ℕ};
+ghost use Rattle.asl_model.specs.Run as model;
+ghost use Rattle.asl_run.specs.Acting.{Plans, by_settings, by_trouble_at, state_at};
+ghost use Rattle.asl_run.specs.Faults.{fault_view};
+ghost use Rattle.asl_run.specs.Standing.{MayFollow};
+ghost use Rattle.asl_run.specs.Troubles.{CanRise};
+ghost use Rattle.asl_tree.specs.View.{view};
+
+use crate::changing::Change;
+use crate::faults::{DataFlowError, Fault};
+use crate::planning::{Here, Plan};
+use crate::troubles::{Trouble, trouble_of};
+use asl_tree::{OutOfMemory, Tree};
+
+/// The state is in trouble with an error and a cause.
+pub(crate) fn in_trouble(here: &Here, error: &str, cause: &str) -> Result<Plan, OutOfMemory>
+    ensures { IfOk result (λ plan. Plans here.now plan (by_settings model.troubled here.now error.now cause.now)) }
+{
+    let settings = &here.state.settings;
+    let visit = here.visit;
+    match trouble_of(
+        here.alloc,
+        settings,
+        &visit.raw,
+        &visit.counts,
+        error,
+        cause,
+    )? {
+        Trouble::Retries(retrier) => retry(here, retrier),
+        Trouble::Catches {
+            catcher,
+            next,
+            input,
+        } => hand_on(here, catcher, next, input),
+        Trouble::Misfits => misfit(here),
+        Trouble::Escapes => here.ends_failing(error, cause),
+    }
+}
+
+/// The retrier of that number retries.
+fn retry(here: &Here, retrier: usize) -> Result<Plan, OutOfMemory>
+    requires { CanRise here.now.visit.now.counts.items retrier }
+    ensures { IfOk result (λ plan. (error cause : List ℕ) → Plans here.now plan (by_trouble_at here.now error cause (model.Retries retrier))) }
+{
+    Plan::new(here.alloc, Change::Retry(retrier)).after(here.retried(retrier)?)
+}
+
+/// The catcher of that number hands this input to that state.
+fn hand_on(here: &Here, catcher: usize, next: &str, input: Tree) -> Result<Plan, OutOfMemory>
+    ensures { IfOk result (λ plan. MayFollow (state_at here.now) (Some next.now) → (error cause : List ℕ) → Plans here.now plan (by_trouble_at here.now error cause (model.Catches catcher next.now (view input)))) }
+{
+    let caught = here.caught(catcher, next)?;
+    Plan::new(here.alloc, Change::Become(here.ready(next, input))).after(caught)
+}
+
+/// A catcher's output can't be placed: that is a fault, which nothing takes.
+fn misfit(here: &Here) -> Result<Plan, OutOfMemory>
+    ensures { IfOk result (λ plan. (error cause : List ℕ) → Plans here.now plan (by_trouble_at here.now error cause model.Misfits)) }
+{
+    let fault = Fault {
+        error: DataFlowError::ResultPathMatchFailure,
+        field: "Catch",
+    };
+    let raised = here.raised(fault)?;
+    here.ends_failing(fault.error.name(), fault.field)?
+        .after(raised)
+}
+
+/// The state has met a data-flow fault: it is raised, and the state is in trouble with its error and, as the cause, its
+/// field.
+pub(crate) fn raise(here: &Here, fault: Fault) -> Result<Plan, OutOfMemory>
+    ensures { IfOk result (λ plan. Plans here.now plan (by_settings model.faulted here.now (fault_view fault))) }
+{
+    let raised = here.raised(fault)?;
+    in_trouble(here, fault.error.name(), fault.field)?.after(raised)
+}
