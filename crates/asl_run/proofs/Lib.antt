@@ -19,3 +19,4 @@ pub mod Waits
 pub mod Adding
 pub mod Joinable
 pub mod Started
+pub mod Children

@@ -1,0 +1,70 @@
+//! Leaving a state (States Language, "Transitions", "Input and Output Processing").
+
+ghost use Rattle.std.specs.Prelude.{IfOk, None, Result, Some, option_map};
+ghost use Rattle.asl_model.specs.Faults as faults;
+ghost use Rattle.asl_model.specs.Run as model;
+ghost use Rattle.asl_model.specs.Tree as trees;
+ghost use Rattle.asl_run.specs.Acting.{Plans, by_settings, state_at};
+ghost use Rattle.asl_run.specs.Flowing.{Flows, data_view};
+ghost use Rattle.asl_run.specs.Standing.{MayFollow};
+ghost use Rattle.asl_tree.specs.View.{view};
+
+use crate::changing::Change;
+use crate::data::Data;
+use crate::faults::Stop;
+use crate::flowing::output_of;
+use crate::planning::{Here, Plan};
+use crate::troubling::raise;
+use asl_tree::{OutOfMemory, Tree};
+
+/// The state leaves with an output, for that next state or for the end of its scope.
+fn leave(here: &Here, next: Option<&str>, output: Tree) -> Result<Plan, OutOfMemory>
+    ensures { IfOk result (λ plan. MayFollow (state_at here.now) (option_map (λ n. n.now) next.entry) → Plans here.now plan (model.leaves_for here.now.name.now (option_map (λ n. n.now) next.entry) (view output))) }
+{
+    match next {
+        Some(name) => leave_for(here, name, output),
+        None => leave_scope(here, output),
+    }
+}
+
+/// So for that next state.
+fn leave_for(here: &Here, next: &str, output: Tree) -> Result<Plan, OutOfMemory>
+    ensures { IfOk result (λ plan. MayFollow (state_at here.now) (Some next.now) → Plans here.now plan (model.leaves_for here.now.name.now (Some next.now) (view output))) }
+{
+    let left = here.left(&output)?;
+    Plan::new(here.alloc, Change::Become(here.ready(next, output))).after(left)
+}
+
+/// So for the end of its scope.
+fn leave_scope(here: &Here, output: Tree) -> Result<Plan, OutOfMemory>
+    ensures { IfOk result (λ plan. Plans here.now plan (model.leaves_for here.now.name.now None (view output))) }
+{
+    let left = here.left(&output)?;
+    here.ends_with(output)?.after(left)
+}
+
+/// The same where the output may have met a fault.
+pub(crate) fn leave_with(
+    here: &Here,
+    next: Option<&str>,
+    output: Result<Tree, Stop>,
+) -> Result<Plan, OutOfMemory>
+    ensures { IfOk result (λ plan. (defined : Result trees.Tree faults.Fault) → Flows view output defined → MayFollow (state_at here.now) (option_map (λ n. n.now) next.entry) → Plans here.now plan (by_settings model.leaves_with here.now (option_map (λ n. n.now) next.entry) defined)) }
+{
+    match output {
+        Ok(output) => leave(here, next, output),
+        Err(stop) => match stop {
+            Stop::Fault(fault) => raise(here, fault),
+            Stop::OutOfMemory => Err(OutOfMemory),
+        },
+    }
+}
+
+/// The state has a result.
+pub(crate) fn finish(here: &Here, value: Data) -> Result<Plan, OutOfMemory>
+    ensures { IfOk result (λ plan. Plans here.now plan (by_settings model.finishes here.now (data_view value.entry))) }
+{
+    let settings = &here.state.settings;
+    let output = output_of(here.alloc, settings, &here.visit.raw, value);
+    leave_with(here, settings.next.as_deref(), output)
+}
