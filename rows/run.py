@@ -24,8 +24,9 @@ ROWS = pathlib.Path(__file__).resolve().parent
 TOP = ROWS.parent
 BUILDS = [TOP / "crates/asl/out/asl", TOP / "crates/asl/out/asl.by-rattle"]
 LINES = ["definition", "declared", "certificate"]
-ONCE = [*LINES, "lines", "unended", "after", "input", "output", "memory", "status"]
+ONCE = [*LINES, "lines", "unended", "after", "words", "input", "output", "memory", "status"]
 MANY = ["word", "prints", "tells"]
+COMMON = [*LINES, "words", "input"]
 SECONDS = 120
 
 
@@ -51,7 +52,7 @@ class Case:
 
     def words(self):
         """Returns the arguments of the program."""
-        return [made(word) for word in self.many["word"]]
+        return [made(word) for word in [*self.given.get("words", "").split(), *self.many["word"]]]
 
     def text(self):
         """Returns the bytes of standard input, where the case gives lines."""
@@ -59,6 +60,14 @@ class Case:
         lines = [made(self.given[key]) + b"\n" for key in LINES[:count]]
         text = b"".join(lines) + made(self.given.get("after", ""))
         return text[:-1] if "unended" in self.given else text
+
+    def put_files(self, folder):
+        """Puts each text that the case gives into the file of its name, and leaves no file of another case."""
+        for position, key in enumerate(LINES):
+            if position < int(self.given.get("lines", len(LINES))):
+                (folder / key).write_bytes(made(self.given[key]))
+            else:
+                (folder / key).unlink(missing_ok=True)
 
     def wanted(self):
         """Returns the wanted status and bytes of both streams; no bytes of an output that nobody can read."""
@@ -80,7 +89,7 @@ def cases_of(table):
             cases.append(Case(value, place, common))
         elif cases:
             cases[-1].put(key, value)
-        elif key in LINES:
+        elif key in COMMON:
             common[key] = value
         else:
             raise ValueError(f"{place}: '{key}' stands before the first case")
@@ -108,6 +117,9 @@ def opened_input(case, folder):
         return os.open(folder, os.O_RDONLY)
     if kind == "file":
         return os.open(TOP / name, os.O_RDONLY)
+    if kind == "files":
+        case.put_files(folder)
+        return os.open(os.devnull, os.O_RDONLY)
     if kind == "pipe":
         return piped(case.text(), int(name))
     if kind != "lines":

@@ -5,7 +5,7 @@ ghost use Rattle.std.specs.Io.KnownBytes.{Keeps, IsAtEnd, prepend_known};
 use crate::sources::{Failed, Source};
 
 /// How many bytes are read at once.
-const CHUNK: usize = 8192;
+pub(crate) const CHUNK: usize = 8192;
 
 /// Bytes that were read and aren't taken yet: those from `start` to `end`.
 #[derive(Drop)]

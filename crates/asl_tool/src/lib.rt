@@ -2,7 +2,7 @@
 //!
 //! [`verify_texts`] checks a certificate of shapes against a state machine and its declared shapes, all three given as
 //! texts. [`check_lines`] does it for three lines of a [`Source`] and writes the lines of the verdict to a [`Sink`].
-//! [`closing`] says how a program ends that did so.
+//! [`read_text`] takes a whole source as one text, and [`closing`] says how a program ends that checked texts.
 #![tactic(auto)]
 
 mod chunks;
@@ -15,6 +15,7 @@ mod sinks;
 mod sources;
 #[cfg(test)]
 mod tests;
+mod texts;
 mod verifying;
 
 pub use asl_check::{Finding, FindingFault, Verdict};
@@ -29,4 +30,5 @@ pub use printing::{closing, verdict_text};
 pub use refusals::{RunFault, TextFault, TextRefusal, Which};
 pub use sinks::{Sink, ToWrite};
 pub use sources::{Failed, FromRead, Source};
+pub use texts::read_text;
 pub use verifying::{check_lines, verify_texts};

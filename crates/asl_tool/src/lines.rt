@@ -9,10 +9,8 @@ ghost use Rattle.asl_tool.specs.Lines.{TakesLine, LineFaultStands, AreLines, NoL
 use crate::chunks::Chunk;
 use crate::refusals::RunFault;
 use crate::sources::Source;
+use crate::texts::TEXT_LIMIT;
 use std::alloc::Global;
-
-/// How many bytes a line may have, its break not counted.
-const LINE_LIMIT: usize = 16777216;
 
 /// The three lines that are checked.
 #[derive(Drop)]
@@ -24,7 +22,7 @@ pub(crate) struct Lines {
 
 /// The first three lines of a source, without their breaks. A missing line is empty.
 ///
-/// Refused: TooLong for a line of more than `LINE_LIMIT` bytes; Read where a read failed.
+/// Refused: TooLong for a line of more than `TEXT_LIMIT` bytes; Read where a read failed.
 pub(crate) fn read_lines<S: Source>(alloc: Global, source: &mut S) -> Result<Lines, RunFault>
     ensures lines { IfOk result (λ lines. AreLines (S.remaining source.old) lines.definition.items lines.declared.items lines.certificate.items) }
     ensures short { OnOk result (NoLineIsLong (S.remaining source.old)) }
@@ -53,7 +51,7 @@ pub(crate) fn read_lines<S: Source>(alloc: Global, source: &mut S) -> Result<Lin
 
 /// The next line, without its break (U+000A). At the end of the source it is what is left, or nothing.
 ///
-/// Refused: TooLong where the line has more than `LINE_LIMIT` bytes, which aren't held; Read where a read failed.
+/// Refused: TooLong where the line has more than `TEXT_LIMIT` bytes, which aren't held; Read where a read failed.
 pub(crate) fn next_line<S: Source>(
     alloc: Global,
     source: &mut S,
@@ -78,7 +76,7 @@ pub(crate) fn next_line<S: Source>(
         }
         let front = front_of_line(rest);
         let ends = front < rest.len();
-        if front > LINE_LIMIT - line.len() {
+        if front > TEXT_LIMIT - line.len() {
             return Err(RunFault::TooLong);
         }
         match line.extend_from_slice(&rest[..front]) {

@@ -1,5 +1,5 @@
 // The library over a source and a sink in memory: what is written, the exit status, the line on standard error.
-ghost use Rattle.std.specs.Prelude.{Some};
+ghost use Rattle.std.specs.Prelude.{Some, None, false};
 
 use super::*;
 use std::alloc::Global;
@@ -187,5 +187,39 @@ fn tells_failed_readers_and_writers(rt: HostRuntime) -> Result<(), Fail> {
     let (code, _) = closing(alloc, &end)?;
     assert_eq!(rt; sink.bytes.as_slice(), "ye".as_bytes());
     assert_eq!(rt; code, 5);
+    Ok(())
+}
+
+/// Never ends.
+#[derive(Drop)]
+struct Endless;
+
+impl Source for Endless {
+    ghost remaining = { λ _. None };
+
+    ghost failed = { λ _. false };
+
+    fn read(&mut self, buffer: &mut [u8]) -> Result<usize, Failed> {
+        Ok(buffer.len())
+    }
+}
+
+#[test]
+fn reads_whole_texts(rt: HostRuntime) -> Result<(), Fail> {
+    let alloc = rt.alloc();
+    for step in [1, 7, 8192] {
+        let mut source = Pieces {
+            rest: DEFINITION.as_bytes(),
+            step,
+            reads_left: 100,
+            failed: false,
+        };
+        let text = read_text(alloc, &mut source)?;
+        assert_eq!(rt; text.as_slice(), DEFINITION.as_bytes());
+        assert!(rt; matches!(read_text(alloc, &mut source), Ok(rest) if rest.is_empty()));
+        source.reads_left = 0;
+        assert!(rt; matches!(read_text(alloc, &mut source), Err(RunFault::Read)));
+    }
+    assert!(rt; matches!(read_text(alloc, &mut Endless), Err(RunFault::TooLong)));
     Ok(())
 }

@@ -1,0 +1,67 @@
+//! From standard input or files to a verdict on standard output.
+
+use crate::command_line::TextFiles;
+use crate::endings::finish;
+use asl_tool::{Closing, FromRead, RunFault, ToWrite, Verdict};
+use std::fs;
+use std::io::{self, Write};
+use std::rt::Files;
+
+/// Checks the three lines of standard input, writes the verdict to standard output, and gives the exit status.
+pub(crate) fn check_input<R: Input + Print + Eprint + AllocGlobal>(rt: &R) -> u8 {
+    let mut source = FromRead::new(rt.reader());
+    let mut sink = ToWrite::new(io::writer(rt));
+    let checked = asl_tool::check_lines(rt.alloc(), &mut source, &mut sink);
+    finish(rt, &closing_of(checked))
+}
+
+/// Checks the texts in three files, writes the verdict to standard output, and gives the exit status.
+pub(crate) fn check_files<R: Files + Print + Eprint + AllocGlobal>(
+    rt: &R,
+    files: &TextFiles<'_>,
+) -> u8 {
+    finish(rt, &closing_of(verdict_on(rt, files)))
+}
+
+/// What a check ends with.
+fn closing_of(checked: Result<Verdict, RunFault>) -> Closing {
+    match checked {
+        Ok(verdict) => Closing::Verdict(verdict),
+        Err(fault) => Closing::Fault(fault),
+    }
+}
+
+/// The verdict on the texts in three files, which is written to standard output. All files are read, in the order
+/// definition, declared shapes, certificate, before a text is looked at.
+///
+/// Refused: Read for a file that can't be opened or read, TooLong for one that is too long, the first of them; Text for
+/// a refused text; Write; OutOfMemory.
+fn verdict_on<R: Files + Print + AllocGlobal>(
+    rt: &R,
+    files: &TextFiles<'_>,
+) -> Result<Verdict, RunFault> {
+    let definition = file_text(rt, files.definition)?;
+    let declared = file_text(rt, files.declared)?;
+    let certificate = file_text(rt, files.certificate)?;
+    let verdict = match asl_tool::verify_texts(rt.alloc(), &definition, &declared, &certificate) {
+        Ok(verdict) => verdict,
+        Err(refusal) => return Err(RunFault::Text(refusal)),
+    };
+    let Ok(text) = asl_tool::verdict_text(rt.alloc(), &verdict) else {
+        return Err(RunFault::OutOfMemory);
+    };
+    match io::writer(rt).write_all(text.as_bytes()) {
+        Ok(()) => Ok(verdict),
+        Err(_) => Err(RunFault::Write),
+    }
+}
+
+/// All bytes of a file.
+///
+/// Refused: Read where it can't be opened or read; TooLong; OutOfMemory.
+fn file_text<R: Files + AllocGlobal>(rt: &R, name: &str) -> Result<Vec<u8>, RunFault> {
+    match fs::open(rt, name) {
+        Ok(file) => asl_tool::read_text(rt.alloc(), &mut FromRead::new(file)),
+        Err(_) => Err(RunFault::Read),
+    }
+}

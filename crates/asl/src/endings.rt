@@ -1,0 +1,37 @@
+//! How the program ends: the line on standard error and the exit status.
+
+use asl_tool::{Closing, RunFault, closing};
+use clap::Error;
+use clap::error::ErrorKind;
+
+/// Writes the closing's line to standard error and gives its exit status.
+pub(crate) fn finish<R: Eprint + AllocGlobal>(rt: &R, end: &Closing) -> u8 {
+    match closing(rt.alloc(), end) {
+        Ok((status, line)) => tell(rt, status, &line),
+        Err(_) => tell(rt, 5, "out of memory\n"),
+    }
+}
+
+/// Prints what clap says of a refused command line to standard error, or the help that was asked for to standard output,
+/// and gives the exit status. Want of memory and help that can't be written end as they do elsewhere.
+pub(crate) fn refuse<R: Print + Eprint + AllocGlobal>(rt: &R, error: &Error) -> u8 {
+    if error.kind() == ErrorKind::OutOfMemory {
+        return finish(rt, &Closing::Fault(RunFault::OutOfMemory));
+    }
+    let printed = error.print(rt);
+    if error.use_stderr() {
+        return 2;
+    }
+    match printed {
+        Ok(()) => 0,
+        Err(_) => finish(rt, &Closing::Fault(RunFault::Write)),
+    }
+}
+
+/// Writes a line to standard error, where there is one. Where that fails there is nobody to tell.
+fn tell<R: Eprint>(rt: &R, status: u8, line: &str) -> u8 {
+    if !line.is_empty() {
+        let _ = rt.eprint(line);
+    }
+    status
+}
