@@ -1,5 +1,9 @@
+pub mod Failures
 pub mod LineSteps
+pub mod Places
 pub mod Promises
 pub mod RefusedTexts
+pub mod Replies
 pub mod Slices
+pub mod Traces
 pub mod WriteSteps

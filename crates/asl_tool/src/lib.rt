@@ -5,6 +5,7 @@
 //! [`read_text`] takes a whole source as one text, and [`closing`] says how a program ends that checked texts.
 #![tactic(auto)]
 
+mod answering;
 mod chunks;
 mod endings;
 mod laws;
@@ -16,6 +17,7 @@ mod sources;
 #[cfg(test)]
 mod tests;
 mod texts;
+mod tracing;
 mod verifying;
 
 pub use asl_check::{Finding, FindingFault, Verdict};
