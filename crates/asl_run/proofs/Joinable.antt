@@ -2,7 +2,7 @@
 use Rattle.std.proofs.Common.{◌≡◌, ℕ, suc, ◌+◌, ◌<◌, ◌≤◌, List, length, get_or, drop, Bool, true, false, Some, None, ◌&&◌, refl, sym, ap, ◌∙◌, drop-cons, add-one, arith}
 use Rattle.std.proofs.lemmas.List.{drop_all}
 use Rattle.asl_model.specs.Run as model
-use Rattle.asl_model.specs.Run.{Ready, Waiting, Split, Done, Failed, Joining, AllDone, OneFailed, StillRunning, Want, WantsMove, joining, child_before, running_before, done_before}
+use Rattle.asl_model.specs.Run.{Ready, Waiting, Split, Done, Failed, Joining, AllDone, OneFailed, StillRunning, WantsMove, joining, child_before, running_before, done_before}
 use Rattle.asl_model.specs.Tree.{NoTrees}
 use Rattle.asl_run.specs.Activities.{activity_view, children_view}
 use Rattle.asl_run.specs.Enabling.{is_joinable, wanted_by_join, wanted_by, has_failed, has_ended}

@@ -20,3 +20,5 @@ pub mod Adding
 pub mod Joinable
 pub mod Started
 pub mod Children
+pub mod Joined
+pub mod Acted

@@ -1,5 +1,5 @@
 -- Plans from their parts.
-use Rattle.std.proofs.Common.{◌≡◌, refl, ap, ◌∙◌, ℕ, List, [], ◌∷◌, map, subst, sym, Option, Some, None, option_map, string_bytes, Result, Ok, Err, IfOk, codes}
+use Rattle.std.proofs.Common.{◌≡◌, ap, ◌∙◌, ℕ, List, [], ◌∷◌, map, subst, sym, Option, Some, None, option_map, string_bytes, Result, Ok, Err, IfOk, codes}
 use Rattle.asl_machine.specs.Machine.{kind_view, settings_view}
 use Rattle.asl_model.specs.Faults as faults
 use Rattle.asl_model.specs.Faults.{ResultPathMatchFailure, error_name}

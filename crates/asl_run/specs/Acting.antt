@@ -8,12 +8,11 @@ use Rattle.asl_model.specs.Run as model
 use Rattle.asl_model.specs.Tree.{Tree}
 use Rattle.asl_tree.specs.View.{view}
 use Rattle.asl_run.specs.Activities.{activity_view}
-use Rattle.asl_run.specs.Changing.{changed}
+use Rattle.asl_run.specs.Changing.{changed, visit_in}
 use Rattle.asl_run.specs.Entries.{entry_view}
 use Rattle.asl_run.specs.Standing.{name_in, LeadsOn}
 use Rattle.asl_run.specs.Troubles.{CanRise}
-use Rattle.asl_run.specs.declared.activities.Activity.{Activity, fold-Activity}
-use Rattle.asl_run.specs.declared.activities.Activity.TheOpen.{Activity-F}
+use Rattle.asl_run.specs.declared.activities.Activity.{Activity}
 use Rattle.asl_run.specs.declared.activities.Visit.{Visit}
 use Rattle.asl_run.specs.declared.changing.Change.TheVariants.{Retry}
 use Rattle.asl_run.specs.declared.planning.Here.{Here}
@@ -72,30 +71,11 @@ pub record PlansAs (here : Here) (plan : Option Plan) (step : Option model.Step)
 
 -- ---- at an activity
 
--- one level: the execution of a state that stands there
-abbrev pub visit_step : Activity-F (Option Visit) → Option Visit
-visit_step (Activity-F.Ready visit) = Some visit
-visit_step (Activity-F.Waiting visit payload) = Some visit
-visit_step (Activity-F.Split visit children) = Some visit
-visit_step (Activity-F.Ended outcome) = None
-
--- the execution of a state that stands there; none where the scope has ended
-abbrev pub visit_in : Activity → Option Visit
-visit_in = fold-Activity (Option Visit) visit_step
-
 -- the execution's state, found by its number in the machine's table, and its names lead on
 pub record StandsAt (machine : Machine) (visit : Visit) (state : State) : Type 0 where
   pub name : slice_get (table_view machine).names visit.state ≡ Some (name_in (table_view machine).names visit.state)
   pub shown : slice_get (table_view machine).states visit.state ≡ Some state
   pub leads : LeadsOn (table_view machine).names state
-
--- an execution with its state, as the machine has it by its number, at that place
-pub record IsFoundBy (machine : Machine) (place : List ℕ) (visit : Visit) (here : Here) : Type 0 where
-  pub same_machine : here.machine.now ≡ machine
-  pub same_place : here.at.now ≡ place
-  pub same_visit : here.visit.now ≡ visit
-  pub name : slice_get (table_view machine).names visit.state ≡ Some here.name.now
-  pub state : slice_get (table_view machine).states visit.state ≡ Some (state_at here)
 
 -- what an action does at an activity of that state
 abbrev pub moves : model.Activity → model.Action → State → Option model.Step
@@ -104,6 +84,44 @@ moves (model.Waiting n raw counts payload) action state = model.moves_waiting n 
 moves (model.Split n raw counts children) action state = model.moves_split n raw counts children action state
 moves (model.Done output) action state = None
 moves (model.Failed error cause) action state = None
+
+-- what it does for another execution of a state, where that activity is one of it
+abbrev pub moves_as : model.Activity → model.Action → List ℕ → State → Tree → List ℕ → Option model.Step
+moves_as (model.Ready m r cs) action n state raw counts = model.moves_ready n raw counts action state
+moves_as (model.Waiting m r cs payload) action n state raw counts = model.moves_waiting n raw counts action state
+moves_as (model.Split m r cs children) action n state raw counts = model.moves_split n raw counts children action state
+moves_as (model.Done output) action n state raw counts = None
+moves_as (model.Failed error cause) action n state raw counts = None
+
+-- what it does for the execution here, where that activity is one of it
+abbrev pub moves_at : Here → Activity → model.Action → Option model.Step
+moves_at here a action = by_state (moves_as (activity_view (names_at here) a) action) here
+
+-- what it does where the execution here waits
+abbrev pub takes_at : Here → model.Action → Option model.Step
+takes_at here action = by_state (λ n state raw counts. model.moves_waiting n raw counts action state) here
+
+-- the execution of a state stands there, and an action does there what it does for that
+pub record IsVisitOf (a : Activity) (visit : Visit) : Type 0 where
+  pub stands : visit_in a ≡ Some visit
+  pub does : (names : List (List ℕ)) (action : model.Action) (state : State) → moves (activity_view names a) action state ≡ moves_as (activity_view names a) action (name_in names visit.state) state (view visit.raw) visit.counts.items
+
+-- none stands there, and no action does anything there
+pub record HasNoVisit (a : Activity) : Type 0 where
+  pub none : visit_in a ≡ None
+  pub does : (names : List (List ℕ)) (action : model.Action) (state : State) → moves (activity_view names a) action state ≡ None
+
+-- an execution with its state, as the machine has it by its number, at that place and in that activity
+pub record IsFoundBy (machine : Machine) (place : List ℕ) (a : Activity) (here : Here) : Type 0 where
+  pub same_machine : here.machine.now ≡ machine
+  pub same_place : here.at.now ≡ place
+  pub visit : IsVisitOf a here.visit.now
+  pub name : slice_get (table_view machine).names here.visit.now.state ≡ Some here.name.now
+  pub state : slice_get (table_view machine).states here.visit.now.state ≡ Some (state_at here)
+
+-- no action does anything at the activity
+pub record DoesNothing (machine : Machine) (a : Activity) : Type 0 where
+  pub nothing : (action : model.Action) (state : State) → IfSome (visit_in a) (λ visit. StandsAt machine visit state) → moves (activity_view (table_view machine).names a) action state ≡ None
 
 -- the plan does what the step does where that execution stands
 pub record Does (names : List (List ℕ)) (place : List ℕ) (visit : Visit) (plan : Plan) (step : model.Step) : Type 0 where

@@ -12,3 +12,4 @@ pub mod Changing
 pub mod Waiting
 pub mod Running
 pub mod Acting
+pub mod Joining

@@ -52,7 +52,7 @@ fn has_failed(activity: &Activity) -> bool
 }
 
 /// Whether a scope has ended there.
-fn has_ended(activity: &Activity) -> bool
+pub(crate) fn has_ended(activity: &Activity) -> bool
     ensures { (names : List (List ℕ)) → result ≡ model.has_ended (activity_view names activity.now) }
 {
     matches!(activity, Activity::Ended(_))

@@ -1,6 +1,7 @@
 //! Runs of machines: what happens at each move and each answer of a task (States Language, "State Types", "Errors").
 #![tactic(auto)]
 
+mod acting;
 mod activities;
 mod answers;
 mod changing;
@@ -14,6 +15,7 @@ mod entries;
 mod faults;
 mod flowing;
 mod items;
+mod joining;
 mod leaving;
 mod orders;
 mod planning;

@@ -1,8 +1,7 @@
-use Rattle.std.proofs.Common.{◌≡◌, ◌∷◌, [], ◌∙◌, ap, arith, length, map, sym}
+use Rattle.std.proofs.Common.{◌≡◌, ◌∷◌, [], ◌∙◌, ap, arith, length, sym}
 use Rattle.std.specs.Vec.Iter.{into_iter_items}
 use Rattle.asl_machine.specs.Machine.{kind_view}
 use Rattle.asl_model.specs.Machine.{child_scope}
-use Rattle.asl_tree.specs.View.{view}
 use Rattle.asl_run.specs.Acting.{names_at}
 use Rattle.asl_run.proofs.Children.{all_there, nothing_left, one_started}
 use Rattle.asl_run.proofs.entering.start_children.Goals as goal

@@ -1,0 +1,157 @@
+//! Joining the children of a Parallel or a Map (States Language, "Parallel State", "Map State").
+
+ghost use Rattle.std.specs.Prelude.{◌≡◌, ◌++◌, ℕ, List, IfOk, map, option_map};
+ghost use Rattle.std.specs.Option.{option_to_list};
+ghost use Rattle.asl_machine.specs.Machine.{kind_view};
+ghost use Rattle.asl_model.specs.Run as model;
+ghost use Rattle.asl_run.specs.Acting.{Plans, PlansAs, by_settings, by_state, names_at};
+ghost use Rattle.asl_run.specs.Activities.{activity_view, children_view};
+ghost use Rattle.asl_run.specs.Joining.{failure_in, far_view, output_in, outputs_among, without_outputs};
+ghost use Rattle.asl_tree.specs.View.{view};
+
+use crate::activities::Activity;
+use crate::data::Data;
+use crate::enabling::has_ended;
+use crate::entries::Outcome;
+use crate::leaving::finish;
+use crate::planning::{Here, Plan};
+use crate::troubling::in_trouble;
+use asl_machine::Kind;
+use asl_tree::{OutOfMemory, Tree, copy};
+use std::alloc::Global;
+
+/// How far the children of a Split are.
+#[derive(Drop)]
+enum Far<'c> {
+    /// All are done.
+    AllDone,
+    /// Some failed: the least number of those, its error and its cause.
+    OneFailed {
+        child: usize,
+        error: &'c str,
+        cause: &'c str,
+    },
+    StillRunning,
+}
+
+/// The state's children are joined; none where they aren't far enough.
+pub(crate) fn join(here: &Here, children: &[Activity]) -> Result<Option<Plan>, OutOfMemory>
+    ensures { IfOk result (λ plan. PlansAs here.now plan (by_state model.joins here.now (model.joining 0 (children_view (names_at here.now) children.now)))) }
+{
+    match how_far(children) {
+        Far::AllDone => {
+            let outputs = outputs_of(here.alloc, children)?;
+            let finished = finish(here, Data::Made(Tree::List(outputs)))?;
+            Ok(Some(finished))
+        }
+        Far::OneFailed {
+            child,
+            error,
+            cause,
+        } => {
+            let broken_off = break_off(here, child, error, cause)?;
+            Ok(Some(broken_off))
+        }
+        Far::StillRunning => Ok(None),
+    }
+}
+
+/// Its child of that number has failed: the state is in trouble.
+fn break_off(here: &Here, child: usize, error: &str, cause: &str) -> Result<Plan, OutOfMemory>
+    ensures { IfOk result (λ plan. Plans here.now plan (model.entry_then (model.BranchFailed here.now.name.now child error.now cause.now) (by_settings model.troubled here.now (model.join_error (kind_view here.now.state.now.kind) error.now) cause.now))) }
+{
+    let failed = here.branch_failed(child, error, cause)?;
+    let error = join_error(&here.state.kind, error);
+    in_trouble(here, error, cause)?.after(failed)
+}
+
+/// The error of a state of that type of which a child failed: `States.BranchFailed` for a Parallel, the child's for a
+/// Map.
+fn join_error<'e>(kind: &Kind, error: &'e str) -> &'e str
+    ensures { result.now ≡ model.join_error (kind_view kind.now) error.now }
+{
+    match kind {
+        Kind::Parallel { .. } => "States.BranchFailed",
+        Kind::Pass { .. }
+        | Kind::Task { .. }
+        | Kind::Choice { .. }
+        | Kind::Wait { .. }
+        | Kind::Succeed
+        | Kind::Fail { .. }
+        | Kind::Map { .. } => error,
+    }
+}
+
+/// How far the children are.
+fn how_far(children: &[Activity]) -> Far<'_>
+    ensures { (names : List (List ℕ)) → far_view result ≡ without_outputs (model.joining 0 (children_view names children.now)) }
+{
+    let mut all_ended = true;
+    for (number, child) in children.iter().enumerate() {
+        if let Some((error, cause)) = failure_of(child) {
+            return Far::OneFailed {
+                child: number,
+                error,
+                cause,
+            };
+        }
+        all_ended &= has_ended(child);
+    }
+    if all_ended {
+        Far::AllDone
+    } else {
+        Far::StillRunning
+    }
+}
+
+/// The error and the cause with which a scope has ended there, if it has failed.
+fn failure_of(activity: &Activity) -> Option<(&str, &str)>
+    ensures { (names : List (List ℕ)) → option_map (λ f. (f.0.now, f.1.now)) result ≡ failure_in (activity_view names activity.now) }
+{
+    match activity {
+        Activity::Ended(Outcome::Failed { error, cause }) => Some((error, cause)),
+        Activity::Ready(_)
+        | Activity::Waiting { .. }
+        | Activity::Split { .. }
+        | Activity::Ended(Outcome::Output(_)) => None,
+    }
+}
+
+/// The outputs of the children that are done, in order.
+fn outputs_of(alloc: Global, children: &[Activity]) -> Result<Vec<Tree>, OutOfMemory>
+    ensures { IfOk result (λ v. (names : List (List ℕ)) → map view v.items ≡ outputs_among (map (activity_view names) children.now)) }
+{
+    let mut outputs = Vec::with_capacity(alloc, children.len())?;
+    for child in children {
+        add_output(alloc, child, &mut outputs)?;
+    }
+    Ok(outputs)
+}
+
+/// Adds the output of a scope that is done there to those of others.
+fn add_output(
+    alloc: Global,
+    activity: &Activity,
+    outputs: &mut Vec<Tree>,
+) -> Result<(), OutOfMemory>
+    ensures { IfOk result (λ _. (names : List (List ℕ)) → map view outputs.new.items ≡ map view outputs.old.items ++ option_to_list (output_in (activity_view names activity.now))) }
+{
+    if let Some(output) = output_of(activity) {
+        let output = copy(alloc, output)?;
+        outputs.push(output)?;
+    }
+    Ok(())
+}
+
+/// The output of a scope that is done there.
+fn output_of(activity: &Activity) -> Option<&Tree>
+    ensures { (names : List (List ℕ)) → option_map (λ t. view t.now) result ≡ output_in (activity_view names activity.now) }
+{
+    match activity {
+        Activity::Ended(Outcome::Output(output)) => Some(output),
+        Activity::Ready(_)
+        | Activity::Waiting { .. }
+        | Activity::Split { .. }
+        | Activity::Ended(Outcome::Failed { .. }) => None,
+    }
+}
