@@ -85,7 +85,8 @@ moves (model.Split n raw counts children) action state = model.moves_split n raw
 moves (model.Done output) action state = None
 moves (model.Failed error cause) action state = None
 
--- what it does for another execution of a state, where that activity is one of it
+-- the same for a state of that name, with that raw input and those counts; the activity tells only whether it is
+-- ready, waits or is split, and its children
 abbrev pub moves_as : model.Activity → model.Action → List ℕ → State → Tree → List ℕ → Option model.Step
 moves_as (model.Ready m r cs) action n state raw counts = model.moves_ready n raw counts action state
 moves_as (model.Waiting m r cs payload) action n state raw counts = model.moves_waiting n raw counts action state
@@ -93,20 +94,20 @@ moves_as (model.Split m r cs children) action n state raw counts = model.moves_s
 moves_as (model.Done output) action n state raw counts = None
 moves_as (model.Failed error cause) action n state raw counts = None
 
--- what it does for the execution here, where that activity is one of it
+-- the same for the execution here
 abbrev pub moves_at : Here → Activity → model.Action → Option model.Step
 moves_at here a action = by_state (moves_as (activity_view (names_at here) a) action) here
 
--- what it does where the execution here waits
+-- the same where the execution here waits for an answer
 abbrev pub takes_at : Here → model.Action → Option model.Step
 takes_at here action = by_state (λ n state raw counts. model.moves_waiting n raw counts action state) here
 
--- the execution of a state stands there, and an action does there what it does for that
+-- the execution stands in the activity: what an action does at the activity, it does for that execution
 pub record IsVisitOf (a : Activity) (visit : Visit) : Type 0 where
   pub stands : visit_in a ≡ Some visit
   pub does : (names : List (List ℕ)) (action : model.Action) (state : State) → moves (activity_view names a) action state ≡ moves_as (activity_view names a) action (name_in names visit.state) state (view visit.raw) visit.counts.items
 
--- none stands there, and no action does anything there
+-- no execution of a state stands in the activity, and no action does anything there
 pub record HasNoVisit (a : Activity) : Type 0 where
   pub none : visit_in a ≡ None
   pub does : (names : List (List ℕ)) (action : model.Action) (state : State) → moves (activity_view names a) action state ≡ None
