@@ -10,6 +10,7 @@ use Rattle.asl_run.specs.Acting.{Acts, Does, DoesNothing, IsAt, IsFoundBy, IsVis
 use Rattle.asl_run.specs.Activities.{activity_view}
 use Rattle.asl_run.specs.Changing.{visit_in}
 use Rattle.asl_run.specs.Standing.{name_in, LeadsOn}
+use Rattle.asl_run.specs.Troubles.{CanRise}
 use Rattle.asl_run.specs.declared.activities.Activity.{Activity}
 use Rattle.asl_run.specs.declared.activities.Visit.{Visit}
 use Rattle.asl_run.specs.declared.planning.Here.{Here}
@@ -39,7 +40,7 @@ found_at machine place a here state found stands = record {
 
 does_there : (machine : Machine) (place : List ℕ) (a : Activity) (here : Here) (plan : Plan) (step : model.Step) → IsFoundBy machine place a here → IsAt here → Plans here plan step → Does (table_view machine).names place here.visit.now plan step
 does_there machine place a here plan step found stands plans =
-    let does : Does (names_at here) here.at.now here.visit.now plan step = record { told = plans.told; left = plans.left stands; rises = plans.rises } in
+    let does : Does (names_at here) here.at.now here.visit.now plan step = record { told = plans.told; left = plans.left stands } in
     subst (λ (p : List ℕ). Does (table_view machine).names p here.visit.now plan step) found.same_place
     (subst (λ (m : Machine). Does (table_view m).names here.at.now here.visit.now plan step) found.same_machine does)
 
@@ -58,6 +59,7 @@ acts_as_planned machine place a action here (Some plan) found plans =
       planned = record {
         visit = here.visit.now;
         stands = found.visit.stands;
+        rises = λ v i e f. subst (λ (w : Visit). CanRise w.counts.items i) (some_inj (sym found.visit.stands ∙ e)) (one.plans.rises i f);
         does = λ state there. record {
           that = one.that;
           is = same_step machine place a action here state found there ∙ one.is;

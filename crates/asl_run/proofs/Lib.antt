@@ -22,3 +22,6 @@ pub mod Started
 pub mod Children
 pub mod Joined
 pub mod Acted
+pub mod StepsBelow
+pub mod StepsRun
+pub mod StepsHere

@@ -8,7 +8,7 @@ use Rattle.asl_model.specs.Run as model
 use Rattle.asl_model.specs.Tree.{Tree}
 use Rattle.asl_tree.specs.View.{view}
 use Rattle.asl_run.specs.Activities.{activity_view}
-use Rattle.asl_run.specs.Changing.{changed, visit_in}
+use Rattle.asl_run.specs.Changing.{CanApply, changed, visit_in}
 use Rattle.asl_run.specs.Entries.{entry_view}
 use Rattle.asl_run.specs.Standing.{name_in, LeadsOn}
 use Rattle.asl_run.specs.Troubles.{CanRise}
@@ -128,7 +128,6 @@ pub record DoesNothing (machine : Machine) (a : Activity) : Type 0 where
 pub record Does (names : List (List ℕ)) (place : List ℕ) (visit : Visit) (plan : Plan) (step : model.Step) : Type 0 where
   pub told : map entry_view plan.entries.items ≡ map (told_at place) step.entries
   pub left : changed names visit plan.change ≡ step.after
-  pub rises : (i : ℕ) → plan.change ≡ Retry i → CanRise visit.counts.items i
 
 -- there is a step, and the plan does it
 pub record DoesOne (names : List (List ℕ)) (place : List ℕ) (visit : Visit) (plan : Plan) (step : Option model.Step) : Type 0 where
@@ -140,6 +139,7 @@ pub record DoesOne (names : List (List ℕ)) (place : List ℕ) (visit : Visit) 
 pub record ActsSo (machine : Machine) (place : List ℕ) (a : Activity) (action : model.Action) (plan : Plan) : Type 0 where
   pub visit : Visit
   pub stands : visit_in a ≡ Some visit
+  pub rises : CanApply a plan.change
   pub does : (state : State) → StandsAt machine visit state → DoesOne (table_view machine).names place visit plan (moves (activity_view (table_view machine).names a) action state)
 
 -- so is the plan, if there is one; there is none only where the action does nothing there

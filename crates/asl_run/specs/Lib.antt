@@ -13,3 +13,4 @@ pub mod Waiting
 pub mod Running
 pub mod Acting
 pub mod Joining
+pub mod Stepping

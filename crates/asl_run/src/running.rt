@@ -1,18 +1,22 @@
 //! Runs: a machine with what stands at its places.
 
-ghost use Rattle.std.specs.Prelude.{◌≡◌, map, option_map, IfOk, IsOk};
+ghost use Rattle.std.specs.Prelude.{◌≡◌, ◌↔◌, map, option_map, IfErr, IfOk, IsOk, None};
+ghost use Rattle.std.specs.Option.{IsSome, unwrap_or};
 ghost use Rattle.asl_machine.specs.Table.{Shows, table_view};
 ghost use Rattle.asl_model.specs.Machine.{Scope, start_of};
 ghost use Rattle.asl_model.specs.Run as model;
 ghost use Rattle.asl_run.specs.Enabling.{found_view};
-ghost use Rattle.asl_run.specs.Entries.{outcome_view};
+ghost use Rattle.asl_run.specs.Entries.{answer_view, entry_view, event_view, outcome_view};
+ghost use Rattle.asl_run.specs.Stepping.{Steps, Takes};
+ghost use Rattle.asl_run.specs.declared.stepping.StepRefusal.TheVariants as refusals;
 ghost use Rattle.asl_run.specs.Running.{IsRunOf, run_view};
 ghost use Rattle.asl_run.specs.Standing.{name_in};
 ghost use Rattle.asl_tree.specs.View.{view};
 
 use crate::activities::{Activity, Visit};
 use crate::enabling::add_places;
-use crate::entries::{Outcome, Place, Want};
+use crate::entries::{Answer, Entry, Event, Outcome, Place, Want};
+use crate::stepping::{Happening, StepRefusal, step_at};
 use asl_machine::Machine;
 use asl_tree::{OutOfMemory, Tree};
 use std::alloc::Global;
@@ -59,6 +63,54 @@ pub fn start<'m>(
 }
 
 impl<'m> Run<'m> {
+    /// Takes the event: its entries, in order. A refusal gives the event back, and the run is as it was.
+    ///
+    /// `NoSuchPlace` where nothing stands at the event's place; `NotEnabled` where what stands there wants no such event;
+    /// these two take no memory. `OutOfMemory` where an allocation was refused.
+    pub fn step(&mut self, event: Event) -> Result<Vec<Entry>, (StepRefusal, Event)>
+        ensures kept { (m : Scope) → IsRunOf m self.old → IsRunOf m self.new }
+        ensures taken { (m : Scope) → IsRunOf m self.old → IfOk result (λ entries. Takes m (run_view self.old) (event_view event) (map entry_view entries.items) (run_view self.new)) }
+        ensures unchanged { (m : Scope) → IsRunOf m self.old → IfErr result (λ _. run_view self.new ≡ run_view self.old) }
+        ensures returned { IfErr result (λ refusal. refusal.1 ≡ event) }
+        ensures no_place { (m : Scope) → IsRunOf m self.old → IfErr result (λ refusal. (refusal.0 ≡ refusals.NoSuchPlace) ↔ (model.activity_at (event_view event).place (run_view self.old) ≡ None)) }
+        ensures not_enabled { (m : Scope) → IsRunOf m self.old → IfErr result (λ refusal. (refusal.0 ≡ refusals.NotEnabled) ↔ (IsSome (model.activity_at (event_view event).place (run_view self.old)) × (model.step m (run_view self.old) (event_view event) ≡ None))) }
+        ensures enabled { (m : Scope) → IsRunOf m self.old → IfErr result (λ refusal. (refusal.0 ≡ refusals.OutOfMemory) ↔ IsSome (model.step m (run_view self.old) (event_view event))) }
+    {
+        match self.take(&event) {
+            Ok(entries) => Ok(entries),
+            Err(refusal) => Err((refusal, event)),
+        }
+    }
+
+    /// Takes the event. A refusal leaves the run as it was.
+    fn take(&mut self, event: &Event) -> Result<Vec<Entry>, StepRefusal>
+        ensures kept { (m : Scope) → IsRunOf m self.old → IsRunOf m self.new }
+        ensures steps { Steps self.old.machine.now (event_view event.now).place (event_view event.now).place (run_view self.old) (run_view self.new) (event_view event.now).action result }
+    {
+        match event {
+            Event::Move(place) => self.happens(place, None),
+            Event::Answers(place, answer) => self.happens(place, Some(answer)),
+        }
+    }
+
+    /// The step at that place, by an answer or else a move.
+    fn happens(
+        &mut self,
+        place: &[usize],
+        answer: Option<&Answer>,
+    ) -> Result<Vec<Entry>, StepRefusal>
+        ensures kept { (m : Scope) → IsRunOf m self.old → IsRunOf m self.new }
+        ensures steps { Steps self.old.machine.now place.now place.now (run_view self.old) (run_view self.new) (unwrap_or (option_map (λ a. answer_view a.now) answer.entry) model.Move) result }
+    {
+        let happening = Happening {
+            alloc: self.alloc,
+            machine: self.machine,
+            at: place,
+            answer,
+        };
+        step_at(happening, &mut self.activity, place)
+    }
+
     /// The places where an event is enabled, each with its kind, in lexicographic order, a place before those below it.
     pub fn enabled(&self) -> Result<Vec<(Place, Want)>, OutOfMemory>
         ensures { IfOk result (λ found. (m : Scope) → IsRunOf m self.now → map found_view found.items ≡ model.enabled (run_view self.now) m) }

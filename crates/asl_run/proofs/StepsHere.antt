@@ -1,0 +1,239 @@
+-- The step of an activity itself, from what is planned there.
+use Rattle.std.proofs.Common.{◌≡◌, ◌≢◌, ◌↔◌, Bool, true, false, Bor, IsTrue, is_some, not, option_map, refl, sym, ap, ◌∙◌, subst, ℕ, List, [], map, slice_get, IfSome, Option, Some, None, option_and_then, Result, Ok, Err, IfOk, Vec, Global}
+use Rattle.std.specs.Option.{IsSome, unwrap_or}
+use Rattle.asl_machine.specs.Table.{Shows, table_view}
+use Rattle.asl_machine.specs.declared.machine.Machine.{Machine}
+use Rattle.asl_model.specs.Machine.{Scope, State, state_named}
+use Rattle.asl_model.specs.Numbering.{HasNamed, IsScopeOf, Table, outline, table_of}
+use Rattle.asl_model.specs.Run as model
+use Rattle.asl_model.proofs.Outlines.{moves_ready_outlined, moves_waiting_outlined, moves_split_outlined}
+use Rattle.asl_model.proofs.RunOptions.{some_inj, none_some}
+use Rattle.asl_run.specs.Acting.{Acts, ActsSo, DoesOne, StandsAt, moves}
+use Rattle.asl_run.specs.Activities.{activity_step, activity_view}
+use Rattle.asl_run.specs.Changing.{changed, visit_in, visit_step}
+use Rattle.asl_run.specs.Enabling.{wanted_by}
+use Rattle.asl_run.specs.Entries.{answer_view, entry_view}
+use Rattle.asl_run.specs.Standing.{StandsIn, LeadsOn, name_in}
+use Rattle.asl_run.specs.Stepping.{IsStep, StepsIn, StepsAt, names_for, action_of}
+use Rattle.asl_run.specs.declared.activities.Activity.{Activity, out-Activity, map-Activity, fold_out-Activity}
+use Rattle.asl_run.specs.declared.activities.Activity.TheOpen as layers
+use Rattle.asl_run.specs.declared.activities.Activity.TheOpen.{Activity-F}
+use Rattle.asl_run.specs.declared.activities.Visit.{Visit}
+use Rattle.asl_run.specs.declared.entries.Answer.{Answer}
+use Rattle.asl_run.specs.declared.entries.Answer.TheVariants as answers
+use Rattle.asl_run.specs.declared.entries.Outcome.TheVariants as outcomes
+use Rattle.asl_run.specs.declared.planning.Plan.{Plan}
+use Rattle.asl_run.specs.declared.stepping.Happening.{Happening}
+use Rattle.asl_run.specs.declared.stepping.StepRefusal.TheVariants.{NotEnabled, OutOfMemory}
+use Rattle.asl_run.proofs.Leading.{IsFound, is_found}
+use Rattle.asl_run.proofs.OpenPlaces.{ActsAsWanted, acts_as_wanted}
+
+-- ---- the state's execution that stands there
+
+-- an activity is that of an execution of the state of that name
+abbrev IsOf : List ℕ → model.Activity → Type 0
+IsOf n (model.Ready m raw counts) = m ≡ n
+IsOf n (model.Waiting m raw counts payload) = m ≡ n
+IsOf n (model.Split m raw counts children) = m ≡ n
+IsOf n (model.Done output) = ⊥
+IsOf n (model.Failed error cause) = ⊥
+
+-- an activity is that of no execution
+abbrev IsOfNone : model.Activity → Type 0
+IsOfNone (model.Ready m raw counts) = ⊥
+IsOfNone (model.Waiting m raw counts payload) = ⊥
+IsOfNone (model.Split m raw counts children) = ⊥
+IsOfNone (model.Done output) = Unit {0}
+IsOfNone (model.Failed error cause) = Unit {0}
+
+is_of : (names : List (List ℕ)) (a : Activity) (visit : Visit) → visit_in a ≡ Some visit → IsOf (name_in names visit.state) (activity_view names a)
+is_of names a visit e =
+    subst (IsOf (name_in names visit.state)) (sym (fold_out-Activity model.Activity (activity_step names) a))
+    (go (out-Activity a) (sym (fold_out-Activity (Option Visit) visit_step a) ∙ e))
+  where
+    go : (layer : Activity-F Activity) → visit_step (map-Activity Activity (Option Visit) visit_in layer) ≡ Some visit → IsOf (name_in names visit.state) (activity_step names (map-Activity Activity model.Activity (activity_view names) layer))
+    go (layers.Ready v) f = ap (λ (w : Visit). name_in names w.state) (some_inj f)
+    go (layers.Waiting v payload) f = ap (λ (w : Visit). name_in names w.state) (some_inj f)
+    go (layers.Split v children) f = ap (λ (w : Visit). name_in names w.state) (some_inj f)
+    go (layers.Ended outcome) f = none_some f
+
+is_of_none : (names : List (List ℕ)) (a : Activity) → visit_in a ≡ None → IsOfNone (activity_view names a)
+is_of_none names a e =
+    subst IsOfNone (sym (fold_out-Activity model.Activity (activity_step names) a))
+    (go (out-Activity a) (sym (fold_out-Activity (Option Visit) visit_step a) ∙ e))
+  where
+    go : (layer : Activity-F Activity) → visit_step (map-Activity Activity (Option Visit) visit_in layer) ≡ None → IsOfNone (activity_step names (map-Activity Activity model.Activity (activity_view names) layer))
+    go (layers.Ready v) f = none_some (sym f)
+    go (layers.Waiting v payload) f = none_some (sym f)
+    go (layers.Split v children) f = none_some (sym f)
+    go (layers.Ended (outcomes.Output t)) f = tt
+    go (layers.Ended (outcomes.Failed error cause)) f = tt
+
+-- its state is one of the scope
+has_named : (n : List ℕ) (a : model.Activity) (scope : Scope) → IsOf n a → StandsIn a scope → HasNamed scope n
+has_named n (model.Ready m raw counts) scope is stands = subst (HasNamed scope) is stands
+has_named n (model.Waiting m raw counts payload) scope is stands = subst (HasNamed scope) is stands
+has_named n (model.Split m raw counts children) scope is stands = subst (HasNamed scope) is stands.0
+has_named n (model.Done output) scope is stands = absurd is
+has_named n (model.Failed error cause) scope is stands = absurd is
+
+-- what it does is what its state makes it do
+acts_by_state : (n : List ℕ) (a : model.Activity) (scope : Scope) (action : model.Action) (state : State) → IsOf n a → state_named n scope ≡ Some state → model.acts scope a action ≡ moves a action state
+acts_by_state n (model.Ready m raw counts) scope action state is found = ap (option_and_then (model.moves_ready m raw counts action)) (ap (λ k. state_named k scope) is ∙ found)
+acts_by_state n (model.Waiting m raw counts payload) scope action state is found = ap (option_and_then (model.moves_waiting m raw counts action)) (ap (λ k. state_named k scope) is ∙ found)
+acts_by_state n (model.Split m raw counts children) scope action state is found = ap (option_and_then (model.moves_split m raw counts children action)) (ap (λ k. state_named k scope) is ∙ found)
+acts_by_state n (model.Done output) scope action state is found = refl
+acts_by_state n (model.Failed error cause) scope action state is found = refl
+
+-- a scope that has ended does nothing
+acts_never : (a : model.Activity) (scope : Scope) (action : model.Action) → IsOfNone a → model.acts scope a action ≡ None
+acts_never (model.Ready m raw counts) scope action is = absurd is
+acts_never (model.Waiting m raw counts payload) scope action is = absurd is
+acts_never (model.Split m raw counts children) scope action is = absurd is
+acts_never (model.Done output) scope action is = refl
+acts_never (model.Failed error cause) scope action is = refl
+
+-- nor do the states of its scopes matter
+moves_outlined : (a : model.Activity) (action : model.Action) (state : State) → moves a action (outline state) ≡ moves a action state
+moves_outlined (model.Ready m raw counts) action state = moves_ready_outlined m raw counts action state
+moves_outlined (model.Waiting m raw counts payload) action state = moves_waiting_outlined m raw counts action state
+moves_outlined (model.Split m raw counts children) action state = moves_split_outlined m raw counts children action state
+moves_outlined (model.Done output) action state = refl
+moves_outlined (model.Failed error cause) action state = refl
+
+-- the state by its number in the machine's table, and what it makes the activity do
+record ActsBy (machine : Machine) (scope : Scope) (a : model.Activity) (action : model.Action) (visit : Visit) : Type 0 where
+  pub state : State
+  pub stands : StandsAt machine visit state
+  pub acts : model.acts scope a action ≡ moves a action state
+
+acts_by : (machine : Machine) (m scope : Scope) (a : model.Activity) (action : model.Action) (visit : Visit) → Shows machine m → IsScopeOf m scope → IsOf (name_in (table_view machine).names visit.state) a → StandsIn a scope → ActsBy machine scope a action visit
+acts_by machine m scope a action visit shown inside is stands = record {
+  state = outline found.state;
+  stands = record {
+    name = subst (λ (t : Table). slice_get t.names i ≡ Some (name_in t.names i)) back found.name;
+    shown = subst (λ (t : Table). slice_get t.states i ≡ Some (outline found.state)) back found.shown;
+    leads = subst (λ (t : Table). LeadsOn t.names (outline found.state)) back found.leads;
+  };
+  acts = acts_by_state (name_in (table_of m).names i) a scope action found.state is_there found.named ∙ sym (moves_outlined a action found.state);
+}
+  where
+    i : ℕ
+    i = visit.state
+
+    back : table_of m ≡ table_view machine
+    back = sym shown.table
+
+    is_there : IsOf (name_in (table_of m).names i) a
+    is_there = subst (λ (t : Table). IsOf (name_in t.names i) a) shown.table is
+
+    found : IsFound m scope i
+    found = is_found m scope shown.well_named inside i (has_named (name_in (table_of m).names i) a scope is_there stands)
+
+-- ---- the answers
+
+-- a plan that is carried out
+pub taken_here : (happening : Happening) (a b : Activity) (plan : Plan) (entries : Vec _ Global) → entries ≡ plan.entries → ActsSo happening.machine.now happening.at.now a (action_of happening) plan
+    → ((names : List (List ℕ)) (visit : Visit) → visit_in a ≡ Some visit → activity_view names b ≡ changed names visit plan.change) → StepsAt happening [] a b (Ok entries)
+taken_here happening a b plan entries same acts now = record {
+  whole = record {
+    steps = λ m scope shown inside stands.
+        let names = names_for happening in
+        let by = acts_by happening.machine.now m scope (activity_view names a) (action_of happening) acts.visit shown inside (is_of names a acts.visit acts.stands) stands in
+        let one = acts.does by.state by.stands in
+        record {
+          taken = record {
+            step = one.that;
+            is = by.acts ∙ one.is;
+            tells = ap (λ (es : Vec _ Global). map entry_view es.items) same ∙ one.does.told;
+            left = now names acts.visit acts.stands ∙ one.does.left;
+          };
+          refused = tt;
+          unchanged = tt;
+        };
+  };
+}
+
+-- no plan is made
+pub not_here : (happening : Happening) (a : Activity) → Acts happening.machine.now happening.at.now a (action_of happening) None → StepsAt happening [] a a (Err NotEnabled)
+not_here happening a acts = record {
+  whole = record {
+    steps = λ m scope shown inside stands. record { taken = tt; refused = (refl, none m scope shown inside stands (visit_in a) refl); unchanged = refl };
+  };
+}
+  where
+    names : List (List ℕ)
+    names = names_for happening
+
+    none : (m scope : Scope) → Shows happening.machine.now m → IsScopeOf m scope → StandsIn (activity_view names a) scope → (o : Option Visit) → visit_in a ≡ o → model.acts scope (activity_view names a) (action_of happening) ≡ None
+    none m scope shown inside stands None e = acts_never (activity_view names a) scope (action_of happening) (is_of_none names a e)
+    none m scope shown inside stands (Some visit) e =
+        let by = acts_by happening.machine.now m scope (activity_view names a) (action_of happening) visit shown inside (is_of names a visit e) stands in
+        by.acts ∙ acts.nothing refl by.state (subst (λ o. IfSome o (λ v. StandsAt happening.machine.now v by.state)) (sym e) by.stands)
+
+-- the activity wants no such event
+pub unwanted_here : (happening : Happening) (a : Activity) → ((names : List (List ℕ)) → wanted_by (activity_view names a) ≢ Some (model.want_of (action_of happening))) → StepsAt happening [] a a (Err NotEnabled)
+unwanted_here happening a unwanted = record {
+  whole = record {
+    steps = λ m scope shown inside stands.
+        let names = names_for happening in
+        let acts = acts_as_wanted scope (activity_view names a) (action_of happening) stands in
+        record { taken = tt; refused = (refl, acts.acts_nowhere_else (unwanted names)); unchanged = refl };
+  };
+}
+
+-- it wants such an event, and memory is refused
+pub no_memory_here : (happening : Happening) (a b : Activity) → ((names : List (List ℕ)) → wanted_by (activity_view names a) ≡ Some (model.want_of (action_of happening))) → ((names : List (List ℕ)) → activity_view names b ≡ activity_view names a)
+    → StepsAt happening [] a b (Err OutOfMemory)
+no_memory_here happening a b wanted same = record {
+  whole = record {
+    steps = λ m scope shown inside stands.
+        let names = names_for happening in
+        let acts = acts_as_wanted scope (activity_view names a) (action_of happening) stands in
+        record { taken = tt; refused = acts.acts_where_wanted (wanted names); unchanged = same names };
+  };
+}
+
+-- an answer is wanted where one is waited for
+pub want_of_answer : (answer : Answer) → model.want_of (answer_view answer) ≡ model.WantsAnswer
+want_of_answer (answers.Gives t) = refl
+want_of_answer (answers.Fails error cause) = refl
+
+-- what happens is of the kind that the activity wants, a move
+pub wants_move : (happening : Happening) (own : Option model.Want) (result : Bool) → own ≡ Some model.WantsMove → is_some happening.answer ≡ not result → IsTrue result ↔ (own ≡ Some (model.want_of (action_of happening)))
+wants_move happening own result e is = rw e (go happening.answer result is)
+  where
+    go : (answer : Option (Bor Answer)) (b : Bool) → is_some answer ≡ not b → IsTrue b ↔ (Some model.WantsMove ≡ Some (model.want_of (unwrap_or (option_map (λ a. answer_view a.now) answer) model.Move)))
+    go None true f = (λ t. refl, λ g. refl)
+    go None false f = absurd (cc)
+    go (Some answer) true f = absurd (cc)
+    go (Some answer) false f = rw (want_of_answer answer.now) (λ t. absurd (cc), λ g. absurd (cc))
+
+-- or an answer
+pub wants_answer : (happening : Happening) (own : Option model.Want) (result : Bool) → own ≡ Some model.WantsAnswer → result ≡ is_some happening.answer → IsTrue result ↔ (own ≡ Some (model.want_of (action_of happening)))
+wants_answer happening own result e is = rw (e, is) (go happening.answer)
+  where
+    go : (answer : Option (Bor Answer)) → IsTrue (is_some answer) ↔ (Some model.WantsAnswer ≡ Some (model.want_of (unwrap_or (option_map (λ a. answer_view a.now) answer) model.Move)))
+    go None = (λ t. absurd (cc), λ f. absurd (cc))
+    go (Some answer) = rw (want_of_answer answer.now) (λ t. refl, λ f. refl)
+
+-- it wants none
+pub wants_none : (happening : Happening) (own : Option model.Want) → own ≡ None → IsTrue false ↔ (own ≡ Some (model.want_of (action_of happening)))
+wants_none happening own e = (λ t. absurd (cc), λ f. none_some (sym e ∙ f))
+
+-- as it was found, it does not want it, or does
+pub so_unwanted : (wanted : Bool) (own : Option model.Want) (kind : model.Want) → (IsTrue wanted ↔ (own ≡ Some kind)) → wanted ≡ false → own ≢ Some kind
+so_unwanted wanted own kind told is = λ e. absurd (true_false (sym (told.1 e) ∙ is))
+  where
+    true_false : true ≡ false → ⊥
+    true_false f = absurd (cc)
+
+pub so_wanted : (wanted : Bool) (own : Option model.Want) (kind : model.Want) → (IsTrue wanted ↔ (own ≡ Some kind)) → wanted ≡ true → own ≡ Some kind
+so_wanted wanted own kind told is = told.0 is
+
+-- a plan was made
+pub planned : {E : Type 0} (happening : Happening) (a : Activity) (plan : Plan) (made : Result (Option Plan) E) → made ≡ Ok (Some plan) → IfOk made (λ p. Acts happening.machine.now happening.at.now a (action_of happening) p)
+    → ActsSo happening.machine.now happening.at.now a (action_of happening) plan
+planned {E = E} happening a plan made is acts =
+    let known : IfOk {E = E} (Ok (Some plan)) (λ p. Acts happening.machine.now happening.at.now a (action_of happening) p) = subst (λ r. IfOk r (λ p. Acts happening.machine.now happening.at.now a (action_of happening) p)) is acts in
+    known.planned
