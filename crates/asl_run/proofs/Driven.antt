@@ -1,14 +1,18 @@
 -- What turns add to what was driven so far.
-use Rattle.std.proofs.Common.{◌≡◌, ℕ, ◌+◌, List, [], ◌∷◌, ◌++◌, map, Option, Some, sym, subst, ap, ◌∙◌, refl}
+use Rattle.std.proofs.Common.{◌≡◌, ℕ, ◌+◌, ◌<◌, List, [], ◌∷◌, ◌++◌, map, length, Option, Some, sym, subst, ap, ◌∙◌, refl, arith}
+use Rattle.std.proofs.lemmas.List.{length-map}
 use Rattle.asl_model.specs.Tree.{Tree}
 use Rattle.asl_model.specs.Machine.{Scope}
 use Rattle.asl_model.specs.Run.{Activity, Action, Event, Entry, activity_at}
 use Rattle.asl_run.specs.Driving.{answer_in, answer_given, ComesNext, Drives, GoesOn, IsLeft, IsTold}
-use Rattle.asl_run.specs.Entries.{answer_view}
+use Rattle.asl_run.specs.Entries.{answer_view, entry_view}
+use Rattle.asl_run.specs.Stepping.{Takes}
 use Rattle.asl_run.specs.Waiting.{WaitsAt}
 use Rattle.asl_run.specs.declared.entries.Answer.{Answer}
 use Rattle.asl_run.specs.declared.entries.Answer.TheVariants as answers
+use Rattle.asl_run.specs.declared.entries.Entry as code
 use Rattle.asl_run.specs.declared.waiting.Asked.{Asked}
+use Rattle.asl_run.proofs.FewEntries.{few_entries}
 use Rattle.asl_run.proofs.Turns.{drives_one, drives_then, drives_for}
 use Rattle.asl_tree.specs.View.{view}
 
@@ -37,6 +41,13 @@ no_turn_more {MayGive = MayGive} {machine = machine} {a = a} {b = b} {c = c} {co
     subst (λ v. Drives MayGive machine a count given longer c v) same (subst (λ v. Drives MayGive machine a count given v c between) (sym still.tells) (subst (λ v. Drives MayGive machine a count given told v between) (sym still.stands) so_far))
 
 -- ---- one event
+
+-- a step is told by at most four entries
+pub few_are_told : (machine : Scope) (before after : Activity) (event : Event) (entries : List code.Entry) → Takes machine before event (map entry_view entries) after → 4 < length entries → ⊥
+few_are_told machine before after event entries taken many =
+    let few = few_entries machine before event taken.step taken.is in
+    let same : length entries ≡ length taken.step.entries = sym (length-map entries entry_view) ∙ ap length taken.tells ∙ length-map taken.step.entries (λ entry. (event.place, Some entry)) in
+    omega arith
 
 answer_alone : (answer : Answer) → answer_in (answer_view answer) ≡ answer_view answer ∷ []
 answer_alone (answers.Gives t) = refl

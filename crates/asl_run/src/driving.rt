@@ -1,19 +1,26 @@
 //! Driving a run: its places take turns, in an order, and a source answers its tasks.
 
-ghost use Rattle.std.specs.Prelude.{◌≡◌, ℕ, List, IfOk, IfErr};
+ghost use Rattle.std.specs.Prelude.{◌≡◌, ℕ, List, map, Option, IfOk, IfErr, OnOk};
 ghost use Rattle.asl_machine.specs.Table.{table_view};
+ghost use Rattle.asl_model.specs.Machine.{Scope};
 ghost use Rattle.asl_model.specs.Run as model;
 ghost use Rattle.asl_model.specs.Tree as trees;
 ghost use Rattle.asl_run.specs.Activities.{activity_view};
-ghost use Rattle.asl_run.specs.Driving.{ComesNext, Pauses, answer_in, unused};
-ghost use Rattle.asl_run.specs.Entries.{event_view};
+ghost use Rattle.asl_run.specs.Driving.{ComesNext, Pauses, GoesOn, Stops, BreaksOff, EndsSo, IsLeft, IsTold, answer_in, unused};
+ghost use Rattle.asl_run.specs.Entries.{entry_view, event_view};
+ghost use Rattle.asl_run.specs.Running.{run_view, IsRunOf};
 
 use crate::activities::Activity;
 use crate::answers::Answers;
-use crate::entries::{Answer, Entry, Event, Place};
+use crate::entries::{Answer, Entry, Event, Outcome, Place};
+use crate::orders::Order;
+use crate::running::Run;
 use crate::waiting::waiting_at;
 use asl_machine::Machine;
 use asl_tree::OutOfMemory;
+
+/// How many entries a step makes at most.
+const MOST_ENTRIES: usize = 4;
 
 /// Why driving stops.
 #[derive(Clone, Copy, Debug, PartialEq, Eq, Drop)]
@@ -45,6 +52,89 @@ pub(crate) enum Pause {
     OutOfMemory(Option<Answer>),
 }
 
+/// Drives the run until it has ended, until `max_steps` events were taken, or until the place whose turn it is waits and
+/// the source has no answer for it. It tells what has happened.
+///
+/// Refused: want of memory.
+pub fn drive<O: Order, A: Answers>(
+    run: &mut Run,
+    order: &mut O,
+    answers: &mut A,
+    max_steps: u64,
+) -> Result<(Stop, Vec<Entry>), DriveRefusal>
+    ensures run { (m : Scope) → IsRunOf m run.old → IsRunOf m run.new }
+    ensures stops { (m : Scope) → IsRunOf m run.old → IfOk result (λ driven. Stops (A.may_give answers.old) (A.may_be_silent answers.new) m (run_view run.old) max_steps (A.content answers.old) driven.0 (map entry_view driven.1.items) (run_view run.new) (A.content answers.new)) }
+    ensures broken_off { (m : Scope) → IsRunOf m run.old → IfErr result (λ refusal. BreaksOff (A.may_give answers.old) m (run_view run.old) max_steps (A.content answers.old) refusal (run_view run.new) (A.content answers.new)) }
+    ensures lasting { (n : List ℕ) (t : trees.Tree) (answer : model.Action) → A.may_give answers.new n t answer → A.may_give answers.old n t answer }
+{
+    let mut trace = Vec::new(run.alloc);
+    'turns: for _taken in 0..max_steps {
+        if let Some(stop) = how_ended(run) {
+            return Ok((stop, trace));
+        }
+        match turn(run, order, answers, &mut trace) {
+            Ok(()) => {}
+            Err(Pause::NoAnswer(state)) => return Ok((Stop::NoAnswer(state), trace)),
+            Err(Pause::OutOfMemory(answer)) => return Err(DriveRefusal { trace, answer }),
+        }
+    }
+    match how_ended(run) {
+        Some(stop) => Ok((stop, trace)),
+        None => Ok((Stop::StepsSpent, trace)),
+    }
+}
+
+/// How a run has ended; none while it goes on.
+fn how_ended(run: &Run) -> Option<Stop>
+    ensures { EndsSo result (model.outcome_of (run_view run.now)) }
+{
+    match run.outcome() {
+        Some(Outcome::Output(_)) => Some(Stop::Output),
+        Some(Outcome::Failed { .. }) => Some(Stop::Failed),
+        None => None,
+    }
+}
+
+/// One turn: an event at the place whose turn it is, which the trace tells.
+///
+/// Refused: no answer of the source, or want of memory; the run and the trace stay.
+fn turn<O: Order, A: Answers>(
+    run: &mut Run,
+    order: &mut O,
+    answers: &mut A,
+    trace: &mut Vec<Entry>,
+) -> Result<(), Pause>
+    ensures run { (m : Scope) → IsRunOf m run.old → IsRunOf m run.new }
+    ensures goes_on { (m : Scope) → IsRunOf m run.old → OnOk result (GoesOn (A.may_give answers.old) m (run_view run.old) (A.content answers.old) (map entry_view trace.old.items) (map entry_view trace.new.items) (run_view run.new) (A.content answers.new)) }
+    ensures pauses { (m : Scope) → IsRunOf m run.old → IfErr result (λ pause. Pauses (A.may_be_silent answers.new) (table_view run.old.machine.now).names (run_view run.old) (A.content answers.old) (A.content answers.new) pause) }
+    ensures stays { (m : Scope) → IsRunOf m run.old → IfErr result (λ _. IsLeft (run_view run.old) (map entry_view trace.old.items) (run_view run.new) (map entry_view trace.new.items)) }
+    ensures lasting { (n : List ℕ) (t : trees.Tree) (answer : model.Action) → A.may_give answers.new n t answer → A.may_give answers.old n t answer }
+{
+    let place = match picked_place(run, order) {
+        Ok(place) => place,
+        Err(OutOfMemory) => return Err(Pause::OutOfMemory(None)),
+    };
+    let event = match next_event(run.machine, &run.activity, answers, place) {
+        Ok(event) => event,
+        Err(pause) => return Err(pause),
+    };
+    match take(run, event, trace) {
+        Ok(()) => Ok(()),
+        Err(answer) => Err(Pause::OutOfMemory(answer)),
+    }
+}
+
+/// The place whose turn it is, of those where an event is enabled.
+fn picked_place<O: Order>(run: &Run, order: &mut O) -> Result<Place, OutOfMemory> {
+    let mut places = run.enabled()?;
+    if places.is_empty() {
+        return Err(OutOfMemory);
+    }
+    let picked = order.pick(places.len());
+    let (place, _) = places.swap_remove(picked);
+    Ok(place)
+}
+
 /// The next event at the place: an answer of the source where a task waits, else a move.
 fn next_event<A: Answers>(
     machine: &Machine,
@@ -63,6 +153,27 @@ fn next_event<A: Answers>(
         Ok(Some(answer)) => Ok(Event::Answers(place, answer)),
         Ok(None) => Err(Pause::NoAnswer(asked.state)),
         Err(OutOfMemory) => Err(Pause::OutOfMemory(None)),
+    }
+}
+
+/// Takes the event, which the trace tells.
+///
+/// Refused: want of memory, with the event's answer; the run and the trace stay.
+fn take(run: &mut Run, event: Event, trace: &mut Vec<Entry>) -> Result<(), Option<Answer>>
+    ensures run { (m : Scope) → IsRunOf m run.old → IsRunOf m run.new }
+    ensures taken { (m : Scope) → IsRunOf m run.old → OnOk result (IsTold m (run_view run.old) (event_view event) (map entry_view trace.old.items) (map entry_view trace.new.items) (run_view run.new)) }
+    ensures stays { (m : Scope) → IsRunOf m run.old → IfErr result (λ _. IsLeft (run_view run.old) (map entry_view trace.old.items) (run_view run.new) (map entry_view trace.new.items)) }
+    ensures returned { (m : Scope) → IsRunOf m run.old → IfErr result (λ answer. unused answer ≡ answer_in (event_view event).action) }
+{
+    let Ok(()) = trace.reserve(MOST_ENTRIES) else {
+        return Err(answer_of(event));
+    };
+    match run.step(event) {
+        Ok(mut entries) => match trace.append(&mut entries) {
+            Ok(()) => Ok(()),
+            Err(_) => Err(None),
+        },
+        Err((_, event)) => Err(answer_of(event)),
     }
 }
 

@@ -27,7 +27,7 @@ mod waiting;
 mod working;
 
 pub use answers::{Answers, ListAnswers};
-pub use driving::{DriveRefusal, Stop};
+pub use driving::{DriveRefusal, Stop, drive};
 pub use entries::{Answer, Entry, Event, Outcome, Place, Want};
 pub use orders::{First, Last, Order};
 pub use running::{Run, start};

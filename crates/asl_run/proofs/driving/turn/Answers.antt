@@ -1,0 +1,14 @@
+use Rattle.std.proofs.Common.{map, ◌++◌, ap, sym, ◌∙◌}
+use Rattle.asl_run.specs.Entries.{entry_view, event_view}
+use Rattle.asl_run.specs.Running.{run_view}
+use Rattle.asl_run.proofs.Driven.{turn_taken}
+use Rattle.asl_run.proofs.driving.turn.Goals as goal
+
+pub returns-in-Ok-take-clause-goes_on : goal.returns-in-Ok-take-clause-goes_on
+returns-in-Ok-take-clause-goes_on g c = λ m h.
+    turn_taken (g.A.Answers.may_give c.args.answers.now) m (run_view c.args.run.now) (run_view c.take.new.run) (event_view c.in-Ok-next_event.event) (g.A.Answers.content c.args.answers.now) (g.A.Answers.content c.next_event.new.answers)
+    (map entry_view c.args.trace.now.items) (map entry_view c.take.new.trace.items) c.in-Ok-next_event.ensures.next (c.in-Ok-take.ensures.taken m h)
+
+pub returns-in-Err-take-clause-pauses : goal.returns-in-Err-take-clause-pauses
+returns-in-Err-take-clause-pauses g c = λ m h.
+    c.in-Ok-next_event.ensures.next.answered ∙ ap (λ v. v ++ g.A.Answers.content c.next_event.new.answers) (sym (c.in-Err-take.ensures.returned m h))
