@@ -1,10 +1,10 @@
 -- How driving stops, or is broken off.
-use Rattle.std.proofs.Common.{◌≡◌, ℕ, ◌<◌, ◌≤◌, List, ◌++◌, map, length, Option, Some, None, slice_get, refl, sym, ap, ◌∙◌, subst, arith}
+use Rattle.std.proofs.Common.{◌≡◌, ℕ, ◌<◌, ◌≤◌, List, map, Option, Some, None, slice_get, sym, ap, ◌∙◌, subst, arith}
 use Rattle.asl_model.specs.Tree.{Tree}
 use Rattle.asl_model.specs.Machine.{Scope}
 use Rattle.asl_model.specs.Numbering.{table_of}
 use Rattle.asl_model.specs.Run.{Activity, Action, Entry, outcome_of}
-use Rattle.asl_run.specs.Driving.{BreaksOff, Drives, EndsSo, IsLeft, IsUnanswered, Pauses, Stops, StopsSo, unused}
+use Rattle.asl_run.specs.Driving.{BreaksOff, Drives, EndsSo, IsLeft, IsUnanswered, Pauses, Stops, StopsSo}
 use Rattle.asl_run.specs.Entries.{entry_view}
 use Rattle.asl_run.specs.declared.driving.DriveRefusal.{DriveRefusal}
 use Rattle.asl_run.specs.declared.driving.Pause.TheVariants as pauses
