@@ -1,5 +1,5 @@
 -- What the faults and closings of the code stand for in the definitions.
-use Rattle.std.specs.Prelude.{option_map}
+use Rattle.std.specs.Prelude.{option_map, string_bytes}
 use Rattle.std.specs.Option.{unwrap_or}
 use Rattle.asl_model.specs.Texts as texts
 use Rattle.asl_model.specs.Printed as printed
@@ -16,6 +16,8 @@ use Rattle.asl_tool.specs.declared.refusals.TextFault.{TextFault}
 use Rattle.asl_tool.specs.declared.refusals.TextFault.TheVariants as text
 use Rattle.asl_tool.specs.declared.refusals.RunFault.{RunFault}
 use Rattle.asl_tool.specs.declared.refusals.RunFault.TheVariants as run
+use Rattle.asl_tool.specs.declared.runs.RunEnd.{RunEnd}
+use Rattle.asl_tool.specs.declared.runs.RunEnd.TheVariants as ends
 use Rattle.asl_tool.specs.declared.endings.Closing.{Closing}
 use Rattle.asl_tool.specs.declared.endings.Closing.TheVariants as closing
 
@@ -56,6 +58,15 @@ run_fault_view run.TooLong = printed.TooLong
 run_fault_view run.Read = printed.ReadFailed
 run_fault_view run.Write = printed.WriteFailed
 run_fault_view run.OutOfMemory = printed.OutOfMemory
+
+-- what a run ends with
+abbrev pub run_end_view : RunEnd → printed.RunEnd
+run_end_view ends.Output = printed.RunOutput
+run_end_view ends.Failed = printed.RunFailed
+run_end_view ends.NoAnswer = printed.NoAnswer
+run_end_view ends.StepsSpent = printed.StepsSpent
+run_end_view ends.InputShape = printed.InputShape
+run_end_view (ends.AnswerShape state) = printed.AnswerShape (string_bytes state)
 
 -- what a run of the program ends with
 abbrev pub closing_view : Closing → printed.Closing

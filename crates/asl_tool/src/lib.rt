@@ -12,6 +12,7 @@ mod laws;
 mod lines;
 mod printing;
 mod refusals;
+mod runs;
 mod sinks;
 mod sources;
 #[cfg(test)]
@@ -30,6 +31,7 @@ pub use laws::{
 };
 pub use printing::{closing, verdict_text};
 pub use refusals::{RunFault, TextFault, TextRefusal, Which};
+pub use runs::{Pick, RunEnd};
 pub use sinks::{Sink, ToWrite};
 pub use sources::{Failed, FromRead, Source};
 pub use texts::read_text;
