@@ -1,4 +1,5 @@
 pub mod AnswersExactly
+pub mod BrokenStands
 pub mod CallMeaning
 pub mod CallReading
 pub mod CallWriting
@@ -35,6 +36,7 @@ pub mod NumberedRows
 pub mod NumberedScopes
 pub mod NumberedStates
 pub mod Numbering
+pub mod OutlinedRules
 pub mod Outlines
 pub mod PathPrinting
 pub mod PathReading
@@ -72,6 +74,8 @@ pub mod ShapeValid
 pub mod ShapeWitness
 pub mod SpellingLookups
 pub mod SpellingWritten
+pub mod StandingStates
 pub mod TargetsAmong
 pub mod TemplateGrammar
 pub mod WellNamed
+pub mod WidestFindings

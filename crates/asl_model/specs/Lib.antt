@@ -8,6 +8,7 @@ pub mod Finding
 pub mod FindingRules
 pub mod Flow
 pub mod Headline
+pub mod Inference
 pub mod Intrinsic
 pub mod Json
 pub mod Machine

@@ -3,6 +3,7 @@
 //! `docs/DEFINITIONS.md` is a guide through `specs/`.
 #![tactic(auto)]
 
+pub mod inference_laws;
 pub mod reading_laws;
 pub mod run_laws;
 pub mod shape_laws;

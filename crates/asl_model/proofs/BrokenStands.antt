@@ -1,0 +1,26 @@
+-- A broken rule on what flows through a state is a finding that stands.
+use Rattle.std.proofs.Common.{◌≡◌, sym, subst, ℕ, List, Contains, Option, Some, slice_get}
+use Rattle.asl_model.specs.Machine.{Settings, Scope, State, Kind, settings_of, kind_of}
+use Rattle.asl_model.specs.Shape.{Shape}
+use Rattle.asl_model.specs.Certificate.{Declared, StateShapes, Certificate, certified}
+use Rattle.asl_model.specs.Finding.{Breach, input_to_compare, flow_breaches, Stands}
+use Rattle.asl_model.specs.FindingRules.{HasState, is_broken_in_flow}
+use Rattle.asl_model.specs.Inference.{finding_of, IsBrokenAnyway}
+use Rattle.asl_model.specs.Numbering.{outline, table_of}
+use Rattle.asl_model.proofs.FindingTold.{flow_broken}
+use Rattle.asl_model.proofs.FindingRules.{broken_exactly}
+use Rattle.asl_model.proofs.OutlinedRules.{flow-outlined}
+use Rattle.asl_model.proofs.StandingStates.{IsNamed, is_named, is_shown}
+
+-- at a state of the machine
+pub stands_in_machine : (machine : Scope) (declared : Declared) (certificate : Certificate) (n : List ℕ) (settings : Settings) (kind : Kind) (end : Option Shape) (entry : StateShapes) (breach : Breach) → HasState machine certificate n settings kind end → certified certificate n ≡ Some entry → Contains (flow_breaches declared (input_to_compare machine certificate) end n settings kind (Some entry)) breach → Stands machine declared certificate (finding_of n breach)
+stands_in_machine machine declared certificate n settings kind end entry breach state e c =
+    let w = flow_broken machine declared certificate end n entry settings kind breach c in
+    (broken_exactly machine declared certificate (finding_of n breach)).0 (is_broken_in_flow state e w.0 w.1)
+
+-- at a state of its table
+pub stands_in_table : (machine : Scope) (declared : Declared) (certificate : Certificate) (i : ℕ) (n : List ℕ) (state : State) (entry : StateShapes) (breach : Breach) → slice_get (table_of machine).names i ≡ Some n → slice_get (table_of machine).states i ≡ Some state → certified certificate n ≡ Some entry → IsBrokenAnyway declared n state entry breach → Stands machine declared certificate (finding_of n breach)
+stands_in_table machine declared certificate i n state entry breach named shown e broken =
+    let row : IsNamed machine certificate i n = is_named machine certificate i n named in
+    let here : Contains (flow_breaches declared (input_to_compare machine certificate) row.end n (settings_of (outline row.shown)) (kind_of (outline row.shown)) (Some entry)) breach = subst (λ s. Contains (flow_breaches declared (input_to_compare machine certificate) row.end n (settings_of s) (kind_of s) (Some entry)) breach) (sym (is_shown machine certificate i n state shown row)) (broken (input_to_compare machine certificate) row.end) in
+    stands_in_machine machine declared certificate n (settings_of row.shown) (kind_of row.shown) row.end entry breach row.stands e (subst (λ breaches. Contains breaches breach) (flow-outlined declared (input_to_compare machine certificate) row.end n row.shown (Some entry)) here)

@@ -1,0 +1,243 @@
+-- The widest certificate has no fault of its own: each of the machine's states has an entry, and whatever flows is
+-- compared with Any.
+use Rattle.std.proofs.Common.{◌≡◌, refl, sym, ap, ◌∙◌, subst, ℕ, zero, suc, ◌<◌, List, [], ◌∷◌, ◌++◌, map, replicate, Contains, Bool, true, false, IsTrue, IsFalse, if◌then◌else◌, bytes_eq, slice_get, Option, Some, None, is_some, option_to_list, ◌⊎◌, inl, inr, arith}
+use Rattle.std.proofs.lemmas.Bool.{true≢false}
+use Rattle.std.proofs.lemmas.List.{length-replicate}
+use Rattle.std.proofs.lemmas.List.Elements.{Contains-append_left, Contains-append_right}
+use Rattle.std.proofs.lemmas.Slice.Eq.{bytes_eq-Decides}
+use Rattle.asl_model.specs.Machine.{Catcher, Settings, Scope, States, NoStates, AndState, State, StateOf, Kind, Pass, Task, Choice, Wait, Succeed, Fail, Parallel, Map, Scopes, settings_of, kind_of, start_of, states_of, state_among, state_named, scope_at, how_many}
+use Rattle.asl_model.specs.Shape.{Shape, Any}
+use Rattle.asl_model.specs.ShapeOrder.{sub}
+use Rattle.asl_model.specs.ShapeSpelling.{are_distinct}
+use Rattle.asl_model.specs.Certificate.{Declared, StateShapes, Certificate, HasEntry, under, certified, branch_shape, branch_end, item_end, branches_in, is_map}
+use Rattle.asl_model.specs.Finding.{FindingFault, Finding, Stands}
+use Rattle.asl_model.specs.FindingRules.{IsAmong, state_is_first, state_is_later, IsBranch, branch_is_first, branch_is_later, HasScope, has_itself, has_branch, has_processor, HasState, IsCompared, compared_with_entry, compared_with_never, Target, ToState, ToEnd, next_target, Makes, makes_literal, makes_what_it_takes, makes_answer, lets_through, lets_default, lets_wait, lets_succeed, makes_outputs, makes_items, Starts, starts_branch, starts_item, BreaksFlow, path_may_be_missing, template_may_be_missing, rule_may_be_missing, may_be_of_wrong_kind, may_not_fit, may_fail, has_no_default, payload_is_not_taken, output_is_not_certified, is_no_next_input, is_no_scope_output, is_no_branch_input, is_no_catch_input, IsBroken, is_not_certified, is_not_a_state, is_undeclared, is_unknown, is_no_start_input, is_broken_in_flow}
+use Rattle.asl_model.specs.Test.{Rule}
+use Rattle.asl_model.specs.Inference.{is_of_machine, widest_entry, IsWidest}
+use Rattle.asl_model.specs.Numbering.{Standing, standing, kind_outline, outline, table_of, IsScopeOf, own_scope, scope_of_child, HasNamed, targets_of, targets_by, IsWellNamed}
+use Rattle.asl_model.proofs.FindingRules.{broken_exactly}
+use Rattle.asl_model.proofs.Listed.{none_in, first_in, first_or_later, map_in}
+use Rattle.asl_model.proofs.NumberedScopes.{StandsAs, all_stand}
+use Rattle.asl_model.proofs.NumberedStates.{StandsAt, stands_at, number_found}
+use Rattle.asl_model.proofs.Numbering.{names_of_standing}
+use Rattle.asl_model.proofs.OutlinedRules.{how-many-outlined}
+use Rattle.asl_model.proofs.RunOptions.{some_inj, some_there}
+use Rattle.asl_model.proofs.StandingStates.{state_stands, HasNumber, state_numbered, IsNamed, is_named}
+
+-- ---- names in scopes
+
+-- a state among those of a scope has a name that finds one
+named_among : {n : List ℕ} {state : State} {held : States} → IsAmong n state held → (other : State) × (state_among n held ≡ Some other)
+named_among {n} {state} (state_is_first {others = others}) = (state, ap (λ b. if b then Some state else state_among n others) ((bytes_eq-Decides n n).1 refl))
+named_among {n} (state_is_later {m = m} {other = other} {others = others} a) = go (bytes_eq m n) (named_among a)
+  where
+    go : (b : Bool) → (further : State) × (state_among n others ≡ Some further) → (found : State) × ((if b then Some other else state_among n others) ≡ Some found)
+    go true w = (other, refl)
+    go false w = w
+
+-- what a name finds is among the states
+found_among : (n : List ℕ) (held : States) (state : State) → state_among n held ≡ Some state → IsAmong n state held
+found_among n (AndState m other others) state e = go (bytes_eq m n) refl e (found_among n others state)
+  where
+    go : (b : Bool) → bytes_eq m n ≡ b → (if b then Some other else state_among n others) ≡ Some state → (state_among n others ≡ Some state → IsAmong n state others) → IsAmong n state (AndState m other others)
+    go true f g further = subst (λ k. IsAmong n state (AndState k other others)) (sym ((bytes_eq-Decides m n).0 f)) (subst (λ s. IsAmong n state (AndState n s others)) (sym (some_inj g)) state_is_first)
+    go false f g further = state_is_later (further g)
+found_among n NoStates state e = absurd (cc)
+
+-- the branch of a number
+branch_at : {branch : Scope} {i : ℕ} {branches : Scopes} → IsBranch branch i branches → (i < how_many branches) × (scope_at i branches ≡ branch)
+branch_at branch_is_first = (omega arith, refl)
+branch_at (branch_is_later b) = let w = branch_at b in (omega (arith, w.0), w.1)
+
+-- ---- the widest entry
+
+-- it needs no state of its scopes
+outlined_widest : (kind : Kind) → widest_entry (kind_outline kind) ≡ widest_entry kind
+outlined_widest (Pass result) = refl
+outlined_widest (Task resource) = refl
+outlined_widest (Choice rules default) = refl
+outlined_widest (Wait delay) = refl
+outlined_widest Succeed = refl
+outlined_widest (Fail error cause) = refl
+outlined_widest (Parallel branches) = ap (λ count. record { input = Any; output = Any; branches = replicate count Any; item = None }) (how-many-outlined branches)
+outlined_widest (Map items selector processor) = refl
+
+-- it has the right form
+has_item : (b : Bool) → is_some (if b then Some Any else None) ≡ b
+has_item true = refl
+has_item false = refl
+
+-- each of its branches is Any
+each_any : (count i : ℕ) (s : Shape) → branch_shape i (replicate count Any) ≡ Some s → s ≡ Any
+each_any zero i s e = absurd (cc)
+each_any (suc count) zero s e = sym (some_inj e)
+each_any (suc count) (suc i) s e = each_any count i s e
+
+-- a name that has an entry
+entry_there : (entries : List (List ℕ × StateShapes)) (entry : List ℕ × StateShapes) → Contains entries entry → IsTrue (is_some (under entry.0 entries))
+entry_there [] entry c = none_in entry c
+entry_there (first ∷ entries) entry c = go (bytes_eq first.0 entry.0) refl (first_or_later first entry entries c) (entry_there entries entry)
+  where
+    go : (b : Bool) → bytes_eq first.0 entry.0 ≡ b → (first ≡ entry) ⊎ Contains entries entry → (Contains entries entry → IsTrue (is_some (under entry.0 entries))) → IsTrue (is_some (if b then Some first.1 else under entry.0 entries))
+    go true f w further = refl
+    go false f (inl e) further = absurd (true≢false (sym ((bytes_eq-Decides first.0 entry.0).1 (ap (λ x. x.0) e)) ∙ f))
+    go false f (inr d) further = further d
+
+-- no comparison with Any fails
+not_outside : {A : Type 0} (a s : Shape) → s ≡ Any → IsFalse (sub a s) → A
+not_outside a s e h = absurd (true≢false (sym (ap (sub a) e) ∙ h))
+
+-- ---- where an output goes
+
+-- the state that an output goes to
+abbrev goes_to : Target → Option (List ℕ)
+goes_to (ToState field next) = Some next
+goes_to (ToEnd field) = None
+
+-- by `Next`
+next_there : (o : Option (List ℕ)) (m : List ℕ) (others : List (List ℕ)) → goes_to (next_target o) ≡ Some m → Contains (option_to_list o ++ others) m
+next_there None m others e = absurd (cc)
+next_there (Some next) m others e = subst (λ k. Contains (next ∷ others) k) (some_inj e) (first_in next others)
+
+module _ (declared : Declared) (n : List ℕ) (entry : StateShapes) (settings : Settings) where
+  -- what a state makes goes to a state that may follow it
+  target_told : {kind : Kind} {made : Shape} {target : Target} (m : List ℕ) → Makes declared n entry settings kind made target → goes_to target ≡ Some m → Contains (targets_of (StateOf settings kind)) m
+  target_told m makes_literal e = next_there settings.next m _ e
+  target_told m (makes_what_it_takes eff) e = next_there settings.next m _ e
+  target_told m makes_answer e = next_there settings.next m _ e
+  target_told m (lets_through {rules = rules} {default = default} {rule = rule} eff among f) e =
+      let caught = map (λ (catcher : Catcher). catcher.next) settings.catchers in
+      let chosen = map (λ (r : Rule). r.next) rules in
+      subst (λ k. Contains (option_to_list settings.next ++ (caught ++ (chosen ++ option_to_list default))) k) (some_inj e)
+      (Contains-append_right (option_to_list settings.next) (caught ++ (chosen ++ option_to_list default)) rule.next
+      (Contains-append_right caught (chosen ++ option_to_list default) rule.next
+      (Contains-append_left chosen (option_to_list default) rule.next (map_in (λ (r : Rule). r.next) rules rule among))))
+  target_told m (lets_default {rules = rules} {next = next} eff) e =
+      let caught = map (λ (catcher : Catcher). catcher.next) settings.catchers in
+      let chosen = map (λ (r : Rule). r.next) rules in
+      subst (λ k. Contains (option_to_list settings.next ++ (caught ++ (chosen ++ next ∷ []))) k) (some_inj e)
+      (Contains-append_right (option_to_list settings.next) (caught ++ (chosen ++ next ∷ [])) next
+      (Contains-append_right caught (chosen ++ next ∷ []) next
+      (Contains-append_right chosen (next ∷ []) next (first_in next []))))
+  target_told m (lets_wait eff) e = next_there settings.next m _ e
+  target_told m (lets_succeed eff) e = absurd (cc)
+  target_told m makes_outputs e = next_there settings.next m _ e
+  target_told m (makes_items eff found there) e = next_there settings.next m _ e
+
+  -- so does what a catcher hands on
+  caught_told : (kind : Kind) (catcher : Catcher) → Contains settings.catchers catcher → Contains (targets_of (StateOf settings kind)) catcher.next
+  caught_told kind catcher among =
+      let caught = map (λ (c : Catcher). c.next) settings.catchers in
+      Contains-append_right (option_to_list settings.next) (caught ++ targets_by kind) catcher.next
+      (Contains-append_left caught (targets_by kind) catcher.next (map_in (λ (c : Catcher). c.next) settings.catchers catcher among))
+
+-- ---- the machine
+
+module _ (machine : Scope) (declared : Declared) (certificate : Certificate) (well : IsWellNamed machine) (wide : IsWidest (table_of machine) certificate) where
+  -- the machine has a state of that name
+  record IsThere (n : List ℕ) : Type 0 where
+    settings : Settings
+    kind : Kind
+    end : Option Shape
+    state : HasState machine certificate n settings kind end
+
+  -- no name stands twice
+  distinct : are_distinct (map (λ (s : Standing). s.name) (standing machine)) ≡ true
+  distinct = ap are_distinct (names_of_standing None machine) ∙ well.distinct
+
+  -- so two states of one name are one
+  same_state : (scope : Scope) (n : List ℕ) (a b : State) → StandsAs (standing machine) scope n a → StandsAs (standing machine) scope n b → a ≡ b
+  same_state scope n a b first second =
+      let s : Standing = record { name = n; state = a; start = start_of scope; owner = first.owner } in
+      let t : Standing = record { name = n; state = b; start = start_of scope; owner = second.owner } in
+      let h : StandsAt (standing machine) s = stands_at (standing machine) s distinct first.listed in
+      let k : StandsAt (standing machine) t = stands_at (standing machine) t distinct second.listed in
+      let number : h.number ≡ k.number = some_inj (sym (number_found (standing machine) s h) ∙ number_found (standing machine) t k) in
+      ap (λ (u : Standing). u.state) (some_inj (sym h.here ∙ (ap (slice_get (standing machine)) number ∙ k.here)))
+
+  -- a state is found by its name
+  is_found : {n : List ℕ} {settings : Settings} {kind : Kind} {end : Option Shape} (state : HasState machine certificate n settings kind end) → IsScopeOf machine state.scope → state_named n state.scope ≡ Some (StateOf settings kind)
+  is_found {n} {settings} {kind} state is_scope =
+      let w = named_among state.among in
+      w.1 ∙ ap Some (same_state state.scope n w.0 (StateOf settings kind) (all_stand machine state.scope is_scope n w.0 w.1) (state_stands state))
+
+  -- and its scope is one of the machine's
+  scope_is : {scope : Scope} {end : Option Shape} → HasScope machine certificate scope end → IsScopeOf machine scope
+  scope_is has_itself = own_scope
+  scope_is (has_branch {scope = scope} {n = n} {settings = settings} {branches = branches} {i = i} s a b) = subst (IsScopeOf machine) (branch_at b).1 (scope_of_child n (StateOf settings (Parallel branches)) i (scope_is s) (is_found (record { scope = scope; has_scope = s; among = a }) (scope_is s)))
+  scope_is (has_processor {scope = scope} {processor = processor} {n = n} {settings = settings} {items = items} {selector = selector} s a) = scope_of_child n (StateOf settings (Map items selector processor)) 0 (scope_is s) (is_found (record { scope = scope; has_scope = s; among = a }) (scope_is s))
+
+  -- a name that leads to a state of a scope is that of a state of the machine
+  leads_there : {scope : Scope} {end : Option Shape} (n : List ℕ) → HasScope machine certificate scope end → HasNamed scope n → IsThere n
+  leads_there {scope} {end} n s has = let w = some_there (state_named n scope) has in go w.0 (found_among n (states_of scope) w.0 w.1)
+    where
+      go : (state : State) → IsAmong n state (states_of scope) → IsThere n
+      go (StateOf settings kind) a = record { settings = settings; kind = kind; end = end; state = record { scope = scope; has_scope = s; among = a } }
+
+  -- what follows a state is there
+  target_there : {n : List ℕ} {settings : Settings} {kind : Kind} {end : Option Shape} (m : List ℕ) → HasState machine certificate n settings kind end → Contains (targets_of (StateOf settings kind)) m → IsThere m
+  target_there {n} {settings} {kind} m state c = leads_there m state.has_scope (well.targets state.scope (scope_is state.has_scope) n (StateOf settings kind) (is_found state (scope_is state.has_scope)) m c)
+
+  -- so is the start state of a child
+  started_there : {n : List ℕ} {entry : StateShapes} {settings : Settings} {kind : Kind} {end : Option Shape} {field : List ℕ} {child : Scope} {s : Shape} → HasState machine certificate n settings kind end → Starts entry settings kind field child s → IsThere (start_of child)
+  started_there {n} {settings = settings} {child = child} state (starts_branch {branches = branches} {i = i} eff b) =
+      let w = branch_at b in
+      leads_there (start_of child) (has_branch state.has_scope state.among b) (subst (λ c. HasNamed c (start_of c)) w.1 (well.branch_starts state.scope (scope_is state.has_scope) n settings branches (is_found state (scope_is state.has_scope)) i w.0))
+  started_there {n} {settings = settings} {child = child} state (starts_item {items = items} {selector = selector} eff found flows) =
+      leads_there (start_of child) (has_processor state.has_scope state.among) (well.processor_starts state.scope (scope_is state.has_scope) n settings items selector child (is_found state (scope_is state.has_scope)))
+
+  -- ---- entries
+
+  -- a state's entry
+  entry_is : {n : List ℕ} {settings : Settings} {kind : Kind} {end : Option Shape} → HasState machine certificate n settings kind end → certified certificate n ≡ Some (widest_entry kind)
+  entry_is {n} {settings} {kind} state =
+      let row : HasNumber machine n (StateOf settings kind) = state_numbered state in
+      wide.entries row.number n (outline (StateOf settings kind)) row.named row.shown ∙ ap Some (outlined_widest kind)
+
+  has_entry : {n : List ℕ} {settings : Settings} {kind : Kind} {end : Option Shape} → HasState machine certificate n settings kind end → HasEntry certificate n kind
+  has_entry {kind = kind} state = record { shapes = widest_entry kind; stands = entry_is state; branches = length-replicate (branches_in kind) Any; item = has_item (is_map kind) }
+
+  -- what flows to a state is compared with Any
+  compared_any : {m : List ℕ} {expected : Shape} → IsThere m → IsCompared machine certificate m expected → expected ≡ Any
+  compared_any there (compared_with_entry e) = ap (λ (entry : StateShapes). entry.input) (some_inj (sym e ∙ entry_is there.state))
+  compared_any there (compared_with_never e none) = absurd (none there.settings there.kind there.end there.state)
+
+  -- so is what flows to the end of a scope
+  end_any : {scope : Scope} {end : Option Shape} (expected : Shape) → HasScope machine certificate scope end → end ≡ Some expected → expected ≡ Any
+  end_any expected has_itself e = sym (some_inj e) ∙ wide.output
+  end_any expected (has_branch {scope = scope} {branches = branches} {i = i} s a b) e = each_any (how_many branches) i expected (sym (ap (branch_end i) (entry_is (record { scope = scope; has_scope = s; among = a }))) ∙ e)
+  end_any expected (has_processor {scope = scope} s a) e = sym (some_inj (sym (ap item_end (entry_is (record { scope = scope; has_scope = s; among = a }))) ∙ e))
+
+  -- ---- findings
+
+  -- a rule on what flows
+  of_flow : {n field : List ℕ} {settings : Settings} {kind : Kind} {end : Option Shape} {entry : StateShapes} {fault : FindingFault} → HasState machine certificate n settings kind end → certified certificate n ≡ Some entry → BreaksFlow machine declared certificate end n entry settings kind field fault → IsTrue (is_of_machine fault)
+  of_flow state e (path_may_be_missing looks f) = refl
+  of_flow state e (template_may_be_missing evaluates some doubt) = refl
+  of_flow state e (rule_may_be_missing is eff among f) = refl
+  of_flow state e (may_be_of_wrong_kind eff wants f h) = refl
+  of_flow state e (may_not_fit puts f) = refl
+  of_flow state e (may_fail evaluates some doubt) = refl
+  of_flow state e (has_no_default is) = refl
+  of_flow state e (payload_is_not_taken is eff h) = refl
+  of_flow {entry = entry} state e (output_is_not_certified {output = output} leaves h) = not_outside output entry.output (ap (λ (x : StateShapes). x.output) (some_inj (sym e ∙ entry_is state))) h
+  of_flow {n} {settings = settings} {entry = entry} state e (is_no_next_input {output = output} {expected = expected} {next = next} leaves compared h) = not_outside output expected (compared_any (target_there next state (target_told declared n entry settings next leaves.makes refl)) compared) h
+  of_flow state e (is_no_scope_output {output = output} {expected = expected} leaves f h) = not_outside output expected (end_any expected state.has_scope f) h
+  of_flow state e (is_no_branch_input {s = s} {expected = expected} starts compared h) = not_outside s expected (compared_any (started_there state starts) compared) h
+  of_flow {n} {settings = settings} {kind = kind} {entry = entry} state e (is_no_catch_input {catcher = catcher} {s = s} {expected = expected} among f compared h) = not_outside s expected (compared_any (target_there catcher.next state (caught_told declared n entry settings kind catcher among)) compared) h
+
+  -- any rule
+  of_machine : {f : Finding} → IsBroken machine declared certificate f → IsTrue (is_of_machine f.fault)
+  of_machine (is_not_certified state none) = absurd (none (has_entry state))
+  of_machine (is_not_a_state {entry = entry} among none) =
+      let w = wide.no_other_entry entry.0 (entry_there certificate.states entry among) in
+      let row : IsNamed machine certificate w.0 entry.0 = is_named machine certificate w.0 entry.0 w.1 in
+      absurd (none (settings_of row.shown) (kind_of row.shown) row.end row.stands)
+  of_machine (is_undeclared state none) = refl
+  of_machine (is_unknown among none) = refl
+  of_machine (is_no_start_input {expected = expected} compared h) = not_outside declared.input expected (compared_any (leads_there (start_of machine) has_itself well.start) compared) h
+  of_machine (is_broken_in_flow state e live breaks) = of_flow state e breaks
+
+-- each finding that stands
+pub widest_findings : (machine : Scope) (declared : Declared) (certificate : Certificate) → IsWellNamed machine → IsWidest (table_of machine) certificate → (finding : Finding) → Stands machine declared certificate finding → IsTrue (is_of_machine finding.fault)
+widest_findings machine declared certificate well wide finding stands = of_machine machine declared certificate well wide ((broken_exactly machine declared certificate finding).1 stands)

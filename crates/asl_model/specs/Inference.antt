@@ -1,0 +1,51 @@
+-- What an inferrer of certificates stands on (the profile's own): the faults that are no certificate's, the widest
+-- certificate of a machine, and rules that are broken whatever is certified elsewhere.
+use Rattle.std.specs.Prelude.{◌≡◌, ℕ, List, Bool, true, false, IsTrue, Option, Some, None, is_some, if◌then◌else◌, replicate, slice_get, Contains}
+use Rattle.asl_model.specs.Machine.{State, Kind, settings_of, kind_of}
+use Rattle.asl_model.specs.Shape.{Shape, Any}
+use Rattle.asl_model.specs.Certificate.{Declared, StateShapes, Certificate, certified, branches_in, is_map}
+use Rattle.asl_model.specs.Finding.{FindingFault, NotCertified, NotAState, TaskUndeclared, TaskUnknown, StartInput, PathMayBeMissing, WrongKind, ResultMayNotFit, IntrinsicMayFail, NoDefault, PayloadNotTaken, OutputNotCertified, NextInput, ScopeOutput, BranchInput, CatchInput, Breach, Finding, flow_breaches}
+use Rattle.asl_model.specs.Numbering.{Table}
+
+-- A fault of the machine, or of what is declared. The others are the certificate's own: an entry that isn't there, has
+-- another form or names no state, and what flows to where less is certified.
+abbrev pub is_of_machine : FindingFault → Bool
+is_of_machine NotCertified = false
+is_of_machine NotAState = false
+is_of_machine TaskUndeclared = true
+is_of_machine TaskUnknown = true
+is_of_machine StartInput = false
+is_of_machine PathMayBeMissing = true
+is_of_machine WrongKind = true
+is_of_machine ResultMayNotFit = true
+is_of_machine IntrinsicMayFail = true
+is_of_machine NoDefault = true
+is_of_machine PayloadNotTaken = true
+is_of_machine OutputNotCertified = false
+is_of_machine NextInput = false
+is_of_machine ScopeOutput = false
+is_of_machine BranchInput = false
+is_of_machine CatchInput = false
+
+-- ---- the widest certificate
+
+-- the widest entry of a state of that type: Any throughout, for each branch of a Parallel and for the items of a Map too
+abbrev pub widest_entry : Kind → StateShapes
+widest_entry kind = record { input = Any; output = Any; branches = replicate (branches_in kind) Any; item = if is_map kind then Some Any else None }
+
+-- the widest certificate of a machine with that table: the widest entry of each of its states, and no other entry
+pub record IsWidest (table : Table) (certificate : Certificate) : Type 0 where
+  pub output : certificate.output ≡ Any
+  pub entries : (i : ℕ) (n : List ℕ) (state : State) → slice_get table.names i ≡ Some n → slice_get table.states i ≡ Some state → certified certificate n ≡ Some (widest_entry (kind_of state))
+  pub no_other_entry : (n : List ℕ) → IsTrue (is_some (certified certificate n)) → (i : ℕ) × (slice_get table.names i ≡ Some n)
+
+-- ---- broken rules
+
+-- a broken rule of the state of that name, as a finding
+abbrev pub finding_of : List ℕ → Breach → Finding
+finding_of n breach = record { state = n; field = breach.field; fault = breach.fault }
+
+-- the rule is broken in a state of that name with that entry, whatever is certified of the states that follow, of its
+-- children's start states and of its scope's end
+abbrev pub IsBrokenAnyway : Declared → List ℕ → State → StateShapes → Breach → Type 0
+IsBrokenAnyway declared n state entry breach = (inputs : List ℕ → Option Shape) (end : Option Shape) → Contains (flow_breaches declared inputs end n (settings_of state) (kind_of state) (Some entry)) breach
