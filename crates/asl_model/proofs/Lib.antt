@@ -48,6 +48,7 @@ pub mod ReadingLookups
 pub mod ReadingRules
 pub mod ReadingSteps
 pub mod ReadingTemplates
+pub mod RecordsBack
 pub mod RuleGrammar
 pub mod RuleOperators
 pub mod RunApart

@@ -17,6 +17,7 @@ pub mod Path
 pub mod PathSpelling
 pub mod Placing
 pub mod Printed
+pub mod RecordShapes
 pub mod Records
 pub mod RuleGrammar
 pub mod RuleSpelling

@@ -6,12 +6,12 @@ ghost use Rattle.serde_json.specs.Data.{Data};
 ghost use Rattle.asl_model.specs.Tree.{Tree};
 ghost use Rattle.asl_model.specs.Path.{Segment};
 ghost use Rattle.asl_model.specs.Shape.{Shape, IsProperShape};
-ghost use Rattle.asl_model.specs.Written.{written_shape};
+ghost use Rattle.asl_model.specs.Written.{written_shape, written_declared, written_certificate};
 ghost use Rattle.asl_model.specs.Template.{Template, IsInOrder};
 ghost use Rattle.asl_model.specs.Test.{Rule};
 ghost use Rattle.asl_model.specs.Machine.{Scope};
 ghost use Rattle.asl_model.specs.Certificate.{Declared, Certificate};
-ghost use Rattle.asl_model.specs.Json.{ReadsAsValue, ReadsAsTree};
+ghost use Rattle.asl_model.specs.Json.{ReadsAsValue, ReadsAsTree, tree_of};
 ghost use Rattle.asl_model.specs.PathSpelling.{path_of, Spells, PathFault, IsRefusedPath, printed_path, have_spellings};
 ghost use Rattle.asl_model.specs.ShapeSpelling.{SpellsShape, ShapeFault, HasShapeFault};
 ghost use Rattle.asl_model.specs.TemplateSpelling.{TemplateFault, template_of, SpellsTemplate, HasTemplateFault};
@@ -23,6 +23,7 @@ ghost use Rattle.asl_model.specs.CallSpelling.{reference_of, WrittenCall, writte
 ghost use Rattle.asl_model.specs.CallGrammar.{WritesCall, SpellsReference, SpellsCall, IsRefusedCall};
 ghost use Rattle.asl_model.specs.Run.{Action};
 ghost use Rattle.asl_model.specs.AnswersSpelling.{ReadsAsAnswers, IsAnswersFault, StandsForAnswers, IsBadAnswer};
+ghost use Rattle.asl_model.specs.RecordShapes.{HoldsForDeclared, HoldsForCertificate};
 ghost use Rattle.asl_model.specs.Records.{RecordComplaint, StandsForDeclared, StandsForCertificate, HasDeclaredFault, HasCertificateFault};
 ghost use Rattle.asl_model.specs.StandsFor.{Complaint, StandsFor, HasComplaint, characters};
 ghost use Rattle.asl_model.specs.Texts.{TextFault, BadAnswer, ReadsAsMachine, ReadsAsDeclared, ReadsAsCertificate, IsDefinitionFault, IsDeclaredFault, IsCertificateFault};
@@ -96,6 +97,12 @@ pub fn rules_are_exactly_spelled()
 /// A proper shape is spelled by the tree that is written for it.
 pub fn written_shapes_are_spelled()
     ensures { (a : Shape) → IsProperShape a → SpellsShape (written_shape a) a }
+{}
+
+/// Every JSON value that is the tree written for declared shapes, or for a certificate, of proper shapes stands for them.
+pub fn written_records_are_read_back()
+    ensures declared { (v : Data) (d : Declared) → HoldsForDeclared IsProperShape d → tree_of v ≡ Some (written_declared d) → StandsForDeclared v d }
+    ensures certificate { (v : Data) (c : Certificate) → HoldsForCertificate IsProperShape c → tree_of v ≡ Some (written_certificate c) → StandsForCertificate v c }
 {}
 
 /// Each text has a meaning or a fault, and so has each JSON value as a definition and each tree as a shape.
