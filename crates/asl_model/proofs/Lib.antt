@@ -9,6 +9,7 @@ pub mod ExamplesAnswers
 pub mod ExamplesCalls
 pub mod ExamplesClosed
 pub mod ExamplesDefinitions
+pub mod ExamplesInference
 pub mod ExamplesPaths
 pub mod ExamplesPrinted
 pub mod ExamplesReadings
