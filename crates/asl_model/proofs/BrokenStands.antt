@@ -1,11 +1,12 @@
 -- A broken rule on what flows through a state is a finding that stands.
-use Rattle.std.proofs.Common.{◌≡◌, sym, subst, ℕ, List, Contains, Option, Some, slice_get}
+use Rattle.std.proofs.Common.{◌≡◌, refl, sym, ap, subst, ℕ, List, [], ◌∷◌, Contains, if◌then◌else◌, Option, Some, None, slice_get}
+use Rattle.std.proofs.lemmas.Slice.Eq.{bytes_eq-Decides}
 use Rattle.asl_model.specs.Machine.{Settings, Scope, State, Kind, settings_of, kind_of}
-use Rattle.asl_model.specs.Shape.{Shape}
+use Rattle.asl_model.specs.Shape.{Shape, Any}
 use Rattle.asl_model.specs.Certificate.{Declared, StateShapes, Certificate, certified}
 use Rattle.asl_model.specs.Finding.{Breach, input_to_compare, flow_breaches, Stands}
 use Rattle.asl_model.specs.FindingRules.{HasState, is_broken_in_flow}
-use Rattle.asl_model.specs.Inference.{finding_of, IsBrokenAnyway}
+use Rattle.asl_model.specs.Inference.{finding_of, IsBrokenAnyway, StandsForSome}
 use Rattle.asl_model.specs.Numbering.{outline, table_of}
 use Rattle.asl_model.proofs.FindingTold.{flow_broken}
 use Rattle.asl_model.proofs.FindingRules.{broken_exactly}
@@ -24,3 +25,9 @@ stands_in_table machine declared certificate i n state entry breach named shown 
     let row : IsNamed machine certificate i n = is_named machine certificate i n named in
     let here : Contains (flow_breaches declared (input_to_compare machine certificate) row.end n (settings_of (outline row.shown)) (kind_of (outline row.shown)) (Some entry)) breach = subst (λ s. Contains (flow_breaches declared (input_to_compare machine certificate) row.end n (settings_of s) (kind_of s) (Some entry)) breach) (sym (is_shown machine certificate i n state shown row)) (broken (input_to_compare machine certificate) row.end) in
     stands_in_machine machine declared certificate n (settings_of row.shown) (kind_of row.shown) row.end entry breach row.stands e (subst (λ breaches. Contains breaches breach) (flow-outlined declared (input_to_compare machine certificate) row.end n row.shown (Some entry)) here)
+
+-- there for some certificate: one whose only entry is that of the state
+pub stands_for_some : (machine : Scope) (declared : Declared) (i : ℕ) (n : List ℕ) (state : State) (entry : StateShapes) (breach : Breach) → slice_get (table_of machine).names i ≡ Some n → slice_get (table_of machine).states i ≡ Some state → IsBrokenAnyway declared n state entry breach → StandsForSome machine declared (finding_of n breach)
+stands_for_some machine declared i n state entry breach named shown broken =
+    let certificate : Certificate = record { output = Any; states = (n, entry) ∷ [] } in
+    (certificate, stands_in_table machine declared certificate i n state entry breach named shown (ap (λ same. if same then Some entry else None) ((bytes_eq-Decides n n).1 refl)) broken)

@@ -1,10 +1,10 @@
 -- What an inferrer of certificates stands on (the profile's own): the faults that are no certificate's, the widest
 -- certificate of a machine, and rules that are broken whatever is certified elsewhere.
 use Rattle.std.specs.Prelude.{◌≡◌, ℕ, List, Bool, true, false, IsTrue, Option, Some, None, is_some, if◌then◌else◌, replicate, slice_get, Contains}
-use Rattle.asl_model.specs.Machine.{State, Kind, settings_of, kind_of}
+use Rattle.asl_model.specs.Machine.{Scope, State, Kind, settings_of, kind_of}
 use Rattle.asl_model.specs.Shape.{Shape, Any}
 use Rattle.asl_model.specs.Certificate.{Declared, StateShapes, Certificate, certified, branches_in, is_map}
-use Rattle.asl_model.specs.Finding.{FindingFault, NotCertified, NotAState, TaskUndeclared, TaskUnknown, StartInput, PathMayBeMissing, WrongKind, ResultMayNotFit, IntrinsicMayFail, NoDefault, PayloadNotTaken, OutputNotCertified, NextInput, ScopeOutput, BranchInput, CatchInput, Breach, Finding, flow_breaches}
+use Rattle.asl_model.specs.Finding.{FindingFault, NotCertified, NotAState, TaskUndeclared, TaskUnknown, StartInput, PathMayBeMissing, WrongKind, ResultMayNotFit, IntrinsicMayFail, NoDefault, PayloadNotTaken, OutputNotCertified, NextInput, ScopeOutput, BranchInput, CatchInput, Breach, Finding, flow_breaches, Stands}
 use Rattle.asl_model.specs.Numbering.{Table}
 
 -- A fault of the machine, or of what is declared. The others are the certificate's own: an entry that isn't there, has
@@ -49,3 +49,7 @@ finding_of n breach = record { state = n; field = breach.field; fault = breach.f
 -- children's start states and of its scope's end
 abbrev pub IsBrokenAnyway : Declared → List ℕ → State → StateShapes → Breach → Type 0
 IsBrokenAnyway declared n state entry breach = (inputs : List ℕ → Option Shape) (end : Option Shape) → Contains (flow_breaches declared inputs end n (settings_of state) (kind_of state) (Some entry)) breach
+
+-- the finding stands for some certificate
+abbrev pub StandsForSome : Scope → Declared → Finding → Type 0
+StandsForSome machine declared finding = (certificate : Certificate) × Stands machine declared certificate finding
