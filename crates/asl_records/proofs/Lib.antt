@@ -8,3 +8,4 @@ pub mod Shapes
 pub mod Stated
 pub mod Telling
 pub mod Versions
+pub mod Writings

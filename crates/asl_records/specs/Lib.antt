@@ -1,3 +1,4 @@
 pub mod Parts
 pub mod Refusal
 pub mod View
+pub mod Writing
