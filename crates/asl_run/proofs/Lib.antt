@@ -25,3 +25,4 @@ pub mod Acted
 pub mod StepsBelow
 pub mod StepsRun
 pub mod StepsHere
+pub mod SomeEnabled

@@ -1,17 +1,12 @@
 -- A step of a child of a Split, as one of the Split.
-use Rattle.std.proofs.Common.{◌≡◌, ◌<◌, ◌≤◌, ◌-◌, length, get_or, take, drop, arith, refl, sym, ap, ◌∙◌, subst, ℕ, zero, suc, List, [], ◌∷◌, map, Option, Some, None, option_map, option_and_then, Result, Ok, Err, IfOk, IfErr, Vec, Global, slice_set}
+use Rattle.std.proofs.Common.{◌≡◌, ◌<◌, ◌≤◌, ◌-◌, length, get_or, take, drop, arith, refl, sym, ap, ◌∙◌, subst, ℕ, zero, suc, List, [], ◌∷◌, Option, Some, None, option_map, Result, Ok, Err, Vec, Global, slice_set}
 use Rattle.std.proofs.lemmas.List.{take_all}
-use Rattle.std.specs.Option.{IsSome}
-use Rattle.asl_machine.specs.Table.{Shows}
 use Rattle.asl_machine.specs.declared.machine.Machine.{Machine}
 use Rattle.asl_model.specs.Machine.{Scope}
-use Rattle.asl_model.specs.Numbering.{IsScopeOf}
-use Rattle.asl_model.specs.Run as model
-use Rattle.asl_model.specs.Run.{Activity, Ready, Waiting, Split, Done, Failed, Activities, NoActivities, AndActivity, Action, Step, child_at, set_child, within, scope_below, step_at, activity_at}
+use Rattle.asl_model.specs.Run.{Activity, Split, Activities, NoActivities, AndActivity, Action, Step, child_at, set_child, within, scope_below, step_at, activity_at}
 use Rattle.asl_model.specs.Tree.{Tree}
 use Rattle.asl_model.proofs.RunOptions.{some_inj, none_some}
-use Rattle.asl_run.specs.Standing.{StandsIn}
-use Rattle.asl_run.specs.Stepping.{IsStep, RefusedSo, StepsIn, Steps, StepsAt, StepsInChild, names_for, action_of}
+use Rattle.asl_run.specs.Stepping.{RefusedSo, StepsIn, Steps, StepsAt, StepsInChild, names_for, action_of}
 use Rattle.asl_run.specs.declared.entries.Entry.{Entry}
 use Rattle.asl_run.specs.declared.stepping.StepRefusal.{StepRefusal}
 use Rattle.asl_run.specs.declared.stepping.StepRefusal.TheVariants.{NoSuchPlace, NotEnabled, OutOfMemory}

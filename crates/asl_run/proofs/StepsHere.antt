@@ -1,6 +1,6 @@
 -- The step of an activity itself, from what is planned there.
 use Rattle.std.proofs.Common.{◌≡◌, ◌≢◌, ◌↔◌, Bool, true, false, Bor, IsTrue, is_some, not, option_map, refl, sym, ap, ◌∙◌, subst, ℕ, List, [], map, slice_get, IfSome, Option, Some, None, option_and_then, Result, Ok, Err, IfOk, Vec, Global}
-use Rattle.std.specs.Option.{IsSome, unwrap_or}
+use Rattle.std.specs.Option.{unwrap_or}
 use Rattle.asl_machine.specs.Table.{Shows, table_view}
 use Rattle.asl_machine.specs.declared.machine.Machine.{Machine}
 use Rattle.asl_model.specs.Machine.{Scope, State, state_named}
@@ -8,13 +8,13 @@ use Rattle.asl_model.specs.Numbering.{HasNamed, IsScopeOf, Table, outline, table
 use Rattle.asl_model.specs.Run as model
 use Rattle.asl_model.proofs.Outlines.{moves_ready_outlined, moves_waiting_outlined, moves_split_outlined}
 use Rattle.asl_model.proofs.RunOptions.{some_inj, none_some}
-use Rattle.asl_run.specs.Acting.{Acts, ActsSo, DoesOne, StandsAt, moves}
+use Rattle.asl_run.specs.Acting.{Acts, ActsSo, StandsAt, moves}
 use Rattle.asl_run.specs.Activities.{activity_step, activity_view}
 use Rattle.asl_run.specs.Changing.{changed, visit_in, visit_step}
 use Rattle.asl_run.specs.Enabling.{wanted_by}
 use Rattle.asl_run.specs.Entries.{answer_view, entry_view}
 use Rattle.asl_run.specs.Standing.{StandsIn, LeadsOn, name_in}
-use Rattle.asl_run.specs.Stepping.{IsStep, StepsIn, StepsAt, names_for, action_of}
+use Rattle.asl_run.specs.Stepping.{StepsAt, names_for, action_of}
 use Rattle.asl_run.specs.declared.activities.Activity.{Activity, out-Activity, map-Activity, fold_out-Activity}
 use Rattle.asl_run.specs.declared.activities.Activity.TheOpen as layers
 use Rattle.asl_run.specs.declared.activities.Activity.TheOpen.{Activity-F}
@@ -26,7 +26,7 @@ use Rattle.asl_run.specs.declared.planning.Plan.{Plan}
 use Rattle.asl_run.specs.declared.stepping.Happening.{Happening}
 use Rattle.asl_run.specs.declared.stepping.StepRefusal.TheVariants.{NotEnabled, OutOfMemory}
 use Rattle.asl_run.proofs.Leading.{IsFound, is_found}
-use Rattle.asl_run.proofs.OpenPlaces.{ActsAsWanted, acts_as_wanted}
+use Rattle.asl_run.proofs.OpenPlaces.{acts_as_wanted}
 
 -- ---- the state's execution that stands there
 

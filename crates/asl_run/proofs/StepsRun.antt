@@ -1,5 +1,5 @@
 -- A step leaves a run of the same machine.
-use Rattle.std.proofs.Common.{◌≡◌, ◌↔◌, refl, sym, ap, subst, ℕ, List, [], ◌∷◌, map, Option, Some, None, option_map, option_and_then, Result, Ok, Err, IfOk, IfErr, Vec, Global}
+use Rattle.std.proofs.Common.{◌≡◌, ◌↔◌, refl, sym, ap, subst, ℕ, List, [], ◌∷◌, map, Option, Some, None, option_map, option_and_then, Result, Ok, Err, Vec, Global}
 use Rattle.std.specs.Option.{IsSome}
 use Rattle.asl_machine.specs.Table.{Shows}
 use Rattle.asl_machine.specs.declared.machine.Machine.{Machine}

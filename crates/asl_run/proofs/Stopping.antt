@@ -10,7 +10,6 @@ use Rattle.asl_run.specs.declared.driving.DriveRefusal.{DriveRefusal}
 use Rattle.asl_run.specs.declared.driving.Pause.TheVariants as pauses
 use Rattle.asl_run.specs.declared.driving.Stop.{Stop}
 use Rattle.asl_run.specs.declared.driving.Stop.TheVariants as stops
-use Rattle.asl_run.specs.declared.entries.Answer.{Answer}
 use Rattle.asl_run.proofs.Driven.{no_turn_more}
 
 ends : (MayBeSilent : List ℕ → Tree → Type 0) (names : List (List ℕ)) (most count : ℕ) (a : Activity) (stop : Stop) → EndsSo (Some stop) (outcome_of a) → StopsSo MayBeSilent names most count a stop
@@ -48,7 +47,7 @@ stopped_unanswered {machine = machine} {here = here} {after = after} {count = co
 
 -- memory is wanted
 pub broken_off_there : {MayGive : List ℕ → Tree → Action → Type 0} {machine : Scope} {before here after : Activity} {count : ℕ} {given between left : List Action} {told : List (List ℕ × Option Entry)} (MayBeSilent : List ℕ → Tree → Type 0) (names : List (List ℕ)) (most : ℕ) (refusal : DriveRefusal)
-    → count ≤ most → Drives MayGive machine before count given told here between → Pauses MayBeSilent names here between left (pauses.OutOfMemory refusal.answer) → IsLeft here told after (map entry_view refusal.trace.items)
+    → count < most → Drives MayGive machine before count given told here between → outcome_of here ≡ None → Pauses MayBeSilent names here between left (pauses.OutOfMemory refusal.answer) → IsLeft here told after (map entry_view refusal.trace.items)
     → BreaksOff MayGive machine before most given refusal after left
-broken_off_there {count = count} MayBeSilent names most refusal within so_far paused still =
-    record { count = count; within = within; drives = no_turn_more so_far still paused }
+broken_off_there {count = count} MayBeSilent names most refusal more so_far going paused still =
+    record { count = count; fewer = more; going = ap outcome_of still.stands ∙ going; drives = no_turn_more so_far still paused }

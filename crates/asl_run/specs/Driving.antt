@@ -79,10 +79,12 @@ abbrev pub unused : Option Answer → List Action
 unused None = []
 unused (Some answer) = answer_view answer ∷ []
 
--- a run is driven by at most so many events, until it is broken off; the answer that comes back was the next one
+-- a run is driven by fewer than so many events, until it is broken off before its end; the answer that comes back was the
+-- next one
 pub record BreaksOff (MayGive : List ℕ → Tree → Action → Type 0) (machine : Scope) (before : Activity) (most : ℕ) (given : List Action) (refusal : DriveRefusal) (after : Activity) (left : List Action) : Type 0 where
   pub count : ℕ
-  pub within : count ≤ most
+  pub fewer : count < most
+  pub going : outcome_of after ≡ None
   pub drives : Drives MayGive machine before count given (map entry_view refusal.trace.items) after (unused refusal.answer ++ left)
 
 -- ---- a turn

@@ -1,11 +1,10 @@
 -- Steps of a run, as the definitions have them.
-use Rattle.std.specs.Prelude.{◌≡◌, ◌↔◌, ℕ, List, ◌∷◌, map, Option, Some, None, Result, Ok, Err, IfOk, IfErr, Vec, option_map}
+use Rattle.std.specs.Prelude.{◌≡◌, ℕ, List, ◌∷◌, map, Option, Some, None, Result, IfOk, IfErr, Vec, option_map}
 use Rattle.std.specs.Option.{IsSome, unwrap_or}
 use Rattle.asl_run.specs.Activities.{activity_view, children_view}
 use Rattle.asl_run.specs.Entries.{answer_view}
 use Rattle.asl_run.specs.declared.activities.Activity.{Activity}
 use Rattle.asl_run.specs.declared.stepping.Happening.{Happening}
-use Rattle.asl_tree.specs.View.{view}
 use Rattle.asl_model.specs.Tree.{Tree}
 use Rattle.std.specs.declared.alloc.Global.{Global}
 use Rattle.asl_machine.specs.Table.{Shows, table_view}

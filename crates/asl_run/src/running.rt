@@ -1,6 +1,6 @@
 //! Runs: a machine with what stands at its places.
 
-ghost use Rattle.std.specs.Prelude.{◌≡◌, ◌↔◌, map, option_map, IfErr, IfOk, IsOk, None};
+ghost use Rattle.std.specs.Prelude.{◌≡◌, ◌≢◌, ◌↔◌, [], map, option_map, IfErr, IfOk, IsOk, None};
 ghost use Rattle.std.specs.Option.{IsSome, unwrap_or};
 ghost use Rattle.asl_machine.specs.Table.{Shows, table_view};
 ghost use Rattle.asl_model.specs.Machine.{Scope, start_of};
@@ -111,9 +111,11 @@ impl<'m> Run<'m> {
         step_at(happening, &mut self.activity, place)
     }
 
-    /// The places where an event is enabled, each with its kind, in lexicographic order, a place before those below it.
+    /// The places where an event is enabled, each with its kind, in lexicographic order, a place before those below it. A
+    /// run that hasn't ended has one.
     pub fn enabled(&self) -> Result<Vec<(Place, Want)>, OutOfMemory>
-        ensures { IfOk result (λ found. (m : Scope) → IsRunOf m self.now → map found_view found.items ≡ model.enabled (run_view self.now) m) }
+        ensures goes_on { IfOk result (λ found. (m : Scope) → IsRunOf m self.now → model.outcome_of (run_view self.now) ≡ None → found.items ≢ []) }
+        ensures exactly { IfOk result (λ found. (m : Scope) → IsRunOf m self.now → map found_view found.items ≡ model.enabled (run_view self.now) m) }
     {
         let mut place = Vec::new(self.alloc);
         let mut found = Vec::new(self.alloc);

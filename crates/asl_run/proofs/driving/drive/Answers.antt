@@ -35,4 +35,4 @@ pub returns-in-Err-OutOfMemory-clause-broken_off : goal.returns-in-Err-OutOfMemo
 returns-in-Err-OutOfMemory-clause-broken_off g c = λ m h.
     let here = c.turns.invariant.run m h in
     let pause = c.in-Err-OutOfMemory in
-    broken_off_there (g.A.Answers.may_be_silent c.turn.new.answers) (table_view c.turns.run.machine.now).names c.args.max_steps (record { trace = c.turn.new.trace; answer = pause.answer }) (omega arith) (c.turns.invariant.drives m h) (rw pause.field-0-is at (pause.ensures.pauses m here)) (pause.ensures.stays m here)
+    broken_off_there (g.A.Answers.may_be_silent c.turn.new.answers) (table_view c.turns.run.machine.now).names c.args.max_steps (record { trace = c.turn.new.trace; answer = pause.answer }) (omega arith) (c.turns.invariant.drives m h) c.in_default.ensures (rw pause.field-0-is at (pause.ensures.pauses m here)) (pause.ensures.stays m here)

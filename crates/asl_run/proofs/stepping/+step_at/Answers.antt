@@ -1,4 +1,4 @@
-use Rattle.std.proofs.Common.{ℕ, List, ◌≡◌, ◌∷◌, ◌-◌, length, get_or, take, drop, Vec, Global, slice_set, refl, subst, rules, arith}
+use Rattle.std.proofs.Common.{ℕ, List, ◌-◌, length, get_or, take, drop, Vec, Global, slice_set, refl, subst, rules, arith}
 use Rattle.asl_run.specs.Stepping.{StepsInChild, names_for}
 use Rattle.asl_run.specs.declared.activities.Activity.{Activity, the_lemmas}
 use Rattle.asl_run.proofs.StepsBelow.{split_steps, child_steps, child_missing, lent_child, past_children, first_number}

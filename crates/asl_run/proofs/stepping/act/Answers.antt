@@ -1,7 +1,6 @@
-use Rattle.std.proofs.Common.{◌≡◌, ◌∙◌, sym, ap, subst, refl, Option, Some, None, Result, Ok, Err, IfOk}
+use Rattle.std.proofs.Common.{◌∙◌, ap, subst, refl, Ok, IfOk}
 use Rattle.asl_run.specs.Acting.{Acts}
 use Rattle.asl_run.specs.Stepping.{action_of}
-use Rattle.asl_run.specs.declared.planning.Plan.{Plan}
 use Rattle.asl_run.proofs.StepsHere.{taken_here, not_here, unwanted_here, no_memory_here, so_unwanted, so_wanted, planned}
 use Rattle.asl_run.proofs.stepping.act.Goals as goal
 
