@@ -9,7 +9,8 @@ use Rattle.asl_shape.specs.declared.shape.Shape.{Shape}
 
 -- ---- elements that are made
 
-listed : (ss : List model.Shape) → shapes_of ss ≡ as_first_elements ss
+-- shapes stand in a list as in the list of the first elements
+pub listed : (ss : List model.Shape) → shapes_of ss ≡ as_first_elements ss
 listed [] = refl
 listed (s ∷ ss) = ap (model.AndShape s) (listed ss)
 

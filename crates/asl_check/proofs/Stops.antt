@@ -4,10 +4,12 @@ use Rattle.std.specs.declared.alloc.Global.{Global}
 use Rattle.std.specs.BTreeMap.{BTreeMap}
 use Rattle.std.specs.Prelude.{IsTrue}
 use Rattle.std.specs.List.{Contains}
+use Rattle.asl_model.specs.Machine.{Settings}
 use Rattle.asl_model.specs.Path.{Segment}
-use Rattle.asl_model.specs.Shape.{Shape, ObjectShape, inhabited}
-use Rattle.asl_model.specs.ShapeFlow.{Flow, flow_then, FlowFault, Doubt, doubt_fault, faults_of, look_at, through_path, template_flow, empty_object, MayBeMissing, MayFail}
-use Rattle.asl_model.specs.Finding.{Breach, PathMayBeMissing, OutputNotCertified, NextInput, breach_of, breaches_then, breach_unless_sub, next_breaches}
+use Rattle.asl_model.specs.Shape.{Shape, Never, ObjectShape, inhabited}
+use Rattle.asl_model.specs.ShapeFlow.{Flow, flow_then, FlowFault, Doubt, doubt_fault, faults_of, look_at, through_path, through_template, template_flow, empty_object, MayBeMissing, MayFail}
+use Rattle.asl_model.specs.Template.{Template}
+use Rattle.asl_model.specs.Finding.{Breach, PathMayBeMissing, OutputNotCertified, NextInput, breach_of, breaches_then, breach_unless_sub, effective_flow, next_breaches}
 use Rattle.asl_flow.specs.Leaving.{stops}
 use Rattle.asl_flow.specs.TemplateAnswer.{IsDoubted, doubt_told}
 use Rattle.asl_flow.specs.declared.templates.TemplateShapeRefusal.{TemplateShapeRefusal}
@@ -23,7 +25,7 @@ use Rattle.asl_check.specs.declared.flowing.Stopped.TheVariants.{Broken, OutOfMe
 use Rattle.asl_check.proofs.Members.{first, given_of}
 
 -- a fault that stops a way stops it with its rule
-stops_with : (flow : Flow) (fault : Option FlowFault) (b : Breach) → stops fault flow → option_map breach_of fault ≡ Some b → StopsWith flow b
+pub stops_with : (flow : Flow) (fault : Option FlowFault) (b : Breach) → stops fault flow → option_map breach_of fault ≡ Some b → StopsWith flow b
 stops_with flow None b h is = absurd (cc)
 stops_with (Ok s) (Some f) b h is = absurd h
 stops_with (Err faults) (Some f) b h is =
@@ -77,6 +79,20 @@ path_found field path s t h e = rw (h, e) refl
 -- a path that may name nothing stops there
 pub path_missing : (field : List ℕ) (path : List Segment) (s : Shape) (at : ℕ) (b : Breach) → IsTrue (inhabited s) → look_at path s ≡ Err at → b ≡ record { field = field; fault = PathMayBeMissing } → StopsWith (through_path field (Some path) s) b
 path_missing field path s at b h e is = rw (h, e, is) (first _ [])
+
+-- ---- a shape that no tree has
+
+no_tree_taken : (path : Option (List Segment)) (s : Shape) → inhabited s ≡ false → through_path (codes "InputPath") path s ≡ Ok Never
+no_tree_taken None s h = rw h refl
+no_tree_taken (Some path) s h = rw h refl
+
+no_tree_made : (template : Option Template) → through_template (codes "Parameters") template Never ≡ Ok Never
+no_tree_made None = refl
+no_tree_made (Some template) = refl
+
+-- gives an effective input that no tree has
+pub no_tree_flows : (settings : Settings) (input : Shape) → inhabited input ≡ false → effective_flow settings input ≡ Ok Never
+no_tree_flows settings input h = ap (flow_then (through_template (codes "Parameters") settings.parameters)) (no_tree_taken settings.input_path input h) ∙ no_tree_made settings.parameters
 
 -- ---- a template
 

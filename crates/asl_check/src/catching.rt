@@ -79,8 +79,8 @@ impl Checker<'_> {
 }
 
 /// The shape of the error output, which catchers place: the error's name and its cause, both texts.
-fn error_output(alloc: Global) -> Result<Shape, OutOfMemory>
-    ensures { IfOk result (λ s. view s ≡ error_output_shape) }
+pub fn error_output(alloc: Global) -> Result<Shape, OutOfMemory>
+    ensures as_defined { IfOk result (λ s. view s ≡ error_output_shape) }
 {
     let mut fields = BTreeMap::new(alloc);
     drop(fields.insert(String::from_str(alloc, "Cause")?, needed_text())?);

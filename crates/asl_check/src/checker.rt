@@ -15,6 +15,7 @@ ghost use Rattle.asl_check.specs.Rules.{entry_rules, flow_rules, found_in_all, f
 ghost use Rattle.asl_check.specs.View.{verdict_view};
 
 use crate::comparing::broken_unless_sub;
+use crate::lookups::row_of;
 use crate::noting::{BrokenRules, breach_unless, note, verdict_on};
 use crate::verdicts::{FindingFault, Verdict};
 use asl_machine::Machine;
@@ -73,7 +74,7 @@ impl Checker<'_> {
         ensures { OnOk result (AreNoted (found_in_all (entry_rules (declared_view self.now.declared.now) (certificate_view self.now.certificate.now)) (table_view self.now.machine.now)) (notes_view notes.old.entries) (notes_view notes.new.entries)) }
     {
         for number in 0..self.machine.states() {
-            if let Some(row) = self.row(number) {
+            if let Some(row) = row_of(self.machine, number) {
                 note(self.alloc, notes, row.name, self.broken_by_entry(&row))?;
             }
         }
@@ -127,7 +128,7 @@ impl Checker<'_> {
         ensures { OnOk result (AreNoted (found_in_all (flow_rules (table_view self.now.machine.now) (declared_view self.now.declared.now) (certificate_view self.now.certificate.now)) (table_view self.now.machine.now)) (notes_view notes.old.entries) (notes_view notes.new.entries)) }
     {
         for number in 0..self.machine.states() {
-            if let Some(row) = self.row(number) {
+            if let Some(row) = row_of(self.machine, number) {
                 note(self.alloc, notes, row.name, self.broken_by_flow(&row)?)?;
             }
         }

@@ -24,7 +24,7 @@ use asl_flow::{FlowFault, TemplateShapeRefusal, find_shape, leave, template_shap
 use asl_machine::{Settings, State};
 use asl_path::RefPath;
 use asl_records::StateShapes;
-use asl_shape::Shape;
+use asl_shape::{Shape, inhabited};
 use asl_template::Template;
 use asl_tree::OutOfMemory;
 use std::alloc::Global;
@@ -32,15 +32,15 @@ use std::collections::BTreeMap;
 
 /// A shape on its way through a state: one that was lent, or one that was made on the way.
 #[derive(Drop)]
-pub(crate) enum Flowing<'s> {
+pub enum Flowing<'s> {
     Lent(&'s Shape),
     Made(Shape),
 }
 
 impl Flowing<'_> {
     /// Lends the shape.
-    pub(crate) fn as_shape(&self) -> &Shape
-        ensures { view result.now ≡ flowing_view self.now }
+    pub fn as_shape(&self) -> &Shape
+        ensures shape { view result.now ≡ flowing_view self.now }
     {
         match self {
             Flowing::Lent(shape) => shape,
@@ -51,7 +51,7 @@ impl Flowing<'_> {
 
 /// Why a shape doesn't come through: a broken rule, or want of memory.
 #[derive(Clone, Copy, Drop)]
-pub(crate) enum Stopped {
+pub enum Stopped {
     Broken(Broken),
     OutOfMemory,
 }
@@ -67,51 +67,6 @@ impl From<OutOfMemory> for Stopped {
 }
 
 impl Checker<'_> {
-    /// The shape of a state's effective input, of which `InputPath` and `Parameters` leave no doubt.
-    pub(crate) fn effective<'s>(
-        &self,
-        settings: &'s Settings,
-        input: &'s Shape,
-    ) -> Result<Flowing<'s>, Stopped>
-        requires inhabited { IsTrue (model.inhabited (view input.now)) }
-        ensures { Flows (effective_flow (settings_view settings.now) (view input.now)) result }
-    {
-        match taken(self.alloc, &settings.input_path, input) {
-            Ok(taken) => self.payload(&settings.parameters, taken),
-            Err(stopped) => Err(stopped),
-        }
-    }
-
-    /// What `Parameters` make of what was taken; without them it goes through.
-    fn payload<'s>(
-        &self,
-        parameters: &Option<Template>,
-        taken: Flowing<'s>,
-    ) -> Result<Flowing<'s>, Stopped>
-        ensures { Flows (flows.through_template (codes "Parameters") (option_map templates.view parameters.now) (flowing_view taken.entry)) result }
-    {
-        match parameters {
-            None => Ok(taken),
-            Some(template) => self.made(template, taken.as_shape(), None, "Parameters"),
-        }
-    }
-
-    /// What the template in that field makes of an input, and of an item where there is one.
-    pub(crate) fn made<'s>(
-        &self,
-        template: &Template,
-        input: &Shape,
-        item: Option<&Shape>,
-        field: &'static str,
-    ) -> Result<Flowing<'s>, Stopped>
-        ensures { Flows (flows.template_flow field.now (flows.template_shape (templates.view template.now) (view input.now) (item_view item.entry))) result }
-    {
-        match template_shape(self.alloc, template, input, item) {
-            Ok(shape) => Ok(Flowing::Made(shape)),
-            Err(refusal) => Err(Stopped::Broken(broken_by_doubt(&refusal, field)?)),
-        }
-    }
-
     /// The first broken rule on a result's way to the output, and on that output.
     pub(crate) fn broken_by_result(
         &self,
@@ -209,6 +164,67 @@ impl Checker<'_> {
     }
 }
 
+/// The shape of a state's effective input, of which `InputPath` and `Parameters` leave no doubt: the doubt that they leave
+/// stops it, with their field. No tree has it where none has the input's shape.
+pub fn effective_shape<'s>(
+    alloc: Global,
+    settings: &'s Settings,
+    input: &'s Shape,
+) -> Result<Flowing<'s>, Stopped>
+    ensures as_defined { Flows (effective_flow (settings_view settings.now) (view input.now)) result }
+{
+    if inhabited(input) {
+        effective(alloc, settings, input)
+    } else {
+        Ok(Flowing::Made(Shape::Never))
+    }
+}
+
+/// The shape of a state's effective input, for an input that some tree has.
+pub(crate) fn effective<'s>(
+    alloc: Global,
+    settings: &'s Settings,
+    input: &'s Shape,
+) -> Result<Flowing<'s>, Stopped>
+    requires inhabited { IsTrue (model.inhabited (view input.now)) }
+    ensures { Flows (effective_flow (settings_view settings.now) (view input.now)) result }
+{
+    match taken(alloc, &settings.input_path, input) {
+        Ok(taken) => payload(alloc, &settings.parameters, taken),
+        Err(stopped) => Err(stopped),
+    }
+}
+
+/// What `Parameters` make of what was taken; without them it goes through.
+fn payload<'s>(
+    alloc: Global,
+    parameters: &Option<Template>,
+    taken: Flowing<'s>,
+) -> Result<Flowing<'s>, Stopped>
+    ensures { Flows (flows.through_template (codes "Parameters") (option_map templates.view parameters.now) (flowing_view taken.entry)) result }
+{
+    match parameters {
+        None => Ok(taken),
+        Some(template) => made(alloc, template, taken.as_shape(), None, "Parameters"),
+    }
+}
+
+/// What the template in that field makes of an input, and of an item where there is one.
+pub(crate) fn made<'s>(
+    alloc: Global,
+    template: &Template,
+    input: &Shape,
+    item: Option<&Shape>,
+    field: &'static str,
+) -> Result<Flowing<'s>, Stopped>
+    ensures { Flows (flows.template_flow field.now (flows.template_shape (templates.view template.now) (view input.now) (item_view item.entry))) result }
+{
+    match template_shape(alloc, template, input, item) {
+        Ok(shape) => Ok(Flowing::Made(shape)),
+        Err(refusal) => Err(Stopped::Broken(broken_by_doubt(&refusal, field)?)),
+    }
+}
+
 /// What `InputPath` takes of an input; where it is null, `{}`.
 fn taken<'s>(
     alloc: Global,
@@ -248,8 +264,8 @@ fn broken_by_doubt(
 }
 
 /// The rule that a fault on the way to a state's output breaks.
-fn broken_by_fault(fault: FlowFault) -> Result<Broken, OutOfMemory>
-    ensures { IfOk result (λ rule. option_map breach_of (fault_view fault) ≡ Some (broken_view rule)) }
+pub fn broken_by_fault(fault: FlowFault) -> Result<Broken, OutOfMemory>
+    ensures told { IfOk result (λ rule. option_map breach_of (fault_view fault) ≡ Some (broken_view rule)) }
 {
     match fault {
         FlowFault::MayBeMissing(field) => Ok(breach(field, FindingFault::PathMayBeMissing)),

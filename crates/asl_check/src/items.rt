@@ -15,9 +15,10 @@ ghost use Rattle.asl_check.specs.Noting.{broken_view};
 ghost use Rattle.asl_check.specs.Rules.{inputs_in};
 
 use crate::checker::Checker;
-use crate::flowing::{Flowing, Stopped};
+use crate::flowing::{Flowing, Stopped, made};
 use crate::noting::{Broken, breach};
 use crate::verdicts::FindingFault;
+use crate::working::look_in;
 use asl_machine::State;
 use asl_path::RefPath;
 use asl_records::StateShapes;
@@ -47,7 +48,7 @@ impl Checker<'_> {
         requires never { view self.now.never.now ≡ model.Never }
         ensures { IfOk result (λ told. Told (finding.with_items (elements_rules (inputs_in (table_view self.now.machine.now) (certificate_view self.now.certificate.now)) (option_map (λ s. view s.now) end.entry) (entry_view entry.now) (settings_view state.now.settings) (kind_view state.now.kind) rules.entry) (look items_path.now (view rules.entry.effective.now))) (option_map broken_view told)) }
     {
-        match self.look_in(rules.effective, items_path) {
+        match look_in(self.never, rules.effective, items_path) {
             Ok(items) => self.broken_by_items(state, entry, end, items, rules),
             Err(_) => Ok(Some(breach("ItemsPath", FindingFault::PathMayBeMissing))),
         }
@@ -96,34 +97,12 @@ impl Checker<'_> {
         ensures { IfOk result (λ told. Told (item_rules (inputs_in (table_view self.now.machine.now) (certificate_view self.now.certificate.now)) rules.entry (finding.element_shape (shapes_view first.now) (view rest.now))) (option_map broken_view told)) }
     {
         let element = element_shape(self.alloc, first, rest)?;
-        match self.item_input(rules, &element) {
+        match item_input(self.alloc, rules.selector, rules.effective, &element) {
             Ok(input) => {
                 Ok(self.broken_by_child("ItemProcessor", rules.processor, input.as_shape()))
             }
             Err(Stopped::Broken(rule)) => Ok(Some(rule)),
             Err(Stopped::OutOfMemory) => Err(OutOfMemory),
-        }
-    }
-
-    /// The shape of the input of a Map's children, for that of all items. For an item that never comes `ItemSelector`
-    /// isn't looked at.
-    fn item_input<'s>(
-        &'s self,
-        rules: ItemRules,
-        element: &'s Shape,
-    ) -> Result<Flowing<'s>, Stopped>
-        requires never { view self.now.never.now ≡ model.Never }
-        ensures { Flows (finding.item_flow (option_map templates.view rules.entry.selector.now) (view rules.entry.effective.now) (view element.now)) result }
-    {
-        match rules.selector {
-            Some(selector) => {
-                if inhabited(element) {
-                    self.made(selector, rules.effective, Some(element), "ItemSelector")
-                } else {
-                    Ok(Flowing::Lent(self.never))
-                }
-            }
-            None => Ok(Flowing::Lent(element)),
         }
     }
 
@@ -149,9 +128,32 @@ impl Checker<'_> {
     }
 }
 
+/// The shape of the input of a Map's children, for the Map's effective input and the shape of all items: what
+/// `ItemSelector`, if any, makes of the two; the doubt that it leaves stops it. For an item that never comes it isn't
+/// looked at.
+pub fn item_input<'s>(
+    alloc: Global,
+    selector: &Option<Template>,
+    effective: &Shape,
+    element: &'s Shape,
+) -> Result<Flowing<'s>, Stopped>
+    ensures as_defined { Flows (finding.item_flow (option_map templates.view selector.now) (view effective.now) (view element.now)) result }
+{
+    match selector {
+        Some(selector) => {
+            if inhabited(element) {
+                made(alloc, selector, effective, Some(element), "ItemSelector")
+            } else {
+                Ok(Flowing::Made(Shape::Never))
+            }
+        }
+        None => Ok(Flowing::Lent(element)),
+    }
+}
+
 /// The shape of all items: the join of those of the first ones in order, and of that of the further ones.
-fn element_shape(alloc: Global, first: &[Shape], rest: &Shape) -> Result<Shape, OutOfMemory>
-    ensures { IfOk result (λ s. view s ≡ finding.element_shape (shapes_view first.now) (view rest.now)) }
+pub fn element_shape(alloc: Global, first: &[Shape], rest: &Shape) -> Result<Shape, OutOfMemory>
+    ensures as_defined { IfOk result (λ s. view s ≡ finding.element_shape (shapes_view first.now) (view rest.now)) }
 {
     let mut element = Shape::Never;
     for shape in first {
@@ -161,13 +163,13 @@ fn element_shape(alloc: Global, first: &[Shape], rest: &Shape) -> Result<Shape, 
 }
 
 /// The shape of the list of the outputs of a Map's children, each of that shape, for the shapes of the items.
-fn outputs_shape(
+pub fn outputs_shape(
     alloc: Global,
     output: &Shape,
     first: &[Shape],
     rest: &Shape,
 ) -> Result<Shape, OutOfMemory>
-    ensures { IfOk result (λ s. view s ≡ finding.map_result (view output.now) (shapes_view first.now) (view rest.now)) }
+    ensures as_defined { IfOk result (λ s. view s ≡ finding.map_result (view output.now) (shapes_view first.now) (view rest.now)) }
 {
     let first = at_each_place(alloc, output, first)?;
     let rest = Box::new(alloc, further_output(alloc, output, rest)?)?;

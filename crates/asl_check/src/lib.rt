@@ -13,5 +13,11 @@ mod states;
 mod verdicts;
 mod working;
 
+pub use catching::error_output;
 pub use checker::check;
+pub use flowing::{Flowing, Stopped, broken_by_fault, effective_shape};
+pub use items::{element_shape, item_input, outputs_shape};
+pub use lookups::{Row, row_of};
+pub use noting::Broken;
 pub use verdicts::{Finding, FindingFault, Verdict};
+pub use working::{broken_by_delay, broken_by_payload, declared_task};

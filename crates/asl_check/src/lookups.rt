@@ -12,28 +12,28 @@ ghost use Rattle.asl_check.specs.Checking.{row_view};
 ghost use Rattle.asl_check.specs.Rules.{end_in, inputs_in, names_task_in, row_at, start_in};
 
 use crate::checker::Checker;
-use asl_machine::{Kind, Scope, State};
+use asl_machine::{Kind, Machine, Scope, State};
 use asl_shape::Shape;
 
 /// A state of the machine: its name, itself, and the scope that it stands in.
 #[derive(Clone, Copy)]
-pub(crate) struct Row<'m> {
-    pub(crate) name: &'m str,
-    pub(crate) state: &'m State,
-    pub(crate) scope: &'m Scope,
+pub struct Row<'m> {
+    pub name: &'m str,
+    pub state: &'m State,
+    pub scope: &'m Scope,
+}
+
+/// The state of that number, with its name and the scope that it stands in.
+pub fn row_of(machine: &Machine, number: usize) -> Option<Row<'_>>
+    ensures row { option_map row_view result ≡ row_at (table_view machine.now) number }
+{
+    let name = machine.name(number)?;
+    let state = machine.state(number)?;
+    let scope = machine.scope_of(number)?;
+    Some(Row { name, state, scope })
 }
 
 impl Checker<'_> {
-    /// The state of that number.
-    pub(crate) fn row(&self, number: usize) -> Option<Row<'_>>
-        ensures { option_map row_view result ≡ row_at (table_view self.now.machine.now) number }
-    {
-        let name = self.machine.name(number)?;
-        let state = self.machine.state(number)?;
-        let scope = self.machine.scope_of(number)?;
-        Some(Row { name, state, scope })
-    }
-
     /// The name of the machine's start state.
     pub(crate) fn start(&self) -> Option<&str>
         ensures { option_map (λ n. n.now) result ≡ start_in (table_view self.now.machine.now) }

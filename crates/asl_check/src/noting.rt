@@ -13,9 +13,9 @@ use std::collections::BTreeMap;
 
 /// A broken rule of a state: the field that it is told at, and what is wrong.
 #[derive(Clone, Copy, Debug)]
-pub(crate) struct Broken {
-    pub(crate) field: &'static str,
-    pub(crate) fault: FindingFault,
+pub struct Broken {
+    pub field: &'static str,
+    pub fault: FindingFault,
 }
 
 /// The first broken rule of each name that has one.

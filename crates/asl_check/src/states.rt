@@ -13,7 +13,7 @@ ghost use Rattle.asl_check.specs.Noting.{broken_view};
 ghost use Rattle.asl_check.specs.Rules.{inputs_in, entry_rules, flow_rules};
 
 use crate::checker::Checker;
-use crate::flowing::Stopped;
+use crate::flowing::{Stopped, effective};
 use crate::lookups::{Row, is_task};
 use crate::noting::{Broken, breach, breach_unless};
 use crate::verdicts::FindingFault;
@@ -81,7 +81,7 @@ impl Checker<'_> {
         requires never { view self.now.never.now ≡ model.Never }
         ensures { IfOk result (λ told. Told (rules.breaches_then (rules.work_breaches (declared_view self.now.declared.now) (inputs_in (table_view self.now.machine.now) (certificate_view self.now.certificate.now)) (option_map (λ s. view s.now) end.entry) name.now (entry_view entry.now) (settings_view state.now.settings) (kind_view state.now.kind)) (rules.effective_flow (settings_view state.now.settings) (view entry.now.input))) (option_map broken_view told)) }
     {
-        match self.effective(&state.settings, &entry.input) {
+        match effective(self.alloc, &state.settings, &entry.input) {
             Ok(input) => self.broken_by_work(name, state, entry, end, input.as_shape()),
             Err(Stopped::Broken(rule)) => Ok(Some(rule)),
             Err(Stopped::OutOfMemory) => Err(OutOfMemory),

@@ -23,7 +23,7 @@ use crate::verdicts::FindingFault;
 use asl_flow::{find_shape, literal_shape};
 use asl_machine::{Delay, Kind, State};
 use asl_path::RefPath;
-use asl_records::{StateShapes, TaskShapes};
+use asl_records::{Declared, StateShapes, TaskShapes};
 use asl_shape::{Shape, copy, inhabited, sub};
 use asl_tree::OutOfMemory;
 use std::alloc::Global;
@@ -43,7 +43,7 @@ impl Checker<'_> {
     {
         match &state.kind {
             Kind::Pass { result: None } => self.broken_by_result(state, entry, end, effective),
-            Kind::Task { resource: _ } => Ok(self.broken_by_payload(name, effective)),
+            Kind::Task { resource: _ } => { Ok(broken_by_payload(self.declared, name, effective)) }
             Kind::Choice { choices, default } => {
                 self.broken_by_choice(state, entry, choices, default, effective)
             }
@@ -105,20 +105,6 @@ impl Checker<'_> {
         }
     }
 
-    /// The broken rule where a payload isn't inside what its task takes; a task that isn't declared takes every tree.
-    fn broken_by_payload(&self, name: &str, payload: &Shape) -> Option<Broken>
-        ensures { Told (finding.breach_unless_sub (codes "Parameters") finding.PayloadNotTaken (view payload.now) (Some (takes_of (declared_view self.now.declared.now) name.now))) (option_map broken_view result) }
-    {
-        match self.declared_task(name) {
-            Some(task) => breach_unless(
-                sub(payload, &task.takes),
-                "Parameters",
-                FindingFault::PayloadNotTaken,
-            ),
-            None => None,
-        }
-    }
-
     /// The first broken rule on what a task gives, which is any tree where it isn't declared.
     fn broken_by_answer(
         &self,
@@ -130,7 +116,7 @@ impl Checker<'_> {
         requires never { view self.now.never.now ≡ model.Never }
         ensures { IfOk result (λ told. Told (finding.result_breaches (inputs_in (table_view self.now.machine.now) (certificate_view self.now.certificate.now)) (option_map (λ s. view s.now) end.entry) (entry_view entry.now) (settings_view state.now.settings) (kind_view state.now.kind) (gives_of (declared_view self.now.declared.now) name.now)) (option_map broken_view told)) }
     {
-        match self.declared_task(name) {
+        match declared_task(self.declared, name) {
             Some(task) => self.broken_by_result(state, entry, end, &task.gives),
             None => self.broken_by_result(state, entry, end, &Shape::Any),
         }
@@ -148,31 +134,9 @@ impl Checker<'_> {
         requires never { view self.now.never.now ≡ model.Never }
         ensures { IfOk result (λ told. Told (finding.delay_breaches (delay_view delay.now) (view effective.now) ++ finding.result_breaches (inputs_in (table_view self.now.machine.now) (certificate_view self.now.certificate.now)) (option_map (λ s. view s.now) end.entry) (entry_view entry.now) (settings_view state.now.settings) (kind_view state.now.kind) (view effective.now)) (option_map broken_view told)) }
     {
-        match self.broken_by_delay(delay, effective) {
+        match broken_by_delay(delay, effective) {
             Some(rule) => Ok(Some(rule)),
             None => self.broken_by_result(state, entry, end, effective),
-        }
-    }
-
-    /// The broken rule where what a Wait's path names isn't known to be there, and of the kind that is wanted.
-    fn broken_by_delay(&self, delay: &Delay, effective: &Shape) -> Option<Broken>
-        requires never { view self.now.never.now ≡ model.Never }
-        ensures { Told (finding.delay_breaches (delay_view delay.now) (view effective.now)) (option_map broken_view result) }
-    {
-        match delay {
-            Delay::SecondsPath(path) => match self.look_in(effective, path) {
-                Ok(named) => breach_unless(is_int(named), "SecondsPath", FindingFault::WrongKind),
-                Err(_) => Some(breach("SecondsPath", FindingFault::PathMayBeMissing)),
-            },
-            Delay::TimestampPath(path) => match self.look_in(effective, path) {
-                Ok(named) => breach_unless(
-                    is_text(named),
-                    "TimestampPath",
-                    FindingFault::WrongKind,
-                ),
-                Err(_) => Some(breach("TimestampPath", FindingFault::PathMayBeMissing)),
-            },
-            Delay::Seconds(_) | Delay::Timestamp(_) => None,
         }
     }
 
@@ -217,28 +181,60 @@ impl Checker<'_> {
         let outputs = list_of(self.alloc, &entry.branches)?;
         self.broken_by_result(state, entry, end, &outputs)
     }
+}
 
-    /// The shapes that are declared of the task of that name.
-    fn declared_task(&self, name: &str) -> Option<&TaskShapes>
-        ensures { option_map (λ task. task_view task.now) result ≡ under name.now (declared_view self.now.declared.now).tasks }
-    {
-        self.declared.tasks.get(name)
+/// The broken rule where a payload isn't inside what its task takes; a task that isn't declared takes every tree.
+pub fn broken_by_payload(declared: &Declared, name: &str, payload: &Shape) -> Option<Broken>
+    ensures told { Told (finding.breach_unless_sub (codes "Parameters") finding.PayloadNotTaken (view payload.now) (Some (takes_of (declared_view declared.now) name.now))) (option_map broken_view result) }
+{
+    match declared_task(declared, name) {
+        Some(task) => breach_unless(
+            sub(payload, &task.takes),
+            "Parameters",
+            FindingFault::PayloadNotTaken,
+        ),
+        None => None,
     }
+}
 
-    /// The shape of what a path names in every tree of a shape, or the number of the segment that may name nothing.
-    pub(crate) fn look_in<'s>(
-        &'s self,
-        shape: &'s Shape,
-        path: &RefPath,
-    ) -> Result<&'s Shape, usize>
-        requires never { view self.now.never.now ≡ model.Never }
-        ensures { lent result ≡ look path.now (view shape.now) }
-    {
-        if inhabited(shape) {
-            find_shape(shape, path)
-        } else {
-            Ok(self.never)
-        }
+/// The shapes that are declared of the task of that name.
+pub fn declared_task<'d>(declared: &'d Declared, name: &str) -> Option<&'d TaskShapes>
+    ensures task { option_map (λ task. task_view task.now) result ≡ under name.now (declared_view declared.now).tasks }
+{
+    declared.tasks.get(name)
+}
+
+/// The broken rule where what a Wait's path names isn't known to be there, and of the kind that is wanted.
+pub fn broken_by_delay(delay: &Delay, effective: &Shape) -> Option<Broken>
+    ensures told { Told (finding.delay_breaches (delay_view delay.now) (view effective.now)) (option_map broken_view result) }
+{
+    let never = &Shape::Never;
+    match delay {
+        Delay::SecondsPath(path) => match look_in(never, effective, path) {
+            Ok(named) => breach_unless(is_int(named), "SecondsPath", FindingFault::WrongKind),
+            Err(_) => Some(breach("SecondsPath", FindingFault::PathMayBeMissing)),
+        },
+        Delay::TimestampPath(path) => match look_in(never, effective, path) {
+            Ok(named) => breach_unless(is_text(named), "TimestampPath", FindingFault::WrongKind),
+            Err(_) => Some(breach("TimestampPath", FindingFault::PathMayBeMissing)),
+        },
+        Delay::Seconds(_) | Delay::Timestamp(_) => None,
+    }
+}
+
+/// The shape of what a path names in every tree of a shape, or the number of the segment that may name nothing.
+pub(crate) fn look_in<'s>(
+    never: &'s Shape,
+    shape: &'s Shape,
+    path: &RefPath,
+) -> Result<&'s Shape, usize>
+    requires never { view never.now ≡ model.Never }
+    ensures { lent result ≡ look path.now (view shape.now) }
+{
+    if inhabited(shape) {
+        find_shape(shape, path)
+    } else {
+        Ok(never)
     }
 }
 

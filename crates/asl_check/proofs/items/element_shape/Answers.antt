@@ -11,4 +11,4 @@ loop-shape-preserved c =
 pub returns : goal.returns
 returns c =
     let l = c.loop-shape in
-    IfOk-weaker c.join-2.result _ _ (λ s h. all_joined c.args.first.now l.shape-index (view l.element) (view s) (view c.args.rest.now) c.loop-shape-test.false l.invariant h) c.join-2.ensures.as_defined
+    record { as_defined = IfOk-weaker c.join-2.result _ _ (λ s h. all_joined c.args.first.now l.shape-index (view l.element) (view s) (view c.args.rest.now) c.loop-shape-test.false l.invariant h) c.join-2.ensures.as_defined }

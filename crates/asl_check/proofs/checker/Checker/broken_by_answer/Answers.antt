@@ -16,11 +16,11 @@ returns-in-Some c =
     let inputs = inputs_in (table_view c.args.self.now.machine.now) (certificate_view c.args.self.now.certificate.now) in
     let end = option_map (λ (s : Bor Shape). view s.now) c.args.end in
     let rules = result_breaches inputs end (entry_view c.args.entry.now) (settings_view c.args.state.now.settings) (kind_view c.args.state.now.kind) in
-    same_answered c.broken_by_result.result _ _ (ap rules (gives_found (declared_view c.args.self.now.declared.now) c.args.name.now (task_view c.in-Some.task.now) c.in-Some.ensures)) c.broken_by_result.ensures
+    same_answered c.broken_by_result.result _ _ (ap rules (gives_found (declared_view c.args.self.now.declared.now) c.args.name.now (task_view c.in-Some.task.now) c.in-Some.ensures.task)) c.broken_by_result.ensures
 
 pub returns-in-None : goal.returns-in-None
 returns-in-None c =
     let inputs = inputs_in (table_view c.args.self.now.machine.now) (certificate_view c.args.self.now.certificate.now) in
     let end = option_map (λ (s : Bor Shape). view s.now) c.args.end in
     let breaches = result_breaches inputs end (entry_view c.args.entry.now) (settings_view c.args.state.now.settings) (kind_view c.args.state.now.kind) in
-    same_answered c.broken_by_result-in-None.result _ _ (ap breaches (view_any ∙ gives_any (declared_view c.args.self.now.declared.now) c.args.name.now c.in-None.ensures)) c.broken_by_result-in-None.ensures
+    same_answered c.broken_by_result-in-None.result _ _ (ap breaches (view_any ∙ gives_any (declared_view c.args.self.now.declared.now) c.args.name.now c.in-None.ensures.task)) c.broken_by_result-in-None.ensures

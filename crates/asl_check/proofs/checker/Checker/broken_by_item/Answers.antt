@@ -16,4 +16,4 @@ returns-in-Ok c =
     let inputs = inputs_in (table_view c.args.self.now.machine.now) (certificate_view c.args.self.now.certificate.now) in
     let rules = child_breaches inputs (codes "ItemProcessor") (ScopeOf c.args.rules.processor.now NoStates) in
     let flow = item_flow (option_map templates.view c.args.rules.selector.now) (view c.args.rules.effective.now) in
-    input_told rules _ (flowing_view c.in-Ok.input) _ (ap flow (sym c.in_ok-element.ensures) ∙ c.in-Ok.ensures.flows) (same_told _ _ _ (ap rules c.as_shape.ensures) c.broken_by_child.ensures)
+    input_told rules _ (flowing_view c.in-Ok.input) _ (ap flow (sym c.in_ok-element.ensures.as_defined) ∙ c.in-Ok.ensures.as_defined.flows) (same_told _ _ _ (ap rules c.as_shape.ensures.shape) c.broken_by_child.ensures)

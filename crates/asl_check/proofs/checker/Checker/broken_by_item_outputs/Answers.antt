@@ -17,4 +17,4 @@ returns-in_ok-outputs-in-Some c =
     let entry = entry_view c.args.entry.now in
     let settings = settings_view c.args.state.now.settings in
     let kind = kind_view c.args.state.now.kind in
-    same_answered c.broken_by_result.result _ _ (ap (result_breaches inputs end entry settings kind) c.in_ok-outputs-in-Some.ensures ∙ ap (λ item. map_breaches inputs end entry settings kind (option_map view item) (shapes_view c.args.first.now, view c.args.rest.now)) (sym c.in-Some.is)) c.broken_by_result.ensures
+    same_answered c.broken_by_result.result _ _ (ap (result_breaches inputs end entry settings kind) c.in_ok-outputs-in-Some.ensures.as_defined ∙ ap (λ item. map_breaches inputs end entry settings kind (option_map view item) (shapes_view c.args.first.now, view c.args.rest.now)) (sym c.in-Some.is)) c.broken_by_result.ensures

@@ -24,7 +24,7 @@ returns-in-Task c =
     let entry = entry_view c.args.entry.now in
     let settings = settings_view c.args.state.now.settings in
     let kind = kind_view c.args.state.now.kind in
-    same_told _ _ _ (task_rules declared inputs end n entry settings kind (string_bytes c.in-Task.resource) (view c.args.effective.now) (ap kind_view c.in-Task.is)) c.broken_by_payload.ensures
+    same_told _ _ _ (task_rules declared inputs end n entry settings kind (string_bytes c.in-Task.resource) (view c.args.effective.now) (ap kind_view c.in-Task.is)) c.broken_by_payload.ensures.told
 
 pub returns-in-Choice : goal.returns-in-Choice
 returns-in-Choice c =

@@ -14,8 +14,8 @@ loop-number-preserved c =
     let table = table_view checker.machine.now in
     let rules = entry_rules (declared_view checker.declared.now) (certificate_view checker.certificate.now) in
     let row = row_at table c.loop-number.number in
-    let noted : AreNoted (found_in rules row) (notes_view c.loop-number.notes.entries) (notes_view c.match-row.notes.entries) = elim c.match-row.branch [
-      | in-Some+in_ok-note w ↦ rw w.notes-is (row_noted rules (row_view w.in-Some.row) row (option_map broken_view w.broken_by_entry.result) _ _ w.in-Some.ensures w.broken_by_entry.ensures w.in_ok-note.ensures)
-      | in_default w ↦ rw w.notes-is (no_row rules row _ w.in_default.ensures)
+    let noted : AreNoted (found_in rules row) (notes_view c.loop-number.notes.entries) (notes_view c.match-row_of.notes.entries) = elim c.match-row_of.branch [
+      | in-Some+in_ok-note w ↦ rw w.notes-is (row_noted rules (row_view w.in-Some.row) row (option_map broken_view w.broken_by_entry.result) _ _ w.in-Some.ensures.row w.broken_by_entry.ensures w.in_ok-note.ensures)
+      | in_default w ↦ rw w.notes-is (no_row rules row _ w.in_default.ensures.row)
     ] in
     left_row (λ i. found_in rules (row_at table i)) (length table.states) c.loop-number.number _ _ _ _ (subst (λ n. c.loop-number.number < n) c.states-number-end.ensures.number c.loop-number-test.true) c.loop-number.invariant noted

@@ -1,5 +1,5 @@
 use Rattle.asl_check.proofs.Stops.{flows_on, flows_stopped}
-use Rattle.asl_check.proofs.checker.Checker.effective.Goals as goal
+use Rattle.asl_check.proofs.flowing.effective.Goals as goal
 
 pub returns-in-Ok : goal.returns-in-Ok
 returns-in-Ok c = flows_on _ _ _ _ c.in-Ok.ensures.flows c.payload.ensures

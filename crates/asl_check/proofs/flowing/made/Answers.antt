@@ -1,6 +1,6 @@
 use Rattle.std.proofs.Common.{ap, Err}
 use Rattle.asl_check.proofs.Stops.{refusal_stops}
-use Rattle.asl_check.proofs.checker.Checker.made.Goals as goal
+use Rattle.asl_check.proofs.flowing.made.Goals as goal
 
 pub returns-in_ok-broken_by_doubt-in-Err : goal.returns-in_ok-broken_by_doubt-in-Err
 returns-in_ok-broken_by_doubt-in-Err c =
