@@ -16,6 +16,5 @@ pub mod TableFindings
 pub mod TableNames
 pub mod TableNoted
 pub mod TableRows
-pub mod TableRules
 pub mod TableScopes
 pub mod Telling

@@ -13,7 +13,7 @@ use Rattle.asl_check.proofs.TableRows.{found_of_each, row_among, found-in-table}
 use Rattle.asl_check.proofs.TableScopes.{found_of_state, of-scope}
 use Rattle.asl_check.proofs.TableNames.{state-named}
 use Rattle.asl_check.proofs.TableEnds.{distinct, ends_in, ends-are, start-is}
-use Rattle.asl_check.proofs.TableRules.{entry-outlined, flow-outlined}
+use Rattle.asl_model.proofs.OutlinedRules.{entry-outlined, flow-outlined}
 
 -- ---- two lists that make up a third
 
