@@ -71,4 +71,5 @@ run_end_view (ends.AnswerShape state) = printed.AnswerShape (string_bytes state)
 -- what a run of the program ends with
 abbrev pub closing_view : Closing → printed.Closing
 closing_view (closing.Verdict v) = printed.ClosingVerdict (verdict_view v)
+closing_view (closing.Run end) = printed.ClosingRun (run_end_view end)
 closing_view (closing.Fault fault) = printed.ClosingFault (run_fault_view fault)

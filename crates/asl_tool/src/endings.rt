@@ -1,6 +1,7 @@
 //! How a run of the program ends.
 
 use crate::refusals::RunFault;
+use crate::runs::RunEnd;
 use asl_check::Verdict;
 
 /// What a run of the program ends with.
@@ -8,6 +9,8 @@ use asl_check::Verdict;
 pub enum Closing {
     /// A verdict was written.
     Verdict(Verdict),
+    /// The trace of a run was written.
+    Run(RunEnd),
     /// Something failed.
     Fault(RunFault),
 }

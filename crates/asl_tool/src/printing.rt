@@ -1,12 +1,13 @@
-//! The lines that a verdict and a fault are told by.
+//! The lines that a verdict, a run and a fault are told by.
 
 ghost use Rattle.std.specs.Prelude.{◌≡◌, ◌++◌, IfOk, string_bytes, codes, decimal};
-ghost use Rattle.asl_model.specs.Printed.{quoted_name, finding_line, finding_lines, verdict_text, verdict_status, place_text, refusal_text, refusal_line, refusal_status, out_of_memory, fault_line, fault_status, closing_line, closing_status};
+ghost use Rattle.asl_model.specs.Printed.{quoted_name, finding_line, finding_lines, verdict_text, verdict_status, place_text, refusal_text, refusal_line, refusal_status, out_of_memory, fault_line, fault_status, closing_line, closing_status, run_line, run_status, AnswerShape};
 ghost use Rattle.asl_check.specs.View.{finding_view, findings_view, verdict_view};
-ghost use Rattle.asl_tool.specs.View.{which_view, tree_refusal_view, def_refusal_view, record_refusal_view, text_fault_view, run_fault_view, closing_view};
+ghost use Rattle.asl_tool.specs.View.{which_view, tree_refusal_view, def_refusal_view, record_refusal_view, text_fault_view, run_fault_view, run_end_view, closing_view};
 
 use crate::endings::Closing;
 use crate::refusals::{RunFault, TextFault, Which};
+use crate::runs::RunEnd;
 use asl_check::{Finding, Verdict};
 use asl_machine::{DefFault, DefRefusal};
 use asl_records::{RecordFault, RecordRefusal};
@@ -54,13 +55,15 @@ fn finding_text(alloc: Global, finding: &Finding) -> Result<String, OutOfMemory>
 
 /// The exit status of the program and the line on standard error, with its break, empty where there is none.
 ///
-/// Status 0 is a yes, 1 a no, 2 a text that is refused or too long, 5 want of memory or a reader or writer that failed.
+/// Status 0 is a yes or a run's output; 1 a no or a failed run; 2 a text that is refused or too long; 3 an input or an
+/// answer that isn't of its shape; 4 a run without answer or steps left; 5 want of memory or a reader or writer that failed.
 pub fn closing(alloc: Global, closing: &Closing) -> Result<(u8, String), OutOfMemory>
     ensures status { IfOk result (λ end. end.0 ≡ closing_status (closing_view closing.now)) }
     ensures line { IfOk result (λ end. string_bytes end.1 ≡ closing_line (closing_view closing.now)) }
 {
     match closing {
         Closing::Verdict(verdict) => Ok((status_of(verdict), String::new(alloc))),
+        Closing::Run(end) => run_closing(alloc, end),
         Closing::Fault(fault) => fault_closing(alloc, fault),
     }
 }
@@ -73,6 +76,32 @@ fn status_of(verdict: &Verdict) -> u8
         Verdict::Yes => 0,
         Verdict::No(_) => 1,
     }
+}
+
+/// The exit status and the line behind a run.
+fn run_closing(alloc: Global, end: &RunEnd) -> Result<(u8, String), OutOfMemory>
+    ensures status { IfOk result (λ closed. closed.0 ≡ run_status (run_end_view end.now)) }
+    ensures line { IfOk result (λ closed. string_bytes closed.1 ≡ run_line (run_end_view end.now)) }
+{
+    match end {
+        RunEnd::Output => Ok((0, String::new(alloc))),
+        RunEnd::Failed => Ok((1, String::new(alloc))),
+        RunEnd::NoAnswer => Ok((4, String::from_str(alloc, "no answer\n")?)),
+        RunEnd::StepsSpent => Ok((4, String::from_str(alloc, "steps spent\n")?)),
+        RunEnd::InputShape => Ok((3, String::from_str(alloc, "input not of its shape\n")?)),
+        RunEnd::AnswerShape(state) => Ok((3, answer_shape_line(alloc, state)?)),
+    }
+}
+
+/// The line for an answer that isn't of the shape declared for the task of that name.
+fn answer_shape_line(alloc: Global, state: &str) -> Result<String, OutOfMemory>
+    ensures { IfOk result (λ text. string_bytes text ≡ run_line (AnswerShape state.now)) }
+{
+    let mut text = String::from_str(alloc, "answer not of its shape ")?;
+    let state = json_text(alloc, state)?;
+    text.push_str(&state)?;
+    text.push_str("\n")?;
+    Ok(text)
 }
 
 /// The exit status and the line of a call that failed.
