@@ -2,8 +2,11 @@ pub mod Failures
 pub mod LineSteps
 pub mod Places
 pub mod Promises
+pub mod RefusedAnswers
 pub mod RefusedTexts
 pub mod Replies
+pub mod RunEnds
+pub mod RunFaults
 pub mod Slices
 pub mod Traces
 pub mod WriteSteps

@@ -1,6 +1,7 @@
 pub mod Answers
 pub mod Chunk
 pub mod Lines
+pub mod Runs
 pub mod Texts
 pub mod Tracing
 pub mod Verifying

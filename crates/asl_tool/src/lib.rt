@@ -2,16 +2,21 @@
 //!
 //! [`verify_texts`] checks a certificate of shapes against a state machine and its declared shapes, all three given as
 //! texts. [`check_lines`] does it for three lines of a [`Source`] and writes the lines of the verdict to a [`Sink`].
-//! [`read_text`] takes a whole source as one text, and [`closing`] says how a program ends that checked texts.
+//! [`run_texts`] runs a state machine on an input, with answers for its tasks, and writes what happened. [`read_text`]
+//! takes a whole source as one text, and [`closing`] says how a program ends that did any of this.
 #![tactic(auto)]
 
 mod answering;
 mod chunks;
+mod declared_answers;
 mod endings;
+mod given;
 mod laws;
 mod lines;
 mod printing;
+mod reading;
 mod refusals;
+mod running;
 mod runs;
 mod sinks;
 mod sources;
@@ -31,6 +36,7 @@ pub use laws::{
 };
 pub use printing::{closing, verdict_text};
 pub use refusals::{RunFault, TextFault, TextRefusal, Which};
+pub use running::run_texts;
 pub use runs::{Pick, RunEnd};
 pub use sinks::{Sink, ToWrite};
 pub use sources::{Failed, FromRead, Source};

@@ -1,5 +1,10 @@
 //! What a run takes its turns by, and what it ends with.
 
+ghost use Rattle.std.specs.Prelude.{◌≡◌, ◌<◌};
+ghost use Rattle.asl_tool.specs.Runs.{place_picked};
+
+use asl_run::Order;
+
 /// Whose turn it is, of the places where an event is enabled.
 #[derive(Clone, Copy, Debug, PartialEq, Eq)]
 pub enum Pick {
@@ -7,6 +12,19 @@ pub enum Pick {
     First,
     /// The last place's.
     Last,
+}
+
+impl Order for Pick {
+    fn pick(&mut self, n: usize) -> usize
+        requires { 0 < n }
+        ensures below { result < n }
+        ensures place { result ≡ place_picked self.old n }
+    {
+        match self {
+            Pick::First => 0,
+            Pick::Last => n - 1,
+        }
+    }
 }
 
 /// What a run ends with.

@@ -2,30 +2,23 @@
 
 ghost use Rattle.std.specs.Prelude.{◌≡◌, IsTrue, IfOk, IfErr, OnOk};
 ghost use Rattle.std.specs.Io.KnownBytes.{Appends};
-ghost use Rattle.serde_json.specs.View.{view as json_view};
-ghost use Rattle.asl_model.specs.Json.{ReadsAsValue};
 ghost use Rattle.asl_model.specs.Printed.{verdict_text};
-ghost use Rattle.asl_model.specs.Texts.{IsNoJson, ReadsAsDeclared, ReadsAsCertificate};
 ghost use Rattle.asl_model.specs.Headline.{AreClosed, NeverFaults, AreRejected, IsVerdictOn, WhereAccepted, WhereRejected};
-ghost use Rattle.asl_records.specs.View.{declared_view, certificate_view};
 ghost use Rattle.asl_check.specs.View.{verdict_view};
 ghost use Rattle.asl_tool.specs.Lines.{NoLineIsLong};
-ghost use Rattle.asl_tool.specs.Verifying.{IsRefused, ReadsInto, RefusesDefinition, RefusesDeclared, RefusesCertificate, OfLines, TellsRefusal, UnreadableStands, record_fault_of};
+ghost use Rattle.asl_tool.specs.Verifying.{IsRefused, OfLines, TellsRefusal};
 ghost use Rattle.asl_tool.specs.View.{which_view, text_fault_view};
 ghost use Rattle.asl_tool.specs.Writing.{CheckFaultStands};
 
 use crate::lines::read_lines;
 use crate::printing::verdict_text;
+use crate::reading::{certificate_text, declared_text, machine_text};
 use crate::refusals::{RunFault, TextFault, TextRefusal, Which};
 use crate::sinks::{Sink, write_all};
 use crate::sources::Source;
 use asl_check::{Verdict, check};
-use asl_machine::{DefFault, Machine};
 use asl_model::run_laws::{closed_runs_never_fault, closed_runs_tell_no_fault};
 use asl_model::shape_laws::no_broken_rule_means_closed;
-use asl_records::{Certificate, Declared, ReadFault, read_certificate, read_declared};
-use asl_tree::TreeRefusal;
-use serde_json::Value;
 use std::alloc::Global;
 
 /// Checks a certificate against a definition and declared shapes, all given as JSON texts.
@@ -127,77 +120,5 @@ pub fn check_lines<R: Source, W: Sink>(
     match write_all(sink, text.as_bytes()) {
         Ok(()) => Ok(verdict),
         Err(_) => Err(RunFault::Write),
-    }
-}
-
-/// The machine that shows the definition which a text stands for.
-fn machine_text(alloc: Global, text: &[u8]) -> Result<Machine, TextFault>
-    ensures machine { IfOk result (λ machine. ReadsInto text.now machine) }
-    ensures refused { IfErr result (λ fault. RefusesDefinition text.now (text_fault_view fault)) }
-{
-    let value = match json_value(alloc, text) {
-        Ok(value) => value,
-        Err(fault) => return Err(fault),
-    };
-    match asl_machine::read(alloc, &value) {
-        Ok(machine) => Ok(machine),
-        Err(refusal) => match refusal.fault {
-            DefFault::OutOfMemory => Err(TextFault::OutOfMemory),
-            _ => Err(TextFault::Def(refusal)),
-        },
-    }
-}
-
-/// The declared shapes that a text stands for.
-fn declared_text(alloc: Global, text: &[u8]) -> Result<Declared, TextFault>
-    ensures declared { IfOk result (λ declared. ReadsAsDeclared text.now (declared_view declared)) }
-    ensures refused { IfErr result (λ fault. RefusesDeclared text.now (text_fault_view fault)) }
-{
-    let value = match json_value(alloc, text) {
-        Ok(value) => value,
-        Err(fault) => return Err(fault),
-    };
-    match read_declared(alloc, value) {
-        Ok(declared) => Ok(declared),
-        Err(fault) => Err(record_fault(fault)),
-    }
-}
-
-/// The certificate that a text stands for.
-fn certificate_text(alloc: Global, text: &[u8]) -> Result<Certificate, TextFault>
-    ensures certificate { IfOk result (λ certificate. ReadsAsCertificate text.now (certificate_view certificate)) }
-    ensures refused { IfErr result (λ fault. RefusesCertificate text.now (text_fault_view fault)) }
-{
-    let value = match json_value(alloc, text) {
-        Ok(value) => value,
-        Err(fault) => return Err(fault),
-    };
-    match read_certificate(alloc, value) {
-        Ok(certificate) => Ok(certificate),
-        Err(fault) => Err(record_fault(fault)),
-    }
-}
-
-/// The JSON value that a text reads as.
-fn json_value(alloc: Global, text: &[u8]) -> Result<Value, TextFault>
-    ensures value { IfOk result (λ value. ReadsAsValue text.now (json_view value)) }
-    ensures refused { IfErr result (λ fault. UnreadableStands text.now (text_fault_view fault)) }
-{
-    match asl_tree::read_value(alloc, text) {
-        Ok(value) => Ok(value),
-        Err(TreeRefusal::OutOfMemory) => Err(TextFault::OutOfMemory),
-        Err(TreeRefusal::NotJson) => Err(TextFault::Tree(TreeRefusal::NotJson)),
-        Err(TreeRefusal::NotWhole) => Err(TextFault::Tree(TreeRefusal::NotWhole)),
-    }
-}
-
-/// What is wrong with a text that isn't the record it should be.
-fn record_fault(fault: ReadFault) -> TextFault
-    ensures { text_fault_view result ≡ record_fault_of fault }
-{
-    match fault {
-        ReadFault::NotWhole => TextFault::Tree(TreeRefusal::NotWhole),
-        ReadFault::Record(refusal) => TextFault::Record(refusal),
-        ReadFault::OutOfMemory => TextFault::OutOfMemory,
     }
 }

@@ -4,7 +4,7 @@ use Rattle.asl_machine.specs.View.{refusal_view}
 use Rattle.asl_tool.specs.View.{text_fault_view}
 use Rattle.asl_tool.specs.Verifying.{definition_no_memory}
 use Rattle.asl_tool.proofs.RefusedTexts.{unread-definition, refused-definition}
-use Rattle.asl_tool.proofs.verifying.machine_text.Goals as goal
+use Rattle.asl_tool.proofs.reading.machine_text.Goals as goal
 
 pub returns-in-Err-clause-refused : goal.returns-in-Err-clause-refused
 returns-in-Err-clause-refused c = unread-definition c.args.text.now (text_fault_view c.in-Err.fault) c.in-Err.ensures.refused

@@ -4,7 +4,7 @@ use Rattle.asl_model.specs.Texts.{TextFault}
 use Rattle.asl_tool.specs.View.{text_fault_view}
 use Rattle.asl_tool.specs.Verifying.{RefusesDeclared}
 use Rattle.asl_tool.proofs.RefusedTexts.{unread-declared, refused-declared}
-use Rattle.asl_tool.proofs.verifying.declared_text.Goals as goal
+use Rattle.asl_tool.proofs.reading.declared_text.Goals as goal
 
 pub returns-in-Err-clause-refused : goal.returns-in-Err-clause-refused
 returns-in-Err-clause-refused c = unread-declared c.args.text.now (text_fault_view c.in-Err.fault) c.in-Err.ensures.refused

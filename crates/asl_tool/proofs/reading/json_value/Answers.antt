@@ -1,6 +1,6 @@
 use Rattle.std.proofs.Common.{◌∙◌, ap, Err}
 use Rattle.asl_tool.specs.Verifying.{no_json, unread}
-use Rattle.asl_tool.proofs.verifying.json_value.Goals as goal
+use Rattle.asl_tool.proofs.reading.json_value.Goals as goal
 
 pub returns-in-Err-OutOfMemory-clause-refused : goal.returns-in-Err-OutOfMemory-clause-refused
 returns-in-Err-OutOfMemory-clause-refused c = unread

@@ -4,7 +4,7 @@ use Rattle.asl_model.specs.Texts.{TextFault}
 use Rattle.asl_tool.specs.View.{text_fault_view}
 use Rattle.asl_tool.specs.Verifying.{RefusesCertificate}
 use Rattle.asl_tool.proofs.RefusedTexts.{unread-certificate, refused-certificate}
-use Rattle.asl_tool.proofs.verifying.certificate_text.Goals as goal
+use Rattle.asl_tool.proofs.reading.certificate_text.Goals as goal
 
 pub returns-in-Err-clause-refused : goal.returns-in-Err-clause-refused
 returns-in-Err-clause-refused c = unread-certificate c.args.text.now (text_fault_view c.in-Err.fault) c.in-Err.ensures.refused

@@ -1,0 +1,97 @@
+//! Answers from a list, each of which has to be of the shape that is declared for it.
+
+ghost use Rattle.std.specs.Prelude.{◌≡◌, false, map, option_map};
+ghost use Rattle.asl_model.specs.Certificate.{gives_of, under};
+ghost use Rattle.asl_model.specs.Shape.{has as has_shape};
+ghost use Rattle.asl_records.specs.View.{declared_view, task_view};
+ghost use Rattle.asl_run.specs.Entries.{answer_view};
+ghost use Rattle.asl_tree.specs.View.{view};
+ghost use Rattle.asl_tool.specs.Runs.{MayGive, shape_given, fits_task, is_spent, next_fits};
+
+use asl_records::{Declared, TaskShapes};
+use asl_run::{Answer, Answers};
+use asl_shape::has;
+use asl_tree::{OutOfMemory, Tree};
+use std::collections::VecDeque;
+
+/// A list of answers, from its front on, and the declared shapes where there are any. It is silent where the next answer
+/// gives what isn't of the shape that the state's task is declared to give: that answer stays.
+#[derive(Drop)]
+pub(crate) struct DeclaredAnswers<'d> {
+    pub(crate) declared: Option<&'d Declared>,
+    pub(crate) list: VecDeque<Answer>,
+}
+
+impl Answers for DeclaredAnswers<'_> {
+    ghost content = { λ s. map answer_view s.list.items };
+
+    ghost may_give = { λ s. MayGive (option_map (λ d. declared_view d.now) s.declared) };
+
+    ghost may_be_silent = { λ s n _. next_fits (option_map (λ d. declared_view d.now) s.declared) n (map answer_view s.list.items) ≡ false };
+
+    /// Never wants memory.
+    fn next(&mut self, state: &str, _payload: &Tree) -> Result<Option<Answer>, OutOfMemory> {
+        if self.next_fits(state) {
+            Ok(self.list.pop_front())
+        } else {
+            Ok(None)
+        }
+    }
+}
+
+impl DeclaredAnswers<'_> {
+    /// Whether no answer is left.
+    pub(crate) fn is_spent(&self) -> bool
+        ensures { result ≡ is_spent (map answer_view self.now.list.items) }
+    {
+        self.list.front().is_none()
+    }
+
+    /// Whether there is a next answer, and the state of that name may be given it.
+    fn next_fits(&self, state: &str) -> bool
+        ensures { result ≡ next_fits (option_map (λ d. declared_view d.now) self.now.declared) state.now (map answer_view self.now.list.items) }
+    {
+        match self.list.front() {
+            Some(answer) => fits_task(self.declared, state, answer),
+            None => false,
+        }
+    }
+}
+
+/// Whether the state of that name may be given the answer: what it gives is of the shape that is declared for the task.
+fn fits_task(declared: Option<&Declared>, state: &str, answer: &Answer) -> bool
+    ensures { result ≡ fits_task (option_map (λ d. declared_view d.now) declared.entry) state.now (answer_view answer.now) }
+{
+    match answer {
+        Answer::Gives(tree) => is_given(declared, state, tree),
+        Answer::Fails { error: _, cause: _ } => true,
+    }
+}
+
+/// Whether the tree is of the shape of what the task of that name gives; where no shapes are declared, that is any.
+fn is_given(declared: Option<&Declared>, state: &str, tree: &Tree) -> bool
+    ensures { result ≡ has_shape (shape_given (option_map (λ d. declared_view d.now) declared.entry) state.now) (view tree.now) }
+{
+    match declared {
+        Some(declared) => is_given_by(declared, state, tree),
+        None => true,
+    }
+}
+
+/// Whether the tree is of the shape of what the task of that name is declared to give; where it isn't declared, that is
+/// any.
+fn is_given_by(declared: &Declared, state: &str, tree: &Tree) -> bool
+    ensures { result ≡ has_shape (gives_of (declared_view declared.now) state.now) (view tree.now) }
+{
+    match declared_task(declared, state) {
+        Some(task) => has(&task.gives, tree),
+        None => true,
+    }
+}
+
+/// The shapes that are declared of the task of that name.
+fn declared_task<'d>(declared: &'d Declared, state: &str) -> Option<&'d TaskShapes>
+    ensures { option_map (λ task. task_view task.now) result ≡ under state.now (declared_view declared.now).tasks }
+{
+    declared.tasks.get(state)
+}

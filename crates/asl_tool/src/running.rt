@@ -1,0 +1,147 @@
+//! From the texts of a run to its trace.
+
+ghost use Rattle.std.specs.Prelude.{◌≡◌, ℕ, List, map, option_map, IsTrue, IfOk, IfErr, string_bytes};
+ghost use Rattle.asl_machine.specs.Table.{Shows, table_view};
+ghost use Rattle.asl_model.specs.Machine.{Scope};
+ghost use Rattle.asl_records.specs.View.{declared_view};
+ghost use Rattle.asl_run.specs.Entries.{answer_view};
+ghost use Rattle.asl_tree.specs.View.{view};
+ghost use Rattle.asl_tool.specs.Runs.{IsRun, RunsTo, RunFaultStands, WritesRun, end_at, fits_input};
+ghost use Rattle.asl_tool.specs.View.{run_end_view};
+
+use crate::declared_answers::DeclaredAnswers;
+use crate::given::{Given, read_given};
+use crate::refusals::RunFault;
+use crate::runs::{Pick, RunEnd};
+use crate::sinks::{Sink, write_all};
+use crate::sources::Source;
+use crate::tracing::trace_text;
+use asl_machine::Machine;
+use asl_records::Declared;
+use asl_run::{Stop, drive, start};
+use asl_shape::has;
+use asl_tree::{OutOfMemory, Tree};
+use std::alloc::Global;
+
+/// A run that was told.
+#[derive(Drop)]
+struct Told {
+    end: RunEnd,
+    trace: String,
+}
+
+/// Runs the machine of a definition on an input, with the answers that a source has, by at most `max_steps` events, and
+/// writes the lines of the run's trace to the sink.
+///
+/// Where declared shapes are given, the input has to be of its shape, and each answer of that of what its task gives. An
+/// input that isn't ends the run before it begins, and nothing is written; an answer that isn't ends it where it was to
+/// be taken.
+///
+/// The definition, the declared shapes, the input and the answers are read in this order, all before the run. Refused:
+/// Text for the first text that is refused; TooLong for answers of more than 16777216 bytes; Read and Write where the
+/// source or the sink failed; OutOfMemory where a growth was refused. After a failed write a front of a run's lines is
+/// written, after every other fault nothing.
+pub fn run_texts<R: Source, W: Sink>(
+    alloc: Global,
+    definition: &[u8],
+    declared: Option<&[u8]>,
+    input: &[u8],
+    answers: &mut R,
+    out: &mut W,
+    order: Pick,
+    max_steps: u64,
+) -> Result<RunEnd, RunFault>
+    ensures run { IfOk result (λ end. WritesRun definition.now (option_map (λ text. text.now) declared.entry) input.now (R.remaining answers.old) max_steps (W.contents out.old) (W.contents out.new) (run_end_view end)) }
+    ensures fault { IfErr result (λ fault. RunFaultStands definition.now (option_map (λ text. text.now) declared.entry) input.now (R.remaining answers.old) (R.failed answers.new) max_steps (W.contents out.old) (W.contents out.new) (W.failed out.new) fault) }
+    ensures lasting_read { IsTrue (R.failed answers.old) → IsTrue (R.failed answers.new) }
+    ensures lasting_write { IsTrue (W.failed out.old) → IsTrue (W.failed out.new) }
+{
+    let given = match read_given(alloc, definition, declared, input, answers) {
+        Ok(given) => given,
+        Err(fault) => return Err(fault),
+    };
+    let told = match run_given(alloc, given, order, max_steps) {
+        Ok(told) => told,
+        Err(_) => return Err(RunFault::OutOfMemory),
+    };
+    match write_all(out, told.trace.as_bytes()) {
+        Ok(()) => Ok(told.end),
+        Err(_) => Err(RunFault::Write),
+    }
+}
+
+/// The run of what the texts read as; none where the input isn't of its shape.
+fn run_given(alloc: Global, given: Given, order: Pick, max_steps: u64) -> Result<Told, OutOfMemory>
+    ensures { (m : Scope) → Shows given.machine m → IfOk result (λ told. RunsTo (option_map declared_view given.declared) m (view given.input) (map answer_view given.answers.items) max_steps (run_end_view told.end) (string_bytes told.trace)) }
+{
+    let Given {
+        machine,
+        declared,
+        input,
+        answers,
+    } = given;
+    if !fits_input(declared.as_ref(), &input) {
+        return Ok(Told {
+            end: RunEnd::InputShape,
+            trace: String::new(alloc),
+        });
+    }
+    let answers = DeclaredAnswers {
+        declared: declared.as_ref(),
+        list: answers,
+    };
+    run_with(alloc, &machine, input, answers, order, max_steps)
+}
+
+/// Whether the input is of its declared shape, where one is declared.
+fn fits_input(declared: Option<&Declared>, input: &Tree) -> bool
+    ensures { result ≡ fits_input (option_map (λ d. declared_view d.now) declared.entry) (view input.now) }
+{
+    match declared {
+        Some(declared) => has(&declared.input, input),
+        None => true,
+    }
+}
+
+/// The run of a machine on an input, with these answers. The input is of its shape.
+fn run_with(
+    alloc: Global,
+    machine: &Machine,
+    input: Tree,
+    mut answers: DeclaredAnswers<'_>,
+    mut order: Pick,
+    max_steps: u64,
+) -> Result<Told, OutOfMemory>
+    ensures { let shapes = option_map (λ d. declared_view d.now) answers.entry.declared in (m : Scope) → Shows machine.now m → IsTrue (fits_input shapes (view input)) → IfOk result (λ told. IsRun shapes m (view input) (map answer_view answers.entry.list.items) max_steps (run_end_view told.end) (string_bytes told.trace)) }
+{
+    let mut run = match start(alloc, machine, input) {
+        Ok(run) => run,
+        Err(_) => return Err(OutOfMemory),
+    };
+    let (stop, trace) = match drive(&mut run, &mut order, &mut answers, max_steps) {
+        Ok(driven) => driven,
+        Err(_) => return Err(OutOfMemory),
+    };
+    let end = end_of(alloc, machine, stop, answers.is_spent())?;
+    let trace = trace_text(alloc, &trace)?;
+    Ok(Told { end, trace })
+}
+
+/// What a run ends with that was driven until it stopped so. Where a task has no answer though one is left, that one
+/// isn't of its shape.
+fn end_of(alloc: Global, machine: &Machine, stop: Stop, spent: bool) -> Result<RunEnd, OutOfMemory>
+    ensures { IfOk result (λ end. run_end_view end ≡ end_at (table_view machine.now).names spent stop) }
+{
+    match stop {
+        Stop::Output => Ok(RunEnd::Output),
+        Stop::Failed => Ok(RunEnd::Failed),
+        Stop::NoAnswer(state) => {
+            if spent {
+                return Ok(RunEnd::NoAnswer);
+            }
+            let name = machine.name(state).unwrap_or("");
+            Ok(RunEnd::AnswerShape(String::from_str(alloc, name)?))
+        }
+        Stop::StepsSpent => Ok(RunEnd::StepsSpent),
+    }
+}
