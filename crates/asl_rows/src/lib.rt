@@ -6,11 +6,17 @@
 #[cfg(test)]
 mod choices;
 #[cfg(test)]
+mod drives;
+#[cfg(test)]
 mod intrinsics;
 #[cfg(test)]
 mod machines;
 #[cfg(test)]
 mod paths;
+#[cfg(test)]
+mod runs;
+#[cfg(test)]
+mod shapes;
 #[cfg(test)]
 mod templates;
 #[cfg(test)]

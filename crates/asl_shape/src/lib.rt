@@ -16,8 +16,6 @@ mod joining;
 mod membership;
 mod reading;
 mod shape;
-#[cfg(test)]
-mod tests;
 mod writing;
 
 use asl_tree::OutOfMemory;

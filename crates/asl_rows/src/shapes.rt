@@ -1,6 +1,6 @@
-// Outside examples: what each spelling reads as, the tests of shapes on a few pairs, and what is copied, written and joined.
-
-use crate::{Shape, ShapeRefusal, copy, has, inhabited, join, read, same, sub, write};
+//! Vectors for shapes: what each spelling reads as, the tests of shapes on a few pairs, and what is copied, written and
+//! joined, each call once with ample memory.
+use asl_shape::{Shape, ShapeRefusal, copy, has, inhabited, join, read, same, sub, write};
 use asl_tree::{Tree, to_text};
 use std::alloc::Global;
 use std::process::Abort;

@@ -1,0 +1,418 @@
+//! Runs step by step: their entries, the places that are enabled then, and how they end, each call once with ample
+//! memory.
+use Happening::{Fails, Gives, Moves};
+use asl_machine::{Machine, read};
+use asl_run::{Answer, Event, Outcome, Run, start};
+use asl_tree::{read_value, to_text};
+use std::alloc::Global;
+use std::process::Abort;
+use std::test::Fail;
+
+/// What happens at a place: a move, or a task's answer, which gives a value or fails with an error and a cause.
+#[derive(Clone, Copy)]
+pub(crate) enum Happening {
+    Moves,
+    Gives(&'static str),
+    Fails(&'static str, &'static str),
+}
+
+/// Two tasks beside each other.
+pub(crate) const TWO_TASKS: &str =
+    r#"{"StartAt":"P","States":{"P":{"Type":"Parallel","End":true,"Branches":[
+    {"StartAt":"T0","States":{"T0":{"Type":"Task","Resource":"r","End":true}}},
+    {"StartAt":"T1","States":{"T1":{"Type":"Task","Resource":"r","End":true}}}]}}}"#;
+
+/// A task for each item, which is asked with the item and its number.
+pub(crate) const TASK_FOR_EACH: &str = r#"{"StartAt":"M","States":{"M":{"Type":"Map","End":true,
+    "ItemSelector":{"i.$":"$$.Map.Item.Index","v.$":"$$.Map.Item.Value"},
+    "ItemProcessor":{"StartAt":"Q","States":{"Q":{"Type":"Task","Resource":"r","End":true}}}}}}"#;
+
+/// A task with a retrier for each of two errors, and a catcher.
+pub(crate) const RETRIED: &str =
+    r#"{"StartAt":"T","States":{"T":{"Type":"Task","Resource":"r","End":true,
+    "Retry":[{"ErrorEquals":["A"],"MaxAttempts":1},{"ErrorEquals":["B"],"MaxAttempts":1}],
+    "Catch":[{"ErrorEquals":["States.ALL"],"ResultPath":"$.err","Next":"E"}]},"E":{"Type":"Succeed"}}}"#;
+
+/// The same with a third retrier, for all errors.
+const RETRIED_AT_ALL: &str =
+    r#"{"StartAt":"T","States":{"T":{"Type":"Task","Resource":"r","End":true,
+    "Retry":[{"ErrorEquals":["A"],"MaxAttempts":1},{"ErrorEquals":["B"],"MaxAttempts":1},{"ErrorEquals":["States.ALL"]}],
+    "Catch":[{"ErrorEquals":["States.ALL"],"ResultPath":"$.err","Next":"E"}]},"E":{"Type":"Succeed"}}}"#;
+
+/// A task whose result is dropped.
+pub(crate) const RESULT_DROPPED: &str =
+    r#"{"StartAt":"A","States":{"A":{"Type":"Task","Resource":"r","ResultPath":null,"End":true}}}"#;
+
+/// The machine that the text defines.
+pub(crate) fn machine(alloc: Global, definition: &str) -> Result<Machine, Fail> {
+    Ok(read(alloc, &read_value(alloc, definition.as_bytes())?)?)
+}
+
+/// A run of the machine from the input that the text spells.
+pub(crate) fn started<'m>(
+    alloc: Global,
+    machine: &'m Machine,
+    input: &str,
+) -> Result<Run<'m>, Fail> {
+    Ok(start(alloc, machine, asl_tree::read(alloc, input.as_bytes())?)?)
+}
+
+/// The task's answer; none for a move.
+pub(crate) fn answer(alloc: Global, happening: Happening) -> Result<Option<Answer>, Fail> {
+    match happening {
+        Moves => Ok(None),
+        Gives(value) => Ok(Some(Answer::Gives(asl_tree::read(alloc, value.as_bytes())?))),
+        Fails(error, cause) => Ok(Some(Answer::Fails {
+            error: String::from_str(alloc, error)?,
+            cause: String::from_str(alloc, cause)?,
+        })),
+    }
+}
+
+/// How the run has ended: its output, or its error and cause; nothing while it goes on.
+pub(crate) fn ending(alloc: Global, run: &Run) -> Result<String, Fail> {
+    match run.outcome() {
+        Some(Outcome::Output(output)) => Ok(to_text(alloc, output)?),
+        Some(Outcome::Failed { error, cause }) => Ok(format!(in alloc; "{error} {cause}")?),
+        None => Ok(String::new(alloc)),
+    }
+}
+
+/// The entries of the step, or its refusal, which gives the event back.
+fn stepped(
+    alloc: Global,
+    run: &mut Run,
+    at: &[usize],
+    happening: Happening,
+) -> Result<String, Fail> {
+    let place = at.to_vec(alloc)?;
+    let event = match answer(alloc, happening)? {
+        Some(answer) => Event::Answers(place, answer),
+        None => Event::Move(place),
+    };
+    match run.step(event) {
+        Ok(entries) => Ok(format!(in alloc; "{entries:?}")?),
+        Err(refusal) => Ok(format!(in alloc; "{refusal:?}")?),
+    }
+}
+
+/// A place, what happens there, the entries of this step or its refusal, and the places that are enabled then.
+type Step = (&'static [usize], Happening, &'static str, &'static str);
+
+/// Takes the steps and compares each with what is wanted of it, and then how the run has ended.
+fn compare(
+    rt: &impl Abort,
+    alloc: Global,
+    run: &mut Run,
+    steps: &[Step],
+    wanted: &str,
+) -> Result<(), Fail> {
+    for (at, happening, entries, enabled) in steps {
+        let answer = stepped(alloc, run, at, *happening)?;
+        assert_eq!(rt; answer.as_str(), *entries);
+        let places = run.enabled()?;
+        let places = format!(in alloc; "{places:?}")?;
+        assert_eq!(rt; places.as_str(), *enabled, "after {answer}");
+    }
+    let ending = ending(alloc, run)?;
+    assert_eq!(rt; ending.as_str(), wanted);
+    Ok(())
+}
+
+/// Two tasks are entered.
+const ENTERED: [Step; 3] = [
+    (
+        &[],
+        Moves,
+        r#"[Enter { at: [], state: "P", input: Int(5) }]"#,
+        "[([0], Move), ([1], Move)]",
+    ),
+    (
+        &[0],
+        Moves,
+        r#"[Enter { at: [0], state: "T0", input: Int(5) }, Task { at: [0], state: "T0", payload: Int(5) }]"#,
+        "[([0], Answer), ([1], Move)]",
+    ),
+    (
+        &[1],
+        Moves,
+        r#"[Enter { at: [1], state: "T1", input: Int(5) }, Task { at: [1], state: "T1", payload: Int(5) }]"#,
+        "[([0], Answer), ([1], Answer)]",
+    ),
+];
+
+/// The second is answered first.
+const SECOND_FIRST: [Step; 3] = [
+    (
+        &[1],
+        Gives(r#""a""#),
+        r#"[Leave { at: [1], state: "T1", output: Text("a") }, Ended { at: [1], outcome: Output(Text("a")) }]"#,
+        "[([0], Answer)]",
+    ),
+    (
+        &[0],
+        Gives("1"),
+        r#"[Leave { at: [0], state: "T0", output: Int(1) }, Ended { at: [0], outcome: Output(Int(1)) }]"#,
+        "[([], Move)]",
+    ),
+    (
+        &[],
+        Moves,
+        r#"[Leave { at: [], state: "P", output: List([Int(1), Text("a")]) }, Ended { at: [], outcome: Output(List([Int(1), Text("a")])) }]"#,
+        "[]",
+    ),
+];
+
+/// The first is answered first.
+const FIRST_FIRST: [Step; 3] = [
+    (
+        &[0],
+        Gives("1"),
+        r#"[Leave { at: [0], state: "T0", output: Int(1) }, Ended { at: [0], outcome: Output(Int(1)) }]"#,
+        "[([1], Answer)]",
+    ),
+    (
+        &[1],
+        Gives(r#""a""#),
+        r#"[Leave { at: [1], state: "T1", output: Text("a") }, Ended { at: [1], outcome: Output(Text("a")) }]"#,
+        "[([], Move)]",
+    ),
+    (
+        &[],
+        Moves,
+        r#"[Leave { at: [], state: "P", output: List([Int(1), Text("a")]) }, Ended { at: [], outcome: Output(List([Int(1), Text("a")])) }]"#,
+        "[]",
+    ),
+];
+
+#[test]
+fn branches(rt: HostRuntime) -> Result<(), Fail> {
+    let alloc = rt.alloc();
+    let machine = machine(alloc, TWO_TASKS)?;
+    for second_first in [true, false] {
+        let mut run = started(alloc, &machine, "5")?;
+        compare(&rt, alloc, &mut run, &ENTERED, "")?;
+        if second_first {
+            compare(&rt, alloc, &mut run, &SECOND_FIRST, r#"[1,"a"]"#)?;
+        } else {
+            compare(&rt, alloc, &mut run, &FIRST_FIRST, r#"[1,"a"]"#)?;
+        }
+    }
+    Ok(())
+}
+
+/// A second task that fails; an event that isn't wanted, or has no place, is given back.
+const SECOND_FAILS: [Step; 4] = [
+    (
+        &[1],
+        Moves,
+        "(NotEnabled, Move([1]))",
+        "[([0], Answer), ([1], Answer)]",
+    ),
+    (
+        &[2],
+        Gives("1"),
+        "(NoSuchPlace, Answers([2], Gives(Int(1))))",
+        "[([0], Answer), ([1], Answer)]",
+    ),
+    (
+        &[1],
+        Fails("E", "c"),
+        r#"[TaskFailed { at: [1], state: "T1", error: "E", cause: "c" }, Ended { at: [1], outcome: Failed { error: "E", cause: "c" } }]"#,
+        "[([], Move), ([0], Answer)]",
+    ),
+    (
+        &[],
+        Gives("1"),
+        "(NotEnabled, Answers([], Gives(Int(1))))",
+        "[([], Move), ([0], Answer)]",
+    ),
+];
+
+/// The first is answered all the same.
+const ANSWERED: [Step; 1] = [(
+    &[0],
+    Gives("1"),
+    r#"[Leave { at: [0], state: "T0", output: Int(1) }, Ended { at: [0], outcome: Output(Int(1)) }]"#,
+    "[([], Move)]",
+)];
+
+/// Both are gone.
+const GONE: [Step; 3] = [
+    (
+        &[],
+        Moves,
+        r#"[BranchFailed { at: [], state: "P", child: 1, error: "E", cause: "c" }, Ended { at: [], outcome: Failed { error: "States.BranchFailed", cause: "c" } }]"#,
+        "[]",
+    ),
+    (
+        &[0],
+        Gives("1"),
+        "(NoSuchPlace, Answers([0], Gives(Int(1))))",
+        "[]",
+    ),
+    (&[], Moves, "(NotEnabled, Move([]))", "[]"),
+];
+
+#[test]
+fn failed_branches(rt: HostRuntime) -> Result<(), Fail> {
+    let alloc = rt.alloc();
+    let machine = machine(alloc, TWO_TASKS)?;
+    for answered in [true, false] {
+        let mut run = started(alloc, &machine, "5")?;
+        compare(&rt, alloc, &mut run, &ENTERED, "")?;
+        compare(&rt, alloc, &mut run, &SECOND_FAILS, "")?;
+        if answered {
+            compare(&rt, alloc, &mut run, &ANSWERED, "")?;
+        }
+        compare(&rt, alloc, &mut run, &GONE, "States.BranchFailed c")?;
+    }
+    Ok(())
+}
+
+/// Three items, the last of which is answered first.
+const ITEMS: [Step; 8] = [
+    (
+        &[],
+        Moves,
+        r#"[Enter { at: [], state: "M", input: List([Int(1), Int(2), Int(3)]) }]"#,
+        "[([0], Move), ([1], Move), ([2], Move)]",
+    ),
+    (
+        &[0],
+        Moves,
+        r#"[Enter { at: [0], state: "Q", input: Object({"i": Int(0), "v": Int(1)}) }, Task { at: [0], state: "Q", payload: Object({"i": Int(0), "v": Int(1)}) }]"#,
+        "[([0], Answer), ([1], Move), ([2], Move)]",
+    ),
+    (
+        &[1],
+        Moves,
+        r#"[Enter { at: [1], state: "Q", input: Object({"i": Int(1), "v": Int(2)}) }, Task { at: [1], state: "Q", payload: Object({"i": Int(1), "v": Int(2)}) }]"#,
+        "[([0], Answer), ([1], Answer), ([2], Move)]",
+    ),
+    (
+        &[2],
+        Moves,
+        r#"[Enter { at: [2], state: "Q", input: Object({"i": Int(2), "v": Int(3)}) }, Task { at: [2], state: "Q", payload: Object({"i": Int(2), "v": Int(3)}) }]"#,
+        "[([0], Answer), ([1], Answer), ([2], Answer)]",
+    ),
+    (
+        &[2],
+        Gives(r#""c""#),
+        r#"[Leave { at: [2], state: "Q", output: Text("c") }, Ended { at: [2], outcome: Output(Text("c")) }]"#,
+        "[([0], Answer), ([1], Answer)]",
+    ),
+    (
+        &[0],
+        Gives(r#""a""#),
+        r#"[Leave { at: [0], state: "Q", output: Text("a") }, Ended { at: [0], outcome: Output(Text("a")) }]"#,
+        "[([1], Answer)]",
+    ),
+    (
+        &[1],
+        Gives(r#""b""#),
+        r#"[Leave { at: [1], state: "Q", output: Text("b") }, Ended { at: [1], outcome: Output(Text("b")) }]"#,
+        "[([], Move)]",
+    ),
+    (
+        &[],
+        Moves,
+        r#"[Leave { at: [], state: "M", output: List([Text("a"), Text("b"), Text("c")]) }, Ended { at: [], outcome: Output(List([Text("a"), Text("b"), Text("c")])) }]"#,
+        "[]",
+    ),
+];
+
+#[test]
+fn items(rt: HostRuntime) -> Result<(), Fail> {
+    let alloc = rt.alloc();
+    let machine = machine(alloc, TASK_FOR_EACH)?;
+    let mut run = started(alloc, &machine, "[1,2,3]")?;
+    compare(&rt, alloc, &mut run, &ITEMS, r#"["a","b","c"]"#)
+}
+
+/// Two failures are retried, and the third is caught.
+const FAILURES: [Step; 7] = [
+    (
+        &[],
+        Moves,
+        r#"[Enter { at: [], state: "T", input: Object({}) }, Task { at: [], state: "T", payload: Object({}) }]"#,
+        "[([], Answer)]",
+    ),
+    (
+        &[],
+        Fails("A", "c1"),
+        r#"[TaskFailed { at: [], state: "T", error: "A", cause: "c1" }, Retried { at: [], state: "T", retrier: 0 }]"#,
+        "[([], Move)]",
+    ),
+    (
+        &[],
+        Moves,
+        r#"[Enter { at: [], state: "T", input: Object({}) }, Task { at: [], state: "T", payload: Object({}) }]"#,
+        "[([], Answer)]",
+    ),
+    (
+        &[],
+        Fails("B", "c2"),
+        r#"[TaskFailed { at: [], state: "T", error: "B", cause: "c2" }, Retried { at: [], state: "T", retrier: 1 }]"#,
+        "[([], Move)]",
+    ),
+    (
+        &[],
+        Moves,
+        r#"[Enter { at: [], state: "T", input: Object({}) }, Task { at: [], state: "T", payload: Object({}) }]"#,
+        "[([], Answer)]",
+    ),
+    (
+        &[],
+        Fails("A", "c3"),
+        r#"[TaskFailed { at: [], state: "T", error: "A", cause: "c3" }, Caught { at: [], state: "T", catcher: 0, next: "E" }]"#,
+        "[([], Move)]",
+    ),
+    (
+        &[],
+        Moves,
+        r#"[Enter { at: [], state: "E", input: Object({"err": Object({"Cause": Text("c3"), "Error": Text("A")})}) }, Leave { at: [], state: "E", output: Object({"err": Object({"Cause": Text("c3"), "Error": Text("A")})}) }, Ended { at: [], outcome: Output(Object({"err": Object({"Cause": Text("c3"), "Error": Text("A")})})) }]"#,
+        "[]",
+    ),
+];
+
+#[test]
+fn retries_and_catchers(rt: HostRuntime) -> Result<(), Fail> {
+    let alloc = rt.alloc();
+    for definition in [RETRIED, RETRIED_AT_ALL] {
+        let machine = machine(alloc, definition)?;
+        let mut run = started(alloc, &machine, "{}")?;
+        compare(
+            &rt,
+            alloc,
+            &mut run,
+            &FAILURES,
+            r#"{"err":{"Cause":"c3","Error":"A"}}"#,
+        )?;
+    }
+    Ok(())
+}
+
+/// A task's result is dropped, so that the output is the input.
+const DROPPED: [Step; 2] = [
+    (
+        &[],
+        Moves,
+        r#"[Enter { at: [], state: "A", input: Object({"a": Int(1)}) }, Task { at: [], state: "A", payload: Object({"a": Int(1)}) }]"#,
+        "[([], Answer)]",
+    ),
+    (
+        &[],
+        Gives(r#""x""#),
+        r#"[Leave { at: [], state: "A", output: Object({"a": Int(1)}) }, Ended { at: [], outcome: Output(Object({"a": Int(1)})) }]"#,
+        "[]",
+    ),
+];
+
+#[test]
+fn dropped_results(rt: HostRuntime) -> Result<(), Fail> {
+    let alloc = rt.alloc();
+    let machine = machine(alloc, RESULT_DROPPED)?;
+    let mut run = started(alloc, &machine, r#"{"a":1}"#)?;
+    compare(&rt, alloc, &mut run, &DROPPED, r#"{"a":1}"#)
+}
