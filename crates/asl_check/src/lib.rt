@@ -19,5 +19,6 @@ pub use flowing::{Flowing, Stopped, broken_by_fault, effective_shape};
 pub use items::{element_shape, item_input, outputs_shape};
 pub use lookups::{Row, row_of};
 pub use noting::Broken;
+pub use states::{branches_in, is_map};
 pub use verdicts::{Finding, FindingFault, Verdict};
 pub use working::{broken_by_delay, broken_by_payload, declared_task};

@@ -102,8 +102,8 @@ fn is_certified(kind: &Kind, entry: Option<&StateShapes>) -> bool
 }
 
 /// How many branches a state of that type has.
-fn branches_in(kind: &Kind) -> usize
-    ensures { result ≡ certificates.branches_in (kind_view kind.now) }
+pub fn branches_in(kind: &Kind) -> usize
+    ensures count { result ≡ certificates.branches_in (kind_view kind.now) }
 {
     match kind {
         Kind::Parallel { branches } => branches.len(),
@@ -125,8 +125,8 @@ fn branches_in(kind: &Kind) -> usize
 }
 
 /// Whether a state of that type is a Map.
-fn is_map(kind: &Kind) -> bool
-    ensures { result ≡ certificates.is_map (kind_view kind.now) }
+pub fn is_map(kind: &Kind) -> bool
+    ensures map { result ≡ certificates.is_map (kind_view kind.now) }
 {
     matches!(
         kind,

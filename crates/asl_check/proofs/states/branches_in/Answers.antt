@@ -5,4 +5,4 @@ use Rattle.asl_check.proofs.StateRules.{one_each}
 use Rattle.asl_check.proofs.states.branches_in.Goals as goal
 
 pub returns-in-Parallel : goal.returns-in-Parallel
-returns-in-Parallel c = c.len.ensures ∙ c.in-Parallel.branches.ok.0 ∙ sym (one_each c.in-Parallel.branches.items) ∙ ap (λ kind. branches_in (kind_view kind)) (sym c.in-Parallel.is)
+returns-in-Parallel c = record { count = c.len.ensures ∙ c.in-Parallel.branches.ok.0 ∙ sym (one_each c.in-Parallel.branches.items) ∙ ap (λ kind. branches_in (kind_view kind)) (sym c.in-Parallel.is) }

@@ -1,0 +1,5 @@
+pub mod Cutting
+pub mod Growing
+pub mod Inferring
+pub mod Walking
+pub mod Widest

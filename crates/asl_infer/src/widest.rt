@@ -1,0 +1,79 @@
+// The widest certificate of a machine.
+
+ghost use Rattle.std.specs.Prelude.{◌≡◌, IfOk, OnOk, map, replicate};
+ghost use Rattle.asl_model.specs.Inference.{IsWidest, widest_entry};
+ghost use Rattle.asl_model.specs.Machine as machines;
+ghost use Rattle.asl_model.specs.Numbering.{table_of};
+ghost use Rattle.asl_model.specs.Shape as model;
+ghost use Rattle.asl_machine.specs.Machine.{kind_view};
+ghost use Rattle.asl_machine.specs.Table.{Shows, table_view};
+ghost use Rattle.asl_records.specs.View.{certificate_view, entries_view, entry_view};
+ghost use Rattle.asl_shape.specs.View.{view};
+ghost use Rattle.asl_infer.specs.Widest.{AreWidestTo, AreWidened};
+
+use asl_check::{branches_in, is_map};
+use asl_machine::{Kind, Machine};
+use asl_records::{Certificate, StateShapes};
+use asl_shape::Shape;
+use asl_tree::OutOfMemory;
+use std::alloc::Global;
+use std::collections::BTreeMap;
+
+/// The widest certificate of a machine: Any throughout.
+pub(crate) fn widest_certificate(
+    alloc: Global,
+    machine: &Machine,
+) -> Result<Certificate, OutOfMemory>
+    ensures { IfOk result (λ certificate. (m : machines.Scope) → Shows machine.now m → IsWidest (table_of m) (certificate_view certificate)) }
+{
+    let mut states = BTreeMap::new(alloc);
+    for number in 0..machine.states() {
+        add_entry(alloc, machine, number, &mut states)?;
+    }
+    Ok(Certificate {
+        output: Shape::Any,
+        states,
+    })
+}
+
+/// Adds the widest entry of the state of that number.
+fn add_entry(
+    alloc: Global,
+    machine: &Machine,
+    number: usize,
+    states: &mut BTreeMap<String, StateShapes>,
+) -> Result<(), OutOfMemory>
+    ensures { OnOk result (AreWidened (table_view machine.now) number (entries_view states.old.entries) (entries_view states.new.entries)) }
+{
+    if let Some(name) = machine.name(number) {
+        if let Some(state) = machine.state(number) {
+            let name = String::from_str(alloc, name)?;
+            let entry = widest_shapes(alloc, &state.kind)?;
+            drop(states.insert(name, entry)?);
+        }
+    }
+    Ok(())
+}
+
+/// The widest entry of a state of that type.
+fn widest_shapes(alloc: Global, kind: &Kind) -> Result<StateShapes, OutOfMemory>
+    ensures { IfOk result (λ entry. entry_view entry ≡ widest_entry (kind_view kind.now)) }
+{
+    Ok(StateShapes {
+        input: Shape::Any,
+        output: Shape::Any,
+        branches: any_shapes(alloc, branches_in(kind))?,
+        item: if is_map(kind) { Some(Shape::Any) } else { None },
+    })
+}
+
+/// So many times Any.
+fn any_shapes(alloc: Global, count: usize) -> Result<Vec<Shape>, OutOfMemory>
+    ensures { IfOk result (λ shapes. map view shapes.items ≡ replicate count model.Any) }
+{
+    let mut shapes = Vec::new(alloc);
+    for _ in 0..count {
+        shapes.push(Shape::Any)?;
+    }
+    Ok(shapes)
+}
