@@ -1,27 +1,32 @@
 //! Writing trees as JSON texts (RFC 8259).
-ghost use Rattle.std.specs.Prelude.{◌≡◌, IfOk, string_bytes};
+ghost use Rattle.std.specs.Prelude.{◌≡◌, ◌≤◌, IfOk, Some, string_bytes};
+ghost use Rattle.serde_json.specs.Data.{depth};
+ghost use Rattle.serde_json.specs.Read.{max_depth};
 ghost use Rattle.serde_json.specs.View.{view as json_view, items_view, members_view};
-ghost use Rattle.asl_model.specs.Json.{value_of, items_of, members_for, compact_text};
+ghost use Rattle.asl_model.specs.Json.{ReadsAsTree, tree_of, value_of, items_of, members_for, compact_text};
 ghost use Rattle.asl_tree.specs.View.{view, elements_view, entries_view};
+ghost use Rattle.asl_tree.specs.Whole.{AreWhole, HaveWholeValues};
 
 use crate::{OutOfMemory, Tree};
 use serde_json::{Map, Value};
 use std::alloc::Global;
 use std::collections::BTreeMap;
 
-/// The compact text of `tree`: no space, names in the order of their bytes, escapes as `serde_json` writes them.
-/// Refuses only where an allocation was refused.
+/// The compact text of `tree`: no space, names in the order of their bytes, escapes as `serde_json` writes them. It reads
+/// as the same tree where this doesn't nest deeper than 127 levels. Refuses only where an allocation was refused.
 pub fn to_text(alloc: Global, tree: &Tree) -> Result<String, OutOfMemory>
-    ensures { IfOk result (λ s. string_bytes s ≡ compact_text (view tree.now)) }
+    ensures text { IfOk result (λ s. string_bytes s ≡ compact_text (view tree.now)) }
+    ensures reads_back { IfOk result (λ s. depth (value_of (view tree.now)) ≤ max_depth → ReadsAsTree (string_bytes s) (view tree.now)) }
 {
     let value = to_value(alloc, tree)?;
     Ok(value.to_string(alloc)?)
 }
 
-/// The JSON value that `tree` is. Refuses only where an allocation was refused.
+/// The JSON value that `tree` is; it is read as the same tree. Refuses only where an allocation was refused.
 #[cycle(unbuild)]
 pub fn to_value(alloc: Global, tree: &Tree) -> Result<Value, OutOfMemory>
-    ensures { IfOk result (λ v. json_view v ≡ value_of (view tree.now)) }
+    ensures value { IfOk result (λ v. json_view v ≡ value_of (view tree.now)) }
+    ensures reads_back { IfOk result (λ v. tree_of (json_view v) ≡ Some (view tree.now)) }
 {
     match tree {
         Tree::Null => Ok(Value::Null),
@@ -35,7 +40,8 @@ pub fn to_value(alloc: Global, tree: &Tree) -> Result<Value, OutOfMemory>
 
 #[cycle(unbuild)]
 fn items_for(alloc: Global, elements: &Vec<Tree>) -> Result<Vec<Value>, OutOfMemory>
-    ensures { IfOk result (λ v. items_view v.items ≡ items_of (elements_view elements.now.items)) }
+    ensures items { IfOk result (λ v. items_view v.items ≡ items_of (elements_view elements.now.items)) }
+    ensures whole { IfOk result (λ _. AreWhole elements.now.items) }
 {
     let mut items = Vec::with_capacity(alloc, elements.len())?;
     for element in elements {
@@ -49,7 +55,8 @@ fn members_for(
     alloc: Global,
     fields: &BTreeMap<String, Tree>,
 ) -> Result<Map<String, Value>, OutOfMemory>
-    ensures { IfOk result (λ m. members_view m.entries ≡ members_for (entries_view fields.now.entries)) }
+    ensures members { IfOk result (λ m. members_view m.entries ≡ members_for (entries_view fields.now.entries)) }
+    ensures whole { IfOk result (λ _. HaveWholeValues fields.now.entries) }
 {
     let mut members = Map::new(alloc);
     for (name, field) in fields.iter() {

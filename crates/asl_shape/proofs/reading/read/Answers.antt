@@ -7,16 +7,16 @@ use Rattle.asl_shape.proofs.Trees.{spells_tree, fault_of_tree}
 use Rattle.asl_shape.proofs.reading.read.Goals as goal
 
 pub returns-clause-spelled : goal.returns-clause-spelled
-returns-clause-spelled c = spells_tree (tree_view c.args.tree.now) (value_view c.in_ok-value.value) c.read_spelling.result c.in_ok-value.ensures c.read_spelling.ensures.spelled
+returns-clause-spelled c = spells_tree (tree_view c.args.tree.now) (value_view c.in_ok-value.value) c.read_spelling.result c.in_ok-value.ensures.value c.read_spelling.ensures.spelled
 
 pub returns-clause-not_a_shape : goal.returns-clause-not_a_shape
-returns-clause-not_a_shape c = fault_of_tree (tree_view c.args.tree.now) (value_view c.in_ok-value.value) c.read_spelling.result NotAShape model.NotAShape c.in_ok-value.ensures refl c.read_spelling.ensures.refused
+returns-clause-not_a_shape c = fault_of_tree (tree_view c.args.tree.now) (value_view c.in_ok-value.value) c.read_spelling.result NotAShape model.NotAShape c.in_ok-value.ensures.value refl c.read_spelling.ensures.refused
 
 pub returns-clause-keyword : goal.returns-clause-keyword
-returns-clause-keyword c = fault_of_tree (tree_view c.args.tree.now) (value_view c.in_ok-value.value) c.read_spelling.result Keyword model.Keyword c.in_ok-value.ensures refl c.read_spelling.ensures.refused
+returns-clause-keyword c = fault_of_tree (tree_view c.args.tree.now) (value_view c.in_ok-value.value) c.read_spelling.result Keyword model.Keyword c.in_ok-value.ensures.value refl c.read_spelling.ensures.refused
 
 pub returns-clause-bad_type : goal.returns-clause-bad_type
-returns-clause-bad_type c = fault_of_tree (tree_view c.args.tree.now) (value_view c.in_ok-value.value) c.read_spelling.result BadType model.BadType c.in_ok-value.ensures refl c.read_spelling.ensures.refused
+returns-clause-bad_type c = fault_of_tree (tree_view c.args.tree.now) (value_view c.in_ok-value.value) c.read_spelling.result BadType model.BadType c.in_ok-value.ensures.value refl c.read_spelling.ensures.refused
 
 pub returns-clause-min_items : goal.returns-clause-min_items
-returns-clause-min_items c = fault_of_tree (tree_view c.args.tree.now) (value_view c.in_ok-value.value) c.read_spelling.result MinItems model.MinItems c.in_ok-value.ensures refl c.read_spelling.ensures.refused
+returns-clause-min_items c = fault_of_tree (tree_view c.args.tree.now) (value_view c.in_ok-value.value) c.read_spelling.result MinItems model.MinItems c.in_ok-value.ensures.value refl c.read_spelling.ensures.refused
