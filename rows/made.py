@@ -1,13 +1,17 @@
 """Texts of the tables, in which a part between << and >> is made.
 
-<<TEXT * N>>      TEXT, N times
-<<C to N>>        the character C as often as makes the whole text N bytes long
-<<bytes 00 ff>>   these bytes, in hexadecimal
-<<states N>>      N Pass states S00000, S00001, .., each followed by the next, the last one ending
-<<entries N>>     a certificate's entries for these states, integers going in and out
+<<TEXT * N>>        TEXT, N times
+<<C to N>>          the character C as often as makes the whole text N bytes long
+<<bytes 00 ff>>     these bytes, in hexadecimal
+<<states N>>        N Pass states S00000, S00001, .., each followed by the next, the last one ending
+<<entries N>>       a certificate's entries for these states, integers going in and out
+<<line N of PATH>>  the line of that number, counted from 1, of the file with that path from the top of the repository
 """
 
+import pathlib
 import re
+
+TOP = pathlib.Path(__file__).resolve().parent.parent
 
 
 def made(text):
@@ -52,6 +56,9 @@ def made_part(part):
     if counted:
         make = {"states": states, "entries": entries}[counted[1]]
         return make(int(counted[2])).encode()
+    of_file = re.fullmatch(r"line (\d+) of (.+)", part)
+    if of_file:
+        return (TOP / of_file[2]).read_bytes().split(b"\n")[int(of_file[1]) - 1]
     if part.startswith("bytes "):
         return bytes.fromhex(part[len("bytes "):])
     raise ValueError(f"nothing makes <<{part}>>")

@@ -24,9 +24,10 @@ ROWS = pathlib.Path(__file__).resolve().parent
 TOP = ROWS.parent
 BUILDS = [TOP / "crates/asl/out/asl", TOP / "crates/asl/out/asl.by-rattle"]
 LINES = ["definition", "declared", "certificate"]
-ONCE = [*LINES, "lines", "unended", "after", "words", "input", "output", "memory", "status"]
+TEXTS = [*LINES, "input", "answers"]
+ONCE = [*TEXTS, "lines", "unended", "after", "words", "stdin", "stdout", "memory", "times", "status"]
 MANY = ["word", "prints", "tells"]
-COMMON = [*LINES, "words", "input"]
+COMMON = [*TEXTS, "words", "stdin"]
 SECONDS = 120
 
 
@@ -63,8 +64,8 @@ class Case:
 
     def put_files(self, folder):
         """Puts each text that the case gives into the file of its name, and leaves no file of another case."""
-        for position, key in enumerate(LINES):
-            if position < int(self.given.get("lines", len(LINES))):
+        for key in TEXTS:
+            if key in self.given:
                 (folder / key).write_bytes(made(self.given[key]))
             else:
                 (folder / key).unlink(missing_ok=True)
@@ -74,7 +75,7 @@ class Case:
         if "status" not in self.given:
             raise ValueError(f"{self.place}: the case has no status")
         prints, tells = (b"".join(made(it) + b"\n" for it in self.many[key]) for key in ("prints", "tells"))
-        return int(self.given["status"]), prints, tells
+        return int(self.given["status"]), prints * int(self.given.get("times", 1)), tells
 
 
 def cases_of(table):
@@ -110,7 +111,7 @@ def all_cases():
 
 def opened_input(case, folder):
     """Returns what stands at the program's standard input, or None for a closed one."""
-    kind, _, name = case.given.get("input", "lines").partition(" ")
+    kind, _, name = case.given.get("stdin", "lines").partition(" ")
     if kind == "closed":
         return None
     if kind == "folder":
@@ -123,8 +124,8 @@ def opened_input(case, folder):
     if kind == "pipe":
         return piped(case.text(), int(name))
     if kind != "lines":
-        raise ValueError(f"{case.place}: no input is called '{kind}'")
-    path = folder / "input"
+        raise ValueError(f"{case.place}: no standard input is called '{kind}'")
+    path = folder / "stdin"
     path.write_bytes(case.text())
     return os.open(path, os.O_RDONLY)
 
@@ -148,7 +149,7 @@ def piped(text, step):
 
 def opened_output(case, folder):
     """Returns what stands at the program's standard output, or None for a closed one."""
-    kind = case.given.get("output", "taken")
+    kind = case.given.get("stdout", "taken")
     if kind == "closed":
         return None
     if kind == "full":
@@ -158,8 +159,8 @@ def opened_output(case, folder):
         os.close(reader)
         return writer
     if kind != "taken":
-        raise ValueError(f"{case.place}: no output is called '{kind}'")
-    return os.open(folder / "output", os.O_RDWR | os.O_CREAT | os.O_TRUNC)
+        raise ValueError(f"{case.place}: no standard output is called '{kind}'")
+    return os.open(folder / "stdout", os.O_RDWR | os.O_CREAT | os.O_TRUNC)
 
 
 def answer(case, folder):
@@ -182,8 +183,8 @@ def answer(case, folder):
         for end in ends:
             if end is not None:
                 os.close(end)
-    is_taken = case.given.get("output", "taken") == "taken"
-    prints = (folder / "output").read_bytes() if is_taken else b""
+    is_taken = case.given.get("stdout", "taken") == "taken"
+    prints = (folder / "stdout").read_bytes() if is_taken else b""
     return done.returncode, prints, done.stderr
 
 

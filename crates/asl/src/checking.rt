@@ -2,8 +2,8 @@
 
 use crate::command_line::TextFiles;
 use crate::endings::finish;
+use crate::files::file_text;
 use asl_tool::{Closing, FromRead, RunFault, ToWrite, Verdict};
-use std::fs;
 use std::io::{self, Write};
 use std::rt::Files;
 
@@ -53,15 +53,5 @@ fn verdict_on<R: Files + Print + AllocGlobal>(
     match io::writer(rt).write_all(text.as_bytes()) {
         Ok(()) => Ok(verdict),
         Err(_) => Err(RunFault::Write),
-    }
-}
-
-/// All bytes of a file.
-///
-/// Refused: Read where it can't be opened or read; TooLong; OutOfMemory.
-fn file_text<R: Files + AllocGlobal>(rt: &R, name: &str) -> Result<Vec<u8>, RunFault> {
-    match fs::open(rt, name) {
-        Ok(file) => asl_tool::read_text(rt.alloc(), &mut FromRead::new(file)),
-        Err(_) => Err(RunFault::Read),
     }
 }

@@ -1,7 +1,8 @@
 //! What the command line asks for, read by `clap`.
 
+use asl_tool::Pick;
 use clap::error::ErrorKind;
-use clap::{Arg, ArgMatches, Command, Error};
+use clap::{Arg, ArgMatches, Command, Error, value_parser};
 use std::alloc::{AllocError, Global};
 use std::rt::Env;
 use std::{env, io};
@@ -13,6 +14,8 @@ pub(crate) enum Request<'a> {
     CheckInput,
     /// To check the texts in these files.
     CheckFiles(TextFiles<'a>),
+    /// To run a machine.
+    Run(RunRequest<'a>),
 }
 
 /// The names of the files with the three texts.
@@ -21,6 +24,17 @@ pub(crate) struct TextFiles<'a> {
     pub(crate) definition: &'a str,
     pub(crate) declared: &'a str,
     pub(crate) certificate: &'a str,
+}
+
+/// What is run, by the names of the files with the texts, and how.
+#[derive(Drop)]
+pub(crate) struct RunRequest<'a> {
+    pub(crate) definition: &'a str,
+    pub(crate) declared: Option<&'a str>,
+    pub(crate) input: &'a str,
+    pub(crate) answers: &'a str,
+    pub(crate) order: Pick,
+    pub(crate) max_steps: u64,
 }
 
 /// What stands below the help of the program.
@@ -33,6 +47,19 @@ const DEFINITION: &str = "DEFINITION";
 const DECLARED: &str = "DECLARED";
 
 const CERTIFICATE: &str = "CERTIFICATE";
+
+const INPUT: &str = "INPUT";
+
+const ANSWERS: &str = "ANSWERS";
+
+/// The option with the file of the declared shapes.
+const DECLARED_FILE: &str = "declared";
+
+const ORDER: &str = "order";
+
+const ORDERS: [&str; 2] = ["first", "last"];
+
+const MAX_STEPS: &str = "max-steps";
 
 /// The words of the command line, with the program's own name in front.
 ///
@@ -54,13 +81,31 @@ pub(crate) fn words<R: Env + AllocGlobal>(rt: &R) -> Result<Vec<String>, Error> 
 /// Refused: as clap does, a request for help included; OutOfMemory.
 pub(crate) fn asked<'a>(alloc: Global, words: &'a [String]) -> Result<Request<'a>, Error> {
     let matches = command(alloc)?.try_get_matches_from(words)?;
-    match matches.subcommand_matches("check") {
-        Some(names) => Ok(Request::CheckFiles(TextFiles {
-            definition: file_named(names, DEFINITION),
-            declared: file_named(names, DECLARED),
-            certificate: file_named(names, CERTIFICATE),
-        })),
+    if let Some(given) = matches.subcommand_matches("check") {
+        return Ok(Request::CheckFiles(TextFiles {
+            definition: file_named(given, DEFINITION),
+            declared: file_named(given, DECLARED),
+            certificate: file_named(given, CERTIFICATE),
+        }));
+    }
+    match matches.subcommand_matches("run") {
+        Some(given) => Ok(Request::Run(run_request(given))),
         None => Ok(Request::CheckInput),
+    }
+}
+
+/// What the arguments of the command `run` ask for. Both options have a default, so each has a value.
+fn run_request<'a>(given: &ArgMatches<'a>) -> RunRequest<'a> {
+    RunRequest {
+        definition: file_named(given, DEFINITION),
+        declared: given.get_str(DECLARED_FILE),
+        input: file_named(given, INPUT),
+        answers: file_named(given, ANSWERS),
+        order: match given.get_str(ORDER) {
+            Some("last") => Pick::Last,
+            _ => Pick::First,
+        },
+        max_steps: given.get_one(MAX_STEPS).unwrap_or(0),
     }
 }
 
@@ -71,22 +116,61 @@ fn file_named<'a>(matches: &ArgMatches<'a>, argument: &str) -> &'a str {
 
 /// The command line of the program.
 fn command<'a>(alloc: Global) -> Result<Command<'a>, AllocError> {
-    let check = Command::new(alloc, "check")
-        .about("Check a certificate of shapes and print the verdict")
-        .arg(file(
-            alloc,
-            DEFINITION,
-            "File with the definition of the state machine",
-        ))?
-        .arg(file(alloc, DECLARED, "File with the declared shapes"))?
-        .arg(file(alloc, CERTIFICATE, "File with the certificate"))?;
     Command::new(alloc, "asl")
-        .about("Check the data flow of workflows in Amazon States Language")
+        .about("Check the data flow of workflows in Amazon States Language, and run them")
         .after_help(AFTER_HELP)
-        .subcommand(check)
+        .subcommand(check_command(alloc)?)?
+        .subcommand(run_command(alloc)?)
+}
+
+/// The command `check`.
+fn check_command<'a>(alloc: Global) -> Result<Command<'a>, AllocError> {
+    Command::new(alloc, "check")
+        .about("Check a certificate of shapes and print the verdict")
+        .arg(definition(alloc))?
+        .arg(file(alloc, DECLARED, "File with the declared shapes"))?
+        .arg(file(alloc, CERTIFICATE, "File with the certificate"))
+}
+
+/// The command `run`.
+fn run_command<'a>(alloc: Global) -> Result<Command<'a>, AllocError> {
+    Command::new(alloc, "run")
+        .about("Run a state machine and print its trace")
+        .arg(definition(alloc))?
+        .arg(file(alloc, INPUT, "File with the input"))?
+        .arg(file(alloc, ANSWERS, "File with the answers of the tasks"))?
+        .arg(option(alloc, DECLARED_FILE, "FILE").help(
+            "File with the declared shapes, which the input and the answers must have",
+        ))?
+        .arg(
+            option(alloc, ORDER, "ORDER")
+                .value_parser(ORDERS.as_slice())
+                .default_value("first")
+                .help("Which of several places takes its turn"),
+        )?
+        .arg(
+            option(alloc, MAX_STEPS, "N")
+                .value_parser(value_parser!(u64).range(0..=10000))
+                .default_value("1000")
+                .help("How many events the run may take, at most 10000"),
+        )
+}
+
+/// The file with the definition.
+fn definition<'a>(alloc: Global) -> Arg<'a> {
+    file(
+        alloc,
+        DEFINITION,
+        "File with the definition of the state machine",
+    )
 }
 
 /// A file name that has to be given.
 fn file<'a>(alloc: Global, name: &'a str, help: &'a str) -> Arg<'a> {
     Arg::new(alloc, name).required(true).help(help)
+}
+
+/// An option with a value.
+fn option<'a>(alloc: Global, name: &'a str, value: &'a str) -> Arg<'a> {
+    Arg::new(alloc, name).long(name).value_name(value)
 }

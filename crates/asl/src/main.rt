@@ -1,14 +1,19 @@
-//! The program `asl`: checks a certificate of shapes against a state machine and its declared shapes. It takes the three
-//! texts as lines of standard input or, by the command `check`, from files, and writes the verdict to standard output.
+//! The program `asl`: checks a certificate of shapes against a state machine and its declared shapes, or runs a machine.
+//! For a check it takes the three texts as lines of standard input or, by the command `check`, from files, and writes the
+//! verdict to standard output; by the command `run` it takes a definition, an input and answers from files, and writes
+//! the trace there.
 #![tactic(auto)]
 
 mod checking;
 mod command_line;
 mod endings;
+mod files;
+mod running;
 
 use checking::{check_files, check_input};
 use command_line::{Request, asked, words};
 use endings::refuse;
+use running::run_files;
 use std::process::ExitCode;
 use std::rt::{Env, Files};
 
@@ -25,6 +30,7 @@ fn run<R: Env + Files + Input + Print + Eprint + AllocGlobal>(rt: &R) -> u8 {
     match asked(rt.alloc(), &words) {
         Ok(Request::CheckInput) => check_input(rt),
         Ok(Request::CheckFiles(files)) => check_files(rt, &files),
+        Ok(Request::Run(request)) => run_files(rt, &request),
         Err(error) => refuse(rt, &error),
     }
 }
