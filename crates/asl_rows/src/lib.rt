@@ -8,11 +8,15 @@ mod choices;
 #[cfg(test)]
 mod drives;
 #[cfg(test)]
+mod inferring;
+#[cfg(test)]
 mod intrinsics;
 #[cfg(test)]
 mod machines;
 #[cfg(test)]
 mod paths;
+#[cfg(test)]
+mod records;
 #[cfg(test)]
 mod runs;
 #[cfg(test)]

@@ -1,0 +1,240 @@
+//! Certificates that are inferred, and refusals, each call once with ample memory.
+use asl_infer::{InferRefusal, infer};
+use asl_records::{Certificate, StateShapes, read_certificate, read_declared};
+use asl_shape::{Shape, same};
+use asl_tree::read_value;
+use std::alloc::Global;
+use std::test::Fail;
+
+/// What is inferred of a definition and of what is declared, in so many rounds.
+fn inferred(
+    alloc: Global,
+    definition: &str,
+    declared: &str,
+    rounds: u32,
+) -> Result<Result<Certificate, InferRefusal>, Fail> {
+    let definition = read_value(alloc, definition.as_bytes())?;
+    let declared = read_value(alloc, declared.as_bytes())?;
+    let Ok(machine) = asl_machine::read(alloc, &definition) else {
+        return Ok(Err(InferRefusal::OutOfMemory));
+    };
+    let Ok(declared) = read_declared(alloc, declared) else {
+        return Ok(Err(InferRefusal::OutOfMemory));
+    };
+    Ok(infer(alloc, &machine, &declared, rounds))
+}
+
+/// Whether that certificate is inferred.
+fn infers(
+    alloc: Global,
+    definition: &str,
+    declared: &str,
+    rounds: u32,
+    certificate: &str,
+) -> Result<bool, Fail> {
+    let certificate = read_value(alloc, certificate.as_bytes())?;
+    let Ok(expected) = read_certificate(alloc, certificate) else {
+        return Ok(false);
+    };
+    match inferred(alloc, definition, declared, rounds)? {
+        Ok(certificate) => Ok(are_same(&certificate, &expected)),
+        Err(_) => Ok(false),
+    }
+}
+
+/// What is told where no certificate is inferred.
+fn refusal(alloc: Global, definition: &str, declared: &str, rounds: u32) -> Result<String, Fail> {
+    match inferred(alloc, definition, declared, rounds)? {
+        Ok(_) => Ok(String::from_str(alloc, "a certificate")?),
+        Err(InferRefusal::Finding(finding)) => {
+            let state = finding.state.as_str();
+            let field = finding.field.as_str();
+            let fault = finding.fault.name();
+            Ok(format!(in alloc; "{state} {field} {fault}")?)
+        }
+        Err(InferRefusal::NotSettled) => Ok(String::from_str(alloc, "not settled")?),
+        Err(InferRefusal::OutOfMemory) => Ok(String::from_str(alloc, "out of memory")?),
+    }
+}
+
+/// Whether two certificates have the same shapes.
+fn are_same(first: &Certificate, second: &Certificate) -> bool {
+    if !same(&first.output, &second.output) || first.states.len() != second.states.len() {
+        return false;
+    }
+    for (name, entry) in first.states.iter() {
+        match second.states.get(name) {
+            Some(other) => {
+                if !are_same_entries(entry, other) {
+                    return false;
+                }
+            }
+            None => return false,
+        }
+    }
+    true
+}
+
+/// Whether two entries have the same shapes.
+fn are_same_entries(first: &StateShapes, second: &StateShapes) -> bool {
+    same(&first.input, &second.input)
+        && same(&first.output, &second.output)
+        && are_same_lists(&first.branches, &second.branches)
+        && are_same_items(&first.item, &second.item)
+}
+
+/// Whether two lists have the same shapes.
+fn are_same_lists(first: &[Shape], second: &[Shape]) -> bool {
+    let mut others = second.iter();
+    for shape in first {
+        match others.next() {
+            Some(other) => {
+                if !same(shape, other) {
+                    return false;
+                }
+            }
+            None => return false,
+        }
+    }
+    others.next().is_none()
+}
+
+/// Whether two shapes that may be there are the same.
+fn are_same_items(first: &Option<Shape>, second: &Option<Shape>) -> bool {
+    match first {
+        Some(shape) => match second {
+            Some(other) => same(shape, other),
+            None => false,
+        },
+        None => second.is_none(),
+    }
+}
+
+const PASS: &str = r#"{"StartAt":"A","States":{"A":{"Type":"Pass","End":true}}}"#;
+
+const LOOP: &str =
+    r#"{"StartAt":"A","States":{"A":{"Type":"Pass","Parameters":{"p.$":"$"},"Next":"A"}}}"#;
+
+const STEEP_LOOP: &str =
+    r#"{"StartAt":"A","States":{"A":{"Type":"Pass","Parameters":{"p":{"q.$":"$"}},"Next":"A"}}}"#;
+
+const BRANCHES: &str =
+    r#"{"StartAt":"P","States":{"P":{"Type":"Parallel","Branches":[{"StartAt":"T0","States":{"T0":{"Type":"Task","Resource":"r","End":true}}},{"StartAt":"T1","States":{"T1":{"Type":"Task","Resource":"r","End":true}}}],"End":true}}}"#;
+
+const PAST_BRANCHES: &str =
+    r#"{"StartAt":"P","States":{"P":{"Type":"Parallel","Branches":[{"StartAt":"T0","States":{"T0":{"Type":"Task","Resource":"r","End":true}}},{"StartAt":"T1","States":{"T1":{"Type":"Task","Resource":"r","End":true}}}],"Next":"N"},"N":{"Type":"Pass","InputPath":"$[2]","End":true}}}"#;
+
+const TASKS: &str =
+    r#"{"input":{"type":"integer"},"tasks":{"T0":{"gives":{"type":"integer"}},"T1":{"gives":{"type":"string"}}}}"#;
+
+const MAP: &str =
+    r#"{"StartAt":"M","States":{"M":{"Type":"Map","ItemProcessor":{"StartAt":"B","States":{"B":{"Type":"Pass","End":true}}},"End":true}}}"#;
+
+const INTEGER: &str = r#"{"input":{"type":"integer"},"tasks":{}}"#;
+
+const INTEGERS: &str = r#"{"input":{"type":"array","items":{"type":"integer"}}}"#;
+
+const NO_FIELD: &str = r#"{"input":{"type":"object","additionalProperties":false}}"#;
+
+#[test]
+fn certificates(rt: HostRuntime) -> Result<(), Fail> {
+    let alloc = rt.alloc();
+    let vectors = [
+        (
+            PASS,
+            INTEGER,
+            2,
+            r#"{"version":1,"output":{"type":"integer"},"states":{"A":{"input":{"type":"integer"},"output":{"type":"integer"}}}}"#,
+        ),
+        (
+            LOOP,
+            NO_FIELD,
+            34,
+            r#"{"output":false,"states":{"A":{"input":true,"output":true}},"version":1}"#,
+        ),
+        (
+            BRANCHES,
+            TASKS,
+            3,
+            r#"{"output":{"items":false,"minItems":2,"prefixItems":[{"type":"integer"},{"type":"string"}],"type":"array"},"states":{"P":{"branches":[{"type":"integer"},{"type":"string"}],"input":{"type":"integer"},"output":{"items":false,"minItems":2,"prefixItems":[{"type":"integer"},{"type":"string"}],"type":"array"}},"T0":{"input":{"type":"integer"},"output":{"type":"integer"}},"T1":{"input":{"type":"integer"},"output":{"type":"string"}}},"version":1}"#,
+        ),
+        (
+            MAP,
+            INTEGERS,
+            3,
+            r#"{"output":{"items":{"type":"integer"},"type":"array"},"states":{"B":{"input":{"type":"integer"},"output":{"type":"integer"}},"M":{"input":{"items":{"type":"integer"},"type":"array"},"item":{"type":"integer"},"output":{"items":{"type":"integer"},"type":"array"}}},"version":1}"#,
+        ),
+    ];
+    for (definition, declared, rounds, certificate) in vectors {
+        let is_inferred = infers(alloc, definition, declared, rounds, certificate)?;
+        assert!(rt; is_inferred, "of {definition}");
+    }
+    Ok(())
+}
+
+#[test]
+fn refusals(rt: HostRuntime) -> Result<(), Fail> {
+    let alloc = rt.alloc();
+    let vectors = [
+        (PASS, INTEGER, 1, "not settled"),
+        (PASS, INTEGER, 0, "not settled"),
+        (LOOP, NO_FIELD, 33, "not settled"),
+        (STEEP_LOOP, NO_FIELD, 24, "not settled"),
+        (BRANCHES, TASKS, 2, "not settled"),
+        (MAP, INTEGERS, 2, "not settled"),
+        (MAP, INTEGER, 3, "M ItemsPath WrongKind"),
+        (PAST_BRANCHES, TASKS, 3, "N InputPath PathMayBeMissing"),
+        (BRANCHES, INTEGER, 0, "T0 Resource TaskUndeclared"),
+        (
+            PASS,
+            r#"{"input":true,"tasks":{"A":{"gives":true}}}"#,
+            0,
+            "A tasks TaskUnknown",
+        ),
+        (
+            BRANCHES,
+            r#"{"input":true,"tasks":{"T0":{"takes":{"type":"string"},"gives":true},"T1":{"gives":true}}}"#,
+            3,
+            "T0 Parameters PayloadNotTaken",
+        ),
+    ];
+    for (definition, declared, rounds, wanted) in vectors {
+        let told = refusal(alloc, definition, declared, rounds)?;
+        assert_eq!(rt; told.as_str(), wanted, "of {definition}");
+    }
+    Ok(())
+}
+
+/// The shape `inside`, within so many closed objects with an optional field `p`, in each a closed one with a field `q`.
+fn nested(alloc: Global, pairs: usize, inside: &str) -> Result<String, Fail> {
+    let mut shape = String::from_str(alloc, inside)?;
+    for _ in 0..pairs {
+        let field = required(alloc, "q", &shape)?;
+        shape = format!(in alloc;
+            "{{\"type\":\"object\",\"additionalProperties\":false,\"properties\":{{\"p\":{field}}}}}"
+        )?;
+    }
+    Ok(shape)
+}
+
+/// A closed object with that one field, which has to be there.
+fn required(alloc: Global, name: &str, shape: &str) -> Result<String, Fail> {
+    Ok(format!(in alloc;
+        "{{\"type\":\"object\",\"additionalProperties\":false,\"properties\":{{\"{name}\":{shape}}},\"required\":[\"{name}\"]}}"
+    )?)
+}
+
+#[test]
+fn deep_shapes_are_cut(rt: HostRuntime) -> Result<(), Fail> {
+    let alloc = rt.alloc();
+    let input = nested(alloc, 24, "true")?;
+    let output = nested(alloc, 23, "true")?;
+    let output = required(alloc, "q", &output)?;
+    let output = required(alloc, "p", &output)?;
+    let certificate = format!(in alloc;
+        "{{\"version\":1,\"output\":false,\"states\":{{\"A\":{{\"input\":{input},\"output\":{output}}}}}}}"
+    )?;
+    let is_inferred = infers(alloc, STEEP_LOOP, NO_FIELD, 25, &certificate)?;
+    assert!(rt; is_inferred);
+    Ok(())
+}
