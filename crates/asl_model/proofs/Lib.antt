@@ -81,3 +81,4 @@ pub mod TargetsAmong
 pub mod TemplateGrammar
 pub mod WellNamed
 pub mod WidestFindings
+pub mod WrittenNesting
