@@ -17,8 +17,6 @@ mod references;
 mod replacing;
 mod rules;
 mod templates;
-#[cfg(test)]
-mod tests;
 
 pub use leaving::{FlowFault, leave};
 pub use literals::literal_shape;

@@ -8,6 +8,8 @@ mod choices;
 #[cfg(test)]
 mod drives;
 #[cfg(test)]
+mod flows;
+#[cfg(test)]
 mod inferring;
 #[cfg(test)]
 mod intrinsics;
@@ -23,5 +25,7 @@ mod runs;
 mod shapes;
 #[cfg(test)]
 mod templates;
+#[cfg(test)]
+mod texts;
 #[cfg(test)]
 mod trees;

@@ -20,8 +20,6 @@ mod running;
 mod runs;
 mod sinks;
 mod sources;
-#[cfg(test)]
-mod tests;
 mod texts;
 mod tracing;
 mod verifying;

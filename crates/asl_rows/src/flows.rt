@@ -1,6 +1,7 @@
-//! Outside examples, worked out by hand, and each call once with ample memory.
-use crate::{leave, literal_shape, look, put, rule_shape, template_shape};
+//! Shapes through a state: what paths name, what is put, what templates give and rules let through, and what leaves a
+//! state, each call once with ample memory.
 use asl_choice::{Test, from_tree};
+use asl_flow::{leave, literal_shape, look, put, rule_shape, template_shape};
 use asl_machine::{Kind, Settings, State};
 use asl_path::{RefPath, parse};
 use asl_shape::{Shape, read, write};

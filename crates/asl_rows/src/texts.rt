@@ -1,7 +1,7 @@
-// The library over a source and a sink in memory: what is written, the exit status, the line on standard error.
+//! Texts to texts, over a source and a sink in memory: what is written, the exit status, the line on standard error.
 ghost use Rattle.std.specs.Prelude.{Some, None, false};
 
-use super::*;
+use asl_tool::{Closing, Failed, Sink, Source, check_lines, closing, read_text};
 use std::alloc::Global;
 use std::test::Fail;
 
