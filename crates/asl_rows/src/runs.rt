@@ -27,6 +27,13 @@ pub(crate) const TASK_FOR_EACH: &str = r#"{"StartAt":"M","States":{"M":{"Type":"
     "ItemSelector":{"i.$":"$$.Map.Item.Index","v.$":"$$.Map.Item.Value"},
     "ItemProcessor":{"StartAt":"Q","States":{"Q":{"Type":"Task","Resource":"r","End":true}}}}}}"#;
 
+/// Two branches for each item.
+const BRANCHES_FOR_EACH: &str =
+    r#"{"StartAt":"M","States":{"M":{"Type":"Map","End":true,"ItemProcessor":{"StartAt":"P","States":{
+    "P":{"Type":"Parallel","End":true,"Branches":[
+    {"StartAt":"B0","States":{"B0":{"Type":"Pass","End":true}}},
+    {"StartAt":"B1","States":{"B1":{"Type":"Pass","End":true}}}]}}}}}}"#;
+
 /// A task with a retrier for each of two errors, and a catcher.
 pub(crate) const RETRIED: &str =
     r#"{"StartAt":"T","States":{"T":{"Type":"Task","Resource":"r","End":true,
@@ -328,6 +335,85 @@ fn items(rt: HostRuntime) -> Result<(), Fail> {
     let machine = machine(alloc, TASK_FOR_EACH)?;
     let mut run = started(alloc, &machine, "[1,2,3]")?;
     compare(&rt, alloc, &mut run, &ITEMS, r#"["a","b","c"]"#)
+}
+
+/// Two branches for each of two items, not in the order of their places; the branches of an item that has ended are gone
+/// while those of the other go on.
+const NESTED: [Step; 11] = [
+    (
+        &[],
+        Moves,
+        r#"[Enter { at: [], state: "M", input: List([Int(1), Int(2)]) }]"#,
+        "[([0], Move), ([1], Move)]",
+    ),
+    (
+        &[0],
+        Moves,
+        r#"[Enter { at: [0], state: "P", input: Int(1) }]"#,
+        "[([0, 0], Move), ([0, 1], Move), ([1], Move)]",
+    ),
+    (
+        &[1],
+        Moves,
+        r#"[Enter { at: [1], state: "P", input: Int(2) }]"#,
+        "[([0, 0], Move), ([0, 1], Move), ([1, 0], Move), ([1, 1], Move)]",
+    ),
+    (
+        &[1, 1],
+        Moves,
+        r#"[Enter { at: [1, 1], state: "B1", input: Int(2) }, Leave { at: [1, 1], state: "B1", output: Int(2) }, Ended { at: [1, 1], outcome: Output(Int(2)) }]"#,
+        "[([0, 0], Move), ([0, 1], Move), ([1, 0], Move)]",
+    ),
+    (
+        &[0, 0],
+        Moves,
+        r#"[Enter { at: [0, 0], state: "B0", input: Int(1) }, Leave { at: [0, 0], state: "B0", output: Int(1) }, Ended { at: [0, 0], outcome: Output(Int(1)) }]"#,
+        "[([0, 1], Move), ([1, 0], Move)]",
+    ),
+    (
+        &[1, 0],
+        Moves,
+        r#"[Enter { at: [1, 0], state: "B0", input: Int(2) }, Leave { at: [1, 0], state: "B0", output: Int(2) }, Ended { at: [1, 0], outcome: Output(Int(2)) }]"#,
+        "[([0, 1], Move), ([1], Move)]",
+    ),
+    (
+        &[1],
+        Moves,
+        r#"[Leave { at: [1], state: "P", output: List([Int(2), Int(2)]) }, Ended { at: [1], outcome: Output(List([Int(2), Int(2)])) }]"#,
+        "[([0, 1], Move)]",
+    ),
+    (
+        &[1, 0],
+        Moves,
+        "(NoSuchPlace, Move([1, 0]))",
+        "[([0, 1], Move)]",
+    ),
+    (
+        &[0, 1],
+        Moves,
+        r#"[Enter { at: [0, 1], state: "B1", input: Int(1) }, Leave { at: [0, 1], state: "B1", output: Int(1) }, Ended { at: [0, 1], outcome: Output(Int(1)) }]"#,
+        "[([0], Move)]",
+    ),
+    (
+        &[0],
+        Moves,
+        r#"[Leave { at: [0], state: "P", output: List([Int(1), Int(1)]) }, Ended { at: [0], outcome: Output(List([Int(1), Int(1)])) }]"#,
+        "[([], Move)]",
+    ),
+    (
+        &[],
+        Moves,
+        r#"[Leave { at: [], state: "M", output: List([List([Int(1), Int(1)]), List([Int(2), Int(2)])]) }, Ended { at: [], outcome: Output(List([List([Int(1), Int(1)]), List([Int(2), Int(2)])])) }]"#,
+        "[]",
+    ),
+];
+
+#[test]
+fn nested_children(rt: HostRuntime) -> Result<(), Fail> {
+    let alloc = rt.alloc();
+    let machine = machine(alloc, BRANCHES_FOR_EACH)?;
+    let mut run = started(alloc, &machine, "[1,2]")?;
+    compare(&rt, alloc, &mut run, &NESTED, "[[1,1],[2,2]]")
 }
 
 /// Two failures are retried, and the third is caught.
