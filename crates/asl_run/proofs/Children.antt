@@ -1,5 +1,5 @@
 -- Children that start, by the numbers of their states and by their names.
-use Rattle.std.proofs.Common.{◌≡◌, ◌<◌, ◌≤◌, refl, sym, ap, ◌∙◌, arith, ℕ, zero, suc, ◌+◌, List, [], ◌∷◌, ◌++◌, map, length, append_assoc, append-nil, slice_index_or, String, string_bytes}
+use Rattle.std.proofs.Common.{◌≡◌, ◌<◌, ◌≤◌, refl, sym, ap, ◌∙◌, arith, rules, ℕ, zero, suc, ◌+◌, List, [], ◌∷◌, ◌++◌, map, length, append_assoc, append-nil, slice_index_or, String, string_bytes}
 use Rattle.std.proofs.lemmas.List.{length-append, map-append}
 use Rattle.std.specs.declared.alloc.Global.{Global}
 use Rattle.asl_machine.specs.Machine.{branches_view}
@@ -8,9 +8,12 @@ use Rattle.asl_model.specs.Run.{Activity, AndActivity, Ready, started}
 use Rattle.asl_model.specs.Tree.{Tree, trees_of}
 use Rattle.asl_tree.specs.View.{elements_view, view}
 use Rattle.asl_tree.specs.declared.Tree as trees
-use Rattle.asl_run.specs.Activities.{activity_view, children_view}
+use Rattle.asl_run.specs.Activities.{activity_view, ready_view, ready_children}
 use Rattle.asl_run.specs.Standing.{name_in, number_in, children_of, EachIsNamed}
-use Rattle.asl_run.specs.declared.activities.Activity as code
+use Rattle.asl_run.specs.declared.activities.Activity as activities
+use Rattle.asl_run.specs.declared.activities.Activity.{the_lemmas}
+use Rattle.asl_run.specs.declared.activities.Activity.TheVariants as variants
+use Rattle.asl_run.specs.declared.activities.Visit as code
 
 -- a child for each input, from number k on, with its state's name as it is found by its number
 abbrev pub children_from : List (List ℕ) → (ℕ → Scope) → ℕ → List Tree → List Activity
@@ -41,31 +44,31 @@ nothing_left [] h = refl
 nothing_left (x ∷ xs) h = absurd (omega arith)
 
 -- one more child
-pub one_started : (names : List (List ℕ)) (scopes : ℕ → Scope) (made longer : List code.Activity) (a : code.Activity) (input : trees.Tree) (left inputs : List trees.Tree) (all : List Activity) (start : List ℕ) (k : ℕ)
-    → left ≡ input ∷ inputs → longer ≡ made ++ a ∷ [] → k ≡ length made
-    → activity_view names a ≡ Ready (name_in names (number_in names start)) (view input) [] → start ≡ start_of (scopes k)
-    → map (activity_view names) made ++ children_from names scopes (length made) (map view left) ≡ all
-    → map (activity_view names) longer ++ children_from names scopes (length longer) (map view inputs) ≡ all
-one_started names scopes made longer a input left inputs all start k steps pushed at seen starts before =
+pub one_started : (names : List (List ℕ)) (scopes : ℕ → Scope) (made longer : List code.Visit) (visit : code.Visit) (input : trees.Tree) (left inputs : List trees.Tree) (all : List Activity) (start : List ℕ) (k : ℕ)
+    → left ≡ input ∷ inputs → longer ≡ made ++ visit ∷ [] → k ≡ length made
+    → ready_view names visit ≡ Ready (name_in names (number_in names start)) (view input) [] → start ≡ start_of (scopes k)
+    → map (ready_view names) made ++ children_from names scopes (length made) (map view left) ≡ all
+    → map (ready_view names) longer ++ children_from names scopes (length longer) (map view inputs) ≡ all
+one_started names scopes made longer visit input left inputs all start k steps pushed at seen starts before =
     let here : start ≡ start_of (scopes (length made)) = starts ∙ ap (λ i. start_of (scopes i)) at in
-    let child : activity_view names a ≡ Ready (name_in names (number_in names (start_of (scopes (length made))))) (view input) [] = seen ∙ ap (λ n. Ready (name_in names (number_in names n)) (view input) []) here in
-    let next : length (made ++ a ∷ []) ≡ suc (length made) = omega (arith, length-append made (a ∷ [])) in
+    let child : ready_view names visit ≡ Ready (name_in names (number_in names (start_of (scopes (length made))))) (view input) [] = seen ∙ ap (λ n. Ready (name_in names (number_in names n)) (view input) []) here in
+    let next : length (made ++ visit ∷ []) ≡ suc (length made) = omega (arith, length-append made (visit ∷ [])) in
     let rest = map view inputs in
-    ap (λ (v : List code.Activity). map (activity_view names) v ++ children_from names scopes (length v) rest) pushed
-    ∙ ap (λ xs. xs ++ children_from names scopes (length (made ++ a ∷ [])) rest) (map-append (activity_view names) made (a ∷ []))
-    ∙ append_assoc (map (activity_view names) made) (activity_view names a ∷ []) (children_from names scopes (length (made ++ a ∷ [])) rest)
-    ∙ ap (λ i. map (activity_view names) made ++ activity_view names a ∷ children_from names scopes i rest) next
-    ∙ ap (λ c. map (activity_view names) made ++ c ∷ children_from names scopes (suc (length made)) rest) child
-    ∙ ap (λ (ts : List trees.Tree). map (activity_view names) made ++ children_from names scopes (length made) (map view ts)) (sym steps)
+    ap (λ (v : List code.Visit). map (ready_view names) v ++ children_from names scopes (length v) rest) pushed
+    ∙ ap (λ xs. xs ++ children_from names scopes (length (made ++ visit ∷ [])) rest) (map-append (ready_view names) made (visit ∷ []))
+    ∙ append_assoc (map (ready_view names) made) (ready_view names visit ∷ []) (children_from names scopes (length (made ++ visit ∷ [])) rest)
+    ∙ ap (λ i. map (ready_view names) made ++ ready_view names visit ∷ children_from names scopes i rest) next
+    ∙ ap (λ c. map (ready_view names) made ++ c ∷ children_from names scopes (suc (length made)) rest) child
+    ∙ ap (λ (ts : List trees.Tree). map (ready_view names) made ++ children_from names scopes (length made) (map view ts)) (sym steps)
     ∙ before
 
 -- all children
-pub all_there : (names : List (List ℕ)) (scopes : ℕ → Scope) (made : List code.Activity) (left given inputs : List trees.Tree) → left ≡ [] → given ≡ inputs
-    → map (activity_view names) made ++ children_from names scopes (length made) (map view left) ≡ children_from names scopes 0 (map view given)
-    → EachIsNamed names (started scopes (elements_view inputs)) → children_view names made ≡ started scopes (elements_view inputs)
+pub all_there : (names : List (List ℕ)) (scopes : ℕ → Scope) (made : List code.Visit) (left given inputs : List trees.Tree) → left ≡ [] → given ≡ inputs
+    → map (ready_view names) made ++ children_from names scopes (length made) (map view left) ≡ children_from names scopes 0 (map view given)
+    → EachIsNamed names (started scopes (elements_view inputs)) → ready_children names made ≡ started scopes (elements_view inputs)
 all_there names scopes made left given inputs empty same before each =
-    let whole : map (activity_view names) made ≡ children_from names scopes 0 (map view inputs) =
-    sym (append-nil (map (activity_view names) made)) ∙ ap (λ (ts : List trees.Tree). map (activity_view names) made ++ children_from names scopes (length made) (map view ts)) (sym empty)
+    let whole : map (ready_view names) made ≡ children_from names scopes 0 (map view inputs) =
+    sym (append-nil (map (ready_view names) made)) ∙ ap (λ (ts : List trees.Tree). map (ready_view names) made ++ children_from names scopes (length made) (map view ts)) (sym empty)
     ∙ before ∙ ap (λ (ts : List trees.Tree). children_from names scopes 0 (map view ts)) same in
     ap children_of whole ∙ all_started names scopes scopes 0 (map view inputs) (from_none scopes) each
 
@@ -85,3 +88,30 @@ start_found slice starts i s same h is = ap string_bytes is ∙ within slice i s
 
 pub start_missing : (slice starts : List (String Global)) (i : ℕ) → slice ≡ starts → length slice ≤ i → [] ≡ start_of (scope_at i (branches_view starts))
 start_missing slice starts i same h = past slice i h ∙ ap (λ (l : List (String Global)). start_of (scope_at i (branches_view l))) same
+
+-- ---- activities of executions
+
+-- the activities so far and those of the executions left are those of all
+pub record AreReady (made : List activities.Activity) (left given : List code.Visit) : Type 0 where
+  pub same : (names : List (List ℕ)) → map (activity_view names) made ++ map (ready_view names) left ≡ map (ready_view names) given
+
+ready_seen : (names : List (List ℕ)) (visit : code.Visit) → activity_view names (variants.Ready visit) ≡ ready_view names visit
+ready_seen names visit = search (rules, the_lemmas)
+
+-- one more
+pub one_ready : (made longer : List activities.Activity) (visit : code.Visit) (left rest given : List code.Visit) → left ≡ visit ∷ rest → longer ≡ made ++ variants.Ready visit ∷ [] → AreReady made left given → AreReady longer rest given
+one_ready made longer visit left rest given steps pushed before = record {
+  same = λ names.
+      ap (λ (v : List activities.Activity). map (activity_view names) v ++ map (ready_view names) rest) pushed
+      ∙ ap (λ xs. xs ++ map (ready_view names) rest) (map-append (activity_view names) made (variants.Ready visit ∷ []))
+      ∙ append_assoc (map (activity_view names) made) (activity_view names (variants.Ready visit) ∷ []) (map (ready_view names) rest)
+      ∙ ap (λ a. map (activity_view names) made ++ a ∷ map (ready_view names) rest) (ready_seen names visit)
+      ∙ ap (λ (vs : List code.Visit). map (activity_view names) made ++ map (ready_view names) vs) (sym steps)
+      ∙ before.same names;
+}
+
+-- all of them
+pub all_ready : (made : List activities.Activity) (left given visits : List code.Visit) → left ≡ [] → given ≡ visits → AreReady made left given → (names : List (List ℕ)) → map (activity_view names) made ≡ map (ready_view names) visits
+all_ready made left given visits empty same before names =
+    sym (append-nil (map (activity_view names) made)) ∙ ap (λ (vs : List code.Visit). map (activity_view names) made ++ map (ready_view names) vs) (sym empty)
+    ∙ before.same names ∙ ap (λ (vs : List code.Visit). map (ready_view names) vs) same

@@ -11,16 +11,16 @@ use Rattle.asl_model.specs.Tree.{Tree, Trees}
 use Rattle.asl_tree.specs.View.{view}
 use Rattle.asl_tree.specs.declared.Tree as code
 use Rattle.asl_run.specs.Acting.{IsAt, Plans, by_settings, by_state, by_trouble_at, names_at, state_at, told_at}
-use Rattle.asl_run.specs.Activities.{activity_view}
+use Rattle.asl_run.specs.Activities.{ready_view}
 use Rattle.asl_run.specs.Changing.{changed}
 use Rattle.asl_run.specs.Entries.{entry_view}
 use Rattle.asl_run.specs.Faults.{error_view, fault_view}
 use Rattle.asl_run.specs.Flowing.{Flows}
 use Rattle.asl_run.specs.Standing.{EachIsNamed, MayFollow, name_in, number_in}
 use Rattle.asl_run.specs.Troubles.{CanRise, trouble_view}
-use Rattle.asl_run.specs.declared.activities.Activity.{Activity}
+use Rattle.asl_run.specs.declared.activities.Visit.{Visit}
 use Rattle.asl_run.specs.declared.changing.Change.{Change}
-use Rattle.asl_run.specs.declared.changing.Change.TheVariants.{Become, Retry}
+use Rattle.asl_run.specs.declared.changing.Change.TheVariants.{Enter, Retry}
 use Rattle.asl_run.specs.declared.entries.Entry.{Entry}
 use Rattle.asl_run.specs.declared.faults.Fault.{Fault}
 use Rattle.asl_run.specs.declared.faults.Stop.{Stop}
@@ -35,9 +35,9 @@ pub record Leaves (here : Here) (change : Change) (after : model.Activity) : Typ
   pub left : IsAt here → changed (names_at here) here.visit.now change ≡ after
   pub rises : (i : ℕ) → change ≡ Retry i → CanRise here.visit.now.counts.items i
 
--- another activity stands there
-pub becomes : (here : Here) (a : Activity) (after : model.Activity) → (IsAt here → changed (names_at here) here.visit.now (Become a) ≡ after) → Leaves here (Become a) after
-becomes here a after is = record { left = is; rises = λ i e. absurd (cc) }
+-- a state is about to be entered
+pub becomes : (here : Here) (next : Visit) (after : model.Activity) → (IsAt here → changed (names_at here) here.visit.now (Enter next) ≡ after) → Leaves here (Enter next) after
+becomes here next after is = record { left = is; rises = λ i e. absurd (cc) }
 
 -- a plan without an entry
 pub begun : (here : Here) (plan : Plan) (change : Change) (after : model.Activity) → plan.entries.items ≡ [] → plan.change ≡ change → Leaves here change after → Plans here plan (record { entries = []; after = after })
@@ -63,8 +63,8 @@ told_once here plan before made entry change after none is first same told leave
     preceded here plan before made entry (record { entries = []; after = after }) first same told (begun here before change after none is leaves)
 
 -- the execution goes on at a state that may follow
-pub moves_on : (here : Here) (a : Activity) (next : List ℕ) (input : Tree) → activity_view (names_at here) a ≡ model.Ready (name_in (names_at here) (number_in (names_at here) next)) input [] → MayFollow (state_at here) (Some next) → Leaves here (Become a) (model.Ready next input [])
-moves_on here a next input is follows = becomes here a (model.Ready next input []) (λ stands. let named = stands.leads.targets next follows in is ∙ ap (λ n. model.Ready n input []) named.again)
+pub moves_on : (here : Here) (visit : Visit) (next : List ℕ) (input : Tree) → ready_view (names_at here) visit ≡ model.Ready (name_in (names_at here) (number_in (names_at here) next)) input [] → MayFollow (state_at here) (Some next) → Leaves here (Enter visit) (model.Ready next input [])
+moves_on here visit next input is follows = becomes here visit (model.Ready next input []) (λ stands. let named = stands.leads.targets next follows in is ∙ ap (λ n. model.Ready n input []) named.again)
 
 -- ---- what comes of what may want memory
 
@@ -89,12 +89,12 @@ troubled_so here (Ok p) error cause counts met trouble seen same is plans =
 troubled_so here (Err e) error cause counts met trouble seen same is plans = tt
 
 -- a catcher hands on to a state that may follow
-pub handed_on : {E : Type 0} (here : Here) (r : Result Plan E) (before : Plan) (made : Entry) (a : Activity) (i : ℕ) (next : List ℕ) (input : Tree) → before.entries.items ≡ [] → before.change ≡ Become a
+pub handed_on : {E : Type 0} (here : Here) (r : Result Plan E) (before : Plan) (made : Entry) (visit : Visit) (i : ℕ) (next : List ℕ) (input : Tree) → before.entries.items ≡ [] → before.change ≡ Enter visit
     → IfOk r (λ p. p.entries.items ≡ made ∷ before.entries.items) → IfOk r (λ p. p.change ≡ before.change) → entry_view made ≡ told_at here.at.now (model.Caught here.name.now i next)
-    → activity_view (names_at here) a ≡ model.Ready (name_in (names_at here) (number_in (names_at here) next)) input []
+    → ready_view (names_at here) visit ≡ model.Ready (name_in (names_at here) (number_in (names_at here) next)) input []
     → IfOk r (λ p. MayFollow (state_at here) (Some next) → (e k : List ℕ) → Plans here p (by_trouble_at here e k (model.Catches i next input)))
-handed_on here (Ok p) before made a i next input none is first same told seen = λ follows e k. told_once here p before made (model.Caught here.name.now i next) (Become a) (model.Ready next input []) none is first same told (moves_on here a next input seen follows)
-handed_on here (Err x) before made a i next input none is first same told seen = tt
+handed_on here (Ok p) before made visit i next input none is first same told seen = λ follows e k. told_once here p before made (model.Caught here.name.now i next) (Enter visit) (model.Ready next input []) none is first same told (moves_on here visit next input seen follows)
+handed_on here (Err x) before made visit i next input none is first same told seen = tt
 
 -- so it does where it takes the error
 pub caught_so : {E : Type 0} (here : Here) (r : Result Plan E) (error cause counts : List ℕ) (met : Trouble) (i : ℕ) (next : List ℕ) (input : Tree) → trouble_view met ≡ model.Catches i next input → counts ≡ here.visit.now.counts.items
@@ -125,12 +125,12 @@ raised_so here r before made fault name is plans first same told =
 -- ---- leaving
 
 -- for the next state
-pub left_on : {E : Type 0} (here : Here) (r : Result Plan E) (before : Plan) (made : Entry) (a : Activity) (next : List ℕ) (output : Tree) → before.entries.items ≡ [] → before.change ≡ Become a
+pub left_on : {E : Type 0} (here : Here) (r : Result Plan E) (before : Plan) (made : Entry) (visit : Visit) (next : List ℕ) (output : Tree) → before.entries.items ≡ [] → before.change ≡ Enter visit
     → IfOk r (λ p. p.entries.items ≡ made ∷ before.entries.items) → IfOk r (λ p. p.change ≡ before.change) → entry_view made ≡ told_at here.at.now (model.Left here.name.now output)
-    → activity_view (names_at here) a ≡ model.Ready (name_in (names_at here) (number_in (names_at here) next)) output []
+    → ready_view (names_at here) visit ≡ model.Ready (name_in (names_at here) (number_in (names_at here) next)) output []
     → IfOk r (λ p. MayFollow (state_at here) (Some next) → Plans here p (model.leaves_for here.name.now (Some next) output))
-left_on here (Ok p) before made a next output none is first same told seen = λ follows. told_once here p before made (model.Left here.name.now output) (Become a) (model.Ready next output []) none is first same told (moves_on here a next output seen follows)
-left_on here (Err e) before made a next output none is first same told seen = tt
+left_on here (Ok p) before made visit next output none is first same told seen = λ follows. told_once here p before made (model.Left here.name.now output) (Enter visit) (model.Ready next output []) none is first same told (moves_on here visit next output seen follows)
+left_on here (Err e) before made visit next output none is first same told seen = tt
 
 -- for the end of its scope
 pub left_last : {E : Type 0} (here : Here) (r : Result Plan E) (before : Plan) (made : Entry) (output : Tree) → Plans here before (record { entries = model.Ended (model.Output output) ∷ []; after = model.Done output })

@@ -5,6 +5,7 @@ use Rattle.asl_tree.specs.View as trees
 use Rattle.asl_run.specs.Standing.{name_in, children_of}
 use Rattle.asl_run.specs.declared.activities.Activity.{Activity, fold-Activity}
 use Rattle.asl_run.specs.declared.activities.Activity.TheOpen.{Activity-F}
+use Rattle.asl_run.specs.declared.activities.Visit.{Visit}
 use Rattle.asl_run.specs.declared.entries.Outcome.{Outcome}
 use Rattle.asl_run.specs.declared.entries.Outcome.TheVariants as outcomes
 
@@ -13,9 +14,17 @@ abbrev pub ended_view : Outcome → model.Activity
 ended_view (outcomes.Output t) = model.Done (trees.view t)
 ended_view (outcomes.Failed error cause) = model.Failed (string_bytes error) (string_bytes cause)
 
+-- an execution that is about to enter its state; the states have these names by their numbers
+abbrev pub ready_view : List (List ℕ) → Visit → model.Activity
+ready_view names visit = model.Ready (name_in names visit.state) (trees.view visit.raw) visit.counts.items
+
+-- so each of them, in order
+abbrev pub ready_children : List (List ℕ) → List Visit → model.Activities
+ready_children names visits = children_of (map (ready_view names) visits)
+
 -- one level, with each child already seen; the states have these names by their numbers
 abbrev pub activity_step : List (List ℕ) → Activity-F model.Activity → model.Activity
-activity_step names (Activity-F.Ready visit) = model.Ready (name_in names visit.state) (trees.view visit.raw) visit.counts.items
+activity_step names (Activity-F.Ready visit) = ready_view names visit
 activity_step names (Activity-F.Waiting visit payload) = model.Waiting (name_in names visit.state) (trees.view visit.raw) visit.counts.items (trees.view payload)
 activity_step names (Activity-F.Split visit children) = model.Split (name_in names visit.state) (trees.view visit.raw) visit.counts.items (children_of children.items)
 activity_step names (Activity-F.Ended outcome) = ended_view outcome

@@ -2,20 +2,21 @@
 use Rattle.std.specs.Prelude.{◌≡◌, ℕ, List, Option, Some, None}
 use Rattle.asl_model.specs.Run as model
 use Rattle.asl_tree.specs.View as trees
-use Rattle.asl_run.specs.Activities.{activity_view, children_view}
+use Rattle.asl_run.specs.Activities.{ended_view, ready_view, ready_children}
 use Rattle.asl_run.specs.Standing.{name_in}
 use Rattle.asl_run.specs.Troubles.{CanRise}
 use Rattle.asl_run.specs.declared.activities.Activity.{Activity, fold-Activity}
 use Rattle.asl_run.specs.declared.activities.Activity.TheOpen.{Activity-F}
 use Rattle.asl_run.specs.declared.activities.Visit.{Visit}
 use Rattle.asl_run.specs.declared.changing.Change.{Change}
-use Rattle.asl_run.specs.declared.changing.Change.TheVariants.{Become, Ask, SplitInto, Retry}
+use Rattle.asl_run.specs.declared.changing.Change.TheVariants.{Enter, End, Ask, SplitInto, Retry}
 
 -- the activity that a change leaves of a state's execution; the states have these names by their numbers
 abbrev pub changed : List (List ℕ) → Visit → Change → model.Activity
-changed names visit (Become a) = activity_view names a
+changed names visit (Enter entered) = ready_view names entered
+changed names visit (End outcome) = ended_view outcome
 changed names visit (Ask payload) = model.Waiting (name_in names visit.state) (trees.view visit.raw) visit.counts.items (trees.view payload)
-changed names visit (SplitInto children) = model.Split (name_in names visit.state) (trees.view visit.raw) visit.counts.items (children_view names children.items)
+changed names visit (SplitInto visits) = model.Split (name_in names visit.state) (trees.view visit.raw) visit.counts.items (ready_children names visits.items)
 changed names visit (Retry retrier) = model.Ready (name_in names visit.state) (trees.view visit.raw) (model.one_higher retrier visit.counts.items)
 
 -- one level: the execution of a state that stands there

@@ -1,7 +1,7 @@
 //! What a step does to what stands at its place.
 
-ghost use Rattle.std.specs.Prelude.{◌≡◌, ℕ, List, Some, IfOk, IfErr};
-ghost use Rattle.asl_run.specs.Activities.{activity_view};
+ghost use Rattle.std.specs.Prelude.{◌≡◌, ℕ, List, Some, IfOk, IfErr, map};
+ghost use Rattle.asl_run.specs.Activities.{activity_view, ready_view};
 ghost use Rattle.asl_run.specs.Changing.{CanApply, IsRaised, IsSame, changed, visit_in};
 ghost use Rattle.asl_run.specs.Troubles.{CanRise};
 ghost use Rattle.asl_run.specs.declared.activities.Visit.{Visit};
@@ -10,35 +10,44 @@ use crate::activities::{Activity, Visit};
 use crate::entries::Outcome;
 use crate::troubles::one_higher;
 use asl_tree::{OutOfMemory, Tree};
+use std::alloc::Global;
 use std::mem;
 
 /// What a step does to the activity at its place.
 #[derive(Drop)]
 pub(crate) enum Change {
-    /// Another activity stands there.
-    Become(Activity),
+    /// The state of that execution is about to be entered.
+    Enter(Visit),
+    /// The scope ends so.
+    End(Outcome),
     /// A Task waits for the answer to this payload.
     Ask(Tree),
-    /// A Parallel or a Map has these children.
-    SplitInto(Vec<Activity>),
+    /// A Parallel or a Map has these children, each about to enter its state.
+    SplitInto(Vec<Visit>),
     /// The retrier of that number retries: the state is Ready again, that count one higher.
     Retry(usize),
 }
 
-/// Changes the activity at a step's place. A refusal, which only a retry can meet, leaves it as it is.
-pub(crate) fn apply(activity: &mut Activity, change: Change) -> Result<(), OutOfMemory>
+/// Changes the activity at a step's place. A refusal leaves it as it is.
+pub(crate) fn apply(
+    alloc: Global,
+    activity: &mut Activity,
+    change: Change,
+) -> Result<(), OutOfMemory>
     requires { CanApply activity.old change }
     ensures changed { IfOk result (λ _. (names : List (List ℕ)) (visit : Visit) → visit_in activity.old ≡ Some visit → activity_view names activity.new ≡ changed names visit change) }
     ensures unchanged { IfErr result (λ _. (names : List (List ℕ)) → activity_view names activity.new ≡ activity_view names activity.old) }
 {
     match change {
-        Change::Become(next) => *activity = next,
+        Change::Enter(visit) => *activity = Activity::Ready(visit),
+        Change::End(outcome) => *activity = Activity::Ended(outcome),
         Change::Ask(payload) => {
             if let Some(visit) = take_visit(activity) {
                 *activity = Activity::Waiting { visit, payload };
             }
         }
-        Change::SplitInto(children) => {
+        Change::SplitInto(visits) => {
+            let children = each_ready(alloc, visits)?;
             if let Some(visit) = take_visit(activity) {
                 *activity = Activity::Split { visit, children };
             }
@@ -51,6 +60,17 @@ pub(crate) fn apply(activity: &mut Activity, change: Change) -> Result<(), OutOf
         }
     }
     Ok(())
+}
+
+/// An activity for each execution, about to enter its state.
+fn each_ready(alloc: Global, visits: Vec<Visit>) -> Result<Vec<Activity>, OutOfMemory>
+    ensures { IfOk result (λ children. (names : List (List ℕ)) → map (activity_view names) children.items ≡ map (ready_view names) visits.items) }
+{
+    let mut children = Vec::with_capacity(alloc, visits.len())?;
+    for visit in visits {
+        children.push(Activity::Ready(visit))?;
+    }
+    Ok(children)
 }
 
 /// Takes the execution of a state out of the activity, which isn't to be used before another one is put there; none

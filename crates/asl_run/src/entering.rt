@@ -6,13 +6,13 @@ ghost use Rattle.asl_model.specs.Flow as flow;
 ghost use Rattle.asl_model.specs.Machine as machine;
 ghost use Rattle.asl_model.specs.Run as model;
 ghost use Rattle.asl_run.specs.Acting.{Plans, by_state, names_at, state_at};
-ghost use Rattle.asl_run.specs.Activities.{children_view};
+ghost use Rattle.asl_run.specs.Activities.{ready_children};
 ghost use Rattle.asl_run.specs.Flowing.{data_view};
 ghost use Rattle.asl_run.specs.Standing.{EachIsNamed};
 ghost use Rattle.asl_run.specs.Working.{work_view};
 ghost use Rattle.asl_tree.specs.View.{elements_view, view};
 
-use crate::activities::Activity;
+use crate::activities::Visit;
 use crate::changing::Change;
 use crate::data::Data;
 use crate::flowing::at_output_path;
@@ -73,9 +73,9 @@ fn split(here: &Here, inputs: Vec<Tree>) -> Result<Plan, OutOfMemory>
     Ok(Plan::new(here.alloc, Change::SplitInto(children)))
 }
 
-/// A child for each input, Ready at the start of its scope.
-fn start_children(here: &Here, inputs: Vec<Tree>) -> Result<Vec<Activity>, OutOfMemory>
-    ensures { IfOk result (λ children. EachIsNamed (names_at here.now) (model.started (machine.child_scope (kind_view here.now.state.now.kind)) (elements_view inputs.items)) → children_view (names_at here.now) children.items ≡ model.started (machine.child_scope (kind_view here.now.state.now.kind)) (elements_view inputs.items)) }
+/// A child for each input, about to enter the start of its scope.
+fn start_children(here: &Here, inputs: Vec<Tree>) -> Result<Vec<Visit>, OutOfMemory>
+    ensures { IfOk result (λ children. EachIsNamed (names_at here.now) (model.started (machine.child_scope (kind_view here.now.state.now.kind)) (elements_view inputs.items)) → ready_children (names_at here.now) children.items ≡ model.started (machine.child_scope (kind_view here.now.state.now.kind)) (elements_view inputs.items)) }
 {
     let mut children = Vec::with_capacity(here.alloc, inputs.len())?;
     for input in inputs {

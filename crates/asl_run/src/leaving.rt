@@ -32,7 +32,7 @@ fn leave_for(here: &Here, next: &str, output: Tree) -> Result<Plan, OutOfMemory>
     ensures { IfOk result (λ plan. MayFollow (state_at here.now) (Some next.now) → Plans here.now plan (model.leaves_for here.now.name.now (Some next.now) (view output))) }
 {
     let left = here.left(&output)?;
-    Plan::new(here.alloc, Change::Become(here.ready(next, output))).after(left)
+    Plan::new(here.alloc, Change::Enter(here.ready(next, output))).after(left)
 }
 
 /// So for the end of its scope.

@@ -3,13 +3,13 @@
 ghost use Rattle.std.specs.Prelude.{◌≡◌, ◌∷◌, [], IfOk, string_bytes};
 ghost use Rattle.asl_model.specs.Run as model;
 ghost use Rattle.asl_run.specs.Acting.{Plans, names_at, told_at};
-ghost use Rattle.asl_run.specs.Activities.{activity_view, ended_view};
+ghost use Rattle.asl_run.specs.Activities.{ended_view, ready_view};
 ghost use Rattle.asl_run.specs.Entries.{entry_view, outcome_view};
 ghost use Rattle.asl_run.specs.Faults.{fault_view};
 ghost use Rattle.asl_run.specs.Standing.{name_in, number_in};
 ghost use Rattle.asl_tree.specs.View.{view};
 
-use crate::activities::{Activity, Visit};
+use crate::activities::Visit;
 use crate::changing::Change;
 use crate::entries::{Entry, Outcome, Place};
 use crate::faults::Fault;
@@ -195,16 +195,16 @@ impl<'m> Here<'m> {
         })
     }
 
-    /// The state of that name is about to be entered with that raw input. It is found by its number; a name that is no
+    /// The execution of the state of that name that is about to be entered with that raw input. It is found by its number; a name that is no
     /// state's counts as that of the state 0.
-    pub(crate) fn ready(&self, name: &str, raw: Tree) -> Activity
-        ensures { activity_view (names_at self.now) result ≡ model.Ready (name_in (names_at self.now) (number_in (names_at self.now) name.now)) (view raw) [] }
+    pub(crate) fn ready(&self, name: &str, raw: Tree) -> Visit
+        ensures { ready_view (names_at self.now) result ≡ model.Ready (name_in (names_at self.now) (number_in (names_at self.now) name.now)) (view raw) [] }
     {
-        Activity::Ready(Visit {
+        Visit {
             state: self.machine.state_named(name).unwrap_or(0),
             raw,
             counts: Vec::new(self.alloc),
-        })
+        }
     }
 
     /// The scope ends with an output.
@@ -212,8 +212,8 @@ impl<'m> Here<'m> {
         ensures { IfOk result (λ plan. Plans self.now plan (record { entries = model.Ended (model.Output (view output)) ∷ []; after = model.Done (view output) })) }
     {
         let told = Outcome::Output(copy(self.alloc, &output)?);
-        let ended = Activity::Ended(Outcome::Output(output));
-        Plan::new(self.alloc, Change::Become(ended)).after(self.ended(told)?)
+        let ended = Outcome::Output(output);
+        Plan::new(self.alloc, Change::End(ended)).after(self.ended(told)?)
     }
 
     /// The scope ends with an error and a cause.
@@ -221,7 +221,7 @@ impl<'m> Here<'m> {
         ensures { IfOk result (λ plan. Plans self.now plan (model.ends_failing error.now cause.now)) }
     {
         let told = self.failure(error, cause)?;
-        let ended = Activity::Ended(self.failure(error, cause)?);
-        Plan::new(self.alloc, Change::Become(ended)).after(self.ended(told)?)
+        let ended = self.failure(error, cause)?;
+        Plan::new(self.alloc, Change::End(ended)).after(self.ended(told)?)
     }
 }

@@ -88,7 +88,7 @@ fn act(happening: Happening, activity: &mut Activity) -> Result<Vec<Entry>, Step
         happening.answer,
     );
     match planned {
-        Ok(Some(Plan { entries, change })) => match apply(activity, change) {
+        Ok(Some(Plan { entries, change })) => match apply(happening.alloc, activity, change) {
             Ok(()) => Ok(entries),
             Err(OutOfMemory) => Err(StepRefusal::OutOfMemory),
         },

@@ -52,7 +52,7 @@ fn hand_on(here: &Here, catcher: usize, next: &str, input: Tree) -> Result<Plan,
     ensures { IfOk result (λ plan. MayFollow (state_at here.now) (Some next.now) → (error cause : List ℕ) → Plans here.now plan (by_trouble_at here.now error cause (model.Catches catcher next.now (view input)))) }
 {
     let caught = here.caught(catcher, next)?;
-    Plan::new(here.alloc, Change::Become(here.ready(next, input))).after(caught)
+    Plan::new(here.alloc, Change::Enter(here.ready(next, input))).after(caught)
 }
 
 /// A catcher's output can't be placed: that is a fault, which nothing takes.
