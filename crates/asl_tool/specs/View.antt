@@ -72,4 +72,6 @@ run_end_view (ends.AnswerShape state) = printed.AnswerShape (string_bytes state)
 abbrev pub closing_view : Closing → printed.Closing
 closing_view (closing.Verdict v) = printed.ClosingVerdict (verdict_view v)
 closing_view (closing.Run end) = printed.ClosingRun (run_end_view end)
+closing_view closing.Certificate = printed.ClosingCertificate
+closing_view closing.NotSettled = printed.ClosingNotSettled
 closing_view (closing.Fault fault) = printed.ClosingFault (run_fault_view fault)

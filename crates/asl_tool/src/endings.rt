@@ -11,6 +11,10 @@ pub enum Closing {
     Verdict(Verdict),
     /// The trace of a run was written.
     Run(RunEnd),
+    /// An inferred certificate was written.
+    Certificate,
+    /// No certificate was inferred: some shape still changed in the last round.
+    NotSettled,
     /// Something failed.
     Fault(RunFault),
 }

@@ -55,8 +55,9 @@ fn finding_text(alloc: Global, finding: &Finding) -> Result<String, OutOfMemory>
 
 /// The exit status of the program and the line on standard error, with its break, empty where there is none.
 ///
-/// Status 0 is a yes or a run's output; 1 a no or a failed run; 2 a text that is refused or too long; 3 an input or an
-/// answer that isn't of its shape; 4 a run without answer or steps left; 5 want of memory or a reader or writer that failed.
+/// Status 0 is a yes, a certificate or a run's output; 1 a no, a certificate that wasn't settled or a failed run; 2 a text
+/// that is refused or too long; 3 an input or an answer that isn't of its shape; 4 a run without answer or steps left; 5
+/// want of memory or a reader or writer that failed.
 pub fn closing(alloc: Global, closing: &Closing) -> Result<(u8, String), OutOfMemory>
     ensures status { IfOk result (λ end. end.0 ≡ closing_status (closing_view closing.now)) }
     ensures line { IfOk result (λ end. string_bytes end.1 ≡ closing_line (closing_view closing.now)) }
@@ -64,6 +65,8 @@ pub fn closing(alloc: Global, closing: &Closing) -> Result<(u8, String), OutOfMe
     match closing {
         Closing::Verdict(verdict) => Ok((status_of(verdict), String::new(alloc))),
         Closing::Run(end) => run_closing(alloc, end),
+        Closing::Certificate => Ok((0, String::new(alloc))),
+        Closing::NotSettled => Ok((1, String::from_str(alloc, "not settled\n")?)),
         Closing::Fault(fault) => fault_closing(alloc, fault),
     }
 }
