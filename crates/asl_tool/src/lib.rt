@@ -2,8 +2,9 @@
 //!
 //! [`verify_texts`] checks a certificate of shapes against a state machine and its declared shapes, all three given as
 //! texts. [`check_lines`] does it for three lines of a [`Source`] and writes the lines of the verdict to a [`Sink`].
-//! [`run_texts`] runs a state machine on an input, with answers for its tasks, and writes what happened. [`read_text`]
-//! takes a whole source as one text, and [`closing`] says how a program ends that did any of this.
+//! [`infer_texts`] infers such a certificate. [`run_texts`] runs a state machine on an input, with answers for its tasks,
+//! and writes what happened. [`read_text`] takes a whole source as one text, and [`closing`] says how a program ends that
+//! did any of this.
 #![tactic(auto)]
 
 mod answering;
@@ -11,6 +12,7 @@ mod chunks;
 mod declared_answers;
 mod endings;
 mod given;
+mod inferring;
 mod laws;
 mod lines;
 mod printing;
@@ -28,6 +30,7 @@ pub use asl_check::{Finding, FindingFault, Verdict};
 pub use asl_machine::{DefFault, DefRefusal};
 pub use asl_records::{RecordFault, RecordRefusal};
 pub use endings::Closing;
+pub use inferring::{Inferred, infer_texts};
 pub use laws::{
     activities_stay_as_certified, nesting_activities_stay_as_certified,
     working_activities_stay_as_certified,

@@ -1,0 +1,84 @@
+-- What is inferred of two texts, a definition and declared shapes, and why nothing is.
+use Rattle.std.specs.Prelude.{◌≡◌, ◌*◌, ◌≤◌, ℕ, List, string_bytes, ⊤}
+use Rattle.asl_model.specs.Certificate as model
+use Rattle.asl_model.specs.Certificate.{Declared, IsClosed}
+use Rattle.asl_model.specs.Finding as finding
+use Rattle.asl_model.specs.Json.{compact_text}
+use Rattle.asl_model.specs.Machine.{Scope}
+use Rattle.asl_model.specs.Numbering.{table_of}
+use Rattle.asl_model.specs.Texts.{Which, DefinitionText, DeclaredText, CertificateText, InputText, AnswersText, TextFault, ReadsAsMachine, ReadsAsDeclared}
+use Rattle.asl_model.specs.Written.{written_certificate}
+use Rattle.asl_check.specs.View.{finding_view}
+use Rattle.asl_infer.specs.Inferring.{IsOfMachine, certified_shapes}
+use Rattle.asl_tool.specs.Runs.{MachineReads}
+use Rattle.asl_tool.specs.Verifying.{RefusesDefinition, RefusesDeclared}
+use Rattle.asl_tool.specs.View.{which_view, text_fault_view}
+use Rattle.asl_tool.specs.declared.inferring.Inferred.{Inferred}
+use Rattle.asl_tool.specs.declared.inferring.Inferred.TheVariants.{Certificate, Finding, NotSettled}
+use Rattle.asl_tool.specs.declared.refusals.RunFault.{RunFault}
+use Rattle.asl_tool.specs.declared.refusals.RunFault.TheVariants as run
+
+-- the two texts read, and the third is the compact text of what is written of a certificate that is closed for that
+-- machine and those declared shapes
+pub record IsWrittenFor (definition declared text : List ℕ) : Type 0 where
+  pub machine : Scope
+  pub shapes : Declared
+  pub certified : model.Certificate
+  pub as_machine : ReadsAsMachine definition machine
+  pub as_declared : ReadsAsDeclared declared shapes
+  pub closed : IsClosed shapes certified machine
+  pub compact : text ≡ compact_text (written_certificate certified)
+
+-- the two texts read, and the finding is of that machine or of what is declared, and stands for some certificate
+pub record IsFindingOn (definition declared : List ℕ) (found : finding.Finding) : Type 0 where
+  pub machine : Scope
+  pub shapes : Declared
+  pub as_machine : ReadsAsMachine definition machine
+  pub as_declared : ReadsAsDeclared declared shapes
+  pub finding : IsOfMachine machine shapes found
+
+-- the two texts read, and so many rounds are no more than all shapes of a certificate together may change
+pub record AreFewRounds (definition declared : List ℕ) (rounds : ℕ) : Type 0 where
+  pub machine : Scope
+  pub shapes : Declared
+  pub as_machine : ReadsAsMachine definition machine
+  pub as_declared : ReadsAsDeclared declared shapes
+  pub few : rounds ≤ 33 * certified_shapes (table_of machine)
+
+-- ---- answers
+
+-- what holds of the text where a certificate is answered
+abbrev pub WhereCertificate : (List ℕ → Type 0) → Inferred → Type 0
+WhereCertificate promise (Certificate text) = promise (string_bytes text)
+WhereCertificate promise (Finding found) = ⊤
+WhereCertificate promise NotSettled = ⊤
+
+-- of the finding where one is answered
+abbrev pub WhereFinding : (finding.Finding → Type 0) → Inferred → Type 0
+WhereFinding promise (Certificate text) = ⊤
+WhereFinding promise (Finding found) = promise (finding_view found)
+WhereFinding promise NotSettled = ⊤
+
+-- what holds where the shapes haven't settled
+abbrev pub WhereNotSettled : Type 0 → Inferred → Type 0
+WhereNotSettled promise (Certificate text) = ⊤
+WhereNotSettled promise (Finding found) = ⊤
+WhereNotSettled promise NotSettled = promise
+
+-- ---- faults
+
+-- the text is the first of the two that is refused, and the fault stands in it, or there was no memory to say
+abbrev pub IsFirstOfTwo : List ℕ → List ℕ → Which → TextFault → Type 0
+IsFirstOfTwo definition declared DefinitionText f = RefusesDefinition definition f
+IsFirstOfTwo definition declared DeclaredText f = MachineReads definition × RefusesDeclared declared f
+IsFirstOfTwo definition declared CertificateText f = ⊥
+IsFirstOfTwo definition declared InputText f = ⊥
+IsFirstOfTwo definition declared AnswersText f = ⊥
+
+-- why nothing is inferred: a refused text, or want of memory
+abbrev pub InferFaultStands : List ℕ → List ℕ → RunFault → Type 0
+InferFaultStands definition declared (run.Text refusal) = IsFirstOfTwo definition declared (which_view refusal.which) (text_fault_view refusal.fault)
+InferFaultStands definition declared run.TooLong = ⊥
+InferFaultStands definition declared run.Read = ⊥
+InferFaultStands definition declared run.Write = ⊥
+InferFaultStands definition declared run.OutOfMemory = ⊤

@@ -1,0 +1,84 @@
+//! From a definition and declared shapes, given as texts, to the text of a certificate.
+
+ghost use Rattle.std.specs.Prelude.{◌≡◌, ◌≤◌, IfOk, IfErr, string_bytes};
+ghost use Rattle.serde_json.specs.Data.{depth};
+ghost use Rattle.serde_json.specs.Read.{max_depth};
+ghost use Rattle.asl_model.specs.Json.{compact_text, value_of};
+ghost use Rattle.asl_model.specs.Texts.{ReadsAsCertificate};
+ghost use Rattle.asl_model.specs.Written.{written_certificate};
+ghost use Rattle.asl_records.specs.View.{certificate_view};
+ghost use Rattle.asl_tool.specs.Inferred.{AreFewRounds, InferFaultStands, IsFindingOn, IsWrittenFor, WhereCertificate, WhereFinding, WhereNotSettled};
+
+use crate::reading::{declared_text, machine_text};
+use crate::refusals::{RunFault, TextRefusal, Which};
+use asl_check::Finding;
+use asl_infer::{InferRefusal, infer};
+use asl_records::{Certificate, write_certificate};
+use asl_tree::{OutOfMemory, to_text};
+use std::alloc::Global;
+
+/// What is inferred of a machine and its declared shapes.
+#[derive(Debug, PartialEq, Drop)]
+pub enum Inferred {
+    /// The compact text of a certificate.
+    Certificate(String),
+    /// A rule that is about the machine, or about what is declared, is broken for some certificate.
+    Finding(Finding),
+    /// Some shape still changed in the last round.
+    NotSettled,
+}
+
+/// Infers a certificate of a definition and declared shapes, both given as JSON texts, in at most `max_rounds` rounds.
+///
+/// A certificate is closed for what the two texts read as. Its text is compact, with names in byte order. A finding is of
+/// the machine or of what is declared. The certificate isn't settled only where the rounds are no more than 33 for each
+/// of its shapes.
+///
+/// The texts are read in this order. Refused: Text for the first text that is refused, with a fault that stands in it, or
+/// with want of memory; OutOfMemory where a growth was refused afterwards.
+pub fn infer_texts(
+    alloc: Global,
+    definition: &[u8],
+    declared: &[u8],
+    max_rounds: u32,
+) -> Result<Inferred, RunFault>
+    ensures certificate { IfOk result (WhereCertificate (IsWrittenFor definition.now declared.now)) }
+    ensures finding { IfOk result (WhereFinding (IsFindingOn definition.now declared.now)) }
+    ensures not_settled { IfOk result (WhereNotSettled (AreFewRounds definition.now declared.now max_rounds)) }
+    ensures refused { IfErr result (InferFaultStands definition.now declared.now) }
+{
+    let machine = match machine_text(alloc, definition) {
+        Ok(machine) => machine,
+        Err(fault) => return Err(RunFault::Text(TextRefusal {
+            which: Which::Definition,
+            fault,
+        })),
+    };
+    let declared = match declared_text(alloc, declared) {
+        Ok(declared) => declared,
+        Err(fault) => return Err(RunFault::Text(TextRefusal {
+            which: Which::Declared,
+            fault,
+        })),
+    };
+    let certificate = match infer(alloc, &machine, &declared, max_rounds) {
+        Ok(certificate) => certificate,
+        Err(InferRefusal::Finding(finding)) => return Ok(Inferred::Finding(finding)),
+        Err(InferRefusal::NotSettled) => return Ok(Inferred::NotSettled),
+        Err(InferRefusal::OutOfMemory) => return Err(RunFault::OutOfMemory),
+    };
+    match written_text(alloc, &certificate) {
+        Ok(text) => Ok(Inferred::Certificate(text)),
+        Err(_) => Err(RunFault::OutOfMemory),
+    }
+}
+
+/// The compact text of what is written of a certificate. It reads as the certificate where that doesn't nest deeper than
+/// 127 levels.
+fn written_text(alloc: Global, certificate: &Certificate) -> Result<String, OutOfMemory>
+    ensures text { IfOk result (λ text. string_bytes text ≡ compact_text (written_certificate (certificate_view certificate.now))) }
+    ensures reads_back { IfOk result (λ text. depth (value_of (written_certificate (certificate_view certificate.now))) ≤ max_depth → ReadsAsCertificate (string_bytes text) (certificate_view certificate.now)) }
+{
+    let tree = write_certificate(alloc, certificate)?;
+    to_text(alloc, &tree)
+}
