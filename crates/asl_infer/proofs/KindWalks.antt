@@ -111,7 +111,7 @@ module _ (w : Walked) where
   items_found path selector processor s items answer f h = stops_same (items_rules w selector processor s (items_view items)) (map_rules w path selector processor s) answer (λ inputs end. sym (f.finds (λ elements. items_rules w selector processor s elements inputs end))) h
 
   pub no_items : {A : Type 0} (path : List Segment) (selector : Option Template) (processor : Scope) (s : Shape) (b : Broken) → Finds (look path s) (Err b) → Stops {A = A} (map_rules w path selector processor s) (Err (stopped.Broken b))
-  no_items path selector processor s b f = record { stops = record { stands = λ inputs end. f.finds.0 (λ elements. items_rules w selector processor s elements inputs end); doubt = f.finds.1 } }
+  no_items path selector processor s b f = record { stops = record { stands = λ inputs end. f.finds.0 (λ elements. items_rules w selector processor s elements inputs end); of_machine = f.finds.1 } }
 
   -- ---- the whole state
 

@@ -1,6 +1,7 @@
 pub mod Cuts
 pub mod GrownLists
 pub mod KindWalks
+pub mod Levels
 pub mod Rooms
 pub mod RowWalks
 pub mod Settled

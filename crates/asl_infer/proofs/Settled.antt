@@ -4,7 +4,7 @@ use Rattle.std.specs.List.{Contains}
 use Rattle.asl_check.proofs.Members.{given_of}
 use Rattle.asl_model.specs.Certificate as model
 use Rattle.asl_model.specs.Finding as finding
-use Rattle.asl_model.specs.Finding.{FindingFault, findings, Stands, flow_breaches}
+use Rattle.asl_model.specs.Finding.{findings, Stands, flow_breaches}
 use Rattle.asl_model.specs.Inference.{IsBrokenAnyway, StandsForSome, finding_of, is_of_machine}
 use Rattle.asl_model.specs.Machine.{Scope, State, settings_of, kind_of}
 use Rattle.asl_model.specs.Numbering.{table_of}
@@ -20,7 +20,7 @@ use Rattle.asl_check.specs.declared.verdicts.Finding.{Finding}
 use Rattle.asl_check.specs.declared.noting.Broken.{Broken}
 use Rattle.asl_check.specs.declared.flowing.Stopped.TheVariants as stopped
 use Rattle.asl_infer.specs.Inferring.{IsOfMachine, IsHalt, Halts, IsInferRefusal}
-use Rattle.asl_infer.specs.Walking.{StopsAt, is_doubt}
+use Rattle.asl_infer.specs.Walking.{StopsAt}
 use Rattle.asl_infer.specs.declared.draft.Inflow.{Inflow}
 use Rattle.asl_infer.specs.declared.inferring.InferRefusal.{InferRefusal}
 use Rattle.asl_infer.specs.declared.inferring.InferRefusal.TheVariants as refusal
@@ -45,25 +45,6 @@ halted shown declared rounds r h machine shows = halt_refuses machine declared r
 
 -- ---- what a walk tells
 
--- the fault of a rule that compares nothing is the machine's
-doubt_of_machine : (fault : FindingFault) → IsTrue (is_doubt fault) → IsTrue (is_of_machine fault)
-doubt_of_machine finding.NotCertified h = absurd (cc)
-doubt_of_machine finding.NotAState h = absurd (cc)
-doubt_of_machine finding.TaskUndeclared h = absurd (cc)
-doubt_of_machine finding.TaskUnknown h = absurd (cc)
-doubt_of_machine finding.StartInput h = absurd (cc)
-doubt_of_machine finding.PathMayBeMissing h = refl
-doubt_of_machine finding.WrongKind h = refl
-doubt_of_machine finding.ResultMayNotFit h = refl
-doubt_of_machine finding.IntrinsicMayFail h = refl
-doubt_of_machine finding.NoDefault h = refl
-doubt_of_machine finding.PayloadNotTaken h = refl
-doubt_of_machine finding.OutputNotCertified h = absurd (cc)
-doubt_of_machine finding.NextInput h = absurd (cc)
-doubt_of_machine finding.ScopeOutput h = absurd (cc)
-doubt_of_machine finding.BranchInput h = absurd (cc)
-doubt_of_machine finding.CatchInput h = absurd (cc)
-
 -- a rule stands for some certificate that is broken in a state whatever is certified elsewhere
 abbrev pub StandsInTable : Type 0
 StandsInTable = (machine : Scope) (declared : model.Declared) (i : ℕ) (n : List ℕ) (state : State) (entry : model.StateShapes) (breach : finding.Breach) → slice_get (table_of machine).names i ≡ Some n → slice_get (table_of machine).states i ≡ Some state → IsBrokenAnyway declared n state entry breach → StandsForSome machine declared (finding_of n breach)
@@ -80,7 +61,7 @@ walk_halts law shown declared i n entry rule found named walked is = record {
       let state : IsNamed machine nothing_certified i n = is_named machine nothing_certified i n here in
       let stands = (walked.stops n (outline state.shown) (sym named) (ap (λ t. slice_get t.states i) shows.table ∙ state.here)).stops in
       subst (IsOfMachine machine declared) (sym is) (record {
-        fault = doubt_of_machine (broken_view rule).fault stands.doubt;
+        fault = stands.of_machine;
         stands = law machine declared i n (outline state.shown) entry (broken_view rule) here state.here stands.stands;
       });
 }

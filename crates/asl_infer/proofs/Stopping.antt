@@ -3,6 +3,7 @@ use Rattle.std.proofs.Common.{◌≡◌, ◌<◌, ◌++◌, ℕ, zero, suc, List
 use Rattle.std.specs.Prelude.{IsTrue}
 use Rattle.std.proofs.lemmas.List.Elements.{Contains-append_left, Contains-append_right}
 use Rattle.asl_model.specs.Finding.{Breach, FindingFault, WrongKind, PathMayBeMissing, breach_of, breach_unless, breaches_then, delay_breaches, kind_breaches}
+use Rattle.asl_model.specs.Inference.{is_of_machine}
 use Rattle.asl_model.specs.Machine.{Delay, Seconds, SecondsPath, Timestamp, TimestampPath}
 use Rattle.asl_model.specs.Shape.{Shape}
 use Rattle.asl_model.specs.ShapeFlow.{Flow, FlowFault, MissingAt, FailsAt, MisfitAt, look}
@@ -15,13 +16,13 @@ use Rattle.asl_check.specs.declared.flowing.Stopped.TheVariants as stopped
 use Rattle.asl_check.specs.declared.noting.Broken.{Broken}
 use Rattle.asl_check.proofs.Members.{first, first_or_later, no_member, only}
 use Rattle.asl_check.proofs.Stops.{stops_with}
-use Rattle.asl_infer.specs.Walking.{Rules, Stops, StopsOnWay, is_doubt}
+use Rattle.asl_infer.specs.Walking.{Rules, Stops, StopsOnWay}
 
 -- ---- from one list of rules to another
 
 -- a longer list
 pub stops_among : {A B : Type 0} (these all : Rules) (why : Stopped) → ((inputs : List ℕ → Option Shape) (end : Option Shape) (b : Breach) → Contains (these inputs end) b → Contains (all inputs end) b) → Stops {A = A} these (Err why) → Stops {A = B} all (Err why)
-stops_among these all (stopped.Broken b) among h = record { stops = record { stands = λ inputs end. among inputs end (broken_view b) (h.stops.stands inputs end); doubt = h.stops.doubt } }
+stops_among these all (stopped.Broken b) among h = record { stops = record { stands = λ inputs end. among inputs end (broken_view b) (h.stops.stands inputs end); of_machine = h.stops.of_machine } }
 stops_among these all stopped.OutOfMemory among h = record { stops = tt }
 
 -- the same list
@@ -55,24 +56,24 @@ module _ {X : Type 0} (all : List X → Rules) (each : X → Rules) (unfolds : (
 
 -- ---- the way of a shape
 
-fault_doubt : (fault : FlowFault) → IsTrue (is_doubt (breach_of fault).fault)
-fault_doubt (MissingAt field) = refl
-fault_doubt (FailsAt field) = refl
-fault_doubt (MisfitAt field) = refl
+fault_of_machine : (fault : FlowFault) → IsTrue (is_of_machine (breach_of fault).fault)
+fault_of_machine (MissingAt field) = refl
+fault_of_machine (FailsAt field) = refl
+fault_of_machine (MisfitAt field) = refl
 
--- what stops a shape on its way is a doubt
-way_doubt : (faults : List FlowFault) (b : Breach) → Contains (map breach_of faults) b → IsTrue (is_doubt b.fault)
-way_doubt [] b h = absurd (no_member b h)
-way_doubt (fault ∷ faults) b h = by (first_or_later (breach_of fault) (map breach_of faults) b h) (way_doubt faults b)
+-- what stops a shape on its way is of the machine, or of what is declared
+way_of_machine : (faults : List FlowFault) (b : Breach) → Contains (map breach_of faults) b → IsTrue (is_of_machine b.fault)
+way_of_machine [] b h = absurd (no_member b h)
+way_of_machine (fault ∷ faults) b h = by (first_or_later (breach_of fault) (map breach_of faults) b h) (way_of_machine faults b)
   where
-    by : (breach_of fault ≡ b) ⊎ Contains (map breach_of faults) b → (Contains (map breach_of faults) b → IsTrue (is_doubt b.fault)) → IsTrue (is_doubt b.fault)
-    by (inl is) below = subst (λ (c : Breach). IsTrue (is_doubt c.fault)) is (fault_doubt fault)
+    by : (breach_of fault ≡ b) ⊎ Contains (map breach_of faults) b → (Contains (map breach_of faults) b → IsTrue (is_of_machine b.fault)) → IsTrue (is_of_machine b.fault)
+    by (inl is) below = subst (λ (c : Breach). IsTrue (is_of_machine c.fault)) is (fault_of_machine fault)
     by (inr there) below = below there
 
 -- it stops, as that is told
 stops_of_told : {A : Type 0} (go_on : (List ℕ → Option Shape) → Option Shape → Shape → List Breach) (flow : Flow) (b : Broken) → StopsWith flow (broken_view b) → Stops {A = A} (λ inputs end. breaches_then (go_on inputs end) flow) (Err (stopped.Broken b))
 stops_of_told go_on (Ok s) b h = absurd h
-stops_of_told go_on (Err faults) b h = record { stops = record { stands = λ inputs end. h; doubt = way_doubt faults (broken_view b) h } }
+stops_of_told go_on (Err faults) b h = record { stops = record { stands = λ inputs end. h; of_machine = way_of_machine faults (broken_view b) h } }
 
 -- it stops, however it goes on
 pub stops_on_way : {A : Type 0} (go_on : (List ℕ → Option Shape) → Option Shape → Shape → List Breach) (flow : Flow) (answer : Result A Stopped) → StopsOnWay flow answer → Stops (λ inputs end. breaches_then (go_on inputs end) flow) answer
@@ -95,36 +96,36 @@ stops_of_fault flow fault b h is = record { stops = stops_with flow fault (broke
 
 -- ---- one rule
 
--- that rule is a doubt
-unless_doubt : (holds : Bool) (field : List ℕ) (fault : FindingFault) (b : Breach) → IsTrue (is_doubt fault) → Contains (breach_unless holds field fault) b → IsTrue (is_doubt b.fault)
-unless_doubt true field fault b doubt h = absurd (no_member b h)
-unless_doubt false field fault b doubt h = subst (λ (c : Breach). IsTrue (is_doubt c.fault)) (only (record { field = field; fault = fault }) b h) doubt
+-- so is that rule
+unless_of_machine : (holds : Bool) (field : List ℕ) (fault : FindingFault) (b : Breach) → IsTrue (is_of_machine fault) → Contains (breach_unless holds field fault) b → IsTrue (is_of_machine b.fault)
+unless_of_machine true field fault b of_machine h = absurd (no_member b h)
+unless_of_machine false field fault b of_machine h = subst (λ (c : Breach). IsTrue (is_of_machine c.fault)) (only (record { field = field; fault = fault }) b h) of_machine
 
 -- it is broken
-pub stops_of_rule : {A : Type 0} (all : Rules) (field : List ℕ) (fault : FindingFault) (b : Broken) → IsTrue (is_doubt fault) → ((inputs : List ℕ → Option Shape) (end : Option Shape) → breach_unless false field fault ≡ all inputs end) → broken_view b ≡ record { field = field; fault = fault } → Stops {A = A} all (Err (stopped.Broken b))
-stops_of_rule all field fault b doubt same is = record {
+pub stops_of_rule : {A : Type 0} (all : Rules) (field : List ℕ) (fault : FindingFault) (b : Broken) → IsTrue (is_of_machine fault) → ((inputs : List ℕ → Option Shape) (end : Option Shape) → breach_unless false field fault ≡ all inputs end) → broken_view b ≡ record { field = field; fault = fault } → Stops {A = A} all (Err (stopped.Broken b))
+stops_of_rule all field fault b of_machine same is = record {
   stops = record {
     stands = λ inputs end. subst (λ bs. Contains bs (broken_view b)) (same inputs end) (subst (Contains (breach_unless false field fault)) (sym is) (first (record { field = field; fault = fault }) []));
-    doubt = subst (λ (c : Breach). IsTrue (is_doubt c.fault)) (sym is) doubt;
+    of_machine = subst (λ (c : Breach). IsTrue (is_of_machine c.fault)) (sym is) of_machine;
   };
 }
 
 -- what is told is it, unless it holds
-pub stops_of_unless : {A : Type 0} (holds : Bool) (field : List ℕ) (fault : FindingFault) (b : Broken) → IsTrue (is_doubt fault) → Told (breach_unless holds field fault) (Some (broken_view b)) → Stops {A = A} (λ inputs end. breach_unless holds field fault) (Err (stopped.Broken b))
-stops_of_unless holds field fault b doubt told = record { stops = record { stands = λ inputs end. told.one; doubt = unless_doubt holds field fault (broken_view b) doubt told.one } }
+pub stops_of_unless : {A : Type 0} (holds : Bool) (field : List ℕ) (fault : FindingFault) (b : Broken) → IsTrue (is_of_machine fault) → Told (breach_unless holds field fault) (Some (broken_view b)) → Stops {A = A} (λ inputs end. breach_unless holds field fault) (Err (stopped.Broken b))
+stops_of_unless holds field fault b of_machine told = record { stops = record { stands = λ inputs end. told.one; of_machine = unless_of_machine holds field fault (broken_view b) of_machine told.one } }
 
 -- ---- delays
 
-kinds_doubt : (field : List ℕ) (test : Shape → Bool) (named : Result Shape ℕ) (b : Breach) → Contains (kind_breaches field test named) b → IsTrue (is_doubt b.fault)
-kinds_doubt field test (Ok s) b h = unless_doubt (test s) field WrongKind b refl h
-kinds_doubt field test (Err at) b h = unless_doubt false field PathMayBeMissing b refl h
+kinds_of_machine : (field : List ℕ) (test : Shape → Bool) (named : Result Shape ℕ) (b : Breach) → Contains (kind_breaches field test named) b → IsTrue (is_of_machine b.fault)
+kinds_of_machine field test (Ok s) b h = unless_of_machine (test s) field WrongKind b refl h
+kinds_of_machine field test (Err at) b h = unless_of_machine false field PathMayBeMissing b refl h
 
-delays_doubt : (delay : Delay) (s : Shape) (b : Breach) → Contains (delay_breaches delay s) b → IsTrue (is_doubt b.fault)
-delays_doubt (Seconds n) s b h = absurd (no_member b h)
-delays_doubt (SecondsPath path) s b h = kinds_doubt (codes "SecondsPath") is_integer_shape (look path s) b h
-delays_doubt (Timestamp t) s b h = absurd (no_member b h)
-delays_doubt (TimestampPath path) s b h = kinds_doubt (codes "TimestampPath") is_string_shape (look path s) b h
+delays_of_machine : (delay : Delay) (s : Shape) (b : Breach) → Contains (delay_breaches delay s) b → IsTrue (is_of_machine b.fault)
+delays_of_machine (Seconds n) s b h = absurd (no_member b h)
+delays_of_machine (SecondsPath path) s b h = kinds_of_machine (codes "SecondsPath") is_integer_shape (look path s) b h
+delays_of_machine (Timestamp t) s b h = absurd (no_member b h)
+delays_of_machine (TimestampPath path) s b h = kinds_of_machine (codes "TimestampPath") is_string_shape (look path s) b h
 
 -- what is told of a delay stops it
 pub stops_of_delay : {A : Type 0} (delay : Delay) (s : Shape) (b : Broken) → Told (delay_breaches delay s) (Some (broken_view b)) → Stops {A = A} (λ inputs end. delay_breaches delay s) (Err (stopped.Broken b))
-stops_of_delay delay s b told = record { stops = record { stands = λ inputs end. told.one; doubt = delays_doubt delay s (broken_view b) told.one } }
+stops_of_delay delay s b told = record { stops = record { stands = λ inputs end. told.one; of_machine = delays_of_machine delay s (broken_view b) told.one } }

@@ -1,6 +1,10 @@
 -- Shapes cut to a depth, so that a shape can't grow without end.
-use Rattle.std.specs.Prelude.{ℕ, zero, suc}
+use Rattle.std.specs.Prelude.{◌≤◌, ℕ, zero, suc, List}
+use Rattle.std.specs.List.{AllByRecursion}
+use Rattle.asl_model.specs.Certificate.{StateShapes}
+use Rattle.asl_model.specs.RecordShapes.{HoldsForState}
 use Rattle.asl_model.specs.Shape.{Shape, Any, Never, NullShape, BooleanShape, IntegerShape, StringShape, ArrayShape, ObjectShape, Shapes, NoShapes, AndShape, FieldShapes, NoFieldShapes, AndFieldShape}
+use Rattle.asl_model.specs.ShapeOrder.{depth}
 
 abbrev mutual
   -- the shape down to so many levels, the outermost counted: Any stands for each shape below them
@@ -32,3 +36,11 @@ deepest = 48
 -- the shape, with Any for each shape below the deepest level
 abbrev pub cut : Shape → Shape
 cut s = cut_to deepest s
+
+-- the shape has at most so many levels, and one more of Any for what is cut
+abbrev pub IsShallow : Shape → Type 0
+IsShallow s = depth s ≤ suc deepest
+
+-- so has every shape in those entries of a certificate
+pub record AreShallow (entries : List (List ℕ × StateShapes)) : Type 0 where
+  pub shallow : AllByRecursion (λ (entry : List ℕ × StateShapes). HoldsForState IsShallow entry.1) entries

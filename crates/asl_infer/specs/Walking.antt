@@ -1,7 +1,8 @@
 -- What stops the walk of a state: one of its broken rules, which is broken whatever is certified of the other states.
-use Rattle.std.specs.Prelude.{◌≡◌, ℕ, List, ◌++◌, Bool, true, false, IsTrue, Option, Some, Result, Ok, Err, Contains, codes, slice_get}
+use Rattle.std.specs.Prelude.{◌≡◌, ℕ, List, ◌++◌, IsTrue, Option, Some, Result, Ok, Err, Contains, codes, slice_get}
 use Rattle.asl_model.specs.Certificate as certificates
 use Rattle.asl_model.specs.Finding as finding
+use Rattle.asl_model.specs.Inference.{is_of_machine}
 use Rattle.asl_model.specs.Machine as machines
 use Rattle.asl_model.specs.Numbering.{Table}
 use Rattle.asl_model.specs.Path.{Segment}
@@ -23,33 +24,14 @@ use Rattle.asl_infer.specs.declared.walking.Walk.{Walk}
 
 -- ---- rules, and what stops a walk
 
--- the fault of a rule that compares nothing with what is certified
-abbrev pub is_doubt : finding.FindingFault → Bool
-is_doubt finding.NotCertified = false
-is_doubt finding.NotAState = false
-is_doubt finding.TaskUndeclared = false
-is_doubt finding.TaskUnknown = false
-is_doubt finding.StartInput = false
-is_doubt finding.PathMayBeMissing = true
-is_doubt finding.WrongKind = true
-is_doubt finding.ResultMayNotFit = true
-is_doubt finding.IntrinsicMayFail = true
-is_doubt finding.NoDefault = true
-is_doubt finding.PayloadNotTaken = true
-is_doubt finding.OutputNotCertified = false
-is_doubt finding.NextInput = false
-is_doubt finding.ScopeOutput = false
-is_doubt finding.BranchInput = false
-is_doubt finding.CatchInput = false
-
 -- the broken rules of a state, for the inputs that are certified by name and the shape that is certified of its scope's end
 abbrev pub Rules : Type 0
 Rules = (List ℕ → Option Shape) → Option Shape → List finding.Breach
 
--- one of them is a doubt, and is broken whatever is certified
+-- one of them is about the machine, or about what is declared, and is broken whatever is certified
 pub record StandsAnyhow (rules : Rules) (b : finding.Breach) : Type 0 where
   pub stands : (inputs : List ℕ → Option Shape) (end : Option Shape) → Contains (rules inputs end) b
-  pub doubt : IsTrue (is_doubt b.fault)
+  pub of_machine : IsTrue (is_of_machine b.fault)
 
 -- what is told where the walk stops is such a rule
 abbrev pub StopsBy : {A : Type 0} → Rules → Result A Stopped → Type 0
@@ -169,7 +151,7 @@ items_view items = (shapes_view items.first.now, view items.rest.now)
 -- the items are those of the shape that a look-up found, or the rule is the one that is broken where it has none
 abbrev pub AreFound : Result Shape ℕ → Result Items Broken → Type 0
 AreFound found (Ok items) = (go_on : Shapes × Shape → List finding.Breach) → finding.with_items go_on found ≡ go_on (items_view items)
-AreFound found (Err b) = ((go_on : Shapes × Shape → List finding.Breach) → Contains (finding.with_items go_on found) (broken_view b)) × IsTrue (is_doubt (broken_view b).fault)
+AreFound found (Err b) = ((go_on : Shapes × Shape → List finding.Breach) → Contains (finding.with_items go_on found) (broken_view b)) × IsTrue (is_of_machine (broken_view b).fault)
 
 pub record Finds (found : Result Shape ℕ) (answer : Result Items Broken) : Type 0 where
   pub finds : AreFound found answer

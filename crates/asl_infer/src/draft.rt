@@ -1,8 +1,12 @@
 // A certificate in the making: its shapes, which grow as the machine's states are walked.
 
-ghost use Rattle.std.specs.Prelude.{◌≡◌, ◌*◌, IfOk};
+ghost use Rattle.std.specs.Prelude.{◌≡◌, ◌*◌, IfOk, IfSome, OnOk, option_map};
+ghost use Rattle.asl_model.specs.RecordShapes.{HoldsForState, HoldsForCertificate};
 ghost use Rattle.asl_machine.specs.Machine.{kind_view};
 ghost use Rattle.asl_machine.specs.Table.{table_view};
+ghost use Rattle.asl_records.specs.View.{certificate_view, entries_view, entry_view};
+ghost use Rattle.asl_shape.specs.View.{view};
+ghost use Rattle.asl_infer.specs.Cutting.{AreShallow, IsShallow};
 ghost use Rattle.asl_infer.specs.Growing.{IsSpent, branches_room, item_room, room, state_room, states_room};
 ghost use Rattle.asl_infer.specs.Inferring.{certified_shapes, entry_shapes};
 
@@ -81,15 +85,14 @@ impl Draft {
         self,
         alloc: Global,
         machine: &Machine,
-    ) -> Result<Certificate, OutOfMemory> {
+    ) -> Result<Certificate, OutOfMemory>
+        ensures { IfOk result (λ certificate. HoldsForCertificate IsShallow (certificate_view certificate)) }
+    {
         let mut states = BTreeMap::new(alloc);
         let mut drafted = self.states.into_iter();
         for number in 0..machine.states() {
             if let Some(state) = drafted.next() {
-                if let Some(name) = machine.name(number) {
-                    let name = String::from_str(alloc, name)?;
-                    drop(states.insert(name, state.certified(alloc)?)?);
-                }
+                add_certified(alloc, machine, number, state, &mut states)?;
             }
         }
         Ok(Certificate {
@@ -134,6 +137,24 @@ impl Draft {
     }
 }
 
+// Adds the entry that the shapes of the state of that number have come to.
+fn add_certified(
+    alloc: Global,
+    machine: &Machine,
+    number: usize,
+    state: GrowingState,
+    states: &mut BTreeMap<String, StateShapes>,
+) -> Result<(), OutOfMemory>
+    ensures { OnOk result (AreShallow (entries_view states.old.entries) → AreShallow (entries_view states.new.entries)) }
+{
+    if let Some(name) = machine.name(number) {
+        let name = String::from_str(alloc, name)?;
+        let entry = state.certified(alloc)?;
+        drop(states.insert(name, entry)?);
+    }
+    Ok(())
+}
+
 // Takes in what flows into a shape of the state of that number.
 fn take_in_state(
     alloc: Global,
@@ -168,7 +189,9 @@ impl GrowingState {
     }
 
     // The entry that the state's shapes have come to.
-    fn certified(self, alloc: Global) -> Result<StateShapes, OutOfMemory> {
+    fn certified(self, alloc: Global) -> Result<StateShapes, OutOfMemory>
+        ensures { IfOk result (λ entry. HoldsForState IsShallow (entry_view entry)) }
+    {
         let mut branches = Vec::new(alloc);
         for branch in self.branches {
             branches.push(branch.shape)?;
@@ -222,7 +245,9 @@ fn take_in_branch(
 }
 
 // The shape of the items, where there is one.
-fn item_shape(item: Option<Growing>) -> Option<Shape> {
+fn item_shape(item: Option<Growing>) -> Option<Shape>
+    ensures { IfSome (option_map view result) IsShallow }
+{
     match item {
         Some(item) => Some(item.shape),
         None => None,

@@ -1,8 +1,7 @@
 // A shape that grows as more flows into it.
 
-ghost use Rattle.std.specs.Prelude.{◌≡◌, OnOk, IfOk};
 ghost use Rattle.asl_shape.specs.View.{view};
-ghost use Rattle.asl_infer.specs.Growing.{Takes, growth_view, sprout};
+ghost use Rattle.asl_infer.specs.Cutting.{IsShallow};
 
 use crate::cutting::cut;
 use asl_shape::{Shape, join, same};
@@ -17,9 +16,13 @@ const MOST_CHANGES: u8 = 33;
 pub(crate) struct Growing {
     pub(crate) shape: Shape,
     changes_left: u8,
+    ghost shallow: { IsShallow (view shape) },
 }
 
 impl Growing {
+    ghost use Rattle.std.specs.Prelude.{◌≡◌, IfOk};
+    ghost use Rattle.asl_infer.specs.Growing.{Takes, growth_view, sprout};
+
     /// The shape of no tree, unchanged so far.
     pub(crate) fn new() -> Growing
         ensures { growth_view result ≡ sprout }
@@ -44,11 +47,12 @@ impl Growing {
             return Ok(false);
         }
         self.changes_left -= 1;
-        self.shape = if self.changes_left == 0 {
+        let grown = if self.changes_left == 0 {
             Shape::Any
         } else {
             joined
         };
+        self.shape = grown;
         Ok(true)
     }
 }

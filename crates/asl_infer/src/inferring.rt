@@ -1,9 +1,13 @@
 // Inferring a certificate, round after round.
 
 ghost use Rattle.std.specs.Prelude.{◌≡◌, ◌*◌, ◌≤◌, IfErr, IfOk};
+ghost use Rattle.serde_json.specs.Data.{depth};
+ghost use Rattle.serde_json.specs.Read.{max_depth};
 ghost use Rattle.asl_model.specs.Certificate.{IsClosed};
 ghost use Rattle.asl_model.specs.Inference.{finding_of};
+ghost use Rattle.asl_model.specs.Json.{value_of};
 ghost use Rattle.asl_model.specs.Machine as machines;
+ghost use Rattle.asl_model.specs.Written.{written_certificate};
 ghost use Rattle.asl_machine.specs.Table.{Shows};
 ghost use Rattle.asl_records.specs.View.{declared_view, certificate_view};
 ghost use Rattle.asl_check.specs.Noting.{broken_view};
@@ -51,6 +55,8 @@ impl From<OutOfMemory> for InferRefusal {
 /// compared with. The certificate is answered after a round that changed no shape. Refuses with a finding where a rule
 /// is broken that compares nothing with the certificate, where a Task isn't declared, and where a declared task names
 /// no Task; where all rounds changed a shape; and where an allocation was refused.
+///
+/// What is written of the certificate nests at most 127 levels, so that its text reads back.
 pub fn infer(
     alloc: Global,
     machine: &Machine,
@@ -58,6 +64,7 @@ pub fn infer(
     max_rounds: u32,
 ) -> Result<Certificate, InferRefusal>
     ensures closed { IfOk result (λ certificate. (m : machines.Scope) → Shows machine.now m → IsClosed (declared_view declared.now) (certificate_view certificate) m) }
+    ensures shallow { IfOk result (λ certificate. depth (value_of (written_certificate (certificate_view certificate))) ≤ max_depth) }
     ensures refused { IfErr result (λ refusal. (m : machines.Scope) → Shows machine.now m → IsInferRefusal m (declared_view declared.now) max_rounds refusal) }
 {
     check_tasks(alloc, machine, declared)?;

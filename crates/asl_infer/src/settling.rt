@@ -4,9 +4,11 @@ ghost use Rattle.std.specs.Prelude.{◌≡◌, Contains, IfErr, IfOk, IfSome, Is
 ghost use Rattle.asl_model.specs.Certificate.{IsClosed};
 ghost use Rattle.asl_model.specs.Inference.{is_of_machine};
 ghost use Rattle.asl_model.specs.Machine as machines;
+ghost use Rattle.asl_model.specs.RecordShapes.{HoldsForCertificate};
 ghost use Rattle.asl_machine.specs.Table.{Shows};
 ghost use Rattle.asl_records.specs.View.{declared_view, certificate_view};
 ghost use Rattle.asl_check.specs.View.{finding_fault_view};
+ghost use Rattle.asl_infer.specs.Cutting.{IsShallow};
 ghost use Rattle.asl_infer.specs.Inferring.{Halts};
 
 use crate::draft::Draft;
@@ -47,6 +49,7 @@ pub(crate) fn settle(
     draft: Draft,
 ) -> Result<Certificate, InferRefusal>
     ensures closed { IfOk result (λ certificate. (m : machines.Scope) → Shows machine.now m → IsClosed (declared_view declared.now) (certificate_view certificate) m) }
+    ensures shallow { IfOk result (λ certificate. HoldsForCertificate IsShallow (certificate_view certificate)) }
     ensures refused { IfErr result (Halts machine.now (declared_view declared.now)) }
 {
     no_broken_rule_means_closed();
@@ -67,6 +70,7 @@ fn settle_widest(
     declared: &Declared,
 ) -> Result<Certificate, InferRefusal>
     ensures closed { IfOk result (λ certificate. (m : machines.Scope) → Shows machine.now m → IsClosed (declared_view declared.now) (certificate_view certificate) m) }
+    ensures shallow { IfOk result (λ certificate. HoldsForCertificate IsShallow (certificate_view certificate)) }
     ensures refused { IfErr result (Halts machine.now (declared_view declared.now)) }
 {
     no_broken_rule_means_closed();

@@ -4,11 +4,13 @@ ghost use Rattle.std.specs.Prelude.{◌≡◌, IfOk, OnOk, map, replicate};
 ghost use Rattle.asl_model.specs.Inference.{IsWidest, widest_entry};
 ghost use Rattle.asl_model.specs.Machine as machines;
 ghost use Rattle.asl_model.specs.Numbering.{table_of};
+ghost use Rattle.asl_model.specs.RecordShapes.{HoldsForCertificate};
 ghost use Rattle.asl_model.specs.Shape as model;
 ghost use Rattle.asl_machine.specs.Machine.{kind_view};
 ghost use Rattle.asl_machine.specs.Table.{Shows, table_view};
 ghost use Rattle.asl_records.specs.View.{certificate_view, entries_view, entry_view};
 ghost use Rattle.asl_shape.specs.View.{view};
+ghost use Rattle.asl_infer.specs.Cutting.{AreShallow, IsShallow};
 ghost use Rattle.asl_infer.specs.Widest.{AreWidestTo, AreWidened};
 
 use asl_check::{branches_in, is_map};
@@ -24,7 +26,8 @@ pub(crate) fn widest_certificate(
     alloc: Global,
     machine: &Machine,
 ) -> Result<Certificate, OutOfMemory>
-    ensures { IfOk result (λ certificate. (m : machines.Scope) → Shows machine.now m → IsWidest (table_of m) (certificate_view certificate)) }
+    ensures widest { IfOk result (λ certificate. (m : machines.Scope) → Shows machine.now m → IsWidest (table_of m) (certificate_view certificate)) }
+    ensures shallow { IfOk result (λ certificate. HoldsForCertificate IsShallow (certificate_view certificate)) }
 {
     let mut states = BTreeMap::new(alloc);
     for number in 0..machine.states() {
@@ -43,7 +46,8 @@ fn add_entry(
     number: usize,
     states: &mut BTreeMap<String, StateShapes>,
 ) -> Result<(), OutOfMemory>
-    ensures { OnOk result (AreWidened (table_view machine.now) number (entries_view states.old.entries) (entries_view states.new.entries)) }
+    ensures widened { OnOk result (AreWidened (table_view machine.now) number (entries_view states.old.entries) (entries_view states.new.entries)) }
+    ensures shallow { OnOk result (AreShallow (entries_view states.old.entries) → AreShallow (entries_view states.new.entries)) }
 {
     if let Some(name) = machine.name(number) {
         if let Some(state) = machine.state(number) {

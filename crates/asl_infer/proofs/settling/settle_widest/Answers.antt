@@ -17,7 +17,7 @@ returns-in-Some-clause-refused c =
     let all : told ≡ found ∷ c.next.new.self.rest.items = sym c.into_iter.ensures.rest ∙ c.in-Some.ensures.items in
     let among : Contains told found = subst (λ xs. Contains xs found) (sym all) (first found c.next.new.self.rest.items) in
     told_halts c.args.machine.now declared certificate told found (λ m shows. subst (λ v. IsRight m declared certificate (verdict_view v)) c.in-No.is (c.in_ok-check.ensures.verdict m shows)) among
-    (λ m shows. c.the_widest_certificate_has_no_fault_of_its_own.ensures.of_machine m declared certificate shows.well_named (c.in_ok-widest.ensures m shows) (finding_view found) ((subst (λ v. IsRight m declared certificate (verdict_view v)) c.in-No.is (c.in_ok-check.ensures.verdict m shows)).standing (finding_view found) (given_of finding_view told found among)))
+    (λ m shows. c.the_widest_certificate_has_no_fault_of_its_own.ensures.of_machine m declared certificate shows.well_named (c.in_ok-widest.ensures.widest m shows) (finding_view found) ((subst (λ v. IsRight m declared certificate (verdict_view v)) c.in-No.is (c.in_ok-check.ensures.verdict m shows)).standing (finding_view found) (given_of finding_view told found among)))
 
 pub returns-in-None-clause-closed : goal.returns-in-None-clause-closed
 returns-in-None-clause-closed c =
