@@ -1,0 +1,5 @@
+pub mod Appending
+pub mod Expansions
+pub mod Growing
+pub mod Sameness
+pub mod Tables
