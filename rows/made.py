@@ -5,6 +5,7 @@
 <<bytes 00 ff>>     these bytes, in hexadecimal
 <<states N>>        N Pass states S00000, S00001, .., each followed by the next, the last one ending
 <<entries N>>       a certificate's entries for these states, integers going in and out
+<<loop N>>          N Pass states, each followed by the one before it, and the first, which wraps its input, by the last
 <<line N of PATH>>  the line of that number, counted from 1, of the file with that path from the top of the repository
 """
 
@@ -52,9 +53,9 @@ def made_part(part):
     repeated = re.fullmatch(r"(.+) \* (\d+)", part)
     if repeated:
         return repeated[1].encode() * int(repeated[2])
-    counted = re.fullmatch(r"(states|entries) (\d+)", part)
+    counted = re.fullmatch(r"(states|entries|loop) (\d+)", part)
     if counted:
-        make = {"states": states, "entries": entries}[counted[1]]
+        make = {"states": states, "entries": entries, "loop": loop}[counted[1]]
         return make(int(counted[2])).encode()
     of_file = re.fullmatch(r"line (\d+) of (.+)", part)
     if of_file:
@@ -74,3 +75,10 @@ def entries(count):
     """Returns the members of a certificate's `states` for that chain."""
     integers = '{"input":{"type":"integer"},"output":{"type":"integer"}}'
     return ",".join(f'"S{i:05}":{integers}' for i in range(count))
+
+
+def loop(count):
+    """Returns the members of `States` for a loop of Pass states against the order of their names."""
+    back = (f',"S{i:05}":{{"Type":"Pass","Next":"S{i - 1:05}"}}' for i in range(1, count))
+    wrap = f'"S00000":{{"Type":"Pass","Parameters":{{"p.$":"$"}},"Next":"S{count - 1:05}"}}'
+    return wrap + "".join(back)

@@ -3,8 +3,9 @@
 use crate::command_line::TextFiles;
 use crate::endings::finish;
 use crate::files::file_text;
+use crate::printing::print_verdict;
 use asl_tool::{Closing, FromRead, RunFault, ToWrite, Verdict};
-use std::io::{self, Write};
+use std::io;
 use std::rt::Files;
 
 /// Checks the three lines of standard input, writes the verdict to standard output, and gives the exit status.
@@ -47,11 +48,6 @@ fn verdict_on<R: Files + Print + AllocGlobal>(
         Ok(verdict) => verdict,
         Err(refusal) => return Err(RunFault::Text(refusal)),
     };
-    let Ok(text) = asl_tool::verdict_text(rt.alloc(), &verdict) else {
-        return Err(RunFault::OutOfMemory);
-    };
-    match io::writer(rt).write_all(text.as_bytes()) {
-        Ok(()) => Ok(verdict),
-        Err(_) => Err(RunFault::Write),
-    }
+    print_verdict(rt, &verdict)?;
+    Ok(verdict)
 }

@@ -14,6 +14,10 @@ pub(crate) enum Request<'a> {
     CheckInput,
     /// To check the texts in these files.
     CheckFiles(TextFiles<'a>),
+    /// To infer a certificate of the texts in these files.
+    Infer(MachineFiles<'a>),
+    /// To infer a certificate of the texts in these files, and to check it.
+    Verify(MachineFiles<'a>),
     /// To run a machine.
     Run(RunRequest<'a>),
 }
@@ -24,6 +28,13 @@ pub(crate) struct TextFiles<'a> {
     pub(crate) definition: &'a str,
     pub(crate) declared: &'a str,
     pub(crate) certificate: &'a str,
+}
+
+/// The names of the files with a definition and the declared shapes.
+#[derive(Drop)]
+pub(crate) struct MachineFiles<'a> {
+    pub(crate) definition: &'a str,
+    pub(crate) declared: &'a str,
 }
 
 /// What is run, by the names of the files with the texts, and how.
@@ -88,9 +99,23 @@ pub(crate) fn asked<'a>(alloc: Global, words: &'a [String]) -> Result<Request<'a
             certificate: file_named(given, CERTIFICATE),
         }));
     }
+    if let Some(given) = matches.subcommand_matches("infer") {
+        return Ok(Request::Infer(machine_files(given)));
+    }
+    if let Some(given) = matches.subcommand_matches("verify") {
+        return Ok(Request::Verify(machine_files(given)));
+    }
     match matches.subcommand_matches("run") {
         Some(given) => Ok(Request::Run(run_request(given))),
         None => Ok(Request::CheckInput),
+    }
+}
+
+/// The files that the arguments of the commands `infer` and `verify` name.
+fn machine_files<'a>(given: &ArgMatches<'a>) -> MachineFiles<'a> {
+    MachineFiles {
+        definition: file_named(given, DEFINITION),
+        declared: file_named(given, DECLARED),
     }
 }
 
@@ -120,6 +145,8 @@ fn command<'a>(alloc: Global) -> Result<Command<'a>, AllocError> {
         .about("Check the data flow of workflows in Amazon States Language, and run them")
         .after_help(AFTER_HELP)
         .subcommand(check_command(alloc)?)?
+        .subcommand(infer_command(alloc)?)?
+        .subcommand(verify_command(alloc)?)?
         .subcommand(run_command(alloc)?)
 }
 
@@ -128,8 +155,24 @@ fn check_command<'a>(alloc: Global) -> Result<Command<'a>, AllocError> {
     Command::new(alloc, "check")
         .about("Check a certificate of shapes and print the verdict")
         .arg(definition(alloc))?
-        .arg(file(alloc, DECLARED, "File with the declared shapes"))?
+        .arg(declared(alloc))?
         .arg(file(alloc, CERTIFICATE, "File with the certificate"))
+}
+
+/// The command `infer`.
+fn infer_command<'a>(alloc: Global) -> Result<Command<'a>, AllocError> {
+    Command::new(alloc, "infer")
+        .about("Infer a certificate of shapes and print it")
+        .arg(definition(alloc))?
+        .arg(declared(alloc))
+}
+
+/// The command `verify`.
+fn verify_command<'a>(alloc: Global) -> Result<Command<'a>, AllocError> {
+    Command::new(alloc, "verify")
+        .about("Infer a certificate of shapes, check it and print the verdict")
+        .arg(definition(alloc))?
+        .arg(declared(alloc))
 }
 
 /// The command `run`.
@@ -163,6 +206,11 @@ fn definition<'a>(alloc: Global) -> Arg<'a> {
         DEFINITION,
         "File with the definition of the state machine",
     )
+}
+
+/// The file with the declared shapes.
+fn declared<'a>(alloc: Global) -> Arg<'a> {
+    file(alloc, DECLARED, "File with the declared shapes")
 }
 
 /// A file name that has to be given.

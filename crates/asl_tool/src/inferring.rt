@@ -3,6 +3,7 @@
 ghost use Rattle.std.specs.Prelude.{◌≡◌, ◌≤◌, IfOk, IfErr, string_bytes};
 ghost use Rattle.serde_json.specs.Data.{depth};
 ghost use Rattle.serde_json.specs.Read.{max_depth};
+ghost use Rattle.asl_model.specs.Headline.{AreClosed};
 ghost use Rattle.asl_model.specs.Json.{compact_text, value_of};
 ghost use Rattle.asl_model.specs.Texts.{ReadsAsCertificate};
 ghost use Rattle.asl_model.specs.Written.{written_certificate};
@@ -30,9 +31,9 @@ pub enum Inferred {
 
 /// Infers a certificate of a definition and declared shapes, both given as JSON texts, in at most `max_rounds` rounds.
 ///
-/// A certificate is closed for what the two texts read as. Its text is compact, with names in byte order. A finding is of
-/// the machine or of what is declared. The certificate isn't settled only where the rounds are no more than 33 for each
-/// of its shapes.
+/// A certificate is closed for what the two texts read as. Its text is compact, with names in byte order, and reads as
+/// it. A finding is of the machine or of what is declared. The certificate isn't settled only where the rounds are no
+/// more than 33 for each of its shapes.
 ///
 /// The texts are read in this order. Refused: Text for the first text that is refused, with a fault that stands in it, or
 /// with want of memory; OutOfMemory where a growth was refused afterwards.
@@ -43,6 +44,7 @@ pub fn infer_texts(
     max_rounds: u32,
 ) -> Result<Inferred, RunFault>
     ensures certificate { IfOk result (WhereCertificate (IsWrittenFor definition.now declared.now)) }
+    ensures reads_back { IfOk result (WhereCertificate (AreClosed definition.now declared.now)) }
     ensures finding { IfOk result (WhereFinding (IsFindingOn definition.now declared.now)) }
     ensures not_settled { IfOk result (WhereNotSettled (AreFewRounds definition.now declared.now max_rounds)) }
     ensures refused { IfErr result (InferFaultStands definition.now declared.now) }

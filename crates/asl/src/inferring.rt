@@ -1,0 +1,101 @@
+//! From files to an inferred certificate, or to the verdict on it, on standard output.
+
+use crate::command_line::MachineFiles;
+use crate::endings::finish;
+use crate::files::file_text;
+use crate::printing::{print_text, print_verdict};
+use asl_tool::{Closing, Finding, Inferred, RunFault, Verdict, infer_texts, verify_texts};
+use std::rt::Files;
+
+/// How many rounds an inference may take.
+const ROUNDS: u32 = 4096;
+
+/// Infers a certificate of the texts in two files, writes it to standard output, and gives the exit status.
+pub(crate) fn infer_files<R: Files + Print + Eprint + AllocGlobal>(
+    rt: &R,
+    files: &MachineFiles<'_>,
+) -> u8 {
+    finish(rt, &closing_of(infer_on(rt, files)))
+}
+
+/// Infers a certificate of the texts in two files, checks it, writes the verdict to standard output, and gives the exit
+/// status.
+pub(crate) fn verify_files<R: Files + Print + Eprint + AllocGlobal>(
+    rt: &R,
+    files: &MachineFiles<'_>,
+) -> u8 {
+    finish(rt, &closing_of(verify_on(rt, files)))
+}
+
+/// What a command ends with, also where it fails.
+fn closing_of(ended: Result<Closing, RunFault>) -> Closing {
+    match ended {
+        Ok(closing) => closing,
+        Err(fault) => Closing::Fault(fault),
+    }
+}
+
+/// The inference on the texts in two files, whose certificate is written to standard output with a line break, or its
+/// finding as a verdict. Both files are read, the definition first, before a text is looked at.
+///
+/// Refused: Read for a file that can't be opened or read, TooLong for one that is too long, the first of them; Text for
+/// a refused text; Write; OutOfMemory.
+fn infer_on<R: Files + Print + AllocGlobal>(
+    rt: &R,
+    files: &MachineFiles<'_>,
+) -> Result<Closing, RunFault> {
+    let definition = file_text(rt, files.definition)?;
+    let declared = file_text(rt, files.declared)?;
+    match infer_texts(rt.alloc(), &definition, &declared, ROUNDS)? {
+        Inferred::Certificate(text) => tell_certificate(rt, text),
+        Inferred::Finding(finding) => tell_finding(rt, finding),
+        Inferred::NotSettled => Ok(Closing::NotSettled),
+    }
+}
+
+/// The check of what is inferred of the texts in two files, whose verdict is written to standard output; that of the
+/// inference, where it has a finding. Both files are read, the definition first, before a text is looked at.
+///
+/// Refused as by [`infer_on`].
+fn verify_on<R: Files + Print + AllocGlobal>(
+    rt: &R,
+    files: &MachineFiles<'_>,
+) -> Result<Closing, RunFault> {
+    let definition = file_text(rt, files.definition)?;
+    let declared = file_text(rt, files.declared)?;
+    match infer_texts(rt.alloc(), &definition, &declared, ROUNDS)? {
+        Inferred::Certificate(text) => {
+            match verify_texts(rt.alloc(), &definition, &declared, text.as_bytes()) {
+                Ok(verdict) => tell_verdict(rt, verdict),
+                Err(refusal) => Err(RunFault::Text(refusal)),
+            }
+        }
+        Inferred::Finding(finding) => tell_finding(rt, finding),
+        Inferred::NotSettled => Ok(Closing::NotSettled),
+    }
+}
+
+/// Writes the text of a certificate and a line break to standard output.
+fn tell_certificate<R: Print>(rt: &R, mut text: String) -> Result<Closing, RunFault> {
+    match text.push_str("\n") {
+        Ok(()) => {}
+        Err(_) => return Err(RunFault::OutOfMemory),
+    }
+    print_text(rt, &text)?;
+    Ok(Closing::Certificate)
+}
+
+/// Writes a finding to standard output, as a verdict of one line.
+fn tell_finding<R: Print + AllocGlobal>(rt: &R, finding: Finding) -> Result<Closing, RunFault> {
+    let mut findings = Vec::new(rt.alloc());
+    match findings.push(finding) {
+        Ok(()) => tell_verdict(rt, Verdict::No(findings)),
+        Err(_) => Err(RunFault::OutOfMemory),
+    }
+}
+
+/// Writes a verdict to standard output.
+fn tell_verdict<R: Print + AllocGlobal>(rt: &R, verdict: Verdict) -> Result<Closing, RunFault> {
+    print_verdict(rt, &verdict)?;
+    Ok(Closing::Verdict(verdict))
+}
