@@ -1,4 +1,5 @@
-//! Tests of the libraries by tables of vectors: each call with what it must answer, and once with ample memory.
+//! Tests of the libraries: by tables of vectors, each call with what it must answer, and once with ample memory; and on
+//! texts that are cut off, misplaced events, and readers and writers that fail.
 //!
 //! They stand apart from the crates they test, since a crate with tests is proved twice.
 #![tactic(auto)]
@@ -9,6 +10,8 @@ mod choices;
 mod drives;
 #[cfg(test)]
 mod flows;
+#[cfg(test)]
+mod hostile;
 #[cfg(test)]
 mod inferring;
 #[cfg(test)]
