@@ -1,0 +1,111 @@
+-- When two nodes are equal: where the shapes that they stand for are, over a table in which no shape stands twice.
+use Rattle.std.proofs.Common.{◌≡◌, ◌<◌, ℕ, List, [], ◌∷◌, length, Bool, true, false, ◌&&◌, String, Global, string_bytes, bytes_eq, nat_eq, refl, sym, ap, ◌∙◌}
+use Rattle.std.proofs.lemmas.Bool.{and_parts, and_from, eqb-true, eq-eqb}
+use Rattle.std.proofs.lemmas.Slice.Eq.{bytes_eq-Decides}
+use Rattle.std.specs.Cmp.{booleans_Decides}
+use Rattle.std.specs.Cmp.Lexicographic.{pointwise}
+use Rattle.asl_model.specs.Shape as model
+use Rattle.asl_numbered.specs.contracts.node.NodePartialEq.TheImpl as node_eq
+use Rattle.asl_numbered.specs.contracts.node.NodeFieldPartialEq.TheImpl as field_eq
+use Rattle.asl_numbered.specs.declared.node.Node.{Node}
+use Rattle.asl_numbered.specs.declared.node.Node.TheVariants.{Any, Never, Null, Bool as Truth, Int, Text, List as Elements, Object}
+use Rattle.asl_numbered.specs.declared.node.NodeField.{NodeField}
+use Rattle.asl_numbered.specs.Expansion.{shape_at, shapes_at, fields_at, shape_over, numbers_in, parts, AreBelow, RefersBelow, AreDistinct}
+
+-- the test of two nodes
+abbrev pub equal : Node → Node → Bool
+equal = node_eq.ghosts.eq
+
+-- the test of two maps' fields
+abbrev equal_fields : List (String Global × NodeField) → List (String Global × NodeField) → Bool
+equal_fields = pointwise (λ f g. bytes_eq (string_bytes f.0) (string_bytes g.0) && field_eq.ghosts.eq f.1 g.1)
+
+-- ---- equal nodes stand for one shape
+
+fields-same : (table : List model.Shape) (fs gs : List (String Global × NodeField)) → equal_fields fs gs ≡ true → fields_at table fs ≡ fields_at table gs
+fields-same table [] [] e = refl
+fields-same table [] (g ∷ gs) e = absurd (cc)
+fields-same table (f ∷ fs) [] e = absurd (cc)
+fields-same table (f ∷ fs) (g ∷ gs) e =
+    let both = and_parts _ _ e in
+    let here = and_parts _ _ both.0 in
+    let name : string_bytes f.0 ≡ string_bytes g.0 = (bytes_eq-Decides (string_bytes f.0) (string_bytes g.0)).0 here.0 in
+    let field = and_parts _ _ here.1 in
+    let needed : f.1.needed ≡ g.1.needed = (booleans_Decides f.1.needed g.1.needed).0 field.0 in
+    let number : f.1.shape ≡ g.1.shape = eqb-true f.1.shape g.1.shape field.1 in
+    rw (name, needed, number, fields-same table fs gs both.1) refl
+
+pub same-shape : (table : List model.Shape) (x y : Node) → equal x y ≡ true → shape_over table x ≡ shape_over table y
+same-shape table Any Any e = refl
+same-shape table Any y e = absurd (cc)
+same-shape table Never Never e = refl
+same-shape table Never y e = absurd (cc)
+same-shape table Null Null e = refl
+same-shape table Null y e = absurd (cc)
+same-shape table Truth Truth e = refl
+same-shape table Truth y e = absurd (cc)
+same-shape table Int Int e = refl
+same-shape table Int y e = absurd (cc)
+same-shape table Text Text e = refl
+same-shape table Text y e = absurd (cc)
+same-shape table (Elements first rest) (Elements others further) e =
+    let both = and_parts _ _ e in
+    let front : first.items ≡ others.items = (bytes_eq-Decides first.items others.items).0 both.0 in
+    let behind : rest ≡ further = eqb-true rest further both.1 in
+    rw (front, behind) refl
+same-shape table (Elements first rest) y e = absurd (cc)
+same-shape table (Object fields extra) (Object others more) e =
+    let both = and_parts _ _ e in
+    let same : extra ≡ more = (booleans_Decides extra more).0 both.1 in
+    rw (fields-same table fields.entries others.entries both.0, same) refl
+same-shape table (Object fields extra) y e = absurd (cc)
+
+-- ---- nodes of one shape are equal
+
+module _ (table : List model.Shape) (distinct : AreDistinct table) where
+  numbers-alike : (ns ms : List ℕ) → AreBelow (length table) ns → AreBelow (length table) ms → shapes_at table ns ≡ shapes_at table ms → ns ≡ ms
+  numbers-alike [] [] h i e = refl
+  numbers-alike [] (m ∷ ms) h i e = absurd (cc)
+  numbers-alike (n ∷ ns) [] h i e = absurd (cc)
+  numbers-alike (n ∷ ns) (m ∷ ms) h i e =
+      let shape : shape_at table n ≡ shape_at table m = cc in
+      let shapes : shapes_at table ns ≡ shapes_at table ms = cc in
+      let number = distinct.apart n m h.0 i.0 shape in
+      rw (number, numbers-alike ns ms h.1 i.1 shapes) refl
+
+  fields-alike : (fs gs : List (String Global × NodeField)) → AreBelow (length table) (numbers_in fs) → AreBelow (length table) (numbers_in gs) → fields_at table fs ≡ fields_at table gs → equal_fields fs gs ≡ true
+  fields-alike [] [] h i e = refl
+  fields-alike [] (g ∷ gs) h i e = absurd (cc)
+  fields-alike (f ∷ fs) [] h i e = absurd (cc)
+  fields-alike (f ∷ fs) (g ∷ gs) h i e =
+      let name : string_bytes f.0 ≡ string_bytes g.0 = cc in
+      let needed : f.1.needed ≡ g.1.needed = cc in
+      let shape : shape_at table f.1.shape ≡ shape_at table g.1.shape = cc in
+      let behind : fields_at table fs ≡ fields_at table gs = cc in
+      let field = and_from _ _ ((booleans_Decides f.1.needed g.1.needed).1 needed) (eq-eqb f.1.shape g.1.shape (distinct.apart f.1.shape g.1.shape h.0 i.0 shape)) in
+      and_from _ _ (and_from _ _ ((bytes_eq-Decides (string_bytes f.0) (string_bytes g.0)).1 name) field) (fields-alike fs gs h.1 i.1 behind)
+
+  pub alike-equal : (x y : Node) → AreBelow (length table) (parts x) → AreBelow (length table) (parts y) → shape_over table x ≡ shape_over table y → equal x y ≡ true
+  alike-equal Any Any h i e = refl
+  alike-equal Any y h i e = absurd (cc)
+  alike-equal Never Never h i e = refl
+  alike-equal Never y h i e = absurd (cc)
+  alike-equal Null Null h i e = refl
+  alike-equal Null y h i e = absurd (cc)
+  alike-equal Truth Truth h i e = refl
+  alike-equal Truth y h i e = absurd (cc)
+  alike-equal Int Int h i e = refl
+  alike-equal Int y h i e = absurd (cc)
+  alike-equal Text Text h i e = refl
+  alike-equal Text y h i e = absurd (cc)
+  alike-equal (Elements first rest) (Elements others further) h i e =
+      let front : shapes_at table first.items ≡ shapes_at table others.items = cc in
+      let behind : shape_at table rest ≡ shape_at table further = cc in
+      let numbers = numbers-alike first.items others.items h.1 i.1 front in
+      and_from _ _ ((bytes_eq-Decides first.items others.items).1 numbers) (eq-eqb rest further (distinct.apart rest further h.0 i.0 behind))
+  alike-equal (Elements first rest) y h i e = absurd (cc)
+  alike-equal (Object fields extra) (Object others more) h i e =
+      let front : fields_at table fields.entries ≡ fields_at table others.entries = cc in
+      let open_ended : extra ≡ more = cc in
+      and_from _ _ (fields-alike fields.entries others.entries h i front) ((booleans_Decides extra more).1 open_ended)
+  alike-equal (Object fields extra) y h i e = absurd (cc)

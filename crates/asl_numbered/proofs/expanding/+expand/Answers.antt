@@ -1,0 +1,88 @@
+use Rattle.std.proofs.Common.{◌≡◌, ◌+◌, ◌∷◌, [], ◌++◌, take, drop, List, None, String, Global, refl, sym, ap, ◌∙◌, subst, append_assoc, arith}
+use Rattle.std.proofs.lemmas.Grind.{common_steps}
+use Rattle.std.specs.List.Sorted.{IsStrictlySortedBy}
+use Rattle.std.specs.Map.{keys_of}
+use Rattle.std.specs.String.{string_cmp}
+use Rattle.asl_model.specs.Shape as model
+use Rattle.asl_shape.specs.declared.shape.Shape.TheViews.{roll-Field}
+use Rattle.asl_shape.proofs.Views.{view_object}
+use Rattle.asl_numbered.specs.declared.node.NodeField.{NodeField}
+use Rattle.asl_numbered.specs.Expansion.{expansions, shape_over, RefersBelow}
+use Rattle.asl_numbered.proofs.Expansions.{list_parts, below_next, below_next_field}
+use Rattle.asl_numbered.proofs.Growing.{expanded_push, expanded_step}
+use Rattle.asl_numbered.proofs.Tables.{none_past}
+use Rattle.asl_numbered.proofs.expanding.+expand.Goals as goal
+
+pub expand_node-returns-in_ok-expand_fields-in-Object : goal.expand_node-returns-in_ok-expand_fields-in-Object
+expand_node-returns-in_ok-expand_fields-in-Object t c =
+    let given = c.in-Object in
+    let fields = c.in_ok-expand_fields-in-Object in
+    record {
+      expanded = view_object fields.field-0 given.extra ∙ (ap (λ ms. model.ObjectShape ms given.extra) fields.ensures ∙ sym (ap (shape_over (expansions c.args.table.now)) given.is));
+    }
+
+pub expand_fields-loop-name-preserved : goal.expand_fields-loop-name-preserved
+expand_fields-loop-name-preserved t c =
+    let l = c.loop-name in
+    let done = l.invariant.0 in
+    let m : String Global × NodeField = (c.in-Some.name.now, c.in-Some.field.now) in
+    let left = c.next.new.self in
+    let all : c.args.fields.now.entries ≡ done ++ m ∷ left = l.invariant.1 ∙ ap (λ ms. done ++ ms) c.in-Some.ensures.steps in
+    let sorted = subst (λ ms. IsStrictlySortedBy string_cmp (keys_of ms)) all c.iter-name-items.ensures.ordered in
+    let field = roll-Field (record { needed = m.1.needed; shape = c.in_ok-shape.shape }) in (
+      done ++ m ∷ [],
+      all ∙ sym (append_assoc done (m ∷ []) left),
+      expanded_step (expansions c.args.table.now) done left m l.expanded.entries c.insert.new.self.entries c.in_ok-key.key field sorted l.invariant.2 c.in_ok-key.ensures.cases refl c.in_ok-shape.ensures.expanded c.in_ok-insert.ensures.entries,
+      (below_next_field c.args.bound l.name-iterator left m c.in-Some.ensures.steps l.invariant.3).1,
+    )
+
+-- what is expanded has smaller numbers
+
+pub expand-expand_node-requires : goal.expand-expand_node-requires
+expand-expand_node-requires t c = (omega arith, c.in-Some.ensures.earlier)
+
+pub expand_node-expand_all-requires : goal.expand_node-expand_all-requires
+expand_node-expand_all-requires t c =
+    let below = list_parts c.args.bound c.in-List.first c.in-List.rest (subst (RefersBelow c.args.bound) c.in-List.is c.requires) in
+    (omega arith, rw c.deref.ensures.value below.1)
+
+pub expand_node-expand-requires : goal.expand_node-expand-requires
+expand_node-expand-requires t c =
+    let below = list_parts c.args.bound c.in-List.first c.in-List.rest (subst (RefersBelow c.args.bound) c.in-List.is c.requires) in
+    (omega (arith, below.0), tt)
+
+pub expand_node-expand_fields-requires : goal.expand_node-expand_fields-requires
+expand_node-expand_fields-requires t c =
+    let below = subst (RefersBelow c.args.bound) c.in-Object.is c.requires in
+    (omega arith, below.each)
+
+pub expand_all-expand-requires : goal.expand_all-expand-requires
+expand_all-expand-requires t c =
+    let i = c.loop-number.number-index in
+    let numbers = c.args.numbers.now in
+    let n = c.number-item.result in
+    let split : drop i numbers ≡ n ∷ drop (i + 1) numbers = grind (arith, common_steps) in
+    let below = below_next c.args.bound (drop i numbers) (drop (i + 1) numbers) n split c.loop-number.invariant.1 in
+    (omega (arith, below.0), tt)
+
+pub expand_all-loop-number-preserved : goal.expand_all-loop-number-preserved
+expand_all-loop-number-preserved t c =
+    let l = c.loop-number in
+    let i = l.number-index in
+    let numbers = c.args.numbers.now in
+    let n = c.number-item.result in
+    let split : drop i numbers ≡ n ∷ drop (i + 1) numbers = grind (arith, common_steps) in
+    let more : take (i + 1) numbers ≡ take i numbers ++ n ∷ [] = grind (arith, common_steps) in (
+      expanded_push (expansions c.args.table.now) (take i numbers) (take (i + 1) numbers) n l.shapes.items c.push.new.self.items c.in_ok-expand.field-0 l.invariant.0 c.in_ok-expand.ensures.expanded more c.in_ok-push.ensures.items,
+      (below_next c.args.bound (drop i numbers) (drop (i + 1) numbers) n split l.invariant.1).1,
+    )
+
+pub expand_fields-expand-requires : goal.expand_fields-expand-requires
+expand_fields-expand-requires t c =
+    let l = c.loop-name in
+    let m : String Global × NodeField = (c.in-Some.name.now, c.in-Some.field.now) in
+    let below = below_next_field c.args.bound l.name-iterator c.next.new.self m c.in-Some.ensures.steps l.invariant.3 in
+    (omega (arith, below.0), tt)
+
+pub expand-returns-in-None : goal.expand-returns-in-None
+expand-returns-in-None t c = record { expanded = none_past c.args.table.now c.args.number None refl c.in-None.ensures.there }

@@ -1,0 +1,134 @@
+// Shapes under numbers.
+ghost use Rattle.std.specs.Prelude.{◌≡◌, ◌<◌, ◌↔◌, ℕ, List, [], length, IsSome, IsTrue, IfSome, IfOk, slice_get};
+ghost use Rattle.std.specs.Option.{option_copied};
+ghost use Rattle.asl_model.specs.Shape as model;
+ghost use Rattle.asl_model.specs.ShapeOrder as order;
+ghost use Rattle.asl_shape.specs.View.{view};
+ghost use Rattle.asl_numbered.specs.Expansion.{expansions, shape_at, shape_over, RefersBelow, IsNumberOf, Keeps};
+
+use crate::adding::add;
+use crate::comparing::{Answers, is_sub};
+use crate::expanding::expand;
+use crate::node::Node;
+use crate::table::Table;
+use asl_model::shape_laws::sub_means_inside;
+use asl_shape::Shape;
+use asl_tree::OutOfMemory;
+use indexmap::IndexMap;
+use std::alloc::Global;
+use std::marker::Model;
+
+/// Distinct shapes, each under a number, counted from 0. Contracts see the list of their first levels, where each node
+/// has numbers of earlier ones alone; `expansions` are the shapes themselves. A number keeps its shape, whatever is
+/// added, and also where want of memory refuses a call, which may leave further entries.
+#[derive(Drop)]
+pub struct Shapes {
+    alloc: Global,
+    table: Table,
+    answers: Answers,
+}
+
+impl Model for Shapes {
+    ghost use Rattle.std.specs.Prelude.{List};
+    ghost use Rattle.std.specs.Coded.{coded_list};
+    ghost use Rattle.asl_numbered.specs.contracts.node.Node.{the_row};
+    ghost use Rattle.asl_numbered.specs.declared.node.Node.{Node as Level};
+
+    ghost Value = { List Level };
+
+    ghost coded = { coded_list the_row.coded };
+
+    ghost use Rattle.asl_numbered.specs.Answers.{AreRight};
+    ghost use Rattle.asl_numbered.specs.Expansion.{expansions};
+
+    ghost view = { λ s. s.table };
+
+    ghost invariant = { λ s. AreRight (expansions s.table) s.answers.entries };
+}
+
+impl Shapes {
+    /// No shapes. Takes no memory.
+    pub fn new(alloc: Global) -> Shapes
+        ensures none { result ≡ [] }
+    {
+        Shapes {
+            alloc,
+            table: Table::new(alloc),
+            answers: IndexMap::new(alloc),
+        }
+    }
+
+    /// How many shapes there are: the numbers below it are theirs. Takes no memory.
+    pub fn len(&self) -> usize
+        ensures counted { result ≡ length self.now }
+    {
+        self.table.len()
+    }
+
+    /// The first level of the shape of that number; `None` where there is none. Takes no memory.
+    pub fn node(&self, number: usize) -> Option<&Node>
+        ensures exactly { option_copied result ≡ slice_get self.now number }
+        ensures there { IsSome result ↔ number < length self.now }
+        ensures level { IfSome result (λ node. shape_over (expansions self.now) node.now ≡ shape_at (expansions self.now) number) }
+        ensures earlier { IfSome result (λ node. RefersBelow number node.now) }
+    {
+        self.table.node(number)
+    }
+
+    /// Whether some tree has the shape of that number; `None` where there is none. Takes no memory.
+    pub fn inhabited(&self, number: usize) -> Option<bool>
+        ensures there { IsSome result ↔ number < length self.now }
+        ensures as_defined { IfSome result (λ b. b ≡ model.inhabited (shape_at (expansions self.now) number)) }
+    {
+        self.table.inhabited(number)
+    }
+
+    /// The number of the shape whose first level is the node, and whose parts are the shapes of the node's numbers;
+    /// `None` where one of these isn't below the length. Refuses only where an allocation was refused.
+    pub fn add_node(&mut self, node: Node) -> Result<Option<usize>, OutOfMemory>
+        ensures exactly { IfOk result (λ r. IsSome r ↔ RefersBelow (length self.old) node) }
+        ensures number { IfOk result (λ r. IfSome r (IsNumberOf (expansions self.new) (shape_over (expansions self.old) node))) }
+        ensures keeps { Keeps (expansions self.old) (expansions self.new) }
+    {
+        self.table.add_node(node)
+    }
+
+    /// The number of the shape. Refuses only where an allocation was refused.
+    pub fn add(&mut self, shape: &Shape) -> Result<usize, OutOfMemory>
+        ensures number { IfOk result (IsNumberOf (expansions self.new) (view shape.now)) }
+        ensures keeps { Keeps (expansions self.old) (expansions self.new) }
+    {
+        add(&mut self.table, self.alloc, shape)
+    }
+
+    /// The shape of that number; `None` where there is none. Refuses only where an allocation was refused.
+    pub fn expand(&self, number: usize) -> Result<Option<Shape>, OutOfMemory>
+        ensures exactly { IfOk result (λ r. IsSome r ↔ number < length self.now) }
+        ensures shape { IfOk result (λ r. IfSome r (λ s. view s ≡ shape_at (expansions self.now) number)) }
+    {
+        if number < self.table.len() {
+            Ok(Some(expand(&self.table, self.alloc, number)?))
+        } else {
+            Ok(None)
+        }
+    }
+
+    /// Whether every tree of the first number's shape is seen to have the second's, as `sub` of `asl_shape` tells it;
+    /// `None` where one of the numbers isn't below the length. The answers are remembered, those for the shapes' parts as
+    /// well. Refuses only where an allocation was refused.
+    pub fn sub(&mut self, inner: usize, outer: usize) -> Result<Option<bool>, OutOfMemory>
+        ensures exactly { IfOk result (λ r. IsSome r ↔ (inner < length self.old) × (outer < length self.old)) }
+        ensures as_defined { IfOk result
+            (λ r. IfSome r (λ b. b ≡ order.sub (shape_at (expansions self.old) inner) (shape_at (expansions self.old) outer))) }
+        ensures inside { IfOk result
+            (λ r. IfSome r (λ b. IsTrue b → model.Inside (shape_at (expansions self.old) inner) (shape_at (expansions self.old) outer))) }
+        ensures unchanged { self.new ≡ self.old }
+    {
+        sub_means_inside();
+        if inner < self.table.len() && outer < self.table.len() {
+            Ok(Some(is_sub(&self.table, &mut self.answers, inner, outer)?))
+        } else {
+            Ok(None)
+        }
+    }
+}
