@@ -12,7 +12,7 @@ use std::alloc::Global;
 use std::collections::BTreeMap;
 
 /// A broken rule of a state: the field that it is told at, and what is wrong.
-#[derive(Clone, Copy, Debug)]
+#[derive(Clone, Copy)]
 pub struct Broken {
     pub field: &'static str,
     pub fault: FindingFault,

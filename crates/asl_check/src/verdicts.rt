@@ -3,7 +3,7 @@
 ghost use Rattle.std.specs.Prelude.{◌≡◌};
 
 /// What is wrong with a certificate, in the order in which the rules are looked at.
-#[derive(Clone, Copy, Debug, PartialEq, Eq)]
+#[derive(Clone, Copy)]
 pub enum FindingFault {
     /// The certificate has no entry of the right form for a state.
     NotCertified,
@@ -40,7 +40,7 @@ pub enum FindingFault {
 }
 
 /// A broken rule: the state's name, the field in which it is broken, and what is wrong.
-#[derive(Debug, PartialEq, Drop)]
+#[derive(Drop)]
 pub struct Finding {
     pub state: String,
     pub field: String,
@@ -48,7 +48,7 @@ pub struct Finding {
 }
 
 /// The checker's answer. The findings, at least one, stand in byte order of their states' names, one a name.
-#[derive(Debug, PartialEq, Drop)]
+#[derive(Drop)]
 pub enum Verdict {
     /// Every rule holds.
     Yes,

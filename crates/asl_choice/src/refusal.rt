@@ -4,7 +4,7 @@ use asl_tree::OutOfMemory;
 use std::alloc::{AllocError, AllocFailed};
 
 /// Why a tree is no spelling of a rule.
-#[derive(Clone, Copy, Debug, PartialEq, Drop)]
+#[derive(Clone, Copy, Debug, Drop)]
 pub enum RuleRefusal {
     /// It is no object, or its fields aren't those of a rule: exactly one of `And`, `Or` and `Not`, or `Variable` and
     /// one operator; at the top also `Next`, and `Comment` where it is wanted, both texts. Or `And` or `Or` holds no

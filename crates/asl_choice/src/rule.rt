@@ -4,7 +4,7 @@ use asl_path::RefPath;
 use asl_tree::Tree;
 
 /// A rule of a Choice: where its test is true, the state that follows.
-#[derive(Debug, Drop)]
+#[derive(Drop)]
 pub struct Rule {
     pub test: Test,
     /// The name of the state that follows.
@@ -12,7 +12,7 @@ pub struct Rule {
 }
 
 /// A test of a rule. Paths are looked up in the state's effective input.
-#[derive(Debug, Drop)]
+#[derive(Drop)]
 pub enum Test {
     /// Whether all of the tests are true; the first that isn't decides.
     And(Vec<Test>),
@@ -46,7 +46,7 @@ pub enum Test {
 }
 
 /// What a comparison compares, and how. Two values that aren't both of its type compare as false.
-#[derive(Clone, Copy, Debug, PartialEq, Drop)]
+#[derive(Clone, Copy, Drop)]
 pub enum Comparison {
     /// Two texts, by their UTF-8 bytes.
     String(Relation),
@@ -57,7 +57,7 @@ pub enum Comparison {
 }
 
 /// How the first of two values has to stand to the second.
-#[derive(Clone, Copy, Debug, PartialEq, Drop)]
+#[derive(Clone, Copy, Drop)]
 pub enum Relation {
     Equals,
     LessThan,
@@ -67,7 +67,7 @@ pub enum Relation {
 }
 
 /// The second value of a comparison.
-#[derive(Debug, Drop)]
+#[derive(Drop)]
 pub enum Operand {
     /// The value that stands in the rule.
     Constant(Tree),
@@ -76,7 +76,7 @@ pub enum Operand {
 }
 
 /// A kind of values.
-#[derive(Clone, Copy, Debug, PartialEq, Drop)]
+#[derive(Clone, Copy, Drop)]
 pub enum ValueKind {
     Null,
     Numeric,
@@ -85,7 +85,7 @@ pub enum ValueKind {
 }
 
 /// An element of a pattern.
-#[derive(Clone, Copy, Debug, PartialEq, Drop)]
+#[derive(Clone, Copy, Drop)]
 pub enum PatternPart {
     /// A byte of a character, which matches itself.
     Byte(u8),

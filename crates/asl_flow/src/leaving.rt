@@ -24,7 +24,7 @@ use std::alloc::Global;
 use std::collections::BTreeMap;
 
 /// Why a state's output may not come about. The field is `ResultSelector`, `ResultPath` or `OutputPath`.
-#[derive(Clone, Copy, Debug, PartialEq, Drop)]
+#[derive(Clone, Copy, Debug, Drop)]
 pub enum FlowFault {
     /// A path of that field may name nothing.
     MayBeMissing(&'static str),

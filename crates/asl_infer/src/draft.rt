@@ -20,7 +20,7 @@ use std::alloc::Global;
 use std::collections::BTreeMap;
 
 /// The shapes of a state, so far.
-#[derive(Debug, Drop)]
+#[derive(Drop)]
 pub(crate) struct GrowingState {
     /// Of its raw input.
     pub(crate) input: Growing,
@@ -33,7 +33,7 @@ pub(crate) struct GrowingState {
 }
 
 /// The shapes of a certificate, so far.
-#[derive(Debug, Drop)]
+#[derive(Drop)]
 pub(crate) struct Draft {
     /// The machine's output.
     pub(crate) output: Growing,
@@ -42,7 +42,7 @@ pub(crate) struct Draft {
 }
 
 /// A shape of a draft.
-#[derive(Clone, Copy, Debug)]
+#[derive(Clone, Copy)]
 pub(crate) enum Target {
     /// That of the machine's output.
     MachineOutput,
@@ -57,7 +57,7 @@ pub(crate) enum Target {
 }
 
 /// What flows into a shape of a draft.
-#[derive(Debug, Drop)]
+#[derive(Drop)]
 pub(crate) struct Inflow {
     pub(crate) target: Target,
     pub(crate) shape: Shape,

@@ -12,7 +12,7 @@ use std::alloc::Global;
 const MOST_CHANGES: u8 = 33;
 
 /// A shape of a draft, and how often it may still change.
-#[derive(Debug, Drop)]
+#[derive(Drop)]
 pub(crate) struct Growing {
     pub(crate) shape: Shape,
     changes_left: u8,

@@ -28,7 +28,7 @@ use std::alloc::{AllocError, AllocFailed, Global};
 use std::collections::BTreeMap;
 
 /// Why no certificate is inferred.
-#[derive(Debug, PartialEq, Drop)]
+#[derive(Drop)]
 pub enum InferRefusal {
     /// A rule that is about the machine, or about what is declared, is broken for some certificate.
     Finding(Finding),

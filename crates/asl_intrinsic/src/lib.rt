@@ -35,7 +35,7 @@ pub struct Item<'t> {
 }
 
 /// Why a text is no call. Of the first three the first that stands counts.
-#[derive(Clone, Copy, Debug, PartialEq, Drop)]
+#[derive(Clone, Copy, Debug, Drop)]
 pub enum CallRefusal {
     /// The text isn't written as a call, or a number in it is out of an `i64`'s range, or calls nest more than 32 deep.
     Malformed,
@@ -74,7 +74,7 @@ impl From<Fault> for CallRefusal {
 }
 
 /// Why a call has no value.
-#[derive(Clone, Copy, Debug, PartialEq, Drop)]
+#[derive(Clone, Copy, Drop)]
 pub enum EvalRefusal {
     /// A path names nothing, or there is no item; or a function isn't given as many arguments, or values of the kinds,
     /// that it takes.

@@ -18,7 +18,7 @@ use serde_json::{Map, Value};
 use std::alloc::Global;
 
 /// A state as it is built: its name, and where it stands.
-#[derive(Debug, Drop)]
+#[derive(Drop)]
 pub(crate) struct BuiltState<'a> {
     pub(crate) name: String,
     pub(crate) state: State,

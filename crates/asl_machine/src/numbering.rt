@@ -23,7 +23,7 @@ use std::alloc::Global;
 const MOST_STATES: usize = 10000;
 
 /// Where a state stands, by names.
-#[derive(Clone, Copy, Debug)]
+#[derive(Clone, Copy)]
 pub(crate) struct Home<'a> {
     /// The name of its scope's start state.
     start: &'a str,

@@ -9,7 +9,7 @@ ghost use Rattle.asl_machine.specs.Definition.{IsMisfit, IsVerdict, complaint_vi
 use crate::refusals::DefFault;
 
 /// A broken rule, told at a state, whose name is empty for the machine's own fields, and at a field.
-#[derive(Clone, Copy, Debug)]
+#[derive(Clone, Copy)]
 pub(crate) struct Complaint<'a> {
     pub(crate) fault: DefFault,
     pub(crate) state: &'a str,
@@ -17,7 +17,7 @@ pub(crate) struct Complaint<'a> {
 }
 
 /// Where an object of a definition stands.
-#[derive(Clone, Copy, Debug)]
+#[derive(Clone, Copy)]
 pub(crate) struct Place<'a> {
     /// The state that is told, whose name is empty for the machine itself.
     pub(crate) state: &'a str,

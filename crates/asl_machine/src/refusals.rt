@@ -6,7 +6,7 @@ ghost use Rattle.asl_machine.specs.View.{def_fault_view};
 use std::alloc::Global;
 
 /// What is wrong with a definition (States Language, "Structure of a State Machine", "Top-level fields", "State Types").
-#[derive(Clone, Copy, Debug, PartialEq, Eq)]
+#[derive(Clone, Copy, Debug)]
 pub enum DefFault {
     /// The machine or a state is no object.
     NotObject,
@@ -80,7 +80,7 @@ impl DefFault {
 }
 
 /// Why a definition is refused: the fault, the name of its state, empty for the machine's own, and its field.
-#[derive(Debug, PartialEq, Drop)]
+#[derive(Debug, Drop)]
 pub struct DefRefusal {
     pub fault: DefFault,
     pub state: String,

@@ -11,7 +11,7 @@ ghost use Rattle.asl_machine.specs.Rows.{rows_view, type_view};
 use crate::refusals::DefFault;
 
 /// What the value of a field has to be.
-#[derive(Clone, Copy, Debug, PartialEq, Eq)]
+#[derive(Clone, Copy)]
 pub(crate) enum Wanted {
     Text,
     /// A whole number above 0.
@@ -53,7 +53,7 @@ pub(crate) enum Wanted {
 }
 
 /// A field of an object.
-#[derive(Clone, Copy, Debug)]
+#[derive(Clone, Copy)]
 pub(crate) struct Row {
     pub(crate) name: &'static str,
     pub(crate) wanted: Wanted,
@@ -83,7 +83,7 @@ macro_rules! optional {
 }
 
 /// A type of states.
-#[derive(Clone, Copy, Debug, PartialEq, Eq)]
+#[derive(Clone, Copy)]
 pub(crate) enum StateType {
     Pass,
     Task,

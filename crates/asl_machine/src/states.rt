@@ -6,14 +6,14 @@ use asl_template::Template;
 use asl_tree::Tree;
 
 /// A state: what states of several types have, and what its type adds.
-#[derive(Debug, Drop)]
+#[derive(Drop)]
 pub struct State {
     pub settings: Settings,
     pub kind: Kind,
 }
 
 /// What states of several types have. A state whose type lacks a field has here the value of one that is absent.
-#[derive(Debug, Drop)]
+#[derive(Drop)]
 pub struct Settings {
     /// `InputPath`, `$` where it is absent, none where it is null.
     pub input_path: Option<RefPath>,
@@ -34,7 +34,7 @@ pub struct Settings {
 }
 
 /// An element of `Retry` (States Language, "Retrying after error").
-#[derive(Debug, Drop)]
+#[derive(Drop)]
 pub struct Retrier {
     /// The names of the errors that it takes.
     pub error_equals: Vec<String>,
@@ -43,7 +43,7 @@ pub struct Retrier {
 }
 
 /// An element of `Catch` (States Language, "Fallback States").
-#[derive(Debug, Drop)]
+#[derive(Drop)]
 pub struct Catcher {
     /// The names of the errors that it takes.
     pub error_equals: Vec<String>,
@@ -54,7 +54,7 @@ pub struct Catcher {
 }
 
 /// The eight types of states, each with the fields that it alone has.
-#[derive(Debug, Drop)]
+#[derive(Drop)]
 pub enum Kind {
     /// `Result`, where it is given.
     Pass {
@@ -91,7 +91,7 @@ pub enum Kind {
 }
 
 /// What a Wait waits for.
-#[derive(Debug, Drop)]
+#[derive(Drop)]
 pub enum Delay {
     Seconds(u64),
     SecondsPath(RefPath),
@@ -100,7 +100,7 @@ pub enum Delay {
 }
 
 /// A scope: the machine, a branch of a Parallel or the processor of a Map.
-#[derive(Clone, Copy, Debug, PartialEq, Eq, Drop)]
+#[derive(Clone, Copy, Drop)]
 pub struct Scope {
     /// The number of its start state.
     pub start: usize,

@@ -23,7 +23,7 @@ pub use placing::{PlaceRefusal, place};
 pub use printing::print;
 
 /// One step of a path.
-#[derive(Debug, PartialEq, Drop)]
+#[derive(Drop)]
 pub enum Segment {
     /// Into the field of that name of an object.
     Name(String),
@@ -32,7 +32,7 @@ pub enum Segment {
 }
 
 /// A reference path: the steps behind its `$`.
-#[derive(Debug, Drop)]
+#[derive(Drop)]
 pub struct RefPath {
     segments: Vec<Segment>,
 }
@@ -67,7 +67,7 @@ impl RefPath {
 
 /// Why a text is no reference path. The byte is where its first rest stands that isn't empty and doesn't begin with
 /// a segment.
-#[derive(Debug, PartialEq, Drop)]
+#[derive(Debug, Drop)]
 pub enum PathRefusal {
     /// The text doesn't begin with `$`.
     NoDollar,

@@ -6,7 +6,7 @@ use asl_shape::ShapeRefusal;
 use std::alloc::{AllocError, AllocFailed, Global};
 
 /// What is wrong with declared shapes or a certificate.
-#[derive(Debug, PartialEq, Drop)]
+#[derive(Debug, Drop)]
 pub enum RecordFault {
     /// The record or one of its entries is no object.
     NotObject,
@@ -46,7 +46,7 @@ impl RecordFault {
 
 /// Why declared shapes or a certificate are refused: the fault, the name of its entry, empty for the record itself, and
 /// the field.
-#[derive(Debug, PartialEq, Drop)]
+#[derive(Debug, Drop)]
 pub struct RecordRefusal {
     pub fault: RecordFault,
     pub name: String,
@@ -54,7 +54,7 @@ pub struct RecordRefusal {
 }
 
 /// Why a JSON value is read as no declared shapes or no certificate.
-#[derive(Debug, PartialEq, Drop)]
+#[derive(Debug, Drop)]
 pub enum ReadFault {
     /// A number in it isn't whole, or is out of range.
     NotWhole,

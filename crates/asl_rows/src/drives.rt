@@ -68,7 +68,9 @@ fn drive_each<O: Order>(
         let machine = machine(alloc, wanted.definition)?;
         let mut run = started(alloc, &machine, wanted.input)?;
         let mut answers = source(alloc, wanted.answers)?;
-        let (stop, trace) = drive(&mut run, order, &mut answers, wanted.max_steps)?;
+        let (stop, trace) = drive(&mut run, order, &mut answers, wanted.max_steps)
+            .ok()
+            .ok_or("the run was broken off")?;
         assert_eq!(rt; format!(in alloc; "{stop:?}")?.as_str(), wanted.stop);
         compare(rt, alloc, &trace, wanted.trace)?;
         assert_eq!(rt; ending(alloc, &run)?.as_str(), wanted.ending);
@@ -405,7 +407,9 @@ fn broken_off_and_gone_on(rt: HostRuntime) -> Result<(), Fail> {
     compare(&rt, alloc, &refusal.trace, &BEFORE)?;
     assert!(rt; refusal.answer.is_none());
     assert_eq!(rt; ending(alloc, &run)?.as_str(), "");
-    let (stop, trace) = drive(&mut run, &mut First, &mut answers, 1000)?;
+    let (stop, trace) = drive(&mut run, &mut First, &mut answers, 1000)
+        .ok()
+        .ok_or("the run was broken off")?;
     assert_eq!(rt; stop, Stop::Output);
     compare(&rt, alloc, &trace, &AFTER)?;
     assert_eq!(rt; ending(alloc, &run)?.as_str(), r#"[1,"a"]"#);

@@ -29,7 +29,7 @@ pub trait Answers {
 }
 
 /// Answers from a list, whatever state and payload they are for.
-#[derive(Debug, Drop)]
+#[derive(Drop)]
 pub struct ListAnswers {
     list: VecDeque<Answer>,
 }

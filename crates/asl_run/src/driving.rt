@@ -23,7 +23,7 @@ use asl_tree::OutOfMemory;
 const MOST_ENTRIES: usize = 4;
 
 /// Why driving stops.
-#[derive(Clone, Copy, Debug, PartialEq, Eq, Drop)]
+#[derive(Clone, Copy, Debug, PartialEq, Drop)]
 pub enum Stop {
     /// The run has ended with an output.
     Output,
@@ -36,7 +36,7 @@ pub enum Stop {
 }
 
 /// Driving was broken off by want of memory: the run stands after the events that its trace tells.
-#[derive(Debug, Drop)]
+#[derive(Drop)]
 pub struct DriveRefusal {
     pub trace: Vec<Entry>,
     /// The answer that was taken from the source and not used.

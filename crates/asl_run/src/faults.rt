@@ -6,7 +6,7 @@ use asl_tree::OutOfMemory;
 use std::alloc::{AllocError, AllocFailed};
 
 /// The six errors of data flow. `Path.NamesNothing` and `Path.WrongKind` are the profile's own.
-#[derive(Clone, Copy, Debug, PartialEq, Eq, Drop)]
+#[derive(Clone, Copy, Drop)]
 pub(crate) enum DataFlowError {
     ParameterPathFailure,
     ResultPathMatchFailure,
@@ -17,14 +17,14 @@ pub(crate) enum DataFlowError {
 }
 
 /// A data-flow fault: its error, and the name of the field where it was met.
-#[derive(Clone, Copy, Debug, PartialEq, Eq, Drop)]
+#[derive(Clone, Copy, Drop)]
 pub(crate) struct Fault {
     pub(crate) error: DataFlowError,
     pub(crate) field: &'static str,
 }
 
 /// Why data doesn't flow on.
-#[derive(Clone, Copy, Debug, PartialEq, Eq, Drop)]
+#[derive(Clone, Copy, Drop)]
 pub(crate) enum Stop {
     Fault(Fault),
     /// An allocation was refused.

@@ -11,7 +11,7 @@ pub trait Order {
 }
 
 /// The first place.
-#[derive(Clone, Copy, Debug, PartialEq, Eq, Drop)]
+#[derive(Clone, Copy, Drop)]
 pub struct First;
 
 impl Order for First {
@@ -25,7 +25,7 @@ impl Order for First {
 }
 
 /// The last place.
-#[derive(Clone, Copy, Debug, PartialEq, Eq, Drop)]
+#[derive(Clone, Copy, Drop)]
 pub struct Last;
 
 impl Order for Last {

@@ -14,7 +14,7 @@ use std::alloc::Global;
 use std::collections::BTreeMap;
 
 /// What comes of an error in a state.
-#[derive(Debug, Drop)]
+#[derive(Drop)]
 pub(crate) enum Trouble<'m> {
     /// The retrier of that number retries.
     Retries(usize),

@@ -3,7 +3,7 @@
 use std::collections::BTreeMap;
 
 /// What trees look like (a subset of JSON Schema 2020-12, Core and Validation).
-#[derive(Debug, Drop)]
+#[derive(Drop)]
 #[cycle(shape)]
 pub enum Shape {
     /// Every tree.
@@ -33,7 +33,7 @@ pub enum Shape {
 }
 
 /// What a shape says of a field that it mentions.
-#[derive(Debug, Drop)]
+#[derive(Drop)]
 #[cycle(shape)]
 pub struct Field {
     /// Whether the field has to be there.

@@ -5,7 +5,7 @@ use asl_tree::OutOfMemory;
 use std::alloc::{AllocError, AllocFailed};
 
 /// Why a tree spells no template.
-#[derive(Clone, Copy, Debug, PartialEq, Drop)]
+#[derive(Clone, Copy, Debug, Drop)]
 pub enum SpellingRefusal {
     /// It is no object.
     NotObject,
@@ -24,7 +24,7 @@ pub enum SpellingRefusal {
 }
 
 /// Why a template has no value.
-#[derive(Clone, Copy, Debug, PartialEq, Drop)]
+#[derive(Clone, Copy, Drop)]
 pub enum TemplateRefusal {
     /// A path names nothing, or needs an item where there is none.
     ParameterPathFailure,

@@ -6,7 +6,7 @@ use asl_tree::Tree;
 use std::collections::BTreeMap;
 
 /// A JSON value in which some values are to be replaced.
-#[derive(Debug, Drop)]
+#[derive(Drop)]
 pub enum Template {
     /// A value that stands for itself.
     Literal(Tree),

@@ -14,7 +14,7 @@ use std::alloc::{AllocError, AllocFailed, Global};
 use std::collections::{BTreeMap, VecDeque};
 
 /// Why a tree is read as no list of answers.
-#[derive(Debug, PartialEq, Drop)]
+#[derive(Drop)]
 pub(crate) enum AnswersRefusal {
     /// The element at this position is no answer, the first such; or the tree is no list, at 0.
     BadAnswer(usize),

@@ -5,7 +5,7 @@ use crate::runs::RunEnd;
 use asl_check::Verdict;
 
 /// What a run of the program ends with.
-#[derive(Debug, Drop)]
+#[derive(Drop)]
 pub enum Closing {
     /// A verdict was written.
     Verdict(Verdict),

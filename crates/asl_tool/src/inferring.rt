@@ -19,7 +19,7 @@ use asl_tree::{OutOfMemory, to_text};
 use std::alloc::Global;
 
 /// What is inferred of a machine and its declared shapes.
-#[derive(Debug, PartialEq, Drop)]
+#[derive(Drop)]
 pub enum Inferred {
     /// The compact text of a certificate.
     Certificate(String),

@@ -8,7 +8,7 @@ use asl_tree::TreeRefusal;
 use thiserror::Error;
 
 /// One of the texts.
-#[derive(Clone, Copy, Debug, PartialEq, Eq)]
+#[derive(Clone, Copy, Debug)]
 pub enum Which {
     Definition,
     Declared,
@@ -36,7 +36,7 @@ impl Which {
 }
 
 /// What is wrong with a text.
-#[derive(Debug, PartialEq, Drop)]
+#[derive(Debug, Drop)]
 pub enum TextFault {
     /// It is no JSON text, or has a number that isn't whole.
     Tree(TreeRefusal),
@@ -51,7 +51,7 @@ pub enum TextFault {
 }
 
 /// A refused text: which one, and why.
-#[derive(Debug, PartialEq, Drop)]
+#[derive(Debug, Drop)]
 pub struct TextRefusal {
     pub which: Which,
     pub fault: TextFault,

@@ -6,7 +6,7 @@ ghost use Rattle.asl_tool.specs.Runs.{place_picked};
 use asl_run::Order;
 
 /// Whose turn it is, of the places where an event is enabled.
-#[derive(Clone, Copy, Debug, PartialEq, Eq)]
+#[derive(Clone, Copy)]
 pub enum Pick {
     /// The first place's.
     First,
@@ -28,7 +28,7 @@ impl Order for Pick {
 }
 
 /// What a run ends with.
-#[derive(Debug, PartialEq, Drop)]
+#[derive(Drop)]
 pub enum RunEnd {
     /// It has an output.
     Output,

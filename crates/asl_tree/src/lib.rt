@@ -35,7 +35,7 @@ pub enum Tree {
 }
 
 /// An allocation was refused.
-#[derive(Debug, PartialEq, Drop)]
+#[derive(Debug, Drop)]
 pub struct OutOfMemory;
 
 impl From<AllocError> for OutOfMemory {
@@ -51,7 +51,7 @@ impl<T: Drop> From<AllocFailed<T>> for OutOfMemory {
 }
 
 /// Why bytes or a JSON value aren't read as a tree.
-#[derive(Debug, PartialEq, Drop)]
+#[derive(Debug, Drop)]
 pub enum TreeRefusal {
     /// The bytes aren't UTF-8, or no JSON, or nest deeper than 127.
     NotJson,
