@@ -15,7 +15,7 @@ use asl_path::{RefPath, find};
 use asl_tree::Tree;
 
 /// A test isn't decided, since a path in it names nothing.
-#[derive(Clone, Copy, Drop)]
+#[derive(Clone, Copy, Debug, Drop)]
 pub struct NamesNothing;
 
 /// Whether the test is true of the input (States Language, "Choice State").

@@ -17,7 +17,7 @@ use asl_tree::OutOfMemory;
 use std::alloc::Global;
 
 /// Why a path has no shape in a shape.
-#[derive(Clone, Copy, Drop)]
+#[derive(Clone, Copy, Debug, Drop)]
 pub enum LookRefusal {
     /// The segment of that number, counted from 0, may name nothing in a tree of the shape.
     MayBeMissing(usize),

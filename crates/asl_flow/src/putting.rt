@@ -22,7 +22,7 @@ use std::alloc::{AllocFailed, Global};
 use std::collections::BTreeMap;
 
 /// Why a shape can't be put into another.
-#[derive(Clone, Copy, Drop)]
+#[derive(Clone, Copy, Debug, Drop)]
 pub enum PutRefusal {
     /// In a tree of the shape, what is placed may not fit at the segment of that number, counted from 0.
     MayNotFit(usize),

@@ -19,7 +19,7 @@ use asl_tree::OutOfMemory;
 use std::alloc::Global;
 
 /// Why a rule has no shape.
-#[derive(Clone, Copy, Drop)]
+#[derive(Clone, Copy, Debug, Drop)]
 pub enum RuleShapeRefusal {
     /// A path of the test may name nothing in a tree of the shape.
     MayBeMissing,

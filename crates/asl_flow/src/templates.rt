@@ -27,7 +27,7 @@ use std::collections::BTreeMap;
 
 /// Why a template has no shape. The name is that of the nearest field of an object, without its suffix, and empty where
 /// there is none.
-#[derive(Drop)]
+#[derive(Debug, Drop)]
 pub enum TemplateShapeRefusal {
     /// A path may name nothing.
     MayBeMissing(String),

@@ -3,7 +3,7 @@
 use asl_path::RefPath;
 
 /// A call of a function, with its arguments in order.
-#[derive(Drop)]
+#[derive(Debug, Drop)]
 #[cycle(call)]
 pub enum Call {
     /// `States.Array`: the list of the arguments' values.
@@ -15,7 +15,7 @@ pub enum Call {
 }
 
 /// An argument of a call.
-#[derive(Drop)]
+#[derive(Debug, Drop)]
 #[cycle(call)]
 pub enum Arg {
     Null,
@@ -34,7 +34,7 @@ pub enum Arg {
 }
 
 /// A text with holes `{}` in it.
-#[derive(Drop)]
+#[derive(Debug, Drop)]
 pub struct Pieces {
     /// What stands in front of the first hole; the whole text where it has none.
     pub first: String,

@@ -74,7 +74,7 @@ impl From<Fault> for CallRefusal {
 }
 
 /// Why a call has no value.
-#[derive(Clone, Copy, Drop)]
+#[derive(Clone, Copy, Debug, Drop)]
 pub enum EvalRefusal {
     /// A path names nothing, or there is no item; or a function isn't given as many arguments, or values of the kinds,
     /// that it takes.

@@ -23,7 +23,7 @@ pub use placing::{PlaceRefusal, place};
 pub use printing::print;
 
 /// One step of a path.
-#[derive(Drop)]
+#[derive(Debug, Drop)]
 pub enum Segment {
     /// Into the field of that name of an object.
     Name(String),
@@ -32,7 +32,7 @@ pub enum Segment {
 }
 
 /// A reference path: the steps behind its `$`.
-#[derive(Drop)]
+#[derive(Debug, Drop)]
 pub struct RefPath {
     segments: Vec<Segment>,
 }

@@ -14,7 +14,7 @@ use std::alloc::{AllocError, AllocFailed, Global};
 use std::collections::BTreeMap;
 
 /// Why a tree can't be placed.
-#[derive(Clone, Copy, Drop)]
+#[derive(Clone, Copy, Debug, Drop)]
 pub enum PlaceRefusal {
     /// The path needs a field of what is no object, an element of what is no list, an element that a list lacks, or
     /// a list that would have to be built.

@@ -4,7 +4,7 @@ use asl_shape::Shape;
 use std::collections::BTreeMap;
 
 /// The shapes that a user declares.
-#[derive(Drop)]
+#[derive(Debug, Drop)]
 pub struct Declared {
     /// The machine's input.
     pub input: Shape,
@@ -13,7 +13,7 @@ pub struct Declared {
 }
 
 /// The shapes of a task.
-#[derive(Drop)]
+#[derive(Debug, Drop)]
 pub struct TaskShapes {
     /// Of its payload.
     pub takes: Shape,
@@ -22,7 +22,7 @@ pub struct TaskShapes {
 }
 
 /// The shapes that are to be checked.
-#[derive(Drop)]
+#[derive(Debug, Drop)]
 pub struct Certificate {
     /// The machine's output.
     pub output: Shape,
@@ -31,7 +31,7 @@ pub struct Certificate {
 }
 
 /// The certified shapes of a state.
-#[derive(Drop)]
+#[derive(Debug, Drop)]
 pub struct StateShapes {
     /// Of its raw input.
     pub input: Shape,

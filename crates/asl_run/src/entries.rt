@@ -7,7 +7,7 @@ use asl_tree::Tree;
 pub type Place = Vec<usize>;
 
 /// The answer of a task.
-#[derive(Drop)]
+#[derive(Debug, Drop)]
 pub enum Answer {
     /// A value.
     Gives(Tree),
@@ -16,7 +16,7 @@ pub enum Answer {
 }
 
 /// An event at a place.
-#[derive(Drop)]
+#[derive(Debug, Drop)]
 pub enum Event {
     /// A move of the activity there.
     Move(Place),
@@ -25,21 +25,21 @@ pub enum Event {
 }
 
 /// The kind of event that a place wants.
-#[derive(Clone, Copy, Drop)]
+#[derive(Clone, Copy, Debug, Drop)]
 pub enum Want {
     Move,
     Answer,
 }
 
 /// How a scope ends.
-#[derive(Drop)]
+#[derive(Debug, Drop)]
 pub enum Outcome {
     Output(Tree),
     Failed { error: String, cause: String },
 }
 
 /// An entry of a run's history. All but `Ended` have the name of a state.
-#[derive(Drop)]
+#[derive(Debug, Drop)]
 pub enum Entry {
     /// The state is entered with its raw input.
     Enter {

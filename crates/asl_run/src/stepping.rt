@@ -17,7 +17,7 @@ use asl_tree::OutOfMemory;
 use std::alloc::Global;
 
 /// Why an event can't be taken. The run stays as it was.
-#[derive(Clone, Copy, Drop)]
+#[derive(Clone, Copy, Debug, Drop)]
 pub enum StepRefusal {
     /// Nothing stands at the event's place.
     NoSuchPlace,

@@ -3,7 +3,7 @@
 use std::collections::BTreeMap;
 
 /// What trees look like (a subset of JSON Schema 2020-12, Core and Validation).
-#[derive(Drop)]
+#[derive(Debug, Drop)]
 #[cycle(shape)]
 pub enum Shape {
     /// Every tree.
@@ -33,7 +33,7 @@ pub enum Shape {
 }
 
 /// What a shape says of a field that it mentions.
-#[derive(Drop)]
+#[derive(Debug, Drop)]
 #[cycle(shape)]
 pub struct Field {
     /// Whether the field has to be there.

@@ -24,7 +24,7 @@ pub enum SpellingRefusal {
 }
 
 /// Why a template has no value.
-#[derive(Clone, Copy, Drop)]
+#[derive(Clone, Copy, Debug, Drop)]
 pub enum TemplateRefusal {
     /// A path names nothing, or needs an item where there is none.
     ParameterPathFailure,
