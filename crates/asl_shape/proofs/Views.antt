@@ -36,6 +36,13 @@ pub view_array : (elements : Vec tree.Tree Global) → tree_view.view (tree.List
 view_array elements =
     ap tree_view.view (sym (TreeVariants.rolls-List elements)) ∙ fold-roll-Tree trees.Tree tree_view.view_step (TreeOpen.List elements)
 
+pub view_members : (members : BTreeMap (String Global) tree.Tree) → tree_view.view (tree.Object members) ≡ trees.Object (tree_view.entries_view members.entries)
+view_members members =
+    ap tree_view.view (sym (TreeVariants.rolls-Object members)) ∙ fold-roll-Tree trees.Tree tree_view.view_step (TreeOpen.Object members)
+
+pub view_truth : (b : Bool) → tree_view.view (tree.Bool b) ≡ trees.Boolean b
+view_truth b = ap tree_view.view (sym (TreeVariants.rolls-Bool b)) ∙ fold-roll-Tree trees.Tree tree_view.view_step (TreeOpen.Bool b)
+
 pub view_any : view shape.Any ≡ model.Any
 view_any =
     ap view (sym TheVariants.rolls-Any) ∙ fold-roll-Shape model.Shape (Bool × model.Shape) shape_step field_step TheOpen.Any

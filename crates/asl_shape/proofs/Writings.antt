@@ -14,6 +14,7 @@ use Rattle.asl_tree.proofs.Texts.{after_first}
 use Rattle.asl_tree.specs.View as trees
 use Rattle.asl_tree.specs.declared.OutOfMemory.{OutOfMemory}
 use Rattle.asl_tree.specs.declared.Tree.{Tree}
+use Rattle.asl_tree.specs.declared.Tree as tree
 use Rattle.asl_shape.specs.Adding.{is_some, with_field, with_field_if}
 use Rattle.asl_shape.specs.Known.{AreInOrder}
 use Rattle.asl_shape.specs.Proper.{Proper, AllProper, FieldsProper}
@@ -22,7 +23,7 @@ use Rattle.asl_shape.specs.declared.shape.Field.{Field}
 use Rattle.asl_shape.specs.declared.shape.Shape.{Shape}
 use Rattle.asl_shape.specs.declared.shape.Shape.TheViews
 use Rattle.asl_shape.proofs.Spellings.{Mention}
-use Rattle.asl_shape.proofs.Views.{view_list, view_object}
+use Rattle.asl_shape.proofs.Views.{view_list, view_object, view_array, view_members, view_truth}
 
 abbrev pub Entry : Type 0
 Entry = String Global × Tree
@@ -55,6 +56,10 @@ object_made false true true properties names bare some more all e f g h = rw (h,
 object_made false true false properties names bare some more all e f g h = rw (h, g, f, e) refl
 object_made false false true properties names bare some more all e f g h = rw (h, g, f, e) refl
 object_made false false false properties names bare some more all e f g h = rw (h, g, f, e) refl
+
+pub object_tree : (extra has_fields has_needed : Bool) (properties bare some more all : BTreeMap (String Global) Tree) (required : Vec Tree Global) → has_fields ≡ is_some properties.entries → has_needed ≡ is_some required.items → trees.entries_view bare.entries ≡ type_field (codes "object") → trees.entries_view some.entries ≡ with_field_if (not extra) (codes "additionalProperties") (trees.view (tree.Bool false)) (trees.entries_view bare.entries) → trees.entries_view more.entries ≡ with_field_if has_fields (codes "properties") (trees.view (tree.Object properties)) (trees.entries_view some.entries) → trees.entries_view all.entries ≡ with_field_if has_needed (codes "required") (trees.view (tree.List required)) (trees.entries_view more.entries) → trees.view (tree.Object all) ≡ json.Object (object_fields extra (is_some properties.entries) (is_some required.items) (json.Object (trees.entries_view properties.entries)) (trees.elements_view required.items))
+object_tree extra has_fields has_needed properties bare some more all required f n e closed mentioned named =
+    rw (view_members all, ← f, ← n) (ap json.Object (object_made extra has_fields has_needed (json.Object (trees.entries_view properties.entries)) (trees.elements_view required.items) (trees.entries_view bare.entries) (trees.entries_view some.entries) (trees.entries_view more.entries) (trees.entries_view all.entries) e (closed ∙ ap (λ t. with_field_if (not extra) (codes "additionalProperties") t (trees.entries_view bare.entries)) (view_truth false)) (mentioned ∙ ap (λ t. with_field_if has_fields (codes "properties") t (trees.entries_view some.entries)) (view_members properties)) (named ∙ ap (λ t. with_field_if has_needed (codes "required") t (trees.entries_view more.entries)) (view_array required))))
 
 -- ---- elements
 
