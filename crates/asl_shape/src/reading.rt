@@ -567,11 +567,12 @@ fn require(
         field.needed = true;
         return Ok(());
     }
+    let key = name.clone()?;
     let field = Field {
         needed: true,
         shape: unmentioned(extra),
     };
-    drop(fields.insert(name.clone()?, field)?);
+    drop(fields.insert(key, field)?);
     Ok(())
 }
 
