@@ -1,5 +1,5 @@
 -- What a list shape, an object shape and a list show.
-use Rattle.std.proofs.Common.{◌≡◌, List, [], ◌∷◌, map, Bool, ap, refl, sym, ◌∙◌, String, Vec, Box}
+use Rattle.std.proofs.Common.{◌≡◌, List, [], ◌∷◌, map, Bool, ap, refl, sym, ◌∙◌, String, string_bytes, Vec, Box}
 use Rattle.std.specs.BTreeMap.{BTreeMap}
 use Rattle.std.specs.declared.alloc.Global.{Global}
 use Rattle.asl_model.specs.Tree as trees
@@ -42,6 +42,9 @@ view_members members =
 
 pub view_truth : (b : Bool) → tree_view.view (tree.Bool b) ≡ trees.Boolean b
 view_truth b = ap tree_view.view (sym (TreeVariants.rolls-Bool b)) ∙ fold-roll-Tree trees.Tree tree_view.view_step (TreeOpen.Bool b)
+
+pub view_text : (s : String Global) → tree_view.view (tree.Text s) ≡ trees.Text (string_bytes s)
+view_text s = ap tree_view.view (sym (TreeVariants.rolls-Text s)) ∙ fold-roll-Tree trees.Tree tree_view.view_step (TreeOpen.Text s)
 
 pub view_any : view shape.Any ≡ model.Any
 view_any =

@@ -1,10 +1,11 @@
 -- What is written for shapes, keyword after keyword and field after field.
-use Rattle.std.proofs.Common.{◌≡◌, ℕ, suc, pos, List, [], ◌∷◌, ◌++◌, Bool, true, false, not, map, length, String, Global, Ordering, Less, Equal, Greater, string_bytes, string_cmp, codes, Vec, Box, refl, sym, ap, ◌∙◌, append-nil, Result, Ok, Err}
+use Rattle.std.proofs.Common.{◌≡◌, ℕ, suc, pos, List, [], ◌∷◌, ◌++◌, Bool, true, false, not, map, length, String, Global, Ordering, Less, Equal, Greater, string_bytes, string_cmp, codes, Vec, Box, refl, sym, ap, ◌∙◌, append-nil, append_assoc, Result, Ok, Err}
 use Rattle.std.specs.Prelude.{IfOk}
 use Rattle.std.specs.BTreeMap.{BTreeMap, insert_entry}
 use Rattle.std.specs.List.Sorted.{IsStrictlySortedBy}
 use Rattle.std.specs.Map.{keys_of}
 use Rattle.std.specs.Ordering.{match_ordering}
+use Rattle.std.proofs.lemmas.List.{map-append}
 use Rattle.asl_model.specs.Shape as model
 use Rattle.asl_model.specs.ShapeFlow.{how_many_shapes}
 use Rattle.asl_model.specs.ShapeOrder.{is_any_shape}
@@ -23,7 +24,7 @@ use Rattle.asl_shape.specs.declared.shape.Field.{Field}
 use Rattle.asl_shape.specs.declared.shape.Shape.{Shape}
 use Rattle.asl_shape.specs.declared.shape.Shape.TheViews
 use Rattle.asl_shape.proofs.Spellings.{Mention}
-use Rattle.asl_shape.proofs.Views.{view_list, view_object, view_array, view_members, view_truth}
+use Rattle.asl_shape.proofs.Views.{view_list, view_object, view_array, view_members, view_truth, view_text}
 
 abbrev pub Entry : Type 0
 Entry = String Global × Tree
@@ -95,6 +96,13 @@ needed_texts ms = map json.Text (needed_names (fields_view ms))
 texts_shown : (ns : List (List ℕ)) → json.trees_of (map json.Text ns) ≡ as_texts ns
 texts_shown [] = refl
 texts_shown (n ∷ ns) = ap (json.AndTree (json.Text n)) (texts_shown ns)
+
+-- one more name
+pub name_written : (ts new : List Tree) (m : Mention) (left now : List Mention) (k : String Global) (all : List json.Tree) → new ≡ ts ++ tree.Text k ∷ [] → now ≡ m ∷ left → m.1.needed ≡ true → string_bytes k ≡ string_bytes m.0 → map trees.view ts ++ needed_texts now ≡ all → map trees.view new ++ needed_texts left ≡ all
+name_written ts new m left now k all pushed split needed named so_far =
+    let rest = needed_texts left in
+    let here : needed_texts (m ∷ left) ≡ json.Text (string_bytes m.0) ∷ rest = rw needed refl in
+    rw pushed (ap (λ xs. xs ++ rest) (map-append trees.view ts (tree.Text k ∷ [])) ∙ append_assoc (map trees.view ts) (trees.view (tree.Text k) ∷ []) rest ∙ ap (λ t. map trees.view ts ++ (t ∷ rest)) (view_text k ∙ ap json.Text named) ∙ ap (λ xs. map trees.view ts ++ xs) (sym (ap needed_texts split ∙ here)) ∙ so_far)
 
 -- the names gone through, to the end
 pub names_written : (ts : List Tree) (ms left : List Mention) → left ≡ [] → map trees.view ts ++ needed_texts left ≡ needed_texts ms → trees.elements_view ts ≡ as_texts (needed_names (fields_view ms))
