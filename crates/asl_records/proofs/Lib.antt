@@ -1,4 +1,5 @@
 pub mod Certified
+pub mod DeclaredParts
 pub mod Entries
 pub mod Lists
 pub mod Members

@@ -26,6 +26,11 @@ pub none_wrong : (name : List ℕ) (v : Data) (ms : Members) → as_object v ≡
 none_wrong name v ms is others input output branches item = shown name state_rows v ms is ∙ rw (input, output, branches, item, others) refl
 
 -- what is told of a part is told of the whole
+pub input_told : (name : List ℕ) (v : Data) (ms : Members) (f : ReadFault) → as_object v ≡ Some ms → TellsOneOf (of_input name ms) f → TellsOneOf (object_complaints name state_rows v) f
+input_told name v ms f is told =
+    rows_told_of name state_rows v ms f is
+    (told_left f (of_input name ms) (of_output name ms ++ (of_branches name ms ++ (of_item name ms ++ []))) told)
+
 pub output_told : (name : List ℕ) (v : Data) (ms : Members) (f : ReadFault) → as_object v ≡ Some ms → TellsOneOf (of_output name ms) f → TellsOneOf (object_complaints name state_rows v) f
 output_told name v ms f is told =
     rows_told_of name state_rows v ms f is

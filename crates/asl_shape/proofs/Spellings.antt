@@ -1,5 +1,5 @@
 -- Reading the elements of a list and the fields of an object as shapes, one after another.
-use Rattle.std.proofs.Common.{◌≡◌, ℕ, suc, List, [], ◌∷◌, ◌++◌, Bool, true, false, cond, bytes_eq, ◌&&◌, Some, Result, Ok, Err, Vec, map, length, Ordering, Less, Equal, Greater, String, string_bytes, refl, sym, ap, ◌∙◌, rules}
+use Rattle.std.proofs.Common.{◌≡◌, ℕ, suc, List, [], ◌∷◌, ◌++◌, Bool, true, false, cond, bytes_eq, ◌&&◌, Some, Result, Ok, Err, Vec, map, length, Ordering, Less, Equal, Greater, String, string_bytes, refl, sym, ap, ◌∙◌, not}
 use Rattle.std.specs.Prelude.{IfOk, IfErr}
 use Rattle.std.specs.declared.alloc.Global.{Global}
 use Rattle.std.specs.BTreeMap.{insert_entry}
@@ -12,11 +12,11 @@ use Rattle.std.specs.String.{string_cmp}
 use Rattle.std.proofs.lemmas.Cmp.{nat_list_cmp_total}
 use Rattle.std.proofs.lemmas.List.{length-map}
 use Rattle.asl_model.specs.Shape as model
-use Rattle.asl_model.specs.ShapeSpelling.{shape_of, element_shapes, field_shapes, texts_among, are_texts, with_needed, with_all_needed, unless, required_faults, shape_faults, field_faults, element_faults, properties_of, properties_under, NotAShape}
+use Rattle.asl_model.specs.ShapeSpelling.{shape_of, element_shapes, field_shapes, texts_among, is_text_value, is_among, are_texts, with_needed, with_all_needed, unless, required_faults, shape_faults, field_faults, element_faults, properties_of, properties_under, NotAShape}
 use Rattle.asl_model.specs.Tree as json
 use Rattle.asl_shape.specs.Spelled as trees
 use Rattle.asl_shape.specs.Spelled.{spelled}
-use Rattle.serde_json.specs.declared.value.Value.{Value, the_lemmas}
+use Rattle.serde_json.specs.declared.value.Value.{Value}
 use Rattle.serde_json.specs.declared.value.Value as value
 use Rattle.serde_json.proofs.Views.{view-Array}
 use Rattle.asl_shape.specs.declared.ShapeRefusal.{ShapeRefusal}
@@ -26,7 +26,7 @@ use Rattle.asl_shape.specs.Refusal.{Tells}
 use Rattle.asl_shape.specs.Required.{is_needed, are_new, NoneNeeded}
 use Rattle.asl_shape.specs.View.{view, shapes_of, shapes_view, fields_view}
 use Rattle.asl_shape.proofs.Requiring.{new_next, new_are_distinct}
-use Rattle.asl_shape.proofs.Telling.{told_same, told_left}
+use Rattle.asl_shape.proofs.Telling.{told_same, told_left, told_first, told_second}
 
 -- ---- elements
 
@@ -89,25 +89,34 @@ member_read done e more fs k f sorted so_far named needed shape =
 view_items : (names : Vec Value Global) → trees.view (value.Array names) ≡ json.Array (trees.elements_view names.items)
 view_items names = ap spelled (view-Array names)
 
-view_text : (name : String Global) → trees.view (value.String name) ≡ json.Text (string_bytes name)
-view_text name = search (rules, the_lemmas)
+shown_split : (left rest : List Value) (item : Value) (name : List ℕ) → left ≡ item ∷ rest → trees.view item ≡ json.Text name → trees.elements_view left ≡ json.AndTree (json.Text name) (trees.elements_view rest)
+shown_split left rest item name split is = ap trees.elements_view split ∙ ap (λ t. json.AndTree t (trees.elements_view rest)) is
 
-shown_split : (left rest : List Value) (item : Value) (name : String Global) → left ≡ item ∷ rest → item ≡ value.String name → trees.elements_view left ≡ json.AndTree (json.Text (string_bytes name)) (trees.elements_view rest)
-shown_split left rest item name split is =
-    ap trees.elements_view split ∙ (ap (λ t. json.AndTree (trees.view t) (trees.elements_view rest)) is ∙ ap (λ t. json.AndTree t (trees.elements_view rest)) (view_text name))
-
-pub texts_step : (left rest : List Value) (item : Value) (name : String Global) → left ≡ item ∷ rest → item ≡ value.String name → are_texts (trees.elements_view left) ≡ are_texts (trees.elements_view rest)
+pub texts_step : (left rest : List Value) (item : Value) (name : List ℕ) → left ≡ item ∷ rest → trees.view item ≡ json.Text name → are_texts (trees.elements_view left) ≡ are_texts (trees.elements_view rest)
 texts_step left rest item name split is = ap are_texts (shown_split left rest item name split is)
 
-pub new_step : (extra : Bool) (left rest : List Value) (item : Value) (name : String Global) (old new : model.FieldShapes) → left ≡ item ∷ rest → item ≡ value.String name → is_needed (string_bytes name) old ≡ false → new ≡ with_needed extra (string_bytes name) old → are_new (texts_among (trees.elements_view left)) old ≡ are_new (texts_among (trees.elements_view rest)) new
+pub new_step : (extra : Bool) (left rest : List Value) (item : Value) (name : List ℕ) (old new : model.FieldShapes) → left ≡ item ∷ rest → trees.view item ≡ json.Text name → is_needed name old ≡ false → new ≡ with_needed extra name old → are_new (texts_among (trees.elements_view left)) old ≡ are_new (texts_among (trees.elements_view rest)) new
 new_step extra left rest item name old new split is fresh made =
     ap (λ ts. are_new (texts_among ts) old) (shown_split left rest item name split is)
-    ∙ (new_next extra (string_bytes name) (texts_among (trees.elements_view rest)) old fresh ∙ ap (are_new (texts_among (trees.elements_view rest))) (sym made))
+    ∙ (new_next extra name (texts_among (trees.elements_view rest)) old fresh ∙ ap (are_new (texts_among (trees.elements_view rest))) (sym made))
 
-pub all_step : (extra : Bool) (left rest : List Value) (item : Value) (name : String Global) (old new : model.FieldShapes) → left ≡ item ∷ rest → item ≡ value.String name → new ≡ with_needed extra (string_bytes name) old → with_all_needed extra (texts_among (trees.elements_view left)) old ≡ with_all_needed extra (texts_among (trees.elements_view rest)) new
+pub all_step : (extra : Bool) (left rest : List Value) (item : Value) (name : List ℕ) (old new : model.FieldShapes) → left ≡ item ∷ rest → trees.view item ≡ json.Text name → new ≡ with_needed extra name old → with_all_needed extra (texts_among (trees.elements_view left)) old ≡ with_all_needed extra (texts_among (trees.elements_view rest)) new
 all_step extra left rest item name old new split is made =
     ap (λ ts. with_all_needed extra (texts_among ts) old) (shown_split left rest item name split is)
     ∙ ap (with_all_needed extra (texts_among (trees.elements_view rest))) (sym made)
+
+-- an element that is no text is wrong
+pub unnamed_told : (e : ShapeRefusal) (all left rest : List Value) (item : Value) (start : model.FieldShapes) → are_texts (trees.elements_view all) ≡ are_texts (trees.elements_view left) → left ≡ item ∷ rest → Tells e (unless (is_text_value (trees.view item)) NotAShape) → Tells e (unless (are_texts (trees.elements_view all) && are_new (texts_among (trees.elements_view all)) start) NotAShape)
+unnamed_told e all left rest item start so_far split told =
+    let here : are_texts (trees.elements_view all) ≡ (is_text_value (trees.view item) && are_texts (trees.elements_view rest)) = so_far ∙ ap (λ ts. are_texts (trees.elements_view ts)) split in
+    told_first e (are_texts (trees.elements_view all)) (are_new (texts_among (trees.elements_view all)) start) NotAShape (told_same e _ _ (told_first e (is_text_value (trees.view item)) (are_texts (trees.elements_view rest)) NotAShape told) (ap (λ b. unless b NotAShape) (sym here)))
+
+-- so is a name that isn't new
+pub repeated_told : (e : ShapeRefusal) (all left rest : List Value) (item : Value) (name : List ℕ) (start now : model.FieldShapes) → are_new (texts_among (trees.elements_view all)) start ≡ are_new (texts_among (trees.elements_view left)) now → left ≡ item ∷ rest → trees.view item ≡ json.Text name → Tells e (unless (not (is_needed name now)) NotAShape) → Tells e (unless (are_texts (trees.elements_view all) && are_new (texts_among (trees.elements_view all)) start) NotAShape)
+repeated_told e all left rest item name start now so_far split is told =
+    let ns = texts_among (trees.elements_view rest) in
+    let here : are_new (texts_among (trees.elements_view all)) start ≡ (not (is_needed name now) && (not (is_among name ns) && are_new ns now)) = so_far ∙ ap (λ ts. are_new (texts_among ts) now) (shown_split left rest item name split is) in
+    told_second e (are_texts (trees.elements_view all)) (are_new (texts_among (trees.elements_view all)) start) NotAShape (told_same e _ _ (told_first e (not (is_needed name now)) (not (is_among name ns) && are_new ns now) NotAShape told) (ap (λ b. unless b NotAShape) (sym here)))
 
 -- where no field is needed at first, the names are right that are new one after another
 pub required_right : (ts : json.Trees) (shapes : model.FieldShapes) → NoneNeeded shapes → (are_texts ts && are_new (texts_among ts) shapes) ≡ true → required_faults (Some (json.Array ts)) ≡ []

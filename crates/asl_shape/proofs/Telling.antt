@@ -1,9 +1,9 @@
 -- What a refusal tells of one of two lists of faults, it tells of both.
-use Rattle.std.proofs.Common.{◌≡◌, List, ◌++◌, Option, Some, None, subst}
+use Rattle.std.proofs.Common.{◌≡◌, List, [], ◌∷◌, ◌++◌, Bool, true, false, ◌&&◌, Option, Some, None, subst}
 use Rattle.std.specs.Prelude.{IfSome}
 use Rattle.std.specs.List.{Contains}
 use Rattle.std.proofs.lemmas.List.Elements.{Contains-append_left, Contains-append_right}
-use Rattle.asl_model.specs.ShapeSpelling.{ShapeFault}
+use Rattle.asl_model.specs.ShapeSpelling.{ShapeFault, unless}
 use Rattle.asl_shape.specs.declared.ShapeRefusal.{ShapeRefusal}
 use Rattle.asl_shape.specs.Refusal.{Tells, fault_named}
 
@@ -23,3 +23,12 @@ told_right e xs ys h = record { listed = right (fault_named e) xs ys h.listed }
 
 pub told_same : (e : ShapeRefusal) (xs ys : List ShapeFault) → Tells e xs → xs ≡ ys → Tells e ys
 told_same e xs ys h same = subst (Tells e) same h
+
+pub told_first : (e : ShapeRefusal) (a b : Bool) (fault : ShapeFault) → Tells e (unless a fault) → Tells e (unless (a && b) fault)
+told_first e true b fault h = told_left e [] (unless b fault) h
+told_first e false b fault h = h
+
+pub told_second : (e : ShapeRefusal) (a b : Bool) (fault : ShapeFault) → Tells e (unless b fault) → Tells e (unless (a && b) fault)
+told_second e true b fault h = h
+told_second e false true fault h = told_left e [] (fault ∷ []) h
+told_second e false false fault h = h

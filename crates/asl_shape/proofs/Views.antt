@@ -1,5 +1,5 @@
 -- What a list shape, an object shape and a list show.
-use Rattle.std.proofs.Common.{◌≡◌, List, [], ◌∷◌, map, Bool, ap, refl, sym, ◌∙◌, String, Vec, Box}
+use Rattle.std.proofs.Common.{◌≡◌, List, [], ◌∷◌, map, Bool, ap, refl, sym, ◌∙◌, String, string_bytes, Vec, Box}
 use Rattle.std.specs.BTreeMap.{BTreeMap}
 use Rattle.std.specs.declared.alloc.Global.{Global}
 use Rattle.asl_model.specs.Tree as trees
@@ -35,6 +35,16 @@ view_object fields extra =
 pub view_array : (elements : Vec tree.Tree Global) → tree_view.view (tree.List elements) ≡ trees.Array (tree_view.elements_view elements.items)
 view_array elements =
     ap tree_view.view (sym (TreeVariants.rolls-List elements)) ∙ fold-roll-Tree trees.Tree tree_view.view_step (TreeOpen.List elements)
+
+pub view_members : (members : BTreeMap (String Global) tree.Tree) → tree_view.view (tree.Object members) ≡ trees.Object (tree_view.entries_view members.entries)
+view_members members =
+    ap tree_view.view (sym (TreeVariants.rolls-Object members)) ∙ fold-roll-Tree trees.Tree tree_view.view_step (TreeOpen.Object members)
+
+pub view_truth : (b : Bool) → tree_view.view (tree.Bool b) ≡ trees.Boolean b
+view_truth b = ap tree_view.view (sym (TreeVariants.rolls-Bool b)) ∙ fold-roll-Tree trees.Tree tree_view.view_step (TreeOpen.Bool b)
+
+pub view_text : (s : String Global) → tree_view.view (tree.Text s) ≡ trees.Text (string_bytes s)
+view_text s = ap tree_view.view (sym (TreeVariants.rolls-Text s)) ∙ fold-roll-Tree trees.Tree tree_view.view_step (TreeOpen.Text s)
 
 pub view_any : view shape.Any ≡ model.Any
 view_any =

@@ -1,10 +1,11 @@
 -- What is written for shapes, keyword after keyword and field after field.
-use Rattle.std.proofs.Common.{◌≡◌, ℕ, suc, pos, List, [], ◌∷◌, ◌++◌, Bool, true, false, not, map, length, String, Global, Ordering, Less, Equal, Greater, string_bytes, string_cmp, codes, Vec, Box, refl, sym, ap, ◌∙◌, append-nil, Result, Ok, Err}
+use Rattle.std.proofs.Common.{◌≡◌, ℕ, suc, pos, List, [], ◌∷◌, ◌++◌, Bool, true, false, not, map, length, String, Global, Ordering, Less, Equal, Greater, string_bytes, string_cmp, codes, Vec, Box, refl, sym, ap, ◌∙◌, append-nil, append_assoc, Result, Ok, Err}
 use Rattle.std.specs.Prelude.{IfOk}
 use Rattle.std.specs.BTreeMap.{BTreeMap, insert_entry}
 use Rattle.std.specs.List.Sorted.{IsStrictlySortedBy}
 use Rattle.std.specs.Map.{keys_of}
 use Rattle.std.specs.Ordering.{match_ordering}
+use Rattle.std.proofs.lemmas.List.{map-append}
 use Rattle.asl_model.specs.Shape as model
 use Rattle.asl_model.specs.ShapeFlow.{how_many_shapes}
 use Rattle.asl_model.specs.ShapeOrder.{is_any_shape}
@@ -14,6 +15,7 @@ use Rattle.asl_tree.proofs.Texts.{after_first}
 use Rattle.asl_tree.specs.View as trees
 use Rattle.asl_tree.specs.declared.OutOfMemory.{OutOfMemory}
 use Rattle.asl_tree.specs.declared.Tree.{Tree}
+use Rattle.asl_tree.specs.declared.Tree as tree
 use Rattle.asl_shape.specs.Adding.{is_some, with_field, with_field_if}
 use Rattle.asl_shape.specs.Known.{AreInOrder}
 use Rattle.asl_shape.specs.Proper.{Proper, AllProper, FieldsProper}
@@ -22,7 +24,7 @@ use Rattle.asl_shape.specs.declared.shape.Field.{Field}
 use Rattle.asl_shape.specs.declared.shape.Shape.{Shape}
 use Rattle.asl_shape.specs.declared.shape.Shape.TheViews
 use Rattle.asl_shape.proofs.Spellings.{Mention}
-use Rattle.asl_shape.proofs.Views.{view_list, view_object}
+use Rattle.asl_shape.proofs.Views.{view_list, view_object, view_array, view_members, view_truth, view_text}
 
 abbrev pub Entry : Type 0
 Entry = String Global × Tree
@@ -55,6 +57,10 @@ object_made false true true properties names bare some more all e f g h = rw (h,
 object_made false true false properties names bare some more all e f g h = rw (h, g, f, e) refl
 object_made false false true properties names bare some more all e f g h = rw (h, g, f, e) refl
 object_made false false false properties names bare some more all e f g h = rw (h, g, f, e) refl
+
+pub object_tree : (extra has_fields has_needed : Bool) (properties bare some more all : BTreeMap (String Global) Tree) (required : Vec Tree Global) → has_fields ≡ is_some properties.entries → has_needed ≡ is_some required.items → trees.entries_view bare.entries ≡ type_field (codes "object") → trees.entries_view some.entries ≡ with_field_if (not extra) (codes "additionalProperties") (trees.view (tree.Bool false)) (trees.entries_view bare.entries) → trees.entries_view more.entries ≡ with_field_if has_fields (codes "properties") (trees.view (tree.Object properties)) (trees.entries_view some.entries) → trees.entries_view all.entries ≡ with_field_if has_needed (codes "required") (trees.view (tree.List required)) (trees.entries_view more.entries) → trees.view (tree.Object all) ≡ json.Object (object_fields extra (is_some properties.entries) (is_some required.items) (json.Object (trees.entries_view properties.entries)) (trees.elements_view required.items))
+object_tree extra has_fields has_needed properties bare some more all required f n e closed mentioned named =
+    rw (view_members all, ← f, ← n) (ap json.Object (object_made extra has_fields has_needed (json.Object (trees.entries_view properties.entries)) (trees.elements_view required.items) (trees.entries_view bare.entries) (trees.entries_view some.entries) (trees.entries_view more.entries) (trees.entries_view all.entries) e (closed ∙ ap (λ t. with_field_if (not extra) (codes "additionalProperties") t (trees.entries_view bare.entries)) (view_truth false)) (mentioned ∙ ap (λ t. with_field_if has_fields (codes "properties") t (trees.entries_view some.entries)) (view_members properties)) (named ∙ ap (λ t. with_field_if has_needed (codes "required") t (trees.entries_view more.entries)) (view_array required))))
 
 -- ---- elements
 
@@ -90,6 +96,13 @@ needed_texts ms = map json.Text (needed_names (fields_view ms))
 texts_shown : (ns : List (List ℕ)) → json.trees_of (map json.Text ns) ≡ as_texts ns
 texts_shown [] = refl
 texts_shown (n ∷ ns) = ap (json.AndTree (json.Text n)) (texts_shown ns)
+
+-- one more name
+pub name_written : (ts new : List Tree) (m : Mention) (left now : List Mention) (k : String Global) (all : List json.Tree) → new ≡ ts ++ tree.Text k ∷ [] → now ≡ m ∷ left → m.1.needed ≡ true → string_bytes k ≡ string_bytes m.0 → map trees.view ts ++ needed_texts now ≡ all → map trees.view new ++ needed_texts left ≡ all
+name_written ts new m left now k all pushed split needed named so_far =
+    let rest = needed_texts left in
+    let here : needed_texts (m ∷ left) ≡ json.Text (string_bytes m.0) ∷ rest = rw needed refl in
+    rw pushed (ap (λ xs. xs ++ rest) (map-append trees.view ts (tree.Text k ∷ [])) ∙ append_assoc (map trees.view ts) (trees.view (tree.Text k) ∷ []) rest ∙ ap (λ t. map trees.view ts ++ (t ∷ rest)) (view_text k ∙ ap json.Text named) ∙ ap (λ xs. map trees.view ts ++ xs) (sym (ap needed_texts split ∙ here)) ∙ so_far)
 
 -- the names gone through, to the end
 pub names_written : (ts : List Tree) (ms left : List Mention) → left ≡ [] → map trees.view ts ++ needed_texts left ≡ needed_texts ms → trees.elements_view ts ≡ as_texts (needed_names (fields_view ms))

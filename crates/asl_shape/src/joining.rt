@@ -211,16 +211,17 @@ fn join_fields(
     for (name, field) in fields.iter() {
         match others.get(name) {
             Some(other) => {
+                let key = name.clone()?;
                 let both = Field {
                     needed: field.needed && other.needed,
                     shape: join_shapes(alloc, &field.shape, &other.shape)?,
                 };
-                drop(joined.insert(name.clone()?, both)?);
+                drop(joined.insert(key, both)?);
             }
             None if more => {}
             None => {
-                let one = optional(alloc, field)?;
-                drop(joined.insert(name.clone()?, one)?);
+                let key = name.clone()?;
+                drop(joined.insert(key, optional(alloc, field)?)?);
             }
         }
     }
@@ -242,8 +243,8 @@ fn add_others(
 {
     for (name, other) in others.iter().rev() {
         if !extra && !fields.contains_key(name) {
-            let one = optional(alloc, other)?;
-            drop(joined.insert(name.clone()?, one)?);
+            let key = name.clone()?;
+            drop(joined.insert(key, optional(alloc, other)?)?);
         }
     }
     Ok(())

@@ -528,15 +528,22 @@ fn require_all(
         (λ e. Tells e (model.unless (model.are_texts (trees.elements_view names.now) && are_new (model.texts_among (trees.elements_view names.now)) (fields_view fields.old.entries)) model.NotAShape)) }
 {
     for name in names {
-        match name {
-            Value::String(name) => require(name, extra, fields)?,
-            Value::Null | Value::Bool(_) | Value::Number(_) | Value::Array(_) | Value::Object(_) =>
-                {
-                    return Err(ShapeRefusal::NotAShape);
-                }
-        }
+        require(name_in(name)?, extra, fields)?;
     }
     Ok(())
+}
+
+// The name that an element of `required` says.
+fn name_in(element: &Value) -> Result<&String, ShapeRefusal>
+    ensures named { IfOk result (λ name. trees.view element.now ≡ json.Text (string_bytes name.now)) }
+    ensures refused { IfErr result (λ e. Tells e (model.unless (model.is_text_value (trees.view element.now)) model.NotAShape)) }
+{
+    match element {
+        Value::String(name) => Ok(name),
+        Value::Null | Value::Bool(_) | Value::Number(_) | Value::Array(_) | Value::Object(_) => {
+            Err(ShapeRefusal::NotAShape)
+        }
+    }
 }
 
 // Makes the field of that name needed. One that is needed already was named before.
@@ -560,11 +567,12 @@ fn require(
         field.needed = true;
         return Ok(());
     }
+    let key = name.clone()?;
     let field = Field {
         needed: true,
         shape: unmentioned(extra),
     };
-    drop(fields.insert(name.clone()?, field)?);
+    drop(fields.insert(key, field)?);
     Ok(())
 }
 

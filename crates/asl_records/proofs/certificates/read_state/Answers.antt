@@ -4,7 +4,7 @@ use Rattle.asl_model.specs.Records.{state_rows}
 use Rattle.asl_records.specs.Parts.{field_complaints, shape_row, shapes_row}
 use Rattle.asl_records.proofs.Telling.{handed_on, told_same}
 use Rattle.asl_records.proofs.Objects.{foreign_told_of}
-use Rattle.asl_records.proofs.Stated.{output_told, branches_told, item_told, none_wrong}
+use Rattle.asl_records.proofs.Stated.{input_told, output_told, branches_told, item_told, none_wrong}
 use Rattle.asl_records.proofs.certificates.read_state.Goals as goal
 
 pub returns-in_err-fields-clause-refused : goal.returns-in_err-fields-clause-refused
@@ -15,6 +15,12 @@ returns-in_err-check_fields-clause-refused c =
     let f = c.in_err-check_fields.field-0.0 in
     handed_on c.from_residual-in_err-check_fields.result f _ c.from_residual-in_err-check_fields.ensures.1
     (foreign_told_of c.args.name.now state_rows (view c.args.value) (members_view c.in_ok-fields.fields.entries) f c.in_ok-fields.ensures.members c.in_err-check_fields.ensures.refused)
+
+pub returns-in_err-required_shape-clause-refused : goal.returns-in_err-required_shape-clause-refused
+returns-in_err-required_shape-clause-refused c =
+    let f = c.in_err-required_shape.field-0.0 in
+    handed_on c.from_residual-in_err-required_shape.result f _ c.from_residual-in_err-required_shape.ensures.1
+    (input_told c.args.name.now (view c.args.value) (members_view c.in_ok-fields.fields.entries) f c.in_ok-fields.ensures.members c.in_err-required_shape.ensures.refused)
 
 pub returns-in_err-required_shape-2-clause-refused : goal.returns-in_err-required_shape-2-clause-refused
 returns-in_err-required_shape-2-clause-refused c =

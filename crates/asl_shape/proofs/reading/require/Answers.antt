@@ -16,8 +16,8 @@ returns-in-Some-clause-needed c =
 pub returns-clause-needed : goal.returns-clause-needed
 returns-clause-needed c =
     let es = c.args.fields.now.entries in
-    let key = c.in_ok-clone.field-0 in
-    let named : string_bytes key ≡ string_bytes c.args.name.now = c.in_ok-clone.ensures.cases in
+    let key = c.in_ok-key.key in
+    let named : string_bytes key ≡ string_bytes c.args.name.now = c.in_ok-key.ensures.cases in
     let field = roll-Field (record { needed = true; shape = c.unmentioned.result }) in
     let none : lookup (is_at (string_cmp key)) es ≡ None = same_key key c.args.name.now es named (sym c.in_default.ensures.value) in
     let inserted : c.insert.new.self.entries ≡ insert_entry string_cmp es key field = c.in_ok-insert.ensures.entries ∙ ap (λ m. insert_entry string_cmp m.entries key field) c.get_mut.follows.holds-at-none in
