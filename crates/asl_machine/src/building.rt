@@ -1,6 +1,6 @@
 // Building the states of a definition, in the order of their numbers.
 
-ghost use Rattle.std.specs.Prelude.{◌≡◌, ◌++◌, [], IfOk, OnOk, Some, map};
+ghost use Rattle.std.specs.Prelude.{◌≡◌, ◌++◌, [], IfOk, OnOk, Some, map, string_bytes};
 ghost use Rattle.serde_json.specs.View.{view, items_view, members_view};
 ghost use Rattle.asl_model.specs.Numbering.{outline, standing_in, standing_among, standing_inside, standing_each, outlined};
 ghost use Rattle.asl_model.specs.StandsFor.{scope_of, states_in, each_state, state_of, scopes_in, each_scope, branches_under, processor_under};
@@ -97,12 +97,7 @@ fn add_members<'a>(
     ensures { OnOk result (Adds (map built_view rows.old.items) (map built_view rows.new.items) (standing_among start.now (owner_view owner.entry) (each_state (members_view members.now.entries)))) }
 {
     for (name, state) in members.iter() {
-        rows.push(BuiltState {
-            name: name.clone()?,
-            state: build_state(alloc, state)?,
-            start,
-            owner,
-        })?;
+        rows.push(build_row(alloc, name, state, start, owner)?)?;
         add_inside(alloc, state, name, rows)?;
     }
     Ok(())
@@ -202,6 +197,27 @@ fn add_processor<'a>(
         Some(processor) => add_scope(alloc, processor, Some((name, 0)), rows),
         None => Ok(()),
     }
+}
+
+/// The state of that name that a value stands for, in a scope with that start and that owner.
+fn build_row<'a>(
+    alloc: Global,
+    name: &str,
+    state: &Value,
+    start: &'a str,
+    owner: Option<(&'a str, usize)>,
+) -> Result<BuiltState<'a>, OutOfMemory>
+    ensures named { IfOk result (λ row. string_bytes row.name ≡ name.now) }
+    ensures built { IfOk result (λ row. state_view row.state ≡ outline (state_of (view state.now))) }
+    ensures started { IfOk result (λ row. row.start.now ≡ start.now) }
+    ensures owned { IfOk result (λ row. owner_view row.owner ≡ owner_view owner.entry) }
+{
+    Ok(BuiltState {
+        name: String::from_str(alloc, name)?,
+        state: build_state(alloc, state)?,
+        start,
+        owner,
+    })
 }
 
 /// The state that a value stands for.

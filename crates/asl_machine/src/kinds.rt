@@ -1,10 +1,11 @@
 // Building what the type of a state adds (States Language, "State Types").
 
-ghost use Rattle.std.specs.Prelude.{◌≡◌, IfOk, option_map};
+ghost use Rattle.std.specs.Prelude.{◌≡◌, IfOk, [], codes, option_map};
+ghost use Rattle.std.specs.Option.{unwrap_or};
 ghost use Rattle.serde_json.specs.View.{view};
-ghost use Rattle.asl_model.specs.Machine.{NoScopes, empty_scope, settings_of, kind_of};
+ghost use Rattle.asl_model.specs.Machine.{NoScopes, Choice, Fail, Map, empty_scope, settings_of, kind_of};
 ghost use Rattle.asl_model.specs.Numbering.{kind_outline};
-ghost use Rattle.asl_model.specs.StandsFor.{members_in, type_of as model_type_of, delay_of, selector_of, state_by, branches_under, processor_under};
+ghost use Rattle.asl_model.specs.StandsFor.{members_in, type_of as model_type_of, text_at, path_at, rules_of, delay_of, selector_of, state_by, branches_under, processor_under};
 ghost use Rattle.asl_template.specs.View as templates;
 ghost use Rattle.asl_machine.specs.Machine.{delay_view, kind_view};
 ghost use Rattle.asl_machine.specs.Rows.{type_view};
@@ -70,27 +71,48 @@ pub(crate) fn build_kind(
         Some(StateType::Task) => Ok(Kind::Task {
             resource: build_text_or_empty(alloc, state, "Resource")?,
         }),
-        Some(StateType::Choice) => Ok(Kind::Choice {
-            choices: build_rules(alloc, elements_of(state, "Choices"))?,
-            default: build_text(alloc, state, "Default")?,
-        }),
+        Some(StateType::Choice) => build_choice(alloc, state),
         Some(StateType::Wait) => Ok(Kind::Wait {
             delay: build_delay(alloc, state)?,
         }),
         Some(StateType::Succeed) | None => Ok(Kind::Succeed),
-        Some(StateType::Fail) => Ok(Kind::Fail {
-            error: build_text_or_empty(alloc, state, "Error")?,
-            cause: build_text_or_empty(alloc, state, "Cause")?,
-        }),
+        Some(StateType::Fail) => build_fail(alloc, state),
         Some(StateType::Parallel) => Ok(Kind::Parallel {
             branches: build_branch_starts(alloc, state)?,
         }),
-        Some(StateType::Map) => Ok(Kind::Map {
-            items_path: build_path(alloc, state, "ItemsPath")?,
-            item_selector: build_selector(alloc, state)?,
-            processor: build_processor_start(alloc, state)?,
-        }),
+        Some(StateType::Map) => build_map(alloc, state),
     }
+}
+
+/// What a Choice adds.
+fn build_choice(alloc: Global, state: &Value) -> Result<Kind, OutOfMemory>
+    ensures { IfOk result (λ k. kind_view k ≡ Choice (rules_of (members_in (view state.now))) (text_at (codes "Default") (members_in (view state.now)))) }
+{
+    Ok(Kind::Choice {
+        choices: build_rules(alloc, elements_of(state, "Choices"))?,
+        default: build_text(alloc, state, "Default")?,
+    })
+}
+
+/// What a Fail adds.
+fn build_fail(alloc: Global, state: &Value) -> Result<Kind, OutOfMemory>
+    ensures { IfOk result (λ k. kind_view k ≡ Fail (unwrap_or (text_at (codes "Error") (members_in (view state.now))) []) (unwrap_or (text_at (codes "Cause") (members_in (view state.now))) [])) }
+{
+    Ok(Kind::Fail {
+        error: build_text_or_empty(alloc, state, "Error")?,
+        cause: build_text_or_empty(alloc, state, "Cause")?,
+    })
+}
+
+/// What a Map adds.
+fn build_map(alloc: Global, state: &Value) -> Result<Kind, OutOfMemory>
+    ensures { IfOk result (λ k. kind_view k ≡ kind_outline (Map (path_at (codes "ItemsPath") (members_in (view state.now))) (selector_of (members_in (view state.now))) (processor_under (members_in (view state.now))))) }
+{
+    Ok(Kind::Map {
+        items_path: build_path(alloc, state, "ItemsPath")?,
+        processor: build_processor_start(alloc, state)?,
+        item_selector: build_selector(alloc, state)?,
+    })
 }
 
 /// What a Wait waits for: the first of its four fields that is there.

@@ -99,8 +99,8 @@ impl<'a> Numbered<'a> {
     fn push(&mut self, row: BuiltState<'a>) -> Result<(), OutOfMemory>
         ensures { OnOk result (list_any (string_eq row.entry.name) self.old.names.keys ≡ false → (done : List Standing) → Holds done self.old → Holds (done ++ built_view row.entry ∷ []) self.new) }
     {
-        self.names.insert(row.name)?;
         self.states.push(row.state)?;
+        self.names.insert(row.name)?;
         self.homes.push(Home {
             start: row.start,
             owner: row.owner,

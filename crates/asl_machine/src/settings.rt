@@ -1,10 +1,10 @@
 // Building what states of several types have (States Language, "State Types", "Errors").
 
-ghost use Rattle.std.specs.Prelude.{◌≡◌, IfOk, codes, map, string_bytes, option_map};
+ghost use Rattle.std.specs.Prelude.{◌≡◌, IfOk, codes, false, map, string_bytes, option_map};
 ghost use Rattle.std.specs.List.{filter_map};
 ghost use Rattle.serde_json.specs.Find.{as_str};
 ghost use Rattle.serde_json.specs.View.{view, items_view};
-ghost use Rattle.asl_model.specs.StandsFor.{members_in, listed, error_names, retrier_of, catcher_of, settings_in};
+ghost use Rattle.asl_model.specs.StandsFor.{members_in, listed, items_at, text_at, path_or_null_at, template_at, error_names, retrier_of, catcher_of, settings_in};
 ghost use Rattle.asl_template.specs.View as templates;
 ghost use Rattle.asl_machine.specs.Machine.{retrier_view, catcher_view, settings_view};
 
@@ -12,6 +12,7 @@ use crate::fields::{
     build_path_or_null, build_template, build_text, build_text_or_empty, elements_of, natural_of,
 };
 use crate::states::{Catcher, Retrier, Settings};
+use asl_path::RefPath;
 use asl_template::Template;
 use asl_tree::OutOfMemory;
 use serde_json::Value;
@@ -19,6 +20,23 @@ use std::alloc::Global;
 
 /// How often a retrier without `MaxAttempts` retries.
 const DEFAULT_ATTEMPTS: u64 = 3;
+
+/// What a state makes of its data (States Language, "Input and Output Processing").
+#[derive(Drop)]
+struct Processing {
+    input_path: Option<RefPath>,
+    result_path: Option<RefPath>,
+    output_path: Option<RefPath>,
+    result_selector: Option<Template>,
+}
+
+/// Where a state goes on to, and what it does about errors.
+#[derive(Drop)]
+struct Transitions {
+    next: Option<String>,
+    retriers: Vec<Retrier>,
+    catchers: Vec<Catcher>,
+}
 
 /// What states of several types have, with those parameters.
 pub(crate) fn build_settings(
@@ -28,12 +46,42 @@ pub(crate) fn build_settings(
 ) -> Result<Settings, OutOfMemory>
     ensures { IfOk result (λ s. settings_view s ≡ settings_in (option_map templates.view parameters) (members_in (view state.now))) }
 {
+    let processing = build_processing(alloc, state)?;
+    let transitions = build_transitions(alloc, state)?;
     Ok(Settings {
-        input_path: build_path_or_null(alloc, state, "InputPath")?,
+        input_path: processing.input_path,
         parameters,
-        result_selector: build_template(alloc, state, "ResultSelector", false)?,
+        result_selector: processing.result_selector,
+        result_path: processing.result_path,
+        output_path: processing.output_path,
+        next: transitions.next,
+        retriers: transitions.retriers,
+        catchers: transitions.catchers,
+    })
+}
+
+/// What a state makes of its data, but for its parameters.
+fn build_processing(alloc: Global, state: &Value) -> Result<Processing, OutOfMemory>
+    ensures input { IfOk result (λ p. p.input_path ≡ path_or_null_at (codes "InputPath") (members_in (view state.now))) }
+    ensures placed { IfOk result (λ p. p.result_path ≡ path_or_null_at (codes "ResultPath") (members_in (view state.now))) }
+    ensures output { IfOk result (λ p. p.output_path ≡ path_or_null_at (codes "OutputPath") (members_in (view state.now))) }
+    ensures selected { IfOk result (λ p. option_map templates.view p.result_selector ≡ template_at false (codes "ResultSelector") (members_in (view state.now))) }
+{
+    Ok(Processing {
+        input_path: build_path_or_null(alloc, state, "InputPath")?,
         result_path: build_path_or_null(alloc, state, "ResultPath")?,
         output_path: build_path_or_null(alloc, state, "OutputPath")?,
+        result_selector: build_template(alloc, state, "ResultSelector", false)?,
+    })
+}
+
+/// Where a state goes on to, and what it does about errors.
+fn build_transitions(alloc: Global, state: &Value) -> Result<Transitions, OutOfMemory>
+    ensures next { IfOk result (λ t. option_map string_bytes t.next ≡ text_at (codes "Next") (members_in (view state.now))) }
+    ensures retried { IfOk result (λ t. map retrier_view t.retriers.items ≡ map retrier_of (listed (items_at (codes "Retry") (members_in (view state.now))))) }
+    ensures caught { IfOk result (λ t. map catcher_view t.catchers.items ≡ map catcher_of (listed (items_at (codes "Catch") (members_in (view state.now))))) }
+{
+    Ok(Transitions {
         next: build_text(alloc, state, "Next")?,
         retriers: build_retriers(alloc, elements_of(state, "Retry"))?,
         catchers: build_catchers(alloc, elements_of(state, "Catch"))?,

@@ -130,6 +130,6 @@ fn take_on(here: &Here, answer: &Answer) -> Result<Plan, OutOfMemory>
 fn fail(here: &Here, error: &str, cause: &str) -> Result<Plan, OutOfMemory>
     ensures { IfOk result (λ plan. Plans here.now plan (model.entry_then (model.TaskFailed here.now.name.now error.now cause.now) (by_settings model.troubled here.now error.now cause.now))) }
 {
-    let failed = here.task_failed(error, cause)?;
-    in_trouble(here, error, cause)?.after(failed)
+    let plan = in_trouble(here, error, cause)?;
+    plan.after(here.task_failed(error, cause)?)
 }

@@ -39,27 +39,34 @@ pub(crate) fn apply(
     ensures unchanged { IfErr result (λ _. (names : List (List ℕ)) → activity_view names activity.new ≡ activity_view names activity.old) }
 {
     match change {
-        Change::Enter(visit) => *activity = Activity::Ready(visit),
-        Change::End(outcome) => *activity = Activity::Ended(outcome),
+        Change::Enter(visit) => put(activity, Activity::Ready(visit)),
+        Change::End(outcome) => put(activity, Activity::Ended(outcome)),
         Change::Ask(payload) => {
             if let Some(visit) = take_visit(activity) {
-                *activity = Activity::Waiting { visit, payload };
+                put(activity, Activity::Waiting { visit, payload });
             }
         }
         Change::SplitInto(visits) => {
             let children = each_ready(alloc, visits)?;
             if let Some(visit) = take_visit(activity) {
-                *activity = Activity::Split { visit, children };
+                put(activity, Activity::Split { visit, children });
             }
         }
         Change::Retry(retrier) => {
             raise(activity, retrier)?;
             if let Some(visit) = take_visit(activity) {
-                *activity = Activity::Ready(visit);
+                put(activity, Activity::Ready(visit));
             }
         }
     }
     Ok(())
+}
+
+/// Puts another activity in the place of this one.
+fn put(activity: &mut Activity, next: Activity)
+    ensures { activity.new ≡ next }
+{
+    *activity = next;
 }
 
 /// An activity for each execution, about to enter its state.

@@ -27,9 +27,9 @@ use asl_tree::{OutOfMemory, Tree};
 pub(crate) fn enter(here: &Here) -> Result<Plan, OutOfMemory>
     ensures { IfOk result (λ plan. Plans here.now plan (by_state model.enters here.now)) }
 {
-    let entered = here.entered()?;
     let work = first_move(here.alloc, here.state, &here.visit.raw)?;
-    carry_out(here, work)?.after(entered)
+    let plan = carry_out(here, work)?;
+    plan.after(here.entered()?)
 }
 
 /// What its first move comes to is done.

@@ -135,8 +135,8 @@ fn place_result<'t>(
     if path.segments().is_empty() {
         return Ok(value);
     }
-    let copied = copy(alloc, raw)?;
     let own = value.into_tree(alloc)?;
+    let copied = copy(alloc, raw)?;
     match place(alloc, copied, path, own) {
         Ok(tree) => Ok(Data::Made(tree)),
         Err((PlaceRefusal::CannotPlace, _, _)) => Err(Stop::Fault(Fault {

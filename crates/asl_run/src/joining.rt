@@ -60,9 +60,8 @@ pub(crate) fn join(here: &Here, children: &[Activity]) -> Result<Option<Plan>, O
 fn break_off(here: &Here, child: usize, error: &str, cause: &str) -> Result<Plan, OutOfMemory>
     ensures { IfOk result (λ plan. Plans here.now plan (model.entry_then (model.BranchFailed here.now.name.now child error.now cause.now) (by_settings model.troubled here.now (model.join_error (kind_view here.now.state.now.kind) error.now) cause.now))) }
 {
-    let failed = here.branch_failed(child, error, cause)?;
-    let error = join_error(&here.state.kind, error);
-    in_trouble(here, error, cause)?.after(failed)
+    let plan = in_trouble(here, join_error(&here.state.kind, error), cause)?;
+    plan.after(here.branch_failed(child, error, cause)?)
 }
 
 /// The error of a state of that type of which a child failed: `States.BranchFailed` for a Parallel, the child's for a

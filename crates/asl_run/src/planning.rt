@@ -184,6 +184,20 @@ impl<'m> Here<'m> {
         })
     }
 
+    /// The entry that its scope ends with an output.
+    fn ended_with(&self, output: &Tree) -> Result<Entry, OutOfMemory>
+        ensures { IfOk result (λ entry. entry_view entry ≡ told_at self.now.at.now (model.Ended (model.Output (view output.now)))) }
+    {
+        self.ended(Outcome::Output(copy(self.alloc, output)?))
+    }
+
+    /// The entry that its scope ends with an error and a cause.
+    fn ended_failing(&self, error: &str, cause: &str) -> Result<Entry, OutOfMemory>
+        ensures { IfOk result (λ entry. entry_view entry ≡ told_at self.now.at.now (model.Ended (model.FailedWith error.now cause.now))) }
+    {
+        self.ended(self.failure(error, cause)?)
+    }
+
     /// An outcome that tells an error and its cause.
     fn failure(&self, error: &str, cause: &str) -> Result<Outcome, OutOfMemory>
         ensures outcome { IfOk result (λ o. outcome_view o ≡ model.FailedWith error.now cause.now) }
@@ -211,17 +225,17 @@ impl<'m> Here<'m> {
     pub(crate) fn ends_with(&self, output: Tree) -> Result<Plan, OutOfMemory>
         ensures { IfOk result (λ plan. Plans self.now plan (record { entries = model.Ended (model.Output (view output)) ∷ []; after = model.Done (view output) })) }
     {
-        let told = Outcome::Output(copy(self.alloc, &output)?);
+        let told = self.ended_with(&output)?;
         let ended = Outcome::Output(output);
-        Plan::new(self.alloc, Change::End(ended)).after(self.ended(told)?)
+        Plan::new(self.alloc, Change::End(ended)).after(told)
     }
 
     /// The scope ends with an error and a cause.
     pub(crate) fn ends_failing(&self, error: &str, cause: &str) -> Result<Plan, OutOfMemory>
         ensures { IfOk result (λ plan. Plans self.now plan (model.ends_failing error.now cause.now)) }
     {
-        let told = self.failure(error, cause)?;
         let ended = self.failure(error, cause)?;
-        Plan::new(self.alloc, Change::End(ended)).after(self.ended(told)?)
+        let told = self.ended_failing(error, cause)?;
+        Plan::new(self.alloc, Change::End(ended)).after(told)
     }
 }

@@ -44,7 +44,8 @@ fn retry(here: &Here, retrier: usize) -> Result<Plan, OutOfMemory>
     requires { CanRise here.now.visit.now.counts.items retrier }
     ensures { IfOk result (λ plan. (error cause : List ℕ) → Plans here.now plan (by_trouble_at here.now error cause (model.Retries retrier))) }
 {
-    Plan::new(here.alloc, Change::Retry(retrier)).after(here.retried(retrier)?)
+    let retried = here.retried(retrier)?;
+    Plan::new(here.alloc, Change::Retry(retrier)).after(retried)
 }
 
 /// The catcher of that number hands this input to that state.
@@ -63,9 +64,8 @@ fn misfit(here: &Here) -> Result<Plan, OutOfMemory>
         error: DataFlowError::ResultPathMatchFailure,
         field: "Catch",
     };
-    let raised = here.raised(fault)?;
-    here.ends_failing(fault.error.name(), fault.field)?
-        .after(raised)
+    let plan = here.ends_failing(fault.error.name(), fault.field)?;
+    plan.after(here.raised(fault)?)
 }
 
 /// The state has met a data-flow fault: it is raised, and the state is in trouble with its error and, as the cause, its
@@ -73,6 +73,6 @@ fn misfit(here: &Here) -> Result<Plan, OutOfMemory>
 pub(crate) fn raise(here: &Here, fault: Fault) -> Result<Plan, OutOfMemory>
     ensures { IfOk result (λ plan. Plans here.now plan (by_settings model.faulted here.now (fault_view fault))) }
 {
-    let raised = here.raised(fault)?;
-    in_trouble(here, fault.error.name(), fault.field)?.after(raised)
+    let plan = in_trouble(here, fault.error.name(), fault.field)?;
+    plan.after(here.raised(fault)?)
 }

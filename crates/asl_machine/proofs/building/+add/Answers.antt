@@ -1,10 +1,9 @@
-use Rattle.std.proofs.Common.{◌≡◌, ◌+◌, ◌∷◌, Some, None, OnOk, map, drop, refl, sym, ap, ◌∙◌, arith, subst}
+use Rattle.std.proofs.Common.{◌≡◌, ◌+◌, ◌∷◌, Some, None, OnOk, map, drop, sym, ap, ◌∙◌, arith, subst}
 use Rattle.std.proofs.lemmas.Grind.{common_steps}
 use Rattle.serde_json.specs.View.{view}
 use Rattle.asl_model.specs.Numbering.{standing_among}
 use Rattle.asl_model.specs.StandsFor.{states_in}
 use Rattle.asl_machine.specs.Built.{built_view, owner_view, Adds}
-use Rattle.asl_machine.specs.declared.building.BuiltState.{BuiltState}
 use Rattle.asl_machine.proofs.Added.{adds_none}
 use Rattle.asl_machine.proofs.Nested.{Member, standing_of_scope, standing_of_branches, each_more, members_more}
 use Rattle.asl_machine.proofs.building.+add.Goals as goal
@@ -46,5 +45,5 @@ add_members-loop-name-preserved t c =
     let start = c.args.start.now in
     let owner = owner_view c.args.owner in
     let e : Member = (c.in-Some.name.now, c.in-Some.state.now) in
-    let row : BuiltState = record { name = c.in_ok-clone.field-0; state = c.in_ok-build_state.field-0; start = c.args.start; owner = c.args.owner } in
-    members_more start owner e l.name-iterator c.next.new.self l.rows.items c.push.new.self.items row c.deref.result.now _ _ _ c.in-Some.ensures.steps c.deref.ensures c.in_ok-push.ensures.items c.in_ok-clone.ensures.cases c.in_ok-build_state.ensures refl refl l.invariant c.in_ok-add_inside.ensures
+    let row = c.in_ok-build_row.field-0 in
+    members_more start owner e l.name-iterator c.next.new.self l.rows.items c.push.new.self.items row c.deref-in-loop-name.result.now _ _ _ c.in-Some.ensures.steps c.deref-in-loop-name.ensures c.in_ok-push.ensures.items (c.in_ok-build_row.ensures.named ∙ c.deref.ensures) c.in_ok-build_row.ensures.built c.in_ok-build_row.ensures.started c.in_ok-build_row.ensures.owned l.invariant c.in_ok-add_inside.ensures

@@ -15,3 +15,6 @@ pub returns-in-Err-check_selector : goal.returns-in-Err-check_selector
 returns-in-Err-check_selector c =
     let complaint = c.in-Err-check_selector.complaint in
     told_next _ _ _ c.in-Ok.ensures (told_next _ _ _ c.in-Ok-check_one_of.ensures (told_first _ _ complaint c.in-Err-check_selector.ensures))
+
+pub returns-in-Err : goal.returns-in-Err
+returns-in-Err c = told_first _ _ c.in-Err.complaint c.in-Err.ensures
