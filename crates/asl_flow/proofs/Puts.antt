@@ -84,12 +84,12 @@ pub past_first : (at i : ℕ) (go_on : model.Shape → Result model.Shape ℕ) (
 past_first at i go_on p w s first rest is none = record { shape = tt; refusal = rw (is, view_list first rest, none) (ap Err (omega arith)) }
 
 -- the list with what was put in the place
-pub answered_in_list : (at i : ℕ) (go_on : model.Shape → Result model.Shape ℕ) (p : List Segment) (w : model.Shape) (s : code.Shape) (first : Vec code.Shape Global) (rest : Box code.Shape Global) (t : model.Shape) (changed : code.Shape) (places : Vec code.Shape Global) (others : Box code.Shape Global) (items : List code.Shape) (copied : code.Shape)
-    → s ≡ TheViews.List first rest → place_at i (shapes_view first.items) ≡ Some t → Answers (counted_on (at + 1) (go_on t)) (Ok changed) → items ≡ first.items → shapes_view places.items ≡ set_place i (view changed) (shapes_view items) → others.value ≡ copied → view copied ≡ view rest.value
-    → Answers (counted_on at (put_under go_on (Index i) p w (view s))) (Ok (TheViews.List places others))
-answered_in_list at i go_on p w s first rest t changed places others items copied is found h same set boxed copy = record {
+pub answered_in_list : (at i : ℕ) (go_on : model.Shape → Result model.Shape ℕ) (p : List Segment) (w : model.Shape) (s : code.Shape) (first : Vec code.Shape Global) (rest : Box code.Shape Global) (t : model.Shape) (changed : code.Shape) (places : Vec code.Shape Global) (items : List code.Shape) (further whole : code.Shape)
+    → s ≡ TheViews.List first rest → place_at i (shapes_view first.items) ≡ Some t → Answers (counted_on (at + 1) (go_on t)) (Ok changed) → items ≡ first.items → shapes_view places.items ≡ set_place i (view changed) (shapes_view items) → further ≡ rest.value → view whole ≡ ArrayShape (shapes_view places.items) (view further)
+    → Answers (counted_on at (put_under go_on (Index i) p w (view s))) (Ok whole)
+answered_in_list at i go_on p w s first rest t changed places items further whole is found h same set lent made = record {
   shape =
-      ap (counted_on at) (list_put go_on p w s first rest i t is found) ∙ array_changed at i (shapes_view first.items) (view rest.value) (view changed) (go_on t) h.shape ∙ ap Ok (sym (view_list places others ∙ rw (set, same, boxed, copy) refl));
+      ap (counted_on at) (list_put go_on p w s first rest i t is found) ∙ array_changed at i (shapes_view first.items) (view rest.value) (view changed) (go_on t) h.shape ∙ ap Ok (sym (made ∙ rw (set, same, lent) refl));
   refusal = tt;
 }
 

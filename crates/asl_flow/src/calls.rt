@@ -1,5 +1,5 @@
 //! The shapes of calls' values.
-ghost use Rattle.std.specs.Prelude.{◌≡◌, ◌||◌, Some, option_map, length, not};
+ghost use Rattle.std.specs.Prelude.{◌≡◌, ◌||◌, IfOk, Some, option_map, length, not};
 ghost use Rattle.asl_flow.specs.CallAnswer.{Answers};
 ghost use Rattle.asl_flow.specs.Sources.{input_of, item_of, part_view, parts_view};
 ghost use Rattle.asl_intrinsic.specs.View.{argument_view, arguments_view};
@@ -7,8 +7,9 @@ ghost use Rattle.asl_intrinsic.specs.View as calls;
 ghost use Rattle.asl_model.specs.Intrinsic.{literal_pieces};
 ghost use Rattle.asl_model.specs.Shape as shapes;
 ghost use Rattle.asl_model.specs.ShapeFlow as model;
-ghost use Rattle.asl_shape.specs.View.{view};
+ghost use Rattle.asl_shape.specs.View.{view, shapes_view};
 
+use crate::composing::closed_list;
 use crate::references::{Doubt, Part, Sources};
 use asl_intrinsic::{Arg, Call};
 use asl_shape::{Shape, inhabited};
@@ -126,12 +127,19 @@ fn argument_shape<'s>(
 fn array_shape(alloc: Global, arguments: Vec<Part>) -> Result<Shape, CallShapeRefusal>
     ensures { Answers view result (model.array_of (Some (parts_view arguments.entry.items))) }
 {
-    let mut first = Vec::with_capacity(alloc, arguments.len())?;
+    let first = own_shapes(alloc, arguments)?;
+    Ok(closed_list(alloc, first)?)
+}
+
+/// The arguments' shapes, each copied where it is lent.
+fn own_shapes(alloc: Global, arguments: Vec<Part>) -> Result<Vec<Shape>, OutOfMemory>
+    ensures { IfOk result (λ v. shapes_view v.items ≡ parts_view arguments.entry.items) }
+{
+    let mut shapes = Vec::with_capacity(alloc, arguments.len())?;
     for argument in arguments {
-        first.push(argument.into_shape(alloc)?)?;
+        shapes.push(argument.into_shape(alloc)?)?;
     }
-    let rest = Box::new(alloc, Shape::Never)?;
-    Ok(Shape::List { first, rest })
+    Ok(shapes)
 }
 
 /// `States.ArrayLength`: the length of one argument, which is a list or never comes.
@@ -184,16 +192,10 @@ fn fits_holes(arguments: &[Arg], shape: &Shape, others: &[Part]) -> bool
 fn holes_in(arguments: &[Arg]) -> Option<usize>
     ensures { result ≡ option_map (λ pieces. length pieces.after_holes) (literal_pieces (arguments_view arguments.now)) }
 {
-    match arguments.first()? {
-        Arg::Text(pieces) => Some(pieces.after_holes.len()),
-        Arg::Null
-        | Arg::Bool(_)
-        | Arg::Int(_)
-        | Arg::Path(_)
-        | Arg::ItemIndex
-        | Arg::ItemValue(_)
-        | Arg::Call(_) => None,
-    }
+    let Arg::Text(pieces) = arguments.first()? else {
+        return None;
+    };
+    Some(pieces.after_holes.len())
 }
 
 /// Whether each of the shapes can be put in a text.

@@ -78,7 +78,7 @@ fn leave_shape(alloc: Global, state: &State, raw: &Shape, work: &Shape) -> Resul
         Leaving::WithResult => result_output(alloc, &state.settings, raw, work),
         Leaving::WithInput => {
             if inhabited(raw) {
-                at_output(alloc, &state.settings, Flowing::Lent(work))
+                at_output(alloc, &state.settings, work)
             } else {
                 Ok(Shape::Never)
             }
@@ -134,8 +134,8 @@ fn result_output(
         Ok(selected) => selected,
         Err(fault) => return Err(fault),
     };
-    match placed(alloc, &settings.result_path, raw, selected) {
-        Ok(placed) => at_output(alloc, settings, placed),
+    match placed(alloc, &settings.result_path, raw, selected.shape()) {
+        Ok(placed) => at_output(alloc, settings, placed.shape()),
         Err(fault) => Err(fault),
     }
 }
@@ -175,19 +175,19 @@ fn placed<'s>(
     alloc: Global,
     path: &Option<RefPath>,
     raw: &'s Shape,
-    work: Flowing<'s>,
+    work: &Shape,
 ) -> Result<Flowing<'s>, FlowFault>
-    ensures { FlowsTo flowing_view (model.through_placing (codes "ResultPath") path.now (view raw.now) (flowing_view work.entry)) result }
+    ensures { FlowsTo flowing_view (model.through_placing (codes "ResultPath") path.now (view raw.now) (view work.now)) result }
 {
     match path {
         None => {
-            if inhabited(work.shape()) {
+            if inhabited(work) {
                 Ok(Flowing::Lent(raw))
             } else {
                 Ok(Flowing::Made(Shape::Never))
             }
         }
-        Some(path) => match put(alloc, raw, path, work.shape()) {
+        Some(path) => match put(alloc, raw, path, work) {
             Ok(shape) => Ok(Flowing::Made(shape)),
             Err(PutRefusal::MayNotFit(_)) => Err(FlowFault::MayNotFit("ResultPath")),
             Err(PutRefusal::OutOfMemory) => Err(FlowFault::OutOfMemory),
@@ -196,10 +196,10 @@ fn placed<'s>(
 }
 
 /// What `OutputPath` leaves of a shape.
-fn at_output(alloc: Global, settings: &Settings, flowing: Flowing) -> Result<Shape, FlowFault>
-    ensures { FlowsTo view (model.output_flow (settings_view settings.now) (flowing_view flowing.entry)) result }
+fn at_output(alloc: Global, settings: &Settings, shape: &Shape) -> Result<Shape, FlowFault>
+    ensures { FlowsTo view (model.output_flow (settings_view settings.now) (view shape.now)) result }
 {
-    if !inhabited(flowing.shape()) {
+    if !inhabited(shape) {
         return Ok(Shape::Never);
     }
     match &settings.output_path {
@@ -207,7 +207,7 @@ fn at_output(alloc: Global, settings: &Settings, flowing: Flowing) -> Result<Sha
             fields: BTreeMap::new(alloc),
             extra: false,
         }),
-        Some(path) => match find_shape(flowing.shape(), path) {
+        Some(path) => match find_shape(shape, path) {
             Ok(part) => Ok(copy(alloc, part)?),
             Err(_) => Err(FlowFault::MayBeMissing("OutputPath")),
         },

@@ -8,6 +8,7 @@
 #![tactic(auto)]
 
 mod calls;
+mod composing;
 mod leaving;
 mod literals;
 mod looking;

@@ -4,6 +4,7 @@ ghost use Rattle.asl_model.specs.ShapeFlow.{literal, literals, literal_fields as
 ghost use Rattle.asl_shape.specs.View.{view, shapes_view, fields_view};
 ghost use Rattle.asl_tree.specs.View as trees;
 
+use crate::composing::{closed_list, set_field};
 use asl_shape::{Field, Shape};
 use asl_tree::{OutOfMemory, Tree};
 use std::alloc::Global;
@@ -21,10 +22,7 @@ pub fn literal_shape(alloc: Global, tree: &Tree) -> Result<Shape, OutOfMemory>
         Tree::Bool(_) => Ok(Shape::Bool),
         Tree::Int(_) => Ok(Shape::Int),
         Tree::Text(_) => Ok(Shape::Text),
-        Tree::List(elements) => Ok(Shape::List {
-            first: element_shapes(alloc, elements)?,
-            rest: Box::new(alloc, Shape::Never)?,
-        }),
+        Tree::List(elements) => closed_list(alloc, element_shapes(alloc, elements)?),
         Tree::Object(fields) => Ok(Shape::Object {
             fields: field_shapes(alloc, fields)?,
             extra: false,
@@ -54,12 +52,11 @@ fn field_shapes(
 {
     let mut shapes = BTreeMap::new(alloc);
     for (name, field) in fields.iter() {
-        let key = name.clone()?;
         let mention = Field {
             needed: true,
             shape: literal_shape(alloc, field)?,
         };
-        drop(shapes.insert(key, mention)?);
+        set_field(&mut shapes, name, mention)?;
     }
     Ok(shapes)
 }

@@ -11,8 +11,9 @@ ghost use Rattle.asl_flow.specs.Counting.{counted_on};
 ghost use Rattle.asl_flow.specs.Putting.{Answers, mentioned};
 ghost use Rattle.asl_flow.specs.declared.putting.PutRefusal.TheVariants.{MayNotFit};
 ghost use Rattle.asl_path.specs.View.{segments_view};
-ghost use Rattle.asl_shape.specs.View.{view};
+ghost use Rattle.asl_shape.specs.View.{view, shapes_view};
 
+use crate::composing::set_field;
 use crate::replacing::{with_needed_field, with_place};
 use asl_model::shape_laws::put_means_placed;
 use asl_path::{RefPath, Segment};
@@ -197,10 +198,8 @@ fn put_in_list(
         Shape::List { first, rest } => match first.get(index as usize) {
             Some(place) => {
                 let changed = put_at(alloc, place, further, at + 1, placed)?;
-                Ok(Shape::List {
-                    first: with_place(alloc, first, index as usize, changed)?,
-                    rest: Box::new(alloc, copy(alloc, rest)?)?,
-                })
+                let first = with_place(alloc, first, index as usize, changed)?;
+                Ok(list_with(alloc, first, rest)?)
             }
             None => Err(PutRefusal::MayNotFit(at)),
         },
@@ -215,6 +214,14 @@ fn put_in_list(
             extra: _,
         } => Err(PutRefusal::MayNotFit(at)),
     }
+}
+
+/// The shape of the lists with those first elements and further ones of a shape, which is copied.
+fn list_with(alloc: Global, first: Vec<Shape>, rest: &Shape) -> Result<Shape, OutOfMemory>
+    ensures { IfOk result (λ s. view s ≡ model.ArrayShape (shapes_view first.items) (view rest.now)) }
+{
+    let rest = Box::new(alloc, copy(alloc, rest)?)?;
+    Ok(Shape::List { first, rest })
 }
 
 /// The shape under closed objects for the names of the segments, which are counted from `at`; no list is built.
@@ -244,13 +251,12 @@ fn build(
 fn around(alloc: Global, name: &String, shape: Shape) -> Result<Shape, OutOfMemory>
     ensures { IfOk result (λ s. view s ≡ model.ObjectShape (model.AndFieldShape (string_bytes name.now) true (view shape) model.NoFieldShapes) false) }
 {
-    let key = name.clone()?;
     let field = Field {
         needed: true,
         shape,
     };
     let mut fields = BTreeMap::new(alloc);
-    drop(fields.insert(key, field)?);
+    set_field(&mut fields, name, field)?;
     Ok(Shape::Object {
         fields,
         extra: false,

@@ -5,6 +5,7 @@ ghost use Rattle.asl_model.specs.ShapeFlow.{set_place};
 ghost use Rattle.asl_model.specs.ShapeOrder.{set_mention, without_mention};
 ghost use Rattle.asl_shape.specs.View.{view, shapes_view, fields_view};
 
+use crate::composing::set_field;
 use asl_shape::{Field, Shape, copy};
 use asl_tree::OutOfMemory;
 use std::alloc::Global;
@@ -20,12 +21,11 @@ pub(crate) fn with_needed_field(
     ensures { IfOk result (λ m. fields_view m.entries ≡ set_mention (string_bytes name.now) true (view shape) (fields_view fields.now.entries)) }
 {
     let mut changed = copy_others(alloc, fields, name)?;
-    let key = name.clone()?;
     let field = Field {
         needed: true,
         shape,
     };
-    drop(changed.insert(key, field)?);
+    set_field(&mut changed, name, field)?;
     Ok(changed)
 }
 
@@ -40,12 +40,11 @@ fn copy_others(
     let mut copies = BTreeMap::new(alloc);
     for (other, field) in fields.iter() {
         if other != name {
-            let key = other.clone()?;
             let copied = Field {
                 needed: field.needed,
                 shape: copy(alloc, &field.shape)?,
             };
-            drop(copies.insert(key, copied)?);
+            set_field(&mut copies, other, copied)?;
         }
     }
     Ok(copies)

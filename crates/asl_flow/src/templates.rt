@@ -15,6 +15,7 @@ ghost use Rattle.asl_shape.specs.View.{view, shapes_view, fields_view};
 ghost use Rattle.asl_template.specs.View as templates;
 
 use crate::calls::{CallShapeRefusal, call_shape};
+use crate::composing::{closed_list, set_field};
 use crate::literals::literal_shape;
 use crate::references::{Doubt, Part, Sources};
 use asl_intrinsic::Call;
@@ -108,10 +109,10 @@ fn filled_shape(
         Template::ItemIndex => named_shape(alloc, sources.item_index(), field),
         Template::ItemValue(path) => named_shape(alloc, sources.in_item(path), field),
         Template::Call(call) => value_shape(alloc, call, field, sources),
-        Template::List(elements) => Ok(Shape::List {
-            first: element_shapes(alloc, elements, field, sources)?,
-            rest: Box::new(alloc, Shape::Never)?,
-        }),
+        Template::List(elements) => {
+            let shapes = element_shapes(alloc, elements, field, sources)?;
+            Ok(closed_list(alloc, shapes)?)
+        }
         Template::Object(fields) => Ok(Shape::Object {
             fields: field_shapes(alloc, fields, sources)?,
             extra: false,
@@ -149,12 +150,11 @@ fn field_shapes(
 {
     let mut shapes = BTreeMap::new(alloc);
     for (name, field) in fields.iter() {
-        let key = name.clone()?;
         let mention = Field {
             needed: true,
             shape: filled_shape(alloc, field, name, sources)?,
         };
-        drop(shapes.insert(key, mention)?);
+        set_field(&mut shapes, name, mention)?;
     }
     Ok(shapes)
 }

@@ -104,6 +104,17 @@ driven_run shapes other machine input answers most stop told before after left s
           (subst (λ a. E s.count a end) (sym s.drives.stands) (subst (E s.count after) (sym ends) there));
     }
 
+-- the run that is told of, where it is
+pub told_run : {T E : Type 0} (end_of : T → RunEnd) (text_of : T → List ℕ) (r : Result T E) (shapes other : Option Declared) (machine : Scope) (input : Tree) (answers : List Action) (most : ℕ) (stop : Stop) (told : List (List ℕ × Option Entry)) (before after : Activity) (left : List Action) (spent : Bool)
+    → Keeps shapes other → before ≡ start machine input → fits_input shapes input ≡ true → spent ≡ is_spent left
+    → Stops (MayGive shapes) (λ n t. next_fits other n left ≡ false) machine before most answers stop told after left
+    → IfOk r (λ t. (entries : List Told) → told ≡ map placed_entry entries → text_of t ≡ trace_text entries)
+    → IfOk r (λ t. end_of t ≡ end_at (table_of machine).names spent stop)
+    → IfOk r (λ t. IsRun shapes machine input answers most (end_of t) (text_of t))
+told_run end_of text_of (Ok t) shapes other machine input answers most stop told before after left spent keeps at_start fits none_more stops traced ends =
+    driven_run shapes other machine input answers most stop told before after left spent (end_of t) (text_of t) keeps at_start fits none_more stops traced ends
+told_run end_of text_of (Err e) shapes other machine input answers most stop told before after left spent keeps at_start fits none_more stops traced ends = tt
+
 -- ---- what is given
 
 -- an answer of the code that fits may be given

@@ -3,8 +3,11 @@
 ghost use Rattle.std.specs.Prelude.{◌≡◌, ℕ, List, map, option_map, IsTrue, IfOk, IfErr, string_bytes};
 ghost use Rattle.asl_machine.specs.Table.{Shows, table_view};
 ghost use Rattle.asl_model.specs.Machine.{Scope};
+ghost use Rattle.asl_model.specs.Run as model;
+ghost use Rattle.asl_model.specs.TracePrinted.{trace_text};
 ghost use Rattle.asl_records.specs.View.{declared_view};
-ghost use Rattle.asl_run.specs.Entries.{answer_view};
+ghost use Rattle.asl_run.specs.Driving.{placed_entry};
+ghost use Rattle.asl_run.specs.Entries.{answer_view, entry_view};
 ghost use Rattle.asl_tree.specs.View.{view};
 ghost use Rattle.asl_tool.specs.Runs.{IsRun, RunsTo, RunFaultStands, WritesRun, end_at, fits_input};
 ghost use Rattle.asl_tool.specs.View.{run_end_view};
@@ -18,7 +21,7 @@ use crate::sources::Source;
 use crate::tracing::trace_text;
 use asl_machine::Machine;
 use asl_records::Declared;
-use asl_run::{Stop, drive, start};
+use asl_run::{Entry, Stop, drive, start};
 use asl_shape::has;
 use asl_tree::{OutOfMemory, Tree};
 use std::alloc::Global;
@@ -86,11 +89,11 @@ fn run_given(alloc: Global, given: Given, order: Pick, max_steps: u64) -> Result
             trace: String::new(alloc),
         });
     }
-    let answers = DeclaredAnswers {
+    let mut answers = DeclaredAnswers {
         declared: declared.as_ref(),
         list: answers,
     };
-    run_with(alloc, &machine, input, answers, order, max_steps)
+    run_with(alloc, &machine, input, &mut answers, order, max_steps)
 }
 
 /// Whether the input is of its declared shape, where one is declared.
@@ -108,22 +111,36 @@ fn run_with(
     alloc: Global,
     machine: &Machine,
     input: Tree,
-    mut answers: DeclaredAnswers<'_>,
+    answers: &mut DeclaredAnswers<'_>,
     mut order: Pick,
     max_steps: u64,
 ) -> Result<Told, OutOfMemory>
-    ensures { let shapes = option_map (λ d. declared_view d.now) answers.entry.declared in (m : Scope) → Shows machine.now m → IsTrue (fits_input shapes (view input)) → IfOk result (λ told. IsRun shapes m (view input) (map answer_view answers.entry.list.items) max_steps (run_end_view told.end) (string_bytes told.trace)) }
+    ensures { let shapes = option_map (λ d. declared_view d.now) answers.old.declared in (m : Scope) → Shows machine.now m → IsTrue (fits_input shapes (view input)) → IfOk result (λ told. IsRun shapes m (view input) (map answer_view answers.old.list.items) max_steps (run_end_view told.end) (string_bytes told.trace)) }
 {
     let mut run = match start(alloc, machine, input) {
         Ok(run) => run,
         Err(_) => return Err(OutOfMemory),
     };
-    let (stop, trace) = match drive(&mut run, &mut order, &mut answers, max_steps) {
+    let (stop, trace) = match drive(&mut run, &mut order, answers, max_steps) {
         Ok(driven) => driven,
         Err(_) => return Err(OutOfMemory),
     };
-    let end = end_of(alloc, machine, stop, answers.is_spent())?;
-    let trace = trace_text(alloc, &trace)?;
+    tell(alloc, machine, stop, answers.is_spent(), &trace)
+}
+
+/// What is told of a run with those entries that was driven until it stopped so.
+fn tell(
+    alloc: Global,
+    machine: &Machine,
+    stop: Stop,
+    spent: bool,
+    entries: &[Entry],
+) -> Result<Told, OutOfMemory>
+    ensures end { IfOk result (λ told. run_end_view told.end ≡ end_at (table_view machine.now).names spent stop) }
+    ensures trace { IfOk result (λ told. (placed : List (List ℕ × model.Entry)) → map entry_view entries.now ≡ map placed_entry placed → string_bytes told.trace ≡ trace_text placed) }
+{
+    let end = end_of(alloc, machine, stop, spent)?;
+    let trace = trace_text(alloc, entries)?;
     Ok(Told { end, trace })
 }
 

@@ -22,7 +22,7 @@ field_shapes-loop-name-preserved t c =
     record {
       done = done ++ e ∷ [];
       whole = all ∙ sym (append_assoc done (e ∷ []) left);
-      shown = ap fields_view c.in_ok-insert.ensures.entries ∙ one_more of_itself done e left l.shapes.entries c.in_ok-key.key (record { needed = true; shape = c.in_ok-literal_shape.field-0 }) sorted l.invariant.shown c.in_ok-key.ensures.cases refl c.in_ok-literal_shape.ensures.as_defined;
+      shown = ap fields_view c.in_ok-set_field.ensures.2 ∙ one_more of_itself done e left l.shapes.entries c.in_ok-set_field.ensures.0 (record { needed = true; shape = c.in_ok-literal_shape.field-0 }) sorted l.invariant.shown c.in_ok-set_field.ensures.1 refl c.in_ok-literal_shape.ensures.as_defined;
     }
 
 pub field_shapes-returns : goal.field_shapes-returns

@@ -18,14 +18,14 @@ put_in_list-returns-in_err-changed-in-Some t c =
     let w = view c.args.placed.now in
     refused_in_list c.args.at c.args.index (put_shape p w) p w c.args.shape.now c.in-List.first c.in-List.rest (view c.in-Some.place.now) c.in_err-changed-in-Some.field-0.0 c.from_residual.result c.in-List.is found c.in_err-changed-in-Some.ensures (search rules)
 
-pub put_in_list-returns-in_ok-new-in-Some : goal.put_in_list-returns-in_ok-new-in-Some
-put_in_list-returns-in_ok-new-in-Some t c =
+pub put_in_list-returns-in_ok-list_with-in-Some : goal.put_in_list-returns-in_ok-list_with-in-Some
+put_in_list-returns-in_ok-list_with-in-Some t c =
     let found = place_of c.deref.result.now c.in-List.first.items c.args.index c.get.result (Some c.in-Some.place) c.deref.ensures.value c.get.ensures.lookup.0 c.get.ensures.lookup.1 c.in-Some.is in
     let p = segments_view c.args.further.now in
     let w = view c.args.placed.now in
-    let places = c.in_ok-with_place-in-Some in
-    answered_in_list c.args.at c.args.index (put_shape p w) p w c.args.shape.now c.in-List.first c.in-List.rest (view c.in-Some.place.now) c.in_ok-changed-in-Some.changed places.field-0 c.in_ok-new-in-Some.field-0 c.deref-in-Some.result.now c.in_ok-copy-in-Some.field-0
-    c.in-List.is found c.in_ok-changed-in-Some.ensures c.deref-in-Some.ensures.value places.ensures c.in_ok-new-in-Some.ensures.ok (search rules)
+    let places = c.in_ok-first-in-Some in
+    answered_in_list c.args.at c.args.index (put_shape p w) p w c.args.shape.now c.in-List.first c.in-List.rest (view c.in-Some.place.now) c.in_ok-changed-in-Some.changed places.first c.deref-in-Some.result.now c.deref-in-Some-2.result.now c.in_ok-list_with-in-Some.field-0
+    c.in-List.is found c.in_ok-changed-in-Some.ensures c.deref-in-Some.ensures.value places.ensures c.deref-in-Some-2.ensures c.in_ok-list_with-in-Some.ensures
 
 pub put_in_list-returns-in-None : goal.put_in_list-returns-in-None
 put_in_list-returns-in-None t c =

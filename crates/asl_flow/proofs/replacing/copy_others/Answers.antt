@@ -8,8 +8,8 @@ use Rattle.asl_shape.proofs.Spellings.{Mention}
 use Rattle.asl_flow.proofs.Replaced.{other_copied, same_passed}
 use Rattle.asl_flow.proofs.replacing.copy_others.Goals as goal
 
-pub loop-other-preserved-then-ne : goal.loop-other-preserved-then-ne
-loop-other-preserved-then-ne c =
+pub loop-other-preserved-in_ok-set_field : goal.loop-other-preserved-in_ok-set_field
+loop-other-preserved-in_ok-set_field c =
     let l = c.loop-other in
     let done = l.invariant.0 in
     let m : Mention = (c.in-Some.other.now, c.in-Some.field.now) in
@@ -21,7 +21,7 @@ loop-other-preserved-then-ne c =
     let other : bytes_eq (string_bytes m.0) n ≡ false = search rules in (
       done ++ m ∷ [],
       all ∙ sym (append_assoc done (m ∷ []) left),
-      ap fields_view c.in_ok-insert.ensures.entries ∙ other_copied n done m left l.copies.entries c.in_ok-key.key copied sorted other l.invariant.2 c.in_ok-key.ensures.cases refl c.in_ok-copy.ensures.copied,
+      ap fields_view c.in_ok-set_field.ensures.2 ∙ other_copied n done m left l.copies.entries c.in_ok-set_field.ensures.0 copied sorted other l.invariant.2 c.in_ok-set_field.ensures.1 refl c.in_ok-copy.ensures.copied,
     )
 
 pub loop-other-preserved : goal.loop-other-preserved

@@ -34,7 +34,7 @@ field_shapes-returns-in_err-filled_shape-clause-told t c =
     let item = item_of c.args.sources in
     let e : Entry = (c.in-Some.name.now, c.in-Some.field.now) in
     let left = c.next.new.self in
-    let p = err_from_is_err_and c.from_residual-in_err-filled_shape.result c.from_residual-in_err-filled_shape.ensures.1 in
+    let p = err_from_is_err_and c.from_residual.result c.from_residual.ensures.1 in
     rw (p.1, p.2) (first_told _ _ (doubts (view e.1) c.deref.result.now input item) (field_doubts (entries_view left) input item) (field_next input item c.deref.result.now _ l.name-iterator left e c.deref.ensures c.in-Some.ensures.steps l.invariant.passed) c.in_err-filled_shape.ensures.told)
 
 pub field_shapes-loop-name-preserved : goal.field_shapes-loop-name-preserved
@@ -50,7 +50,7 @@ field_shapes-loop-name-preserved t c =
     record {
       done = done ++ e ∷ [];
       whole = all ∙ sym (append_assoc done (e ∷ []) left);
-      shown = ap fields_view c.in_ok-insert.ensures.entries ∙ one_more (of_value input item) done e left l.shapes.entries c.in_ok-key.key (record { needed = true; shape = c.in_ok-filled_shape.field-0 }) sorted l.invariant.shown c.in_ok-key.ensures.cases refl c.in_ok-filled_shape.ensures.filled;
+      shown = ap fields_view c.in_ok-set_field.ensures.2 ∙ one_more (of_value input item) done e left l.shapes.entries c.in_ok-set_field.ensures.0 (record { needed = true; shape = c.in_ok-filled_shape.field-0 }) sorted l.invariant.shown c.in_ok-set_field.ensures.1 refl c.in_ok-filled_shape.ensures.filled;
       passed = none_told c.in_ok-filled_shape.field-0 _ (doubts (view e.1) c.deref.result.now input item) (field_doubts (entries_view left) input item) (field_next input item c.deref.result.now _ l.name-iterator left e c.deref.ensures c.in-Some.ensures.steps l.invariant.passed) c.in_ok-filled_shape.ensures.told;
     }
 
