@@ -108,7 +108,10 @@ fn calls(rt: HostRuntime) -> Result<(), Fail> {
 #[test]
 fn values(rt: HostRuntime) -> Result<(), Fail> {
     let alloc = rt.alloc();
-    let input = read(alloc, br#"{"x":{"y":2},"f":"\\{}","l":[1,[]],"a b":true}"#)?;
+    let input = read(
+        alloc,
+        br#"{"x":{"y":2},"f":"\\{}","l":[1,[]],"a b":true,"n":7}"#,
+    )?;
     let vectors = [
         (
             "States.Array( 1 , null,true,$.x)",
@@ -135,6 +138,11 @@ fn values(rt: HostRuntime) -> Result<(), Fail> {
         ),
         ("States.Format('{}', $.x)", "IntrinsicFailure"),
         ("States.Format('{}')", "IntrinsicFailure"),
+        (r"States.Format('{} of \{}', $.n)", r#""7 of {}""#),
+        (
+            r"States.Format('{} of \{}', $.n, $.n, $.n)",
+            "IntrinsicFailure",
+        ),
         ("States.Format(1)", "IntrinsicFailure"),
         ("States.Format()", "IntrinsicFailure"),
         (

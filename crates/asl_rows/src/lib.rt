@@ -16,6 +16,8 @@ mod intrinsics;
 #[cfg(test)]
 mod machines;
 #[cfg(test)]
+mod numbered;
+#[cfg(test)]
 mod paths;
 #[cfg(test)]
 mod records;
