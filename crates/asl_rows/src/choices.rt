@@ -2,34 +2,34 @@
 use asl_choice::{Rule, RuleRefusal, from_tree, holds};
 use asl_tree::{Tree, read};
 use std::alloc::Global;
-use std::test::Fail;
+use std::process::Abort;
 
 /// The rule that the JSON text spells, or the refusal.
-fn rule_in(alloc: Global, text: &str) -> Result<Result<Rule, RuleRefusal>, Fail> {
-    Ok(from_tree(alloc, &read(alloc, text.as_bytes())?))
+fn rule_in(rt: &impl Abort, alloc: Global, text: &str) -> Result<Rule, RuleRefusal> {
+    from_tree(alloc, &read(alloc, text.as_bytes()).expect(rt, "a tree"))
 }
 
 /// The name of the state that follows by the rule, or the refusal.
-fn next_in(alloc: Global, text: &str) -> Result<String, Fail> {
-    match rule_in(alloc, text)? {
-        Ok(rule) => Ok(rule.next),
-        Err(refusal) => Ok(format!(in alloc; "{refusal:?}")?),
+fn next_in(rt: &impl Abort, alloc: Global, text: &str) -> String {
+    match rule_in(rt, alloc, text) {
+        Ok(rule) => rule.next,
+        Err(refusal) => format!(in alloc; "{refusal:?}").expect(rt, "memory"),
     }
 }
 
 /// Whether the rule's test is true of the input, as it is printed.
-fn answer(alloc: Global, text: &str, input: &Tree) -> Result<String, Fail> {
-    match rule_in(alloc, text)? {
+fn answer(rt: &impl Abort, alloc: Global, text: &str, input: &Tree) -> String {
+    match rule_in(rt, alloc, text) {
         Ok(rule) => match holds(&rule.test, input) {
-            Ok(answer) => Ok(format!(in alloc; "{answer}")?),
-            Err(fault) => Ok(format!(in alloc; "{fault:?}")?),
+            Ok(answer) => format!(in alloc; "{answer}").expect(rt, "memory"),
+            Err(fault) => format!(in alloc; "{fault:?}").expect(rt, "memory"),
         },
-        Err(refusal) => Ok(format!(in alloc; "{refusal:?}")?),
+        Err(refusal) => format!(in alloc; "{refusal:?}").expect(rt, "memory"),
     }
 }
 
 #[test]
-fn rules(rt: HostRuntime) -> Result<(), Fail> {
+fn rules(rt: HostRuntime) {
     let alloc = rt.alloc();
     let vectors = [
         (r#"{"Variable":"$.a","IsNull":true,"Next":"B"}"#, "B"),
@@ -101,14 +101,13 @@ fn rules(rt: HostRuntime) -> Result<(), Fail> {
         ),
     ];
     for (text, wanted) in vectors {
-        let next = next_in(alloc, text)?;
+        let next = next_in(&rt, alloc, text);
         assert_eq!(rt; next.as_str(), wanted, "at {text}");
     }
-    Ok(())
 }
 
 #[test]
-fn truths(rt: HostRuntime) -> Result<(), Fail> {
+fn truths(rt: HostRuntime) {
     let alloc = rt.alloc();
     let vectors = [
         (
@@ -210,26 +209,34 @@ fn truths(rt: HostRuntime) -> Result<(), Fail> {
         ),
     ];
     for (test, input, wanted) in vectors {
-        let text = format!(in alloc; "{{{test},\"Next\":\"B\"}}")?;
-        let answer = answer(alloc, text.as_str(), &read(alloc, input.as_bytes())?)?;
+        let text = format!(in alloc; "{{{test},\"Next\":\"B\"}}").expect(&rt, "memory");
+        let answer = answer(
+            &rt,
+            alloc,
+            text.as_str(),
+            &read(alloc, input.as_bytes()).expect(&rt, "a tree"),
+        );
         assert_eq!(rt; answer.as_str(), wanted, "at {test} on {input}");
     }
-    Ok(())
 }
 
 /// A long text, so that a walk whose time grows with the square of its length wouldn't come to its end.
 #[test]
-fn long_texts(rt: HostRuntime) -> Result<(), Fail> {
+fn long_texts(rt: HostRuntime) {
     let alloc = rt.alloc();
     let mut text = String::new(alloc);
     for _ in 0..100_000 {
-        text.push_str("ab")?;
+        text.push_str("ab").expect(&rt, "memory");
     }
     let rule = r#"{"Variable":"$","StringMatches":"*ab*ab*c","Next":"B"}"#;
-    let without = answer(alloc, rule, &Tree::Text(text.clone()?))?;
+    let without = answer(
+        &rt,
+        alloc,
+        rule,
+        &Tree::Text(text.clone().expect(&rt, "memory")),
+    );
     assert_eq!(rt; without.as_str(), "false");
-    text.push_str("c")?;
-    let with = answer(alloc, rule, &Tree::Text(text))?;
+    text.push_str("c").expect(&rt, "memory");
+    let with = answer(&rt, alloc, rule, &Tree::Text(text));
     assert_eq!(rt; with.as_str(), "true");
-    Ok(())
 }

@@ -9,7 +9,6 @@ use asl_tree::{OutOfMemory, Tree};
 use std::alloc::Global;
 use std::collections::VecDeque;
 use std::process::Abort;
-use std::test::Fail;
 
 /// One state, which hands its input on.
 const ONE_PASS: &str = r#"{"StartAt":"A","States":{"A":{"Type":"Pass","End":true}}}"#;
@@ -32,52 +31,46 @@ struct Drive {
 }
 
 /// A source of these answers.
-fn source(alloc: Global, happenings: &[Happening]) -> Result<ListAnswers, Fail> {
+fn source(rt: &impl Abort, alloc: Global, happenings: &[Happening]) -> ListAnswers {
     let mut list = VecDeque::new(alloc);
     for happening in happenings {
-        if let Some(answer) = answer(alloc, *happening)? {
-            list.push_back(answer)?;
+        if let Some(answer) = answer(rt, alloc, *happening) {
+            list.push_back(answer).expect(rt, "memory");
         }
     }
-    Ok(ListAnswers::new(list))
+    ListAnswers::new(list)
 }
 
 /// Compares a trace with the lines that are wanted of it.
-fn compare(
-    rt: &impl Abort,
-    alloc: Global,
-    trace: &[Entry],
-    wanted: &[&'static str],
-) -> Result<(), Fail> {
+fn compare(rt: &impl Abort, alloc: Global, trace: &[Entry], wanted: &[&'static str]) {
     assert_eq!(rt; trace.len(), wanted.len());
     for (entry, line) in trace.iter().zip(wanted) {
-        let told = format!(in alloc; "{entry:?}")?;
+        let told = format!(in alloc; "{entry:?}").expect(rt, "memory");
         assert_eq!(rt; told.as_str(), *line);
     }
-    Ok(())
 }
 
 /// Drives runs in that order, and compares each with what is wanted of it.
-fn drive_each<O: Order>(
-    rt: &impl Abort,
-    alloc: Global,
-    order: &mut O,
-    drives: &[Drive],
-) -> Result<(), Fail> {
+fn drive_each<O: Order>(rt: &impl Abort, alloc: Global, order: &mut O, drives: &[Drive]) {
     for wanted in drives {
-        let machine = machine(alloc, wanted.definition)?;
-        let mut run = started(alloc, &machine, wanted.input)?;
-        let mut answers = source(alloc, wanted.answers)?;
+        let machine = machine(rt, alloc, wanted.definition);
+        let mut run = started(rt, alloc, &machine, wanted.input);
+        let mut answers = source(rt, alloc, wanted.answers);
         let (stop, trace) = drive(&mut run, order, &mut answers, wanted.max_steps)
             .ok()
-            .ok_or("the run was broken off")?;
-        assert_eq!(rt; format!(in alloc; "{stop:?}")?.as_str(), wanted.stop);
-        compare(rt, alloc, &trace, wanted.trace)?;
-        assert_eq!(rt; ending(alloc, &run)?.as_str(), wanted.ending);
-        let next = answers.next("", &Tree::Null)?;
-        assert_eq!(rt; format!(in alloc; "{next:?}")?.as_str(), wanted.next);
+            .expect(rt, "the run was broken off");
+        assert_eq!(rt;
+            format!(in alloc; "{stop:?}").expect(rt, "memory").as_str(),
+            wanted.stop
+        );
+        compare(rt, alloc, &trace, wanted.trace);
+        assert_eq!(rt; ending(rt, alloc, &run).as_str(), wanted.ending);
+        let next = answers.next("", &Tree::Null).expect(rt, "memory");
+        assert_eq!(rt;
+            format!(in alloc; "{next:?}").expect(rt, "memory").as_str(),
+            wanted.next
+        );
     }
-    Ok(())
 }
 
 /// Runs that take the same way in both orders.
@@ -342,11 +335,11 @@ const LAST: [Drive; 4] = [
 ];
 
 #[test]
-fn orders(rt: HostRuntime) -> Result<(), Fail> {
+fn orders(rt: HostRuntime) {
     let alloc = rt.alloc();
-    drive_each(&rt, alloc, &mut First, &ONE_WAY)?;
-    drive_each(&rt, alloc, &mut Last, &ONE_WAY)?;
-    drive_each(&rt, alloc, &mut First, &FIRST)?;
+    drive_each(&rt, alloc, &mut First, &ONE_WAY);
+    drive_each(&rt, alloc, &mut Last, &ONE_WAY);
+    drive_each(&rt, alloc, &mut First, &FIRST);
     drive_each(&rt, alloc, &mut Last, &LAST)
 }
 
@@ -393,25 +386,24 @@ const AFTER: [&str; 4] = [
 ];
 
 #[test]
-fn broken_off_and_gone_on(rt: HostRuntime) -> Result<(), Fail> {
+fn broken_off_and_gone_on(rt: HostRuntime) {
     let alloc = rt.alloc();
-    let machine = machine(alloc, TWO_TASKS)?;
-    let mut run = started(alloc, &machine, "5")?;
+    let machine = machine(&rt, alloc, TWO_TASKS);
+    let mut run = started(&rt, alloc, &machine, "5");
     let mut answers = Scarce {
-        answers: source(alloc, &[Gives("1"), Gives(r#""a""#)])?,
+        answers: source(&rt, alloc, &[Gives("1"), Gives(r#""a""#)]),
         calls: 0,
     };
     let refusal = drive(&mut run, &mut First, &mut answers, 1000)
         .err()
-        .ok_or("no refusal")?;
-    compare(&rt, alloc, &refusal.trace, &BEFORE)?;
+        .expect(&rt, "no refusal");
+    compare(&rt, alloc, &refusal.trace, &BEFORE);
     assert!(rt; refusal.answer.is_none());
-    assert_eq!(rt; ending(alloc, &run)?.as_str(), "");
+    assert_eq!(rt; ending(&rt, alloc, &run).as_str(), "");
     let (stop, trace) = drive(&mut run, &mut First, &mut answers, 1000)
         .ok()
-        .ok_or("the run was broken off")?;
+        .expect(&rt, "the run was broken off");
     assert_eq!(rt; stop, Stop::Output);
-    compare(&rt, alloc, &trace, &AFTER)?;
-    assert_eq!(rt; ending(alloc, &run)?.as_str(), r#"[1,"a"]"#);
-    Ok(())
+    compare(&rt, alloc, &trace, &AFTER);
+    assert_eq!(rt; ending(&rt, alloc, &run).as_str(), r#"[1,"a"]"#);
 }

@@ -7,22 +7,24 @@ use asl_path::{RefPath, parse};
 use asl_shape::{Shape, read, write};
 use asl_tree::to_text;
 use std::alloc::Global;
-use std::test::Fail;
+use std::process::Abort;
 
 /// The shape that the JSON text spells.
-fn shape(alloc: Global, text: &str) -> Result<Shape, Fail> {
-    Ok(read(alloc, &asl_tree::read(alloc, text.as_bytes())?)?)
+fn shape(rt: &impl Abort, alloc: Global, text: &str) -> Shape {
+    let tree = asl_tree::read(alloc, text.as_bytes()).expect(rt, "a tree");
+    read(alloc, &tree).expect(rt, "a shape")
 }
 
 /// The shape as it is written.
-fn written(alloc: Global, shape: &Shape) -> Result<String, Fail> {
-    Ok(to_text(alloc, &write(alloc, shape)?)?)
+fn written(rt: &impl Abort, alloc: Global, shape: &Shape) -> String {
+    to_text(alloc, &write(alloc, shape).expect(rt, "a tree")).expect(rt, "a text")
 }
 
 /// The test of the rule that has these fields.
-fn test(alloc: Global, fields: &str) -> Result<Test, Fail> {
-    let text = format!(in alloc; "{{{fields},\"Next\":\"B\"}}")?;
-    Ok(from_tree(alloc, &asl_tree::read(alloc, text.as_bytes())?)?.test)
+fn test(rt: &impl Abort, alloc: Global, fields: &str) -> Test {
+    let text = format!(in alloc; "{{{fields},\"Next\":\"B\"}}").expect(rt, "memory");
+    let tree = asl_tree::read(alloc, text.as_bytes()).expect(rt, "a tree");
+    from_tree(alloc, &tree).expect(rt, "a rule").test
 }
 
 /// The fields of a rule, a shape, and the shape of its trees for which the rule is true, or the refusal.
@@ -132,16 +134,15 @@ const TRUE_OF: [(&str, &str, &str); 22] = [
 ];
 
 #[test]
-fn rules(rt: HostRuntime) -> Result<(), Fail> {
+fn rules(rt: HostRuntime) {
     let alloc = rt.alloc();
     for (fields, given, wanted) in &TRUE_OF {
-        let answer = match rule_shape(alloc, &test(alloc, fields)?, &shape(alloc, given)?) {
-            Ok(narrowed) => written(alloc, &narrowed)?,
-            Err(refusal) => format!(in alloc; "{refusal:?}")?,
+        let answer = match rule_shape(alloc, &test(&rt, alloc, fields), &shape(&rt, alloc, given)) {
+            Ok(narrowed) => written(&rt, alloc, &narrowed),
+            Err(refusal) => format!(in alloc; "{refusal:?}").expect(&rt, "memory"),
         };
         assert_eq!(rt; answer.as_str(), *wanted, "at {fields} on {given}");
     }
-    Ok(())
 }
 
 /// A template, the shape of its input, and the shape of the template's value, or the refusal; there is no item.
@@ -278,42 +279,46 @@ const WITH_ITEM: [(&str, &str, &str, &str); 6] = [
 ];
 
 /// The shape of the template's value as it is written, or the refusal.
-fn filled(alloc: Global, spelling: &str, input: &str, item: Option<&str>) -> Result<String, Fail> {
-    let tree = asl_tree::read(alloc, spelling.as_bytes())?;
-    let template = asl_template::from_tree(alloc, &tree, true)?;
-    let input = shape(alloc, input)?;
+fn filled(
+    rt: &impl Abort,
+    alloc: Global,
+    spelling: &str,
+    input: &str,
+    item: Option<&str>,
+) -> String {
+    let tree = asl_tree::read(alloc, spelling.as_bytes()).expect(rt, "a tree");
+    let template = asl_template::from_tree(alloc, &tree, true).expect(rt, "a template");
+    let input = shape(rt, alloc, input);
     let answer = match item {
-        Some(text) => template_shape(alloc, &template, &input, Some(&shape(alloc, text)?)),
+        Some(text) => template_shape(alloc, &template, &input, Some(&shape(rt, alloc, text))),
         None => template_shape(alloc, &template, &input, None),
     };
     match answer {
-        Ok(filled) => written(alloc, &filled),
-        Err(refusal) => Ok(format!(in alloc; "{refusal:?}")?),
+        Ok(filled) => written(rt, alloc, &filled),
+        Err(refusal) => format!(in alloc; "{refusal:?}").expect(rt, "memory"),
     }
 }
 
 #[test]
-fn templates(rt: HostRuntime) -> Result<(), Fail> {
+fn templates(rt: HostRuntime) {
     let alloc = rt.alloc();
     for (spelling, input, wanted) in &FILLED {
-        let answer = filled(alloc, spelling, input, None)?;
+        let answer = filled(&rt, alloc, spelling, input, None);
         assert_eq!(rt; answer.as_str(), *wanted, "at {spelling} on {input}");
     }
-    Ok(())
 }
 
 #[test]
-fn templates_with_an_item(rt: HostRuntime) -> Result<(), Fail> {
+fn templates_with_an_item(rt: HostRuntime) {
     let alloc = rt.alloc();
     for (spelling, input, item, wanted) in &WITH_ITEM {
-        let answer = filled(alloc, spelling, input, Some(item))?;
+        let answer = filled(&rt, alloc, spelling, input, Some(item));
         assert_eq!(rt;
             answer.as_str(),
             *wanted,
             "at {spelling} on {input} and {item}"
         );
     }
-    Ok(())
 }
 
 /// A value that stands for itself, and its shape.
@@ -327,14 +332,17 @@ const LITERALS: [(&str, &str); 3] = [
 ];
 
 #[test]
-fn literals(rt: HostRuntime) -> Result<(), Fail> {
+fn literals(rt: HostRuntime) {
     let alloc = rt.alloc();
     for (value, wanted) in &LITERALS {
-        let tree = asl_tree::read(alloc, value.as_bytes())?;
-        let answer = written(alloc, &literal_shape(alloc, &tree)?)?;
+        let tree = asl_tree::read(alloc, value.as_bytes()).expect(&rt, "a tree");
+        let answer = written(
+            &rt,
+            alloc,
+            &literal_shape(alloc, &tree).expect(&rt, "a shape"),
+        );
         assert_eq!(rt; answer.as_str(), *wanted, "at {value}");
     }
-    Ok(())
 }
 
 /// A shape, a path, and the shape of what it names in every tree of that one, or the refusal.
@@ -472,55 +480,63 @@ const PUT: [(&str, &str, &str, &str); 17] = [
 ];
 
 #[test]
-fn paths(rt: HostRuntime) -> Result<(), Fail> {
+fn paths(rt: HostRuntime) {
     let alloc = rt.alloc();
     for (given, path, wanted) in &NAMED {
-        let answer = match look(alloc, &shape(alloc, given)?, &parse(alloc, path)?) {
-            Ok(found) => written(alloc, &found)?,
-            Err(refusal) => format!(in alloc; "{refusal:?}")?,
+        let answer = match look(
+            alloc,
+            &shape(&rt, alloc, given),
+            &parse(alloc, path).expect(&rt, "a path"),
+        ) {
+            Ok(found) => written(&rt, alloc, &found),
+            Err(refusal) => format!(in alloc; "{refusal:?}").expect(&rt, "memory"),
         };
         assert_eq!(rt; answer.as_str(), *wanted, "at {path} in {given}");
     }
     for (given, path, placed, wanted) in &PUT {
-        let steps = parse(alloc, path)?;
-        let answer = match put(alloc, &shape(alloc, given)?, &steps, &shape(alloc, placed)?) {
-            Ok(changed) => written(alloc, &changed)?,
-            Err(refusal) => format!(in alloc; "{refusal:?}")?,
+        let steps = parse(alloc, path).expect(&rt, "a path");
+        let answer = match put(
+            alloc,
+            &shape(&rt, alloc, given),
+            &steps,
+            &shape(&rt, alloc, placed),
+        ) {
+            Ok(changed) => written(&rt, alloc, &changed),
+            Err(refusal) => format!(in alloc; "{refusal:?}").expect(&rt, "memory"),
         };
         assert_eq!(rt; answer.as_str(), *wanted, "at {path} in {given}");
     }
-    Ok(())
 }
 
 /// The path that a text spells, none where there is no text.
-fn path_or_null(alloc: Global, text: &str) -> Result<Option<RefPath>, Fail> {
+fn path_or_null(rt: &impl Abort, alloc: Global, text: &str) -> Option<RefPath> {
     if text.is_empty() {
-        Ok(None)
+        None
     } else {
-        Ok(Some(parse(alloc, text)?))
+        Some(parse(alloc, text).expect(rt, "a path"))
     }
 }
 
 /// A state with that `ResultSelector`, `ResultPath` and `OutputPath`; no text is none and null.
-fn state(alloc: Global, kind: Kind, fields: (&str, &str, &str)) -> Result<State, Fail> {
+fn state(rt: &impl Abort, alloc: Global, kind: Kind, fields: (&str, &str, &str)) -> State {
     let (selector, result_path, output_path) = fields;
     let result_selector = if selector.is_empty() {
         None
     } else {
-        let tree = asl_tree::read(alloc, selector.as_bytes())?;
-        Some(asl_template::from_tree(alloc, &tree, false)?)
+        let tree = asl_tree::read(alloc, selector.as_bytes()).expect(rt, "a tree");
+        Some(asl_template::from_tree(alloc, &tree, false).expect(rt, "a template"))
     };
     let settings = Settings {
-        input_path: Some(parse(alloc, "$")?),
+        input_path: Some(parse(alloc, "$").expect(rt, "a path")),
         parameters: None,
         result_selector,
-        result_path: path_or_null(alloc, result_path)?,
-        output_path: path_or_null(alloc, output_path)?,
+        result_path: path_or_null(rt, alloc, result_path),
+        output_path: path_or_null(rt, alloc, output_path),
         next: None,
         retriers: Vec::new(alloc),
         catchers: Vec::new(alloc),
     };
-    Ok(State { settings, kind })
+    State { settings, kind }
 }
 
 /// `ResultSelector`, `ResultPath` and `OutputPath` of a Pass, the shapes of its raw input and of its result, and the
@@ -578,32 +594,40 @@ const OUTPUTS: [((&str, &str, &str), &str, &str, &str); 9] = [
 ];
 
 #[test]
-fn outputs(rt: HostRuntime) -> Result<(), Fail> {
+fn outputs(rt: HostRuntime) {
     let alloc = rt.alloc();
     for (fields, raw, work, wanted) in OUTPUTS {
-        let pass = state(alloc, Kind::Pass { result: None }, fields)?;
-        let answer = match leave(alloc, &pass, &shape(alloc, raw)?, &shape(alloc, work)?) {
-            Ok(output) => written(alloc, &output)?,
-            Err(fault) => format!(in alloc; "{fault:?}")?,
+        let pass = state(&rt, alloc, Kind::Pass { result: None }, fields);
+        let answer = match leave(
+            alloc,
+            &pass,
+            &shape(&rt, alloc, raw),
+            &shape(&rt, alloc, work),
+        ) {
+            Ok(output) => written(&rt, alloc, &output),
+            Err(fault) => format!(in alloc; "{fault:?}").expect(&rt, "memory"),
         };
         assert_eq!(rt; answer.as_str(), wanted);
     }
 
     // Nothing leaves a Fail, and of a Succeed's effective input `OutputPath` alone makes the output.
-    let integer = shape(alloc, r#"{"type":"integer"}"#)?;
+    let integer = shape(&rt, alloc, r#"{"type":"integer"}"#);
     let failing = Kind::Fail {
         error: String::new(alloc),
         cause: String::new(alloc),
     };
     let output = leave(
         alloc,
-        &state(alloc, failing, ("", "$", "$"))?,
+        &state(&rt, alloc, failing, ("", "$", "$")),
         &integer,
         &integer,
-    )?;
-    assert_eq!(rt; written(alloc, &output)?.as_str(), "false");
-    let succeeding = state(alloc, Kind::Succeed, ("", "$.a", "$"))?;
-    let output = leave(alloc, &succeeding, &integer, &integer)?;
-    assert_eq!(rt; written(alloc, &output)?.as_str(), r#"{"type":"integer"}"#);
-    Ok(())
+    )
+    .expect(&rt, "a shape");
+    assert_eq!(rt; written(&rt, alloc, &output).as_str(), "false");
+    let succeeding = state(&rt, alloc, Kind::Succeed, ("", "$.a", "$"));
+    let output = leave(alloc, &succeeding, &integer, &integer).expect(&rt, "a shape");
+    assert_eq!(rt;
+        written(&rt, alloc, &output).as_str(),
+        r#"{"type":"integer"}"#
+    );
 }

@@ -4,56 +4,68 @@ use asl_records::{Certificate, StateShapes, read_certificate, read_declared};
 use asl_shape::{Shape, same};
 use asl_tree::read_value;
 use std::alloc::Global;
-use std::test::Fail;
+use std::process::Abort;
 
 /// What is inferred of a definition and of what is declared, in so many rounds.
 fn inferred(
+    rt: &impl Abort,
     alloc: Global,
     definition: &str,
     declared: &str,
     rounds: u32,
-) -> Result<Result<Certificate, InferRefusal>, Fail> {
-    let definition = read_value(alloc, definition.as_bytes())?;
-    let declared = read_value(alloc, declared.as_bytes())?;
+) -> Result<Certificate, InferRefusal> {
+    let definition = read_value(alloc, definition.as_bytes()).expect(rt, "a value");
+    let declared = read_value(alloc, declared.as_bytes()).expect(rt, "a value");
     let Ok(machine) = asl_machine::read(alloc, &definition) else {
-        return Ok(Err(InferRefusal::OutOfMemory));
+        return Err(InferRefusal::OutOfMemory);
     };
     let Ok(declared) = read_declared(alloc, declared) else {
-        return Ok(Err(InferRefusal::OutOfMemory));
+        return Err(InferRefusal::OutOfMemory);
     };
-    Ok(infer(alloc, &machine, &declared, rounds))
+    infer(alloc, &machine, &declared, rounds)
 }
 
 /// Whether that certificate is inferred.
 fn infers(
+    rt: &impl Abort,
     alloc: Global,
     definition: &str,
     declared: &str,
     rounds: u32,
     certificate: &str,
-) -> Result<bool, Fail> {
-    let certificate = read_value(alloc, certificate.as_bytes())?;
+) -> bool {
+    let certificate = read_value(alloc, certificate.as_bytes()).expect(rt, "a value");
     let Ok(expected) = read_certificate(alloc, certificate) else {
-        return Ok(false);
+        return false;
     };
-    match inferred(alloc, definition, declared, rounds)? {
-        Ok(certificate) => Ok(are_same(&certificate, &expected)),
-        Err(_) => Ok(false),
+    match inferred(rt, alloc, definition, declared, rounds) {
+        Ok(certificate) => are_same(&certificate, &expected),
+        Err(_) => false,
     }
 }
 
 /// What is told where no certificate is inferred.
-fn refusal(alloc: Global, definition: &str, declared: &str, rounds: u32) -> Result<String, Fail> {
-    match inferred(alloc, definition, declared, rounds)? {
-        Ok(_) => Ok(String::from_str(alloc, "a certificate")?),
+fn refusal(
+    rt: &impl Abort,
+    alloc: Global,
+    definition: &str,
+    declared: &str,
+    rounds: u32,
+) -> String {
+    match inferred(rt, alloc, definition, declared, rounds) {
+        Ok(_) => String::from_str(alloc, "a certificate").expect(rt, "memory"),
         Err(InferRefusal::Finding(finding)) => {
             let state = finding.state.as_str();
             let field = finding.field.as_str();
             let fault = finding.fault.name();
-            Ok(format!(in alloc; "{state} {field} {fault}")?)
+            format!(in alloc; "{state} {field} {fault}").expect(rt, "memory")
         }
-        Err(InferRefusal::NotSettled) => Ok(String::from_str(alloc, "not settled")?),
-        Err(InferRefusal::OutOfMemory) => Ok(String::from_str(alloc, "out of memory")?),
+        Err(InferRefusal::NotSettled) => String::from_str(alloc, "not settled").expect(
+            rt, "memory",
+        ),
+        Err(InferRefusal::OutOfMemory) => String::from_str(alloc, "out of memory").expect(
+            rt, "memory",
+        ),
     }
 }
 
@@ -137,7 +149,7 @@ const INTEGERS: &str = r#"{"input":{"type":"array","items":{"type":"integer"}}}"
 const NO_FIELD: &str = r#"{"input":{"type":"object","additionalProperties":false}}"#;
 
 #[test]
-fn certificates(rt: HostRuntime) -> Result<(), Fail> {
+fn certificates(rt: HostRuntime) {
     let alloc = rt.alloc();
     let vectors = [
         (
@@ -166,14 +178,13 @@ fn certificates(rt: HostRuntime) -> Result<(), Fail> {
         ),
     ];
     for (definition, declared, rounds, certificate) in vectors {
-        let is_inferred = infers(alloc, definition, declared, rounds, certificate)?;
+        let is_inferred = infers(&rt, alloc, definition, declared, rounds, certificate);
         assert!(rt; is_inferred, "of {definition}");
     }
-    Ok(())
 }
 
 #[test]
-fn refusals(rt: HostRuntime) -> Result<(), Fail> {
+fn refusals(rt: HostRuntime) {
     let alloc = rt.alloc();
     let vectors = [
         (PASS, INTEGER, 1, "not settled"),
@@ -199,42 +210,40 @@ fn refusals(rt: HostRuntime) -> Result<(), Fail> {
         ),
     ];
     for (definition, declared, rounds, wanted) in vectors {
-        let told = refusal(alloc, definition, declared, rounds)?;
+        let told = refusal(&rt, alloc, definition, declared, rounds);
         assert_eq!(rt; told.as_str(), wanted, "of {definition}");
     }
-    Ok(())
 }
 
 /// The shape `inside`, within so many closed objects with an optional field `p`, in each a closed one with a field `q`.
-fn nested(alloc: Global, pairs: usize, inside: &str) -> Result<String, Fail> {
-    let mut shape = String::from_str(alloc, inside)?;
+fn nested(rt: &impl Abort, alloc: Global, pairs: usize, inside: &str) -> String {
+    let mut shape = String::from_str(alloc, inside).expect(rt, "memory");
     for _ in 0..pairs {
-        let field = required(alloc, "q", &shape)?;
+        let field = required(rt, alloc, "q", &shape);
         shape = format!(in alloc;
             "{{\"type\":\"object\",\"additionalProperties\":false,\"properties\":{{\"p\":{field}}}}}"
-        )?;
+        ).expect(rt, "memory");
     }
-    Ok(shape)
+    shape
 }
 
 /// A closed object with that one field, which has to be there.
-fn required(alloc: Global, name: &str, shape: &str) -> Result<String, Fail> {
-    Ok(format!(in alloc;
+fn required(rt: &impl Abort, alloc: Global, name: &str, shape: &str) -> String {
+    format!(in alloc;
         "{{\"type\":\"object\",\"additionalProperties\":false,\"properties\":{{\"{name}\":{shape}}},\"required\":[\"{name}\"]}}"
-    )?)
+    ).expect(rt, "memory")
 }
 
 #[test]
-fn deep_shapes_are_cut(rt: HostRuntime) -> Result<(), Fail> {
+fn deep_shapes_are_cut(rt: HostRuntime) {
     let alloc = rt.alloc();
-    let input = nested(alloc, 24, "true")?;
-    let output = nested(alloc, 23, "true")?;
-    let output = required(alloc, "q", &output)?;
-    let output = required(alloc, "p", &output)?;
+    let input = nested(&rt, alloc, 24, "true");
+    let output = nested(&rt, alloc, 23, "true");
+    let output = required(&rt, alloc, "q", &output);
+    let output = required(&rt, alloc, "p", &output);
     let certificate = format!(in alloc;
         "{{\"version\":1,\"output\":false,\"states\":{{\"A\":{{\"input\":{input},\"output\":{output}}}}}}}"
-    )?;
-    let is_inferred = infers(alloc, STEEP_LOOP, NO_FIELD, 25, &certificate)?;
+    ).expect(&rt, "memory");
+    let is_inferred = infers(&rt, alloc, STEEP_LOOP, NO_FIELD, 25, &certificate);
     assert!(rt; is_inferred);
-    Ok(())
 }

@@ -2,38 +2,49 @@
 use asl_intrinsic::{Item, eval, parse};
 use asl_tree::{Tree, read, to_text};
 use std::alloc::Global;
-use std::test::Fail;
+use std::process::Abort;
 
 /// The call that the text spells, or the refusal.
-fn call_in(alloc: Global, text: &str, item: bool) -> Result<String, Fail> {
+fn call_in(rt: &impl Abort, alloc: Global, text: &str, item: bool) -> String {
     match parse(alloc, text, item) {
-        Ok(call) => Ok(format!(in alloc; "{call:?}")?),
-        Err(refusal) => Ok(format!(in alloc; "{refusal:?}")?),
+        Ok(call) => format!(in alloc; "{call:?}").expect(rt, "memory"),
+        Err(refusal) => format!(in alloc; "{refusal:?}").expect(rt, "memory"),
     }
 }
 
 /// The text of the value of the call for the input and the item, or the refusal.
-fn value_of(alloc: Global, text: &str, input: &Tree, item: Option<Item>) -> Result<String, Fail> {
-    match eval(alloc, &parse(alloc, text, true)?, input, item) {
-        Ok(value) => Ok(to_text(alloc, &value)?),
-        Err(refusal) => Ok(format!(in alloc; "{refusal:?}")?),
+fn value_of(
+    rt: &impl Abort,
+    alloc: Global,
+    text: &str,
+    input: &Tree,
+    item: Option<Item>,
+) -> String {
+    match eval(
+        alloc,
+        &parse(alloc, text, true).expect(rt, "a path"),
+        input,
+        item,
+    ) {
+        Ok(value) => to_text(alloc, &value).expect(rt, "a text"),
+        Err(refusal) => format!(in alloc; "{refusal:?}").expect(rt, "memory"),
     }
 }
 
 /// A call in which calls nest that deep.
-fn nested(alloc: Global, depth: usize) -> Result<String, Fail> {
+fn nested(rt: &impl Abort, alloc: Global, depth: usize) -> String {
     let mut text = String::new(alloc);
     for _ in 0..depth {
-        text.push_str("States.Array(")?;
+        text.push_str("States.Array(").expect(rt, "memory");
     }
     for _ in 0..depth {
-        text.push_str(")")?;
+        text.push_str(")").expect(rt, "memory");
     }
-    Ok(text)
+    text
 }
 
 #[test]
-fn calls(rt: HostRuntime) -> Result<(), Fail> {
+fn calls(rt: HostRuntime) {
     let alloc = rt.alloc();
     let vectors = [
         ("States.Array()", "Array([])"),
@@ -90,28 +101,28 @@ fn calls(rt: HostRuntime) -> Result<(), Fail> {
         ("States.Array($$)", "BadPath"),
     ];
     for (text, wanted) in vectors {
-        let call = call_in(alloc, text, true)?;
+        let call = call_in(&rt, alloc, text, true);
         assert_eq!(rt; call.as_str(), wanted, "at {text}");
     }
 
-    let index = call_in(alloc, "States.Array($$.Map.Item.Index)", false)?;
+    let index = call_in(&rt, alloc, "States.Array($$.Map.Item.Index)", false);
     assert_eq!(rt; index.as_str(), "BadPath");
-    let value = call_in(alloc, "States.Array($$.Map.Item.Value)", false)?;
+    let value = call_in(&rt, alloc, "States.Array($$.Map.Item.Value)", false);
     assert_eq!(rt; value.as_str(), "BadPath");
 
-    assert!(rt; parse(alloc, &nested(alloc, 32)?, false).is_ok());
-    let too_deep = call_in(alloc, &nested(alloc, 33)?, false)?;
+    assert!(rt; parse(alloc, &nested(&rt, alloc, 32), false).is_ok());
+    let too_deep = call_in(&rt, alloc, &nested(&rt, alloc, 33), false);
     assert_eq!(rt; too_deep.as_str(), "Malformed");
-    Ok(())
 }
 
 #[test]
-fn values(rt: HostRuntime) -> Result<(), Fail> {
+fn values(rt: HostRuntime) {
     let alloc = rt.alloc();
     let input = read(
         alloc,
         br#"{"x":{"y":2},"f":"\\{}","l":[1,[]],"a b":true,"n":7}"#,
-    )?;
+    )
+    .expect(&rt, "a tree");
     let vectors = [
         (
             "States.Array( 1 , null,true,$.x)",
@@ -154,21 +165,20 @@ fn values(rt: HostRuntime) -> Result<(), Fail> {
             r#""12""#,
         ),
     ];
-    let third = read(alloc, br#"{"v":5}"#)?;
+    let third = read(alloc, br#"{"v":5}"#).expect(&rt, "a tree");
     let item = Item {
         index: 3,
         value: &third,
     };
     for (text, wanted) in vectors {
-        let value = value_of(alloc, text, &input, Some(item))?;
+        let value = value_of(&rt, alloc, text, &input, Some(item));
         assert_eq!(rt; value.as_str(), wanted, "at {text}");
     }
     for text in [
         "States.Array($$.Map.Item.Index)",
         "States.Array($$.Map.Item.Value)",
     ] {
-        let value = value_of(alloc, text, &input, None)?;
+        let value = value_of(&rt, alloc, text, &input, None);
         assert_eq!(rt; value.as_str(), "IntrinsicFailure", "at {text}");
     }
-    Ok(())
 }

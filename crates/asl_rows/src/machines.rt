@@ -2,41 +2,43 @@
 use asl_machine::{DefFault, read};
 use asl_tree::read_value;
 use std::alloc::Global;
-use std::test::Fail;
+use std::process::Abort;
 
 /// The number of states, or the refusal as it is printed.
-fn answered(alloc: Global, definition: &str) -> Result<String, Fail> {
-    let value = read_value(alloc, definition.as_bytes())?;
+fn answered(rt: &impl Abort, alloc: Global, definition: &str) -> String {
+    let value = read_value(alloc, definition.as_bytes()).expect(rt, "a value");
     match read(alloc, &value) {
         Ok(machine) => {
             let states = machine.states();
-            Ok(format!(in alloc; "{states}")?)
+            format!(in alloc; "{states}").expect(rt, "memory")
         }
         Err(refusal) => {
             let fault = refusal.fault.name();
             let state = refusal.state.as_str();
             let field = refusal.field.as_str();
-            Ok(format!(in alloc; "{fault} {state} {field}")?)
+            format!(in alloc; "{fault} {state} {field}").expect(rt, "memory")
         }
     }
 }
 
 /// The scope of the state of that number: its start, and its owner.
-fn scope(alloc: Global, machine: &asl_machine::Machine, number: usize) -> Result<String, Fail> {
+fn scope(rt: &impl Abort, alloc: Global, machine: &asl_machine::Machine, number: usize) -> String {
     match machine.scope_of(number) {
         Some(scope) => {
             let start = scope.start;
             match scope.owner {
-                Some((owner, branch)) => Ok(format!(in alloc; "{start} {owner} {branch}")?),
-                None => Ok(format!(in alloc; "{start}")?),
+                Some((owner, branch)) => format!(in alloc; "{start} {owner} {branch}").expect(
+                    rt, "memory",
+                ),
+                None => format!(in alloc; "{start}").expect(rt, "memory"),
             }
         }
-        None => Ok(String::new(alloc)),
+        None => String::new(alloc),
     }
 }
 
 #[test]
-fn definitions(rt: HostRuntime) -> Result<(), Fail> {
+fn definitions(rt: HostRuntime) {
     let alloc = rt.alloc();
     let vectors = [
         (
@@ -142,7 +144,7 @@ fn definitions(rt: HostRuntime) -> Result<(), Fail> {
         ),
     ];
     for (definition, wanted) in vectors {
-        let answer = answered(alloc, definition)?;
+        let answer = answered(&rt, alloc, definition);
         assert_eq!(rt; answer.as_str(), wanted);
     }
 
@@ -153,8 +155,9 @@ fn definitions(rt: HostRuntime) -> Result<(), Fail> {
                 {"StartAt":"T0","States":{"T0":{"Type":"Task","Resource":"r","End":true}}},
                 {"StartAt":"T1","States":{"T1":{"Type":"Task","Resource":"r","End":true}}}]},
             "N":{"Type":"Pass","InputPath":"$[1]","End":true}}}"#,
-    )?;
-    let machine = read(alloc, &value)?;
+    )
+    .expect(&rt, "a value");
+    let machine = read(alloc, &value).expect(&rt, "a machine");
     assert_eq!(rt; machine.states(), 4);
     for (name, number) in [
         ("N", Some(0)),
@@ -166,11 +169,10 @@ fn definitions(rt: HostRuntime) -> Result<(), Fail> {
         assert_eq!(rt; machine.state_named(name), number);
     }
     for (number, wanted) in [(0, "1"), (1, "1"), (2, "2 1 0"), (3, "3 1 1"), (4, "")] {
-        let answer = scope(alloc, &machine, number)?;
+        let answer = scope(&rt, alloc, &machine, number);
         assert_eq!(rt; answer.as_str(), wanted);
     }
     assert_eq!(rt; machine.state(4).is_none(), true);
     assert_eq!(rt; machine.name(3), Some("T1"));
     assert_eq!(rt; machine.name(4), None);
-    Ok(())
 }

@@ -2,43 +2,43 @@
 use asl_path::{PathRefusal, RefPath, find, parse, place, print};
 use asl_tree::{Tree, read, to_text};
 use std::alloc::Global;
-use std::test::Fail;
+use std::process::Abort;
 
 /// The steps of the path read, or the refusal.
-fn steps(alloc: Global, answer: Result<RefPath, PathRefusal>) -> Result<String, Fail> {
+fn steps(rt: &impl Abort, alloc: Global, answer: Result<RefPath, PathRefusal>) -> String {
     match answer {
-        Ok(path) => Ok(format!(in alloc; "{:?}", path.segments())?),
-        Err(refusal) => Ok(format!(in alloc; "{refusal:?}")?),
+        Ok(path) => format!(in alloc; "{:?}", path.segments()).expect(rt, "memory"),
+        Err(refusal) => format!(in alloc; "{refusal:?}").expect(rt, "memory"),
     }
 }
 
 /// The text of the node that the path names, or `nothing`.
-fn named(alloc: Global, tree: &Tree, text: &str) -> Result<String, Fail> {
-    match find(tree, &parse(alloc, text)?) {
-        Some(node) => Ok(to_text(alloc, node)?),
-        None => Ok(String::from_str(alloc, "nothing")?),
+fn named(rt: &impl Abort, alloc: Global, tree: &Tree, text: &str) -> String {
+    match find(tree, &parse(alloc, text).expect(rt, "a path")) {
+        Some(node) => to_text(alloc, node).expect(rt, "a text"),
+        None => String::from_str(alloc, "nothing").expect(rt, "memory"),
     }
 }
 
 /// The text of what placing 9 at the path gives, or the refusal with both trees.
-fn with_nine(alloc: Global, tree: &[u8], text: &str) -> Result<String, Fail> {
+fn with_nine(rt: &impl Abort, alloc: Global, tree: &[u8], text: &str) -> String {
     match place(
         alloc,
-        read(alloc, tree)?,
-        &parse(alloc, text)?,
+        read(alloc, tree).expect(rt, "a tree"),
+        &parse(alloc, text).expect(rt, "a path"),
         Tree::Int(9),
     ) {
-        Ok(whole) => Ok(to_text(alloc, &whole)?),
+        Ok(whole) => to_text(alloc, &whole).expect(rt, "a text"),
         Err((refusal, whole, value)) => {
-            let whole = to_text(alloc, &whole)?;
-            let value = to_text(alloc, &value)?;
-            Ok(format!(in alloc; "{refusal:?} {whole} {value}")?)
+            let whole = to_text(alloc, &whole).expect(rt, "a text");
+            let value = to_text(alloc, &value).expect(rt, "a text");
+            format!(in alloc; "{refusal:?} {whole} {value}").expect(rt, "memory")
         }
     }
 }
 
 #[test]
-fn paths(rt: HostRuntime) -> Result<(), Fail> {
+fn paths(rt: HostRuntime) {
     let alloc = rt.alloc();
     let vectors = [
         ("$", "[]"),
@@ -71,11 +71,11 @@ fn paths(rt: HostRuntime) -> Result<(), Fail> {
         ("$.a b:c", "LeftOut(3)"),
     ];
     for (text, wanted) in vectors {
-        let answer = steps(alloc, parse(alloc, text))?;
+        let answer = steps(&rt, alloc, parse(alloc, text));
         assert_eq!(rt; answer.as_str(), wanted, "at {text}");
     }
 
-    let tree = read(alloc, br#"{"a":[1,{"b":null}],"":2}"#)?;
+    let tree = read(alloc, br#"{"a":[1,{"b":null}],"":2}"#).expect(&rt, "a tree");
     let nodes = [
         ("$", r#"{"":2,"a":[1,{"b":null}]}"#),
         ("$.a[0]", "1"),
@@ -87,7 +87,7 @@ fn paths(rt: HostRuntime) -> Result<(), Fail> {
         ("$.a[1].b.c", "nothing"),
     ];
     for (text, wanted) in nodes {
-        let answer = named(alloc, &tree, text)?;
+        let answer = named(&rt, alloc, &tree, text);
         assert_eq!(rt; answer.as_str(), wanted, "at {text}");
     }
 
@@ -100,7 +100,7 @@ fn paths(rt: HostRuntime) -> Result<(), Fail> {
         ("$['é'][4294967295]", "$.é[4294967295]"),
     ];
     for (text, wanted) in forms {
-        let answer = print(alloc, &parse(alloc, text)?)?;
+        let answer = print(alloc, &parse(alloc, text).expect(&rt, "a path")).expect(&rt, "a text");
         assert_eq!(rt; answer.as_str(), wanted, "at {text}");
     }
     let placings = [
@@ -117,8 +117,7 @@ fn paths(rt: HostRuntime) -> Result<(), Fail> {
         ("$.a[0].b", r#"CannotPlace {"a":[1,2]} 9"#),
     ];
     for (text, wanted) in placings {
-        let answer = with_nine(alloc, br#"{"a":[1,2]}"#, text)?;
+        let answer = with_nine(&rt, alloc, br#"{"a":[1,2]}"#, text);
         assert_eq!(rt; answer.as_str(), wanted, "at {text}");
     }
-    Ok(())
 }

@@ -2,35 +2,49 @@
 use asl_records::{read_certificate, read_declared, write_certificate, write_declared};
 use asl_tree::{read_value, to_text, to_value};
 use std::alloc::Global;
-use std::test::Fail;
+use std::process::Abort;
 
 /// What is written for the declared shapes in the text, how they are printed, and how those are printed that are read of
 /// what is written.
-fn declared_in(alloc: Global, text: &str) -> Result<(String, String, String), Fail> {
-    let declared = read_declared(alloc, read_value(alloc, text.as_bytes())?)?;
-    let written = write_declared(alloc, &declared)?;
-    let again = read_declared(alloc, to_value(alloc, &written)?)?;
-    Ok((
-        to_text(alloc, &written)?,
-        format!(in alloc; "{declared:?}")?,
-        format!(in alloc; "{again:?}")?,
-    ))
+fn declared_in(rt: &impl Abort, alloc: Global, text: &str) -> (String, String, String) {
+    let declared = read_declared(
+        alloc,
+        read_value(alloc, text.as_bytes()).expect(rt, "a value"),
+    )
+    .expect(rt, "declared shapes");
+    let written = write_declared(alloc, &declared).expect(rt, "a tree");
+    let again = read_declared(alloc, to_value(alloc, &written).expect(rt, "a value")).expect(
+        rt,
+        "declared shapes",
+    );
+    (
+        to_text(alloc, &written).expect(rt, "a text"),
+        format!(in alloc; "{declared:?}").expect(rt, "memory"),
+        format!(in alloc; "{again:?}").expect(rt, "memory"),
+    )
 }
 
 /// The same of the certificate in the text.
-fn certificate_in(alloc: Global, text: &str) -> Result<(String, String, String), Fail> {
-    let certificate = read_certificate(alloc, read_value(alloc, text.as_bytes())?)?;
-    let written = write_certificate(alloc, &certificate)?;
-    let again = read_certificate(alloc, to_value(alloc, &written)?)?;
-    Ok((
-        to_text(alloc, &written)?,
-        format!(in alloc; "{certificate:?}")?,
-        format!(in alloc; "{again:?}")?,
-    ))
+fn certificate_in(rt: &impl Abort, alloc: Global, text: &str) -> (String, String, String) {
+    let certificate = read_certificate(
+        alloc,
+        read_value(alloc, text.as_bytes()).expect(rt, "a value"),
+    )
+    .expect(rt, "a certificate");
+    let written = write_certificate(alloc, &certificate).expect(rt, "a tree");
+    let again = read_certificate(alloc, to_value(alloc, &written).expect(rt, "a value")).expect(
+        rt,
+        "a certificate",
+    );
+    (
+        to_text(alloc, &written).expect(rt, "a text"),
+        format!(in alloc; "{certificate:?}").expect(rt, "memory"),
+        format!(in alloc; "{again:?}").expect(rt, "memory"),
+    )
 }
 
 #[test]
-fn declared_shapes(rt: HostRuntime) -> Result<(), Fail> {
+fn declared_shapes(rt: HostRuntime) {
     let alloc = rt.alloc();
     let vectors = [
         (
@@ -44,15 +58,14 @@ fn declared_shapes(rt: HostRuntime) -> Result<(), Fail> {
         ),
     ];
     for (text, wanted) in vectors {
-        let (written, declared, again) = declared_in(alloc, text)?;
+        let (written, declared, again) = declared_in(&rt, alloc, text);
         assert_eq!(rt; written.as_str(), wanted);
         assert_eq!(rt; again, declared);
     }
-    Ok(())
 }
 
 #[test]
-fn certificates(rt: HostRuntime) -> Result<(), Fail> {
+fn certificates(rt: HostRuntime) {
     let alloc = rt.alloc();
     let branches =
         r#"{"output":{"items":false,"minItems":2,"prefixItems":[{"type":"integer"},{"type":"string"}],"type":"array"},"states":{"P":{"branches":[{"type":"integer"},{"type":"string"}],"input":{"type":"integer"},"output":{"items":false,"minItems":2,"prefixItems":[{"type":"integer"},{"type":"string"}],"type":"array"}},"T0":{"input":{"type":"integer"},"output":{"type":"integer"}},"T1":{"input":{"type":"integer"},"output":{"type":"string"}}},"version":1}"#;
@@ -68,9 +81,8 @@ fn certificates(rt: HostRuntime) -> Result<(), Fail> {
         ),
     ];
     for (text, wanted) in vectors {
-        let (written, certificate, again) = certificate_in(alloc, text)?;
+        let (written, certificate, again) = certificate_in(&rt, alloc, text);
         assert_eq!(rt; written.as_str(), wanted);
         assert_eq!(rt; again, certificate);
     }
-    Ok(())
 }

@@ -6,7 +6,6 @@ use asl_run::{Answer, Event, Outcome, Run, start};
 use asl_tree::{read_value, to_text};
 use std::alloc::Global;
 use std::process::Abort;
-use std::test::Fail;
 
 /// What happens at a place: a move, or a task's answer, which gives a value or fails with an error and a cause.
 #[derive(Clone, Copy)]
@@ -51,55 +50,64 @@ pub(crate) const RESULT_DROPPED: &str =
     r#"{"StartAt":"A","States":{"A":{"Type":"Task","Resource":"r","ResultPath":null,"End":true}}}"#;
 
 /// The machine that the text defines.
-pub(crate) fn machine(alloc: Global, definition: &str) -> Result<Machine, Fail> {
-    Ok(read(alloc, &read_value(alloc, definition.as_bytes())?)?)
+pub(crate) fn machine(rt: &impl Abort, alloc: Global, definition: &str) -> Machine {
+    let value = read_value(alloc, definition.as_bytes()).expect(rt, "a value");
+    read(alloc, &value).expect(rt, "a machine")
 }
 
 /// A run of the machine from the input that the text spells.
 pub(crate) fn started<'m>(
+    rt: &impl Abort,
     alloc: Global,
     machine: &'m Machine,
     input: &str,
-) -> Result<Run<'m>, Fail> {
-    Ok(start(alloc, machine, asl_tree::read(alloc, input.as_bytes())?)?)
+) -> Run<'m> {
+    let input = asl_tree::read(alloc, input.as_bytes()).expect(rt, "a tree");
+    start(alloc, machine, input).expect(rt, "a run")
 }
 
 /// The task's answer; none for a move.
-pub(crate) fn answer(alloc: Global, happening: Happening) -> Result<Option<Answer>, Fail> {
+pub(crate) fn answer(rt: &impl Abort, alloc: Global, happening: Happening) -> Option<Answer> {
     match happening {
-        Moves => Ok(None),
-        Gives(value) => Ok(Some(Answer::Gives(asl_tree::read(alloc, value.as_bytes())?))),
-        Fails(error, cause) => Ok(Some(Answer::Fails {
-            error: String::from_str(alloc, error)?,
-            cause: String::from_str(alloc, cause)?,
-        })),
+        Moves => None,
+        Gives(value) => {
+            let tree = asl_tree::read(alloc, value.as_bytes()).expect(rt, "a tree");
+            Some(Answer::Gives(tree))
+        }
+        Fails(error, cause) => Some(Answer::Fails {
+            error: String::from_str(alloc, error).expect(rt, "memory"),
+            cause: String::from_str(alloc, cause).expect(rt, "memory"),
+        }),
     }
 }
 
 /// How the run has ended: its output, or its error and cause; nothing while it goes on.
-pub(crate) fn ending(alloc: Global, run: &Run) -> Result<String, Fail> {
+pub(crate) fn ending(rt: &impl Abort, alloc: Global, run: &Run) -> String {
     match run.outcome() {
-        Some(Outcome::Output(output)) => Ok(to_text(alloc, output)?),
-        Some(Outcome::Failed { error, cause }) => Ok(format!(in alloc; "{error} {cause}")?),
-        None => Ok(String::new(alloc)),
+        Some(Outcome::Output(output)) => to_text(alloc, output).expect(rt, "a text"),
+        Some(Outcome::Failed { error, cause }) => format!(in alloc; "{error} {cause}").expect(
+            rt, "memory",
+        ),
+        None => String::new(alloc),
     }
 }
 
 /// The entries of the step, or its refusal, which gives the event back.
 fn stepped(
+    rt: &impl Abort,
     alloc: Global,
     run: &mut Run,
     at: &[usize],
     happening: Happening,
-) -> Result<String, Fail> {
-    let place = at.to_vec(alloc)?;
-    let event = match answer(alloc, happening)? {
+) -> String {
+    let place = at.to_vec(alloc).expect(rt, "memory");
+    let event = match answer(rt, alloc, happening) {
         Some(answer) => Event::Answers(place, answer),
         None => Event::Move(place),
     };
     match run.step(event) {
-        Ok(entries) => Ok(format!(in alloc; "{entries:?}")?),
-        Err(refusal) => Ok(format!(in alloc; "{refusal:?}")?),
+        Ok(entries) => format!(in alloc; "{entries:?}").expect(rt, "memory"),
+        Err(refusal) => format!(in alloc; "{refusal:?}").expect(rt, "memory"),
     }
 }
 
@@ -107,23 +115,16 @@ fn stepped(
 type Step = (&'static [usize], Happening, &'static str, &'static str);
 
 /// Takes the steps and compares each with what is wanted of it, and then how the run has ended.
-fn compare(
-    rt: &impl Abort,
-    alloc: Global,
-    run: &mut Run,
-    steps: &[Step],
-    wanted: &str,
-) -> Result<(), Fail> {
+fn compare(rt: &impl Abort, alloc: Global, run: &mut Run, steps: &[Step], wanted: &str) {
     for (at, happening, entries, enabled) in steps {
-        let answer = stepped(alloc, run, at, *happening)?;
+        let answer = stepped(rt, alloc, run, at, *happening);
         assert_eq!(rt; answer.as_str(), *entries);
-        let places = run.enabled()?;
-        let places = format!(in alloc; "{places:?}")?;
+        let places = run.enabled().expect(rt, "places");
+        let places = format!(in alloc; "{places:?}").expect(rt, "memory");
         assert_eq!(rt; places.as_str(), *enabled, "after {answer}");
     }
-    let ending = ending(alloc, run)?;
+    let ending = ending(rt, alloc, run);
     assert_eq!(rt; ending.as_str(), wanted);
-    Ok(())
 }
 
 /// Two tasks are entered.
@@ -193,19 +194,18 @@ const FIRST_FIRST: [Step; 3] = [
 ];
 
 #[test]
-fn branches(rt: HostRuntime) -> Result<(), Fail> {
+fn branches(rt: HostRuntime) {
     let alloc = rt.alloc();
-    let machine = machine(alloc, TWO_TASKS)?;
+    let machine = machine(&rt, alloc, TWO_TASKS);
     for second_first in [true, false] {
-        let mut run = started(alloc, &machine, "5")?;
-        compare(&rt, alloc, &mut run, &ENTERED, "")?;
+        let mut run = started(&rt, alloc, &machine, "5");
+        compare(&rt, alloc, &mut run, &ENTERED, "");
         if second_first {
-            compare(&rt, alloc, &mut run, &SECOND_FIRST, r#"[1,"a"]"#)?;
+            compare(&rt, alloc, &mut run, &SECOND_FIRST, r#"[1,"a"]"#);
         } else {
-            compare(&rt, alloc, &mut run, &FIRST_FIRST, r#"[1,"a"]"#)?;
+            compare(&rt, alloc, &mut run, &FIRST_FIRST, r#"[1,"a"]"#);
         }
     }
-    Ok(())
 }
 
 /// A second task that fails; an event that isn't wanted, or has no place, is given back.
@@ -262,19 +262,18 @@ const GONE: [Step; 3] = [
 ];
 
 #[test]
-fn failed_branches(rt: HostRuntime) -> Result<(), Fail> {
+fn failed_branches(rt: HostRuntime) {
     let alloc = rt.alloc();
-    let machine = machine(alloc, TWO_TASKS)?;
+    let machine = machine(&rt, alloc, TWO_TASKS);
     for answered in [true, false] {
-        let mut run = started(alloc, &machine, "5")?;
-        compare(&rt, alloc, &mut run, &ENTERED, "")?;
-        compare(&rt, alloc, &mut run, &SECOND_FAILS, "")?;
+        let mut run = started(&rt, alloc, &machine, "5");
+        compare(&rt, alloc, &mut run, &ENTERED, "");
+        compare(&rt, alloc, &mut run, &SECOND_FAILS, "");
         if answered {
-            compare(&rt, alloc, &mut run, &ANSWERED, "")?;
+            compare(&rt, alloc, &mut run, &ANSWERED, "");
         }
-        compare(&rt, alloc, &mut run, &GONE, "States.BranchFailed c")?;
+        compare(&rt, alloc, &mut run, &GONE, "States.BranchFailed c");
     }
-    Ok(())
 }
 
 /// Three items, the last of which is answered first.
@@ -330,10 +329,10 @@ const ITEMS: [Step; 8] = [
 ];
 
 #[test]
-fn items(rt: HostRuntime) -> Result<(), Fail> {
+fn items(rt: HostRuntime) {
     let alloc = rt.alloc();
-    let machine = machine(alloc, TASK_FOR_EACH)?;
-    let mut run = started(alloc, &machine, "[1,2,3]")?;
+    let machine = machine(&rt, alloc, TASK_FOR_EACH);
+    let mut run = started(&rt, alloc, &machine, "[1,2,3]");
     compare(&rt, alloc, &mut run, &ITEMS, r#"["a","b","c"]"#)
 }
 
@@ -409,10 +408,10 @@ const NESTED: [Step; 11] = [
 ];
 
 #[test]
-fn nested_children(rt: HostRuntime) -> Result<(), Fail> {
+fn nested_children(rt: HostRuntime) {
     let alloc = rt.alloc();
-    let machine = machine(alloc, BRANCHES_FOR_EACH)?;
-    let mut run = started(alloc, &machine, "[1,2]")?;
+    let machine = machine(&rt, alloc, BRANCHES_FOR_EACH);
+    let mut run = started(&rt, alloc, &machine, "[1,2]");
     compare(&rt, alloc, &mut run, &NESTED, "[[1,1],[2,2]]")
 }
 
@@ -463,20 +462,19 @@ const FAILURES: [Step; 7] = [
 ];
 
 #[test]
-fn retries_and_catchers(rt: HostRuntime) -> Result<(), Fail> {
+fn retries_and_catchers(rt: HostRuntime) {
     let alloc = rt.alloc();
     for definition in [RETRIED, RETRIED_AT_ALL] {
-        let machine = machine(alloc, definition)?;
-        let mut run = started(alloc, &machine, "{}")?;
+        let machine = machine(&rt, alloc, definition);
+        let mut run = started(&rt, alloc, &machine, "{}");
         compare(
             &rt,
             alloc,
             &mut run,
             &FAILURES,
             r#"{"err":{"Cause":"c3","Error":"A"}}"#,
-        )?;
+        );
     }
-    Ok(())
 }
 
 /// A task's result is dropped, so that the output is the input.
@@ -496,9 +494,9 @@ const DROPPED: [Step; 2] = [
 ];
 
 #[test]
-fn dropped_results(rt: HostRuntime) -> Result<(), Fail> {
+fn dropped_results(rt: HostRuntime) {
     let alloc = rt.alloc();
-    let machine = machine(alloc, RESULT_DROPPED)?;
-    let mut run = started(alloc, &machine, r#"{"a":1}"#)?;
+    let machine = machine(&rt, alloc, RESULT_DROPPED);
+    let mut run = started(&rt, alloc, &machine, r#"{"a":1}"#);
     compare(&rt, alloc, &mut run, &DROPPED, r#"{"a":1}"#)
 }

@@ -3,28 +3,34 @@ use asl_intrinsic::Item;
 use asl_template::{eval, from_tree};
 use asl_tree::{read, to_text};
 use std::alloc::Global;
-use std::test::Fail;
+use std::process::Abort;
 
 /// The text of the template's value, or the refusal.
 fn answered(
+    rt: &impl Abort,
     alloc: Global,
     spelling: &[u8],
     allowed: bool,
     input: &[u8],
     item: Option<Item>,
-) -> Result<String, Fail> {
-    let template = match from_tree(alloc, &read(alloc, spelling)?, allowed) {
+) -> String {
+    let template = match from_tree(alloc, &read(alloc, spelling).expect(rt, "a tree"), allowed) {
         Ok(template) => template,
-        Err(refusal) => return Ok(format!(in alloc; "{refusal:?}")?),
+        Err(refusal) => return format!(in alloc; "{refusal:?}").expect(rt, "memory"),
     };
-    match eval(alloc, &template, &read(alloc, input)?, item) {
-        Ok(value) => Ok(to_text(alloc, &value)?),
-        Err(refusal) => Ok(format!(in alloc; "{refusal:?}")?),
+    match eval(
+        alloc,
+        &template,
+        &read(alloc, input).expect(rt, "a tree"),
+        item,
+    ) {
+        Ok(value) => to_text(alloc, &value).expect(rt, "a text"),
+        Err(refusal) => format!(in alloc; "{refusal:?}").expect(rt, "memory"),
     }
 }
 
 #[test]
-fn templates(rt: HostRuntime) -> Result<(), Fail> {
+fn templates(rt: HostRuntime) {
     let alloc = rt.alloc();
     let vectors: [(&[u8], &[u8], &str); 17] = [
         (
@@ -78,11 +84,11 @@ fn templates(rt: HostRuntime) -> Result<(), Fail> {
         (b"\"$.x\"", b"{}", "NotObject"),
     ];
     for (spelling, input, wanted) in vectors {
-        let answer = answered(alloc, spelling, false, input, None)?;
+        let answer = answered(&rt, alloc, spelling, false, input, None);
         assert_eq!(rt; answer.as_str(), wanted);
     }
 
-    let value = read(alloc, br#"{"k":[1,2]}"#)?;
+    let value = read(alloc, br#"{"k":[1,2]}"#).expect(&rt, "a tree");
     let item = Some(Item {
         index: 3,
         value: &value,
@@ -125,10 +131,9 @@ fn templates(rt: HostRuntime) -> Result<(), Fail> {
         ),
     ];
     for (spelling, with, without) in with_item {
-        let answer = answered(alloc, spelling, true, b"{}", item)?;
+        let answer = answered(&rt, alloc, spelling, true, b"{}", item);
         assert_eq!(rt; answer.as_str(), with);
-        let answer = answered(alloc, spelling, true, b"{}", None)?;
+        let answer = answered(&rt, alloc, spelling, true, b"{}", None);
         assert_eq!(rt; answer.as_str(), without);
     }
-    Ok(())
 }

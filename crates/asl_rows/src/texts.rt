@@ -3,7 +3,7 @@ ghost use Rattle.std.specs.Prelude.{Some, None, false};
 
 use asl_tool::{Closing, Failed, Sink, Source, check_lines, closing, read_text};
 use std::alloc::Global;
-use std::test::Fail;
+use std::process::Abort;
 
 /// Gives a text in pieces of at most `step` bytes, and fails where no read is left.
 #[derive(Drop)]
@@ -90,7 +90,7 @@ const CERTIFICATE: &str =
     r#"{"version":1,"output":{"type":"integer"},"states":{"A":{"input":{"type":"integer"},"output":{"type":"integer"}}}}"#;
 
 #[test]
-fn answers_three_lines(rt: HostRuntime) -> Result<(), Fail> {
+fn answers_three_lines(rt: HostRuntime) {
     let alloc = rt.alloc();
     let cases = [
         (DEFINITION, DECLARED, CERTIFICATE, "yes\n", 0, ""),
@@ -152,23 +152,24 @@ fn answers_three_lines(rt: HostRuntime) -> Result<(), Fail> {
         ),
     ];
     for (definition, declared, certificate, prints, status, tells) in cases {
-        let text = format!(in alloc; "{definition}\n{declared}\n{certificate}")?;
+        let text = format!(in alloc; "{definition}\n{declared}\n{certificate}").expect(
+            &rt, "memory",
+        );
         for step in [1, 7, 8192] {
             let mut sink = empty(alloc, step, 10000);
             let end = ended(alloc, &text, step, 10000, &mut sink);
-            let (code, line) = closing(alloc, &end)?;
+            let (code, line) = closing(alloc, &end).expect(&rt, "a closing");
             assert_eq!(rt; sink.bytes.as_slice(), prints.as_bytes());
             assert_eq!(rt; code, status);
             assert_eq!(rt; line.as_str(), tells);
         }
     }
-    Ok(())
 }
 
 #[test]
-fn tells_failed_readers_and_writers(rt: HostRuntime) -> Result<(), Fail> {
+fn tells_failed_readers_and_writers(rt: HostRuntime) {
     let alloc = rt.alloc();
-    let text = format!(in alloc; "{DEFINITION}\n{DECLARED}\n{CERTIFICATE}\n")?;
+    let text = format!(in alloc; "{DEFINITION}\n{DECLARED}\n{CERTIFICATE}\n").expect(&rt, "memory");
     let cases = [
         (0, 9, "", "read failed\n"),
         (2, 9, "", "read failed\n"),
@@ -177,17 +178,16 @@ fn tells_failed_readers_and_writers(rt: HostRuntime) -> Result<(), Fail> {
     for (reads, writes, prints, tells) in cases {
         let mut sink = empty(alloc, 1, writes);
         let end = ended(alloc, &text, 60, reads, &mut sink);
-        let (code, line) = closing(alloc, &end)?;
+        let (code, line) = closing(alloc, &end).expect(&rt, "a closing");
         assert_eq!(rt; sink.bytes.as_slice(), prints.as_bytes());
         assert_eq!(rt; code, 5);
         assert_eq!(rt; line.as_str(), tells);
     }
     let mut sink = empty(alloc, 1, 2);
     let end = ended(alloc, &text, 60, 9, &mut sink);
-    let (code, _) = closing(alloc, &end)?;
+    let (code, _) = closing(alloc, &end).expect(&rt, "a closing");
     assert_eq!(rt; sink.bytes.as_slice(), "ye".as_bytes());
     assert_eq!(rt; code, 5);
-    Ok(())
 }
 
 /// Never ends.
@@ -205,18 +205,18 @@ impl Source for Endless {
 }
 
 /// What is told of a source that can't be read as one text; nothing where it can.
-fn told<S: Source>(alloc: Global, source: &mut S) -> Result<String, Fail> {
+fn told<S: Source>(rt: &impl Abort, alloc: Global, source: &mut S) -> String {
     match read_text(alloc, source) {
-        Ok(_text) => Ok(String::new(alloc)),
+        Ok(_text) => String::new(alloc),
         Err(fault) => {
-            let (_, line) = closing(alloc, &Closing::Fault(fault))?;
-            Ok(line)
+            let (_, line) = closing(alloc, &Closing::Fault(fault)).expect(rt, "a closing");
+            line
         }
     }
 }
 
 #[test]
-fn reads_whole_texts(rt: HostRuntime) -> Result<(), Fail> {
+fn reads_whole_texts(rt: HostRuntime) {
     let alloc = rt.alloc();
     for step in [1, 7, 8192] {
         let mut source = Pieces {
@@ -225,15 +225,14 @@ fn reads_whole_texts(rt: HostRuntime) -> Result<(), Fail> {
             reads_left: 100,
             failed: false,
         };
-        let text = read_text(alloc, &mut source)?;
+        let text = read_text(alloc, &mut source).expect(&rt, "a text");
         assert_eq!(rt; text.as_slice(), DEFINITION.as_bytes());
-        let rest = read_text(alloc, &mut source)?;
+        let rest = read_text(alloc, &mut source).expect(&rt, "a text");
         assert_eq!(rt; rest.len(), 0);
         source.reads_left = 0;
-        let line = told(alloc, &mut source)?;
+        let line = told(&rt, alloc, &mut source);
         assert_eq!(rt; line.as_str(), "read failed\n");
     }
-    let line = told(alloc, &mut Endless)?;
+    let line = told(&rt, alloc, &mut Endless);
     assert_eq!(rt; line.as_str(), "text too long\n");
-    Ok(())
 }

@@ -1,18 +1,18 @@
 //! Vectors for texts and trees, and each call once with ample memory.
 use asl_tree::{copy, from_value, read, read_value, same, to_text};
 use std::alloc::Global;
-use std::test::Fail;
+use std::process::Abort;
 
 /// What the bytes read as, written again, or the refusal.
-fn read_and_written(alloc: Global, text: &[u8]) -> Result<String, Fail> {
+fn read_and_written(rt: &impl Abort, alloc: Global, text: &[u8]) -> String {
     match read(alloc, text) {
-        Ok(tree) => Ok(to_text(alloc, &tree)?),
-        Err(refusal) => Ok(format!(in alloc; "{refusal:?}")?),
+        Ok(tree) => to_text(alloc, &tree).expect(rt, "a text"),
+        Err(refusal) => format!(in alloc; "{refusal:?}").expect(rt, "memory"),
     }
 }
 
 #[test]
-fn trees(rt: HostRuntime) -> Result<(), Fail> {
+fn trees(rt: HostRuntime) {
     let alloc = rt.alloc();
     let declared = r#"{"input":{"type":"integer"},"tasks":{}}"#;
     let too_deep = [b'['; 128];
@@ -36,13 +36,14 @@ fn trees(rt: HostRuntime) -> Result<(), Fail> {
         (declared.as_bytes(), declared),
     ];
     for (text, wanted) in vectors {
-        let answer = read_and_written(alloc, text)?;
+        let answer = read_and_written(&rt, alloc, text);
         assert_eq!(rt; answer.as_str(), wanted);
     }
 
-    let list = from_value(alloc, &read_value(alloc, b"[1,2,3]")?)?;
-    assert!(rt; same(&copy(alloc, &list)?, &list));
-    assert!(rt; !same(&read(alloc, b"[1,2]")?, &list));
-    assert!(rt; !same(&read(alloc, b"[1,2,3,4]")?, &list));
-    Ok(())
+    let list = from_value(alloc, &read_value(alloc, b"[1,2,3]").expect(&rt, "a value")).expect(
+        &rt, "a tree",
+    );
+    assert!(rt; same(&copy(alloc, &list).expect(&rt, "a copy"), &list));
+    assert!(rt; !same(&read(alloc, b"[1,2]").expect(&rt, "a tree"), &list));
+    assert!(rt; !same(&read(alloc, b"[1,2,3,4]").expect(&rt, "a tree"), &list));
 }
