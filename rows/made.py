@@ -6,7 +6,7 @@
 <<states N>>        N Pass states S00000, S00001, .., each followed by the next, the last one ending
 <<entries N>>       a certificate's entries for these states, integers going in and out
 <<loop N>>          N Pass states, each followed by the one before it, and the first, which wraps its input, by the last
-<<line N of PATH>>  the line of that number, counted from 1, of the file with that path from the top of the repository
+<<all of PATH>>     the file with that path from the top of the repository
 """
 
 import pathlib
@@ -57,9 +57,8 @@ def made_part(part):
     if counted:
         make = {"states": states, "entries": entries, "loop": loop}[counted[1]]
         return make(int(counted[2])).encode()
-    of_file = re.fullmatch(r"line (\d+) of (.+)", part)
-    if of_file:
-        return (TOP / of_file[2]).read_bytes().split(b"\n")[int(of_file[1]) - 1]
+    if part.startswith("all of "):
+        return (TOP / part[len("all of "):]).read_bytes()
     if part.startswith("bytes "):
         return bytes.fromhex(part[len("bytes "):])
     raise ValueError(f"nothing makes <<{part}>>")
