@@ -1,5 +1,5 @@
 -- How far children are, which are gone through in order, and their outputs.
-use Rattle.std.proofs.Common.{◌≡◌, refl, sym, ap, ◌∙◌, subst, ℕ, suc, ◌+◌, ◌<◌, ◌≤◌, List, [], ◌∷◌, ◌++◌, length, get_or, drop, drop-cons, append_assoc, append-nil, Bool, true, false, ◌&&◌, map, Option, Some, None, Result, IfOk, Vec, Global, add-one, arith, rules}
+use Rattle.std.proofs.Common.{◌≡◌, refl, sym, ap, ◌∙◌, subst, ℕ, suc, ◌+◌, ◌<◌, ◌≤◌, List, [], ◌∷◌, ◌++◌, length, get_or, drop, drop-cons, append_assoc, append-nil, Bool, true, false, ◌&&◌, map, Option, Some, None, Result, IfOk, IsOkAnd, Vec, Global, add-one, arith, rules}
 use Rattle.std.proofs.lemmas.List.{drop_all, map-append}
 use Rattle.std.specs.Option.{option_to_list}
 use Rattle.asl_machine.specs.Machine.{kind_view}
@@ -196,8 +196,8 @@ not_joined here children far =
     subst (λ j. PlansAs here None (by_state model.joins here j)) (sym (far_running (joining 0 (children_view (names_at here) children)) far)) (none_as here None refl)
 
 -- a child has failed: the state is in trouble
-pub broken_off : {E : Type 0} (here : Here) (r : Result Plan E) (before : Plan) (made : Entry) (i : ℕ) (error cause joined : List ℕ) → joined ≡ model.join_error (kind_view here.state.now.kind) error → Plans here before (by_settings model.troubled here joined cause)
-    → IfOk r (λ p. p.entries.items ≡ made ∷ before.entries.items) → IfOk r (λ p. p.change ≡ before.change) → entry_view made ≡ told_at here.at.now (model.BranchFailed here.name.now i error cause)
+pub broken_off : {E F : Type 0} (here : Here) (r : Result Plan E) (before : Plan) (made : Result Entry F) (i : ℕ) (error cause joined : List ℕ) → joined ≡ model.join_error (kind_view here.state.now.kind) error → Plans here before (by_settings model.troubled here joined cause)
+    → IfOk r (λ p. IsOkAnd made (λ m. p.entries.items ≡ m ∷ before.entries.items)) → IfOk r (λ p. p.change ≡ before.change) → IfOk made (λ m. entry_view m ≡ told_at here.at.now (model.BranchFailed here.name.now i error cause))
     → IfOk r (λ p. Plans here p (model.entry_then (model.BranchFailed here.name.now i error cause) (by_settings model.troubled here (model.join_error (kind_view here.state.now.kind) error) cause)))
 broken_off here r before made i error cause joined is plans first same told =
     preceded_so here r before made (model.BranchFailed here.name.now i error cause) (by_settings model.troubled here (model.join_error (kind_view here.state.now.kind) error) cause) first same told

@@ -1,5 +1,5 @@
 -- Plans from their parts.
-use Rattle.std.proofs.Common.{◌≡◌, ap, ◌∙◌, ℕ, List, [], ◌∷◌, map, subst, sym, Option, Some, None, option_map, string_bytes, Result, Ok, Err, IfOk, codes}
+use Rattle.std.proofs.Common.{◌≡◌, refl, ap, ◌∙◌, ℕ, List, Vec, Global, [], ◌∷◌, map, subst, sym, Option, Some, None, option_map, string_bytes, Result, Ok, Err, IfOk, IsOkAnd, codes}
 use Rattle.asl_machine.specs.Machine.{kind_view, settings_view}
 use Rattle.asl_model.specs.Faults as faults
 use Rattle.asl_model.specs.Faults.{ResultPathMatchFailure, error_name}
@@ -11,7 +11,7 @@ use Rattle.asl_model.specs.Tree.{Tree, Trees}
 use Rattle.asl_tree.specs.View.{view}
 use Rattle.asl_tree.specs.declared.Tree as code
 use Rattle.asl_run.specs.Acting.{IsAt, Plans, by_settings, by_state, by_trouble_at, names_at, state_at, told_at}
-use Rattle.asl_run.specs.Activities.{ready_view}
+use Rattle.asl_run.specs.Activities.{ended_view, ready_view}
 use Rattle.asl_run.specs.Changing.{changed}
 use Rattle.asl_run.specs.Entries.{entry_view}
 use Rattle.asl_run.specs.Faults.{error_view, fault_view}
@@ -20,8 +20,10 @@ use Rattle.asl_run.specs.Standing.{EachIsNamed, MayFollow, name_in, number_in}
 use Rattle.asl_run.specs.Troubles.{CanRise, trouble_view}
 use Rattle.asl_run.specs.declared.activities.Visit.{Visit}
 use Rattle.asl_run.specs.declared.changing.Change.{Change}
-use Rattle.asl_run.specs.declared.changing.Change.TheVariants.{Enter, Retry}
+use Rattle.asl_run.specs.declared.changing.Change.TheVariants.{Ask, End, Enter, Retry}
 use Rattle.asl_run.specs.declared.entries.Entry.{Entry}
+use Rattle.asl_run.specs.declared.entries.Outcome.{Outcome}
+use Rattle.asl_run.specs.declared.entries.Outcome.TheVariants as outcomes
 use Rattle.asl_run.specs.declared.faults.Fault.{Fault}
 use Rattle.asl_run.specs.declared.faults.Stop.{Stop}
 use Rattle.asl_run.specs.declared.faults.Stop.TheVariants as stops
@@ -74,10 +76,26 @@ with_premise here (Ok p) premise step plans = λ h. plans
 with_premise here (Err e) premise step plans = tt
 
 -- one more entry in front
-pub preceded_so : {E : Type 0} (here : Here) (r : Result Plan E) (before : Plan) (made : Entry) (entry : model.Entry) (step : model.Step) → IfOk r (λ p. p.entries.items ≡ made ∷ before.entries.items) → IfOk r (λ p. p.change ≡ before.change)
-    → entry_view made ≡ told_at here.at.now entry → Plans here before step → IfOk r (λ p. Plans here p (model.entry_then entry step))
-preceded_so here (Ok p) before made entry step first same told plans = preceded here p before made entry step first same told plans
+pub preceded_so : {E F : Type 0} (here : Here) (r : Result Plan E) (before : Plan) (made : Result Entry F) (entry : model.Entry) (step : model.Step) → IfOk r (λ p. IsOkAnd made (λ m. p.entries.items ≡ m ∷ before.entries.items)) → IfOk r (λ p. p.change ≡ before.change)
+    → IfOk made (λ m. entry_view m ≡ told_at here.at.now entry) → Plans here before step → IfOk r (λ p. Plans here p (model.entry_then entry step))
+preceded_so here (Ok p) before (Ok made) entry step first same told plans = preceded here p before made entry step first same told plans
+preceded_so here (Ok p) before (Err e) entry step first same told plans = absurd first
 preceded_so here (Err e) before made entry step first same told plans = tt
+
+-- an entry alone
+pub told_so : {E F : Type 0} (here : Here) (r : Result Plan E) (before : Plan) (made : Result Entry F) (entry : model.Entry) (change : Change) (after : model.Activity) → before.entries.items ≡ [] → before.change ≡ change
+    → IfOk r (λ p. IsOkAnd made (λ m. p.entries.items ≡ m ∷ before.entries.items)) → IfOk r (λ p. p.change ≡ before.change) → IfOk made (λ m. entry_view m ≡ told_at here.at.now entry) → Leaves here change after
+    → IfOk r (λ p. Plans here p (record { entries = entry ∷ []; after = after }))
+told_so here (Ok p) before (Ok made) entry change after none is first same told leaves = told_once here p before made entry change after none is first same told leaves
+told_so here (Ok p) before (Err e) entry change after none is first same told leaves = absurd first
+told_so here (Err e) before made entry change after none is first same told leaves = tt
+
+-- the scope ends
+pub ended_so : {E F : Type 0} (here : Here) (r : Result Plan E) (before : Plan) (made : Result Entry F) (outcome : Outcome) (told_as : model.Outcome) (after : model.Activity) → ended_view outcome ≡ after → before.entries.items ≡ [] → before.change ≡ End outcome
+    → IfOk r (λ p. IsOkAnd made (λ m. p.entries.items ≡ m ∷ before.entries.items)) → IfOk r (λ p. p.change ≡ before.change) → IfOk made (λ m. entry_view m ≡ told_at here.at.now (model.Ended told_as))
+    → IfOk r (λ p. Plans here p (record { entries = model.Ended told_as ∷ []; after = after }))
+ended_so here r before made outcome told_as after seen none is first same told =
+    told_so here r before made (model.Ended told_as) (End outcome) after none is first same told (record { left = λ stands. seen; rises = λ i e. absurd (cc) })
 
 -- ---- errors
 
@@ -88,12 +106,25 @@ troubled_so here (Ok p) error cause counts met trouble seen same is plans =
     subst (λ t. Plans here p (by_trouble_at here error cause t)) (sym seen ∙ is ∙ ap (λ cs. model.trouble_of (settings_view here.state.now.settings) (view here.visit.now.raw) cs error cause) same) (plans error cause)
 troubled_so here (Err e) error cause counts met trouble seen same is plans = tt
 
+-- a retrier retries
+pub retried_so : {E F : Type 0} (here : Here) (r : Result Plan E) (before : Plan) (made : Result Entry F) (i : ℕ) → CanRise here.visit.now.counts.items i → before.entries.items ≡ [] → before.change ≡ Retry i
+    → IfOk r (λ p. IsOkAnd made (λ m. p.entries.items ≡ m ∷ before.entries.items)) → IfOk r (λ p. p.change ≡ before.change) → IfOk made (λ m. entry_view m ≡ told_at here.at.now (model.Retried here.name.now i))
+    → IfOk r (λ p. (e k : List ℕ) → Plans here p (by_trouble_at here e k (model.Retries i)))
+retried_so here (Ok p) before (Ok made) i rises none is first same told = λ e k.
+    told_once here p before made (model.Retried here.name.now i) (Retry i) (model.Ready here.name.now (view here.visit.now.raw) (model.one_higher i here.visit.now.counts.items)) none is first same told (record {
+      left = λ stands. ap (λ n. model.Ready n (view here.visit.now.raw) (model.one_higher i here.visit.now.counts.items)) (sym stands.named);
+      rises = λ j e. let same_number : i ≡ j = cc in subst (CanRise here.visit.now.counts.items) same_number rises;
+    })
+retried_so here (Ok p) before (Err x) i rises none is first same told = absurd first
+retried_so here (Err x) before made i rises none is first same told = tt
+
 -- a catcher hands on to a state that may follow
-pub handed_on : {E : Type 0} (here : Here) (r : Result Plan E) (before : Plan) (made : Entry) (visit : Visit) (i : ℕ) (next : List ℕ) (input : Tree) → before.entries.items ≡ [] → before.change ≡ Enter visit
-    → IfOk r (λ p. p.entries.items ≡ made ∷ before.entries.items) → IfOk r (λ p. p.change ≡ before.change) → entry_view made ≡ told_at here.at.now (model.Caught here.name.now i next)
+pub handed_on : {E F : Type 0} (here : Here) (r : Result Plan E) (before : Plan) (made : Result Entry F) (visit : Visit) (i : ℕ) (next : List ℕ) (input : Tree) → before.entries.items ≡ [] → before.change ≡ Enter visit
+    → IfOk r (λ p. IsOkAnd made (λ m. p.entries.items ≡ m ∷ before.entries.items)) → IfOk r (λ p. p.change ≡ before.change) → IfOk made (λ m. entry_view m ≡ told_at here.at.now (model.Caught here.name.now i next))
     → ready_view (names_at here) visit ≡ model.Ready (name_in (names_at here) (number_in (names_at here) next)) input []
     → IfOk r (λ p. MayFollow (state_at here) (Some next) → (e k : List ℕ) → Plans here p (by_trouble_at here e k (model.Catches i next input)))
-handed_on here (Ok p) before made visit i next input none is first same told seen = λ follows e k. told_once here p before made (model.Caught here.name.now i next) (Enter visit) (model.Ready next input []) none is first same told (moves_on here visit next input seen follows)
+handed_on here (Ok p) before (Ok made) visit i next input none is first same told seen = λ follows e k. told_once here p before made (model.Caught here.name.now i next) (Enter visit) (model.Ready next input []) none is first same told (moves_on here visit next input seen follows)
+handed_on here (Ok p) before (Err x) visit i next input none is first same told seen = absurd first
 handed_on here (Err x) before made visit i next input none is first same told seen = tt
 
 -- so it does where it takes the error
@@ -107,17 +138,18 @@ caught_so here (Ok p) error cause counts met i next input seen same is plans =
 caught_so here (Err e) error cause counts met i next input seen same is plans = tt
 
 -- its output can't be placed
-pub misfitted : {E : Type 0} (here : Here) (r : Result Plan E) (before : Plan) (made : Entry) (name : List ℕ) → name ≡ error_name ResultPathMatchFailure → Plans here before (model.ends_failing name (codes "Catch"))
-    → IfOk r (λ p. p.entries.items ≡ made ∷ before.entries.items) → IfOk r (λ p. p.change ≡ before.change) → entry_view made ≡ told_at here.at.now (model.Raised here.name.now (record { error = ResultPathMatchFailure; field = codes "Catch" }))
+pub misfitted : {E F : Type 0} (here : Here) (r : Result Plan E) (before : Plan) (made : Result Entry F) (name : List ℕ) → name ≡ error_name ResultPathMatchFailure → Plans here before (model.ends_failing name (codes "Catch"))
+    → IfOk r (λ p. IsOkAnd made (λ m. p.entries.items ≡ m ∷ before.entries.items)) → IfOk r (λ p. p.change ≡ before.change) → IfOk made (λ m. entry_view m ≡ told_at here.at.now (model.Raised here.name.now (record { error = ResultPathMatchFailure; field = codes "Catch" })))
     → IfOk r (λ p. (e k : List ℕ) → Plans here p (by_trouble_at here e k model.Misfits))
-misfitted here (Ok p) before made name is plans first same told = λ e k.
+misfitted here (Ok p) before (Ok made) name is plans first same told = λ e k.
     preceded here p before made (model.Raised here.name.now (record { error = ResultPathMatchFailure; field = codes "Catch" })) (model.ends_failing (error_name ResultPathMatchFailure) (codes "Catch")) first same told
     (subst (λ n. Plans here before (model.ends_failing n (codes "Catch"))) is plans)
+misfitted here (Ok p) before (Err x) name is plans first same told = absurd first
 misfitted here (Err x) before made name is plans first same told = tt
 
 -- a fault is raised
-pub raised_so : {E : Type 0} (here : Here) (r : Result Plan E) (before : Plan) (made : Entry) (fault : Fault) (name : List ℕ) → name ≡ error_name (error_view fault.error) → Plans here before (by_settings model.troubled here name fault.field.now)
-    → IfOk r (λ p. p.entries.items ≡ made ∷ before.entries.items) → IfOk r (λ p. p.change ≡ before.change) → entry_view made ≡ told_at here.at.now (model.Raised here.name.now (fault_view fault)) → IfOk r (λ p. Plans here p (by_settings model.faulted here (fault_view fault)))
+pub raised_so : {E F : Type 0} (here : Here) (r : Result Plan E) (before : Plan) (made : Result Entry F) (fault : Fault) (name : List ℕ) → name ≡ error_name (error_view fault.error) → Plans here before (by_settings model.troubled here name fault.field.now)
+    → IfOk r (λ p. IsOkAnd made (λ m. p.entries.items ≡ m ∷ before.entries.items)) → IfOk r (λ p. p.change ≡ before.change) → IfOk made (λ m. entry_view m ≡ told_at here.at.now (model.Raised here.name.now (fault_view fault))) → IfOk r (λ p. Plans here p (by_settings model.faulted here (fault_view fault)))
 raised_so here r before made fault name is plans first same told =
     preceded_so here r before made (model.Raised here.name.now (fault_view fault)) (by_settings model.troubled here (error_name (error_view fault.error)) fault.field.now) first same told
     (subst (λ n. Plans here before (by_settings model.troubled here n fault.field.now)) is plans)
@@ -125,17 +157,28 @@ raised_so here r before made fault name is plans first same told =
 -- ---- leaving
 
 -- for the next state
-pub left_on : {E : Type 0} (here : Here) (r : Result Plan E) (before : Plan) (made : Entry) (visit : Visit) (next : List ℕ) (output : Tree) → before.entries.items ≡ [] → before.change ≡ Enter visit
-    → IfOk r (λ p. p.entries.items ≡ made ∷ before.entries.items) → IfOk r (λ p. p.change ≡ before.change) → entry_view made ≡ told_at here.at.now (model.Left here.name.now output)
+pub left_on : {E F : Type 0} (here : Here) (r : Result Plan E) (before : Plan) (made : Result Entry F) (visit : Visit) (next : List ℕ) (output : Tree) → before.entries.items ≡ [] → before.change ≡ Enter visit
+    → IfOk r (λ p. IsOkAnd made (λ m. p.entries.items ≡ m ∷ before.entries.items)) → IfOk r (λ p. p.change ≡ before.change) → IfOk made (λ m. entry_view m ≡ told_at here.at.now (model.Left here.name.now output))
     → ready_view (names_at here) visit ≡ model.Ready (name_in (names_at here) (number_in (names_at here) next)) output []
     → IfOk r (λ p. MayFollow (state_at here) (Some next) → Plans here p (model.leaves_for here.name.now (Some next) output))
-left_on here (Ok p) before made visit next output none is first same told seen = λ follows. told_once here p before made (model.Left here.name.now output) (Enter visit) (model.Ready next output []) none is first same told (moves_on here visit next output seen follows)
+left_on here (Ok p) before (Ok made) visit next output none is first same told seen = λ follows. told_once here p before made (model.Left here.name.now output) (Enter visit) (model.Ready next output []) none is first same told (moves_on here visit next output seen follows)
+left_on here (Ok p) before (Err x) visit next output none is first same told seen = absurd first
 left_on here (Err e) before made visit next output none is first same told seen = tt
 
 -- for the end of its scope
-pub left_last : {E : Type 0} (here : Here) (r : Result Plan E) (before : Plan) (made : Entry) (output : Tree) → Plans here before (record { entries = model.Ended (model.Output output) ∷ []; after = model.Done output })
-    → IfOk r (λ p. p.entries.items ≡ made ∷ before.entries.items) → IfOk r (λ p. p.change ≡ before.change) → entry_view made ≡ told_at here.at.now (model.Left here.name.now output) → IfOk r (λ p. Plans here p (model.leaves_for here.name.now None output))
-left_last here r before made output plans first same told = preceded_so here r before made (model.Left here.name.now output) (record { entries = model.Ended (model.Output output) ∷ []; after = model.Done output }) first same told plans
+pub left_last : (here : Here) (entries : Vec Entry Global) (output : code.Tree) → map entry_view entries.items ≡ map (told_at here.at.now) (model.Left here.name.now (view output) ∷ model.Ended (model.Output (view output)) ∷ [])
+    → Plans here (record { entries = entries; change = End (outcomes.Output output) }) (model.leaves_for here.name.now None (view output))
+left_last here entries output told = record { told = told; left = λ stands. refl; rises = λ i e. absurd (cc) }
+
+-- the two entries then
+pub left_and_ended : {E F G : Type 0} (place : List ℕ) (r : Result (Vec Entry Global) E) (ended : Result Entry F) (left : Result Entry G) (none behind : List Entry) (last first : model.Entry) → none ≡ []
+    → IsOkAnd ended (λ m. behind ≡ m ∷ none) → IfOk ended (λ m. entry_view m ≡ told_at place last) → IfOk r (λ all. IsOkAnd left (λ m. all.items ≡ m ∷ behind)) → IfOk left (λ m. entry_view m ≡ told_at place first)
+    → IfOk r (λ all. map entry_view all.items ≡ map (told_at place) (first ∷ last ∷ []))
+left_and_ended place (Ok all) (Ok ended) (Ok left) none behind last first empty ends told_last leaves told_first =
+    ap (map entry_view) (leaves ∙ ap (λ es. left ∷ es) (ends ∙ ap (λ es. ended ∷ es) empty)) ∙ ap (λ x. x ∷ entry_view ended ∷ []) told_first ∙ ap (λ x. told_at place first ∷ x ∷ []) told_last
+left_and_ended place (Ok all) (Ok ended) (Err e) none behind last first empty ends told_last leaves told_first = absurd leaves
+left_and_ended place (Ok all) (Err e) left none behind last first empty ends told_last leaves told_first = absurd ends
+left_and_ended place (Err e) ended left none behind last first empty ends told_last leaves told_first = tt
 
 -- with an output
 pub left_with : {E : Type 0} (here : Here) (r : Result Plan E) (next : Option (List ℕ)) (t : code.Tree) → IfOk r (λ p. MayFollow (state_at here) next → Plans here p (model.leaves_for here.name.now next (view t)))
@@ -162,9 +205,9 @@ finished_so here (Err e) next output result is flows plans = tt
 -- ---- entering
 
 -- its first move
-pub entered_so : {E : Type 0} (here : Here) (r : Result Plan E) (before : Plan) (made : Entry) (work : flow.Work) → work ≡ flow.first_move (state_at here) (view here.visit.now.raw)
+pub entered_so : {E F : Type 0} (here : Here) (r : Result Plan E) (before : Plan) (made : Result Entry F) (work : flow.Work) → work ≡ flow.first_move (state_at here) (view here.visit.now.raw)
     → (flow.first_move (state_at here) (view here.visit.now.raw) ≡ work → Plans here before (by_state model.by_work here work))
-    → IfOk r (λ p. p.entries.items ≡ made ∷ before.entries.items) → IfOk r (λ p. p.change ≡ before.change) → entry_view made ≡ told_at here.at.now (model.Entered here.name.now (view here.visit.now.raw))
+    → IfOk r (λ p. IsOkAnd made (λ m. p.entries.items ≡ m ∷ before.entries.items)) → IfOk r (λ p. p.change ≡ before.change) → IfOk made (λ m. entry_view m ≡ told_at here.at.now (model.Entered here.name.now (view here.visit.now.raw)))
     → IfOk r (λ p. Plans here p (by_state model.enters here))
 entered_so here r before made work is plans first same told =
     preceded_so here r before made (model.Entered here.name.now (view here.visit.now.raw)) (by_state model.by_work here (flow.first_move (state_at here) (view here.visit.now.raw))) first same told
@@ -176,6 +219,16 @@ pub carried_off : {E : Type 0} (here : Here) (r : Result Plan E) (next : Option 
     → IfOk r (λ p. flow.first_move (state_at here) (view here.visit.now.raw) ≡ flow.Leaves next v → Plans here p (by_state model.by_work here (flow.Leaves next v)))
 carried_off here (Ok p) next output v flows plans = λ move. plans (flow.at_output_path (settings_view here.state.now.settings) v) flows (leaving_follows (state_at here) (view here.visit.now.raw) next v move)
 carried_off here (Err e) next output v flows plans = tt
+
+-- it waits for the answer to its payload
+pub waits_so : {E F : Type 0} (here : Here) (r : Result Plan E) (before : Plan) (made : Result Entry F) (payload : code.Tree) → before.entries.items ≡ [] → before.change ≡ Ask payload
+    → IfOk r (λ p. IsOkAnd made (λ m. p.entries.items ≡ m ∷ before.entries.items)) → IfOk r (λ p. p.change ≡ before.change) → IfOk made (λ m. entry_view m ≡ told_at here.at.now (model.Asked here.name.now (view payload)))
+    → IfOk r (λ p. Plans here p (by_state model.by_work here (flow.Asks (view payload))))
+waits_so here r before made payload none is first same told =
+    told_so here r before made (model.Asked here.name.now (view payload)) (Ask payload) (model.Waiting here.name.now (view here.visit.now.raw) here.visit.now.counts.items (view payload)) none is first same told (record {
+      left = λ stands. ap (λ n. model.Waiting n (view here.visit.now.raw) here.visit.now.counts.items (view payload)) (sym stands.named);
+      rises = λ i e. absurd (cc);
+    })
 
 -- one that asks
 pub asked_so : {E : Type 0} (here : Here) (r : Result Plan E) (t v : Tree) → t ≡ v → IfOk r (λ p. Plans here p (by_state model.by_work here (flow.Asks t))) → IfOk r (λ p. Plans here p (by_state model.by_work here (flow.Asks v)))

@@ -131,5 +131,5 @@ fn fail(here: &Here, error: &str, cause: &str) -> Result<Plan, OutOfMemory>
     ensures { IfOk result (λ plan. Plans here.now plan (model.entry_then (model.TaskFailed here.now.name.now error.now cause.now) (by_settings model.troubled here.now error.now cause.now))) }
 {
     let plan = in_trouble(here, error, cause)?;
-    plan.after(here.task_failed(error, cause)?)
+    plan.after(here.task_failed(error, cause))
 }

@@ -29,7 +29,7 @@ pub(crate) fn enter(here: &Here) -> Result<Plan, OutOfMemory>
 {
     let work = first_move(here.alloc, here.state, &here.visit.raw)?;
     let plan = carry_out(here, work)?;
-    plan.after(here.entered()?)
+    plan.after(here.entered())
 }
 
 /// What its first move comes to is done.
@@ -61,8 +61,8 @@ fn ask(here: &Here, payload: Data) -> Result<Plan, OutOfMemory>
 fn wait_for(here: &Here, payload: Tree) -> Result<Plan, OutOfMemory>
     ensures { IfOk result (λ plan. Plans here.now plan (by_state model.by_work here.now (flow.Asks (view payload)))) }
 {
-    let asked = here.asked(&payload)?;
-    Plan::new(here.alloc, Change::Ask(payload)).after(asked)
+    let told = here.asked(&payload);
+    Plan::new(here.alloc, Change::Ask(payload)).after(told)
 }
 
 /// It starts a child for each of these inputs.

@@ -61,7 +61,7 @@ fn break_off(here: &Here, child: usize, error: &str, cause: &str) -> Result<Plan
     ensures { IfOk result (λ plan. Plans here.now plan (model.entry_then (model.BranchFailed here.now.name.now child error.now cause.now) (by_settings model.troubled here.now (model.join_error (kind_view here.now.state.now.kind) error.now) cause.now))) }
 {
     let plan = in_trouble(here, join_error(&here.state.kind, error), cause)?;
-    plan.after(here.branch_failed(child, error, cause)?)
+    plan.after(here.branch_failed(child, error, cause))
 }
 
 /// The error of a state of that type of which a child failed: `States.BranchFailed` for a Parallel, the child's for a

@@ -11,6 +11,7 @@ ghost use Rattle.asl_tree.specs.View.{view};
 
 use crate::changing::Change;
 use crate::data::Data;
+use crate::entries::Outcome;
 use crate::faults::Stop;
 use crate::flowing::output_of;
 use crate::planning::{Here, Plan};
@@ -31,16 +32,20 @@ fn leave(here: &Here, next: Option<&str>, output: Tree) -> Result<Plan, OutOfMem
 fn leave_for(here: &Here, next: &str, output: Tree) -> Result<Plan, OutOfMemory>
     ensures { IfOk result (λ plan. MayFollow (state_at here.now) (Some next.now) → Plans here.now plan (model.leaves_for here.now.name.now (Some next.now) (view output))) }
 {
-    let left = here.left(&output)?;
-    Plan::new(here.alloc, Change::Enter(here.ready(next, output))).after(left)
+    let told = here.left(&output);
+    Plan::new(here.alloc, Change::Enter(here.ready(next, output))).after(told)
 }
 
 /// So for the end of its scope.
 fn leave_scope(here: &Here, output: Tree) -> Result<Plan, OutOfMemory>
     ensures { IfOk result (λ plan. Plans here.now plan (model.leaves_for here.now.name.now None (view output))) }
 {
-    let left = here.left(&output)?;
-    here.ends_with(output)?.after(left)
+    let entries = here.left_and_ended(&output)?;
+    let ended = Outcome::Output(output);
+    Ok(Plan {
+        entries,
+        change: Change::End(ended),
+    })
 }
 
 /// The same where the output may have met a fault.

@@ -1,6 +1,6 @@
 //! Plans: what a step is to do, made before anything is changed.
 
-ghost use Rattle.std.specs.Prelude.{◌≡◌, ◌∷◌, [], IfOk, string_bytes};
+ghost use Rattle.std.specs.Prelude.{◌≡◌, ◌∷◌, [], IfOk, IsOkAnd, map, string_bytes};
 ghost use Rattle.asl_model.specs.Run as model;
 ghost use Rattle.asl_run.specs.Acting.{Plans, names_at, told_at};
 ghost use Rattle.asl_run.specs.Activities.{ended_view, ready_view};
@@ -47,18 +47,28 @@ impl Plan {
         }
     }
 
-    /// The plan with one more entry in front.
-    pub(crate) fn after(self, entry: Entry) -> Result<Plan, OutOfMemory>
-        ensures first { IfOk result (λ plan. plan.entries.items ≡ entry ∷ self.entries.items) }
+    /// The plan with one more entry in front, where that could be made.
+    pub(crate) fn after(self, entry: Result<Entry, OutOfMemory>) -> Result<Plan, OutOfMemory>
+        ensures first { IfOk result (λ plan. IsOkAnd entry (λ e. plan.entries.items ≡ e ∷ self.entries.items)) }
         ensures change { IfOk result (λ plan. plan.change ≡ self.change) }
     {
-        let Plan {
-            mut entries,
-            change,
-        } = self;
-        entries.insert(0, entry)?;
+        let Plan { entries, change } = self;
+        let entries = with_first(entry, entries)?;
         Ok(Plan { entries, change })
     }
+}
+
+/// The entries with one more in front, where that could be made.
+fn with_first(
+    entry: Result<Entry, OutOfMemory>,
+    others: Vec<Entry>,
+) -> Result<Vec<Entry>, OutOfMemory>
+    ensures { IfOk result (λ entries. IsOkAnd entry (λ e. entries.items ≡ e ∷ others.items)) }
+{
+    let first = entry?;
+    let mut entries = others;
+    entries.insert(0, first)?;
+    Ok(entries)
 }
 
 impl<'m> Here<'m> {
@@ -67,6 +77,24 @@ impl<'m> Here<'m> {
         ensures { IfOk result (λ place. place.items ≡ self.now.at.now) }
     {
         Ok(Vec::from_slice(self.alloc, self.at)?)
+    }
+
+    /// The place and the state's name.
+    fn place_and_name(&self) -> Result<(Place, String), OutOfMemory>
+        ensures { IfOk result (λ own. (own.0.items ≡ self.now.at.now) × (string_bytes own.1 ≡ self.now.name.now)) }
+    {
+        let place = self.place()?;
+        let name = self.text(self.name)?;
+        Ok((place, name))
+    }
+
+    /// Two texts of its own.
+    fn two_texts(&self, first: &str, second: &str) -> Result<(String, String), OutOfMemory>
+        ensures { IfOk result (λ own. (string_bytes own.0 ≡ first.now) × (string_bytes own.1 ≡ second.now)) }
+    {
+        let first = self.text(first)?;
+        let second = self.text(second)?;
+        Ok((first, second))
     }
 
     /// A text of its own.
@@ -80,44 +108,40 @@ impl<'m> Here<'m> {
     pub(crate) fn entered(&self) -> Result<Entry, OutOfMemory>
         ensures { IfOk result (λ entry. entry_view entry ≡ told_at self.now.at.now (model.Entered self.now.name.now (view self.now.visit.now.raw))) }
     {
-        Ok(Entry::Enter {
-            at: self.place()?,
-            state: self.text(self.name)?,
-            input: copy(self.alloc, &self.visit.raw)?,
-        })
+        let (at, state) = self.place_and_name()?;
+        let input = copy(self.alloc, &self.visit.raw)?;
+        Ok(Entry::Enter { at, state, input })
     }
 
     /// The entry that its task is asked with a payload.
     pub(crate) fn asked(&self, payload: &Tree) -> Result<Entry, OutOfMemory>
         ensures { IfOk result (λ entry. entry_view entry ≡ told_at self.now.at.now (model.Asked self.now.name.now (view payload.now))) }
     {
-        Ok(Entry::Task {
-            at: self.place()?,
-            state: self.text(self.name)?,
-            payload: copy(self.alloc, payload)?,
-        })
+        let (at, state) = self.place_and_name()?;
+        let payload = copy(self.alloc, payload)?;
+        Ok(Entry::Task { at, state, payload })
     }
 
     /// The entry that it is left with an output.
     pub(crate) fn left(&self, output: &Tree) -> Result<Entry, OutOfMemory>
         ensures { IfOk result (λ entry. entry_view entry ≡ told_at self.now.at.now (model.Left self.now.name.now (view output.now))) }
     {
-        Ok(Entry::Leave {
-            at: self.place()?,
-            state: self.text(self.name)?,
-            output: copy(self.alloc, output)?,
-        })
+        let (at, state) = self.place_and_name()?;
+        let output = copy(self.alloc, output)?;
+        Ok(Entry::Leave { at, state, output })
     }
 
     /// The entry that it raises a data-flow fault.
     pub(crate) fn raised(&self, fault: Fault) -> Result<Entry, OutOfMemory>
         ensures { IfOk result (λ entry. entry_view entry ≡ told_at self.now.at.now (model.Raised self.now.name.now (fault_view fault))) }
     {
+        let (at, state) = self.place_and_name()?;
+        let (error, field) = self.two_texts(fault.error.name(), fault.field)?;
         Ok(Entry::Raise {
-            at: self.place()?,
-            state: self.text(self.name)?,
-            error: self.text(fault.error.name())?,
-            field: self.text(fault.field)?,
+            at,
+            state,
+            error,
+            field,
         })
     }
 
@@ -125,11 +149,13 @@ impl<'m> Here<'m> {
     pub(crate) fn task_failed(&self, error: &str, cause: &str) -> Result<Entry, OutOfMemory>
         ensures { IfOk result (λ entry. entry_view entry ≡ told_at self.now.at.now (model.TaskFailed self.now.name.now error.now cause.now)) }
     {
+        let (at, state) = self.place_and_name()?;
+        let (error, cause) = self.two_texts(error, cause)?;
         Ok(Entry::TaskFailed {
-            at: self.place()?,
-            state: self.text(self.name)?,
-            error: self.text(error)?,
-            cause: self.text(cause)?,
+            at,
+            state,
+            error,
+            cause,
         })
     }
 
@@ -142,12 +168,14 @@ impl<'m> Here<'m> {
     ) -> Result<Entry, OutOfMemory>
         ensures { IfOk result (λ entry. entry_view entry ≡ told_at self.now.at.now (model.BranchFailed self.now.name.now child error.now cause.now)) }
     {
+        let (at, state) = self.place_and_name()?;
+        let (error, cause) = self.two_texts(error, cause)?;
         Ok(Entry::BranchFailed {
-            at: self.place()?,
-            state: self.text(self.name)?,
+            at,
+            state,
             child,
-            error: self.text(error)?,
-            cause: self.text(cause)?,
+            error,
+            cause,
         })
     }
 
@@ -155,47 +183,48 @@ impl<'m> Here<'m> {
     pub(crate) fn retried(&self, retrier: usize) -> Result<Entry, OutOfMemory>
         ensures { IfOk result (λ entry. entry_view entry ≡ told_at self.now.at.now (model.Retried self.now.name.now retrier)) }
     {
-        Ok(Entry::Retried {
-            at: self.place()?,
-            state: self.text(self.name)?,
-            retrier,
-        })
+        let (at, state) = self.place_and_name()?;
+        Ok(Entry::Retried { at, state, retrier })
     }
 
     /// The entry that its catcher of that number hands on to that state.
     pub(crate) fn caught(&self, catcher: usize, next: &str) -> Result<Entry, OutOfMemory>
         ensures { IfOk result (λ entry. entry_view entry ≡ told_at self.now.at.now (model.Caught self.now.name.now catcher next.now)) }
     {
+        let (at, state) = self.place_and_name()?;
+        let next = self.text(next)?;
         Ok(Entry::Caught {
-            at: self.place()?,
-            state: self.text(self.name)?,
+            at,
+            state,
             catcher,
-            next: self.text(next)?,
+            next,
         })
     }
 
-    /// The entry that its scope ends so.
-    pub(crate) fn ended(&self, outcome: Outcome) -> Result<Entry, OutOfMemory>
-        ensures { IfOk result (λ entry. entry_view entry ≡ told_at self.now.at.now (model.Ended (outcome_view outcome))) }
+    /// The entries that it is left with an output and that its scope ends with that.
+    pub(crate) fn left_and_ended(&self, output: &Tree) -> Result<Vec<Entry>, OutOfMemory>
+        ensures { IfOk result (λ entries. map entry_view entries.items ≡ map (told_at self.now.at.now) (model.Left self.now.name.now (view output.now) ∷ model.Ended (model.Output (view output.now)) ∷ [])) }
     {
-        Ok(Entry::Ended {
-            at: self.place()?,
-            outcome,
-        })
+        let entries = with_first(self.ended_with(output), Vec::new(self.alloc))?;
+        with_first(self.left(output), entries)
     }
 
     /// The entry that its scope ends with an output.
     fn ended_with(&self, output: &Tree) -> Result<Entry, OutOfMemory>
         ensures { IfOk result (λ entry. entry_view entry ≡ told_at self.now.at.now (model.Ended (model.Output (view output.now)))) }
     {
-        self.ended(Outcome::Output(copy(self.alloc, output)?))
+        let at = self.place()?;
+        let outcome = Outcome::Output(copy(self.alloc, output)?);
+        Ok(Entry::Ended { at, outcome })
     }
 
     /// The entry that its scope ends with an error and a cause.
     fn ended_failing(&self, error: &str, cause: &str) -> Result<Entry, OutOfMemory>
         ensures { IfOk result (λ entry. entry_view entry ≡ told_at self.now.at.now (model.Ended (model.FailedWith error.now cause.now))) }
     {
-        self.ended(self.failure(error, cause)?)
+        let at = self.place()?;
+        let outcome = self.failure(error, cause)?;
+        Ok(Entry::Ended { at, outcome })
     }
 
     /// An outcome that tells an error and its cause.
@@ -203,10 +232,8 @@ impl<'m> Here<'m> {
         ensures outcome { IfOk result (λ o. outcome_view o ≡ model.FailedWith error.now cause.now) }
         ensures ended { IfOk result (λ o. ended_view o ≡ model.Failed error.now cause.now) }
     {
-        Ok(Outcome::Failed {
-            error: self.text(error)?,
-            cause: self.text(cause)?,
-        })
+        let (error, cause) = self.two_texts(error, cause)?;
+        Ok(Outcome::Failed { error, cause })
     }
 
     /// The execution of the state of that name that is about to be entered with that raw input. It is found by its number; a name that is no
@@ -221,21 +248,12 @@ impl<'m> Here<'m> {
         }
     }
 
-    /// The scope ends with an output.
-    pub(crate) fn ends_with(&self, output: Tree) -> Result<Plan, OutOfMemory>
-        ensures { IfOk result (λ plan. Plans self.now plan (record { entries = model.Ended (model.Output (view output)) ∷ []; after = model.Done (view output) })) }
-    {
-        let told = self.ended_with(&output)?;
-        let ended = Outcome::Output(output);
-        Plan::new(self.alloc, Change::End(ended)).after(told)
-    }
-
     /// The scope ends with an error and a cause.
     pub(crate) fn ends_failing(&self, error: &str, cause: &str) -> Result<Plan, OutOfMemory>
         ensures { IfOk result (λ plan. Plans self.now plan (model.ends_failing error.now cause.now)) }
     {
         let ended = self.failure(error, cause)?;
-        let told = self.ended_failing(error, cause)?;
+        let told = self.ended_failing(error, cause);
         Plan::new(self.alloc, Change::End(ended)).after(told)
     }
 }

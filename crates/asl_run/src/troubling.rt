@@ -44,16 +44,15 @@ fn retry(here: &Here, retrier: usize) -> Result<Plan, OutOfMemory>
     requires { CanRise here.now.visit.now.counts.items retrier }
     ensures { IfOk result (λ plan. (error cause : List ℕ) → Plans here.now plan (by_trouble_at here.now error cause (model.Retries retrier))) }
 {
-    let retried = here.retried(retrier)?;
-    Plan::new(here.alloc, Change::Retry(retrier)).after(retried)
+    Plan::new(here.alloc, Change::Retry(retrier)).after(here.retried(retrier))
 }
 
 /// The catcher of that number hands this input to that state.
 fn hand_on(here: &Here, catcher: usize, next: &str, input: Tree) -> Result<Plan, OutOfMemory>
     ensures { IfOk result (λ plan. MayFollow (state_at here.now) (Some next.now) → (error cause : List ℕ) → Plans here.now plan (by_trouble_at here.now error cause (model.Catches catcher next.now (view input)))) }
 {
-    let caught = here.caught(catcher, next)?;
-    Plan::new(here.alloc, Change::Enter(here.ready(next, input))).after(caught)
+    let told = here.caught(catcher, next);
+    Plan::new(here.alloc, Change::Enter(here.ready(next, input))).after(told)
 }
 
 /// A catcher's output can't be placed: that is a fault, which nothing takes.
@@ -65,7 +64,7 @@ fn misfit(here: &Here) -> Result<Plan, OutOfMemory>
         field: "Catch",
     };
     let plan = here.ends_failing(fault.error.name(), fault.field)?;
-    plan.after(here.raised(fault)?)
+    plan.after(here.raised(fault))
 }
 
 /// The state has met a data-flow fault: it is raised, and the state is in trouble with its error and, as the cause, its
@@ -74,5 +73,5 @@ pub(crate) fn raise(here: &Here, fault: Fault) -> Result<Plan, OutOfMemory>
     ensures { IfOk result (λ plan. Plans here.now plan (by_settings model.faulted here.now (fault_view fault))) }
 {
     let plan = in_trouble(here, fault.error.name(), fault.field)?;
-    plan.after(here.raised(fault)?)
+    plan.after(here.raised(fault))
 }

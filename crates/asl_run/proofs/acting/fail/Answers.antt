@@ -6,4 +6,4 @@ use Rattle.asl_run.proofs.acting.fail.Goals as goal
 pub returns : goal.returns
 returns c =
     let here = c.args.here.now in
-    preceded_so here c.after.result c.in_ok-plan.plan c.in_ok-task_failed.field-0 (model.TaskFailed here.name.now c.args.error.now c.args.cause.now) (by_settings model.troubled here c.args.error.now c.args.cause.now) c.after.ensures.first c.after.ensures.change c.in_ok-task_failed.ensures c.in_ok-plan.ensures
+    preceded_so here c.after.result c.in_ok-plan.plan c.task_failed.result (model.TaskFailed here.name.now c.args.error.now c.args.cause.now) (by_settings model.troubled here c.args.error.now c.args.cause.now) c.after.ensures.first c.after.ensures.change c.task_failed.ensures c.in_ok-plan.ensures

@@ -3,4 +3,4 @@ use Rattle.asl_run.proofs.joining.break_off.Goals as goal
 
 pub returns : goal.returns
 returns c =
-    broken_off c.args.here.now c.after.result c.in_ok-plan.plan c.in_ok-branch_failed.field-0 c.args.child c.args.error.now c.args.cause.now c.join_error.result.now c.join_error.ensures c.in_ok-plan.ensures c.after.ensures.first c.after.ensures.change c.in_ok-branch_failed.ensures
+    broken_off c.args.here.now c.after.result c.in_ok-plan.plan c.branch_failed.result c.args.child c.args.error.now c.args.cause.now c.join_error.result.now c.join_error.ensures c.in_ok-plan.ensures c.after.ensures.first c.after.ensures.change c.branch_failed.ensures

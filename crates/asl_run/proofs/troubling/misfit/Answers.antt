@@ -3,4 +3,4 @@ use Rattle.asl_run.proofs.troubling.misfit.Goals as goal
 
 pub returns : goal.returns
 returns c =
-    misfitted c.args.here.now c.after.result c.in_ok-plan.plan c.in_ok-raised.field-0 c.name.result.now c.name.ensures c.in_ok-plan.ensures c.after.ensures.first c.after.ensures.change c.in_ok-raised.ensures
+    misfitted c.args.here.now c.after.result c.in_ok-plan.plan c.raised.result c.name.result.now c.name.ensures c.in_ok-plan.ensures c.after.ensures.first c.after.ensures.change c.raised.ensures
