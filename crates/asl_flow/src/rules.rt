@@ -1,5 +1,5 @@
 // The shape of the trees for which a rule's test is true.
-ghost use Rattle.std.specs.Prelude.{◌≡◌, Bool, true, false, Err, IfErr, IfOk, IsSome, IsTrue, None, OnOk, Some, is_ok};
+ghost use Rattle.std.specs.Prelude.{◌≡◌, Bool, true, false, Err, IfErr, IfOk, IsOk, IsSome, IsTrue, None, OnOk, Some, is_ok};
 ghost use Rattle.asl_choice.specs.View.{operand_view, tests_view, view as test_view};
 ghost use Rattle.asl_flow.specs.Kept.{IsRefused, kept_view};
 ghost use Rattle.asl_flow.specs.declared.rules.RuleShapeRefusal.TheVariants.{MayBeMissing};
@@ -66,12 +66,12 @@ fn narrow<'s>(alloc: Global, test: &Test, shape: Kept<'s>) -> Result<Kept<'s>, R
     match test {
         Test::And(tests) => narrow_by_all(alloc, tests, shape),
         Test::Or(tests) => {
-            check_all(alloc, tests, shape.shape())?;
-            Ok(shape)
+            let found = check_all(alloc, tests, shape.shape());
+            keep_where(found, shape)
         }
         Test::Not(part) => {
-            check(alloc, part, shape.shape())?;
-            Ok(shape)
+            let found = check(alloc, part, shape.shape());
+            keep_where(found, shape)
         }
         Test::Compare {
             variable,
@@ -158,6 +158,20 @@ fn is_operand_found(shape: &Shape, operand: &Operand) -> bool
     match operand {
         Operand::Constant(_) => true,
         Operand::AtPath(path) => is_found(shape, path),
+    }
+}
+
+// The shape, where it was found so.
+fn keep_where<'s>(
+    found: Result<(), RuleShapeRefusal>,
+    shape: Kept<'s>,
+) -> Result<Kept<'s>, RuleShapeRefusal>
+    ensures found { IfOk result (λ s. (IsOk found) × (kept_view s ≡ kept_view shape.entry)) }
+    ensures refused { IfErr result (λ r. found ≡ Err r) }
+{
+    match found {
+        Ok(()) => Ok(shape),
+        Err(refusal) => Err(refusal),
     }
 }
 
