@@ -1,15 +1,15 @@
 //! Whether a test is true.
 ghost use Rattle.std.specs.Prelude.{◌≡◌, ◌↔◌, ℕ, List, None, Some, IfErr, IfOk, IsTrue, option_map};
 ghost use Rattle.std.specs.Result.{result_ok};
-ghost use Rattle.asl_model.specs.Test.{IsCutBy, PatternPart, StringMatches, operand_value as value_of_operand, truth, all_true as truth_of_all, some_true as truth_of_some};
+ghost use Rattle.asl_model.specs.Test.{Compare, IsCutBy, PatternPart, StringMatches, operand_value as value_of_operand, truth, all_true as truth_of_all, some_true as truth_of_some};
 ghost use Rattle.asl_model.specs.Path.{Names, Segment, named_by};
 ghost use Rattle.asl_model.specs.Tree.{Text};
-ghost use Rattle.asl_choice.specs.View.{operand_view, tests_view, view};
+ghost use Rattle.asl_choice.specs.View.{comparison_view, operand_view, pattern_view, tests_view, view};
 ghost use Rattle.asl_tree.specs.View as trees;
 
 use crate::comparing::{as_text, compares, is_of_kind};
 use crate::matching::matches;
-use crate::{Operand, Test};
+use crate::{Comparison, Operand, PatternPart, Test};
 use asl_model::run_laws::{matching_is_exactly_cutting, named_by_is_exactly_names};
 use asl_path::{RefPath, find};
 use asl_tree::Tree;
@@ -50,15 +50,8 @@ fn decide(test: &Test, input: &Tree) -> Result<bool, NamesNothing>
             variable,
             comparison,
             operand,
-        } => {
-            let value = named(input, variable)?;
-            let other = operand_value(operand, input)?;
-            Ok(compares(*comparison, value, other))
-        }
-        Test::StringMatches { variable, pattern } => match as_text(named(input, variable)?) {
-            Some(text) => Ok(matches(pattern, text.as_bytes())),
-            None => Ok(false),
-        },
+        } => comparison_holds(input, variable, *comparison, operand),
+        Test::StringMatches { variable, pattern } => text_matches(input, variable, pattern),
         Test::IsOfKind {
             variable,
             kind,
@@ -92,6 +85,36 @@ fn some_true(tests: &[Test], input: &Tree) -> Result<bool, NamesNothing>
         }
     }
     Ok(false)
+}
+
+/// Whether the value at the path compares so with the operand.
+fn comparison_holds(
+    input: &Tree,
+    variable: &RefPath,
+    comparison: Comparison,
+    operand: &Operand,
+) -> Result<bool, NamesNothing>
+    ensures decided { IfOk result (λ answer. truth (Compare variable.now (comparison_view comparison) (operand_view operand.now)) (trees.view input.now) ≡ Some answer) }
+    ensures names_nothing { IfErr result (λ _. truth (Compare variable.now (comparison_view comparison) (operand_view operand.now)) (trees.view input.now) ≡ None) }
+{
+    let value = named(input, variable)?;
+    let other = operand_value(operand, input)?;
+    Ok(compares(comparison, value, other))
+}
+
+/// Whether the value at the path is a text that matches the pattern.
+fn text_matches(
+    input: &Tree,
+    variable: &RefPath,
+    pattern: &[PatternPart],
+) -> Result<bool, NamesNothing>
+    ensures decided { IfOk result (λ answer. truth (StringMatches variable.now (pattern_view pattern.now)) (trees.view input.now) ≡ Some answer) }
+    ensures names_nothing { IfErr result (λ _. truth (StringMatches variable.now (pattern_view pattern.now)) (trees.view input.now) ≡ None) }
+{
+    match as_text(named(input, variable)?) {
+        Some(text) => Ok(matches(pattern, text.as_bytes())),
+        None => Ok(false),
+    }
 }
 
 /// The second value of a comparison.

@@ -6,13 +6,13 @@ ghost use Rattle.asl_model.specs.Test.{as_text as text_of, as_boolean as boolean
 ghost use Rattle.asl_choice.specs.Operators.{operator_view};
 ghost use Rattle.asl_choice.specs.Refusal.{Tells, missing};
 ghost use Rattle.asl_choice.specs.Single.{one_variable_faults, variable_test};
-ghost use Rattle.asl_choice.specs.View.{view};
+ghost use Rattle.asl_choice.specs.View.{comparison_view, kind_view, view};
 ghost use Rattle.asl_tree.specs.View as trees;
 
 use crate::comparing::{as_boolean, as_text, is_comparable};
 use crate::operators::{Operator, operator_named};
 use crate::patterns::read_pattern;
-use crate::{Operand, RuleRefusal, Test};
+use crate::{Comparison, Operand, RuleRefusal, Test, ValueKind};
 use asl_path::{PathRefusal, RefPath, parse};
 use asl_tree::{Tree, copy};
 use std::alloc::Global;
@@ -62,42 +62,82 @@ fn read_operand(
     ensures refused { IfErr result (λ e. Tells e (model.fault_of (model.operator_test variable (operator_view operator) (trees.view operand.now)))) }
 {
     match operator {
-        Operator::WithValue(comparison) => {
-            if !is_comparable(comparison, operand) {
-                return Err(RuleRefusal::BadOperand);
-            }
-            let operand = Operand::Constant(copy(alloc, operand)?);
-            Ok(Test::Compare {
-                variable,
-                comparison,
-                operand,
-            })
-        }
-        Operator::WithPath(comparison) => {
-            let operand = Operand::AtPath(read_path(alloc, text_in(operand)?)?);
-            Ok(Test::Compare {
-                variable,
-                comparison,
-                operand,
-            })
-        }
-        Operator::Matching => {
-            let pattern = read_pattern(alloc, text_in(operand)?.as_bytes())?;
-            Ok(Test::StringMatches { variable, pattern })
-        }
-        Operator::OfKind(kind) => {
-            let wanted = truth_in(operand)?;
-            Ok(Test::IsOfKind {
-                variable,
-                kind,
-                wanted,
-            })
-        }
-        Operator::Presence => {
-            let wanted = truth_in(operand)?;
-            Ok(Test::IsPresent { variable, wanted })
-        }
+        Operator::WithValue(comparison) => compare_with_value(alloc, variable, comparison, operand),
+        Operator::WithPath(comparison) => compare_with_path(alloc, variable, comparison, operand),
+        Operator::Matching => match_pattern(alloc, variable, operand),
+        Operator::OfKind(kind) => ask_for_kind(variable, kind, operand),
+        Operator::Presence => ask_for_presence(variable, operand),
     }
+}
+
+/// The comparison of the value at `variable` with the operand itself.
+fn compare_with_value(
+    alloc: Global,
+    variable: RefPath,
+    comparison: Comparison,
+    operand: &Tree,
+) -> Result<Test, RuleRefusal>
+    ensures test { IfOk result (λ test. model.operator_test variable (model.WithValue (comparison_view comparison)) (trees.view operand.now) ≡ Ok (view test)) }
+    ensures refused { IfErr result (λ e. Tells e (model.fault_of (model.operator_test variable (model.WithValue (comparison_view comparison)) (trees.view operand.now)))) }
+{
+    if !is_comparable(comparison, operand) {
+        return Err(RuleRefusal::BadOperand);
+    }
+    let operand = Operand::Constant(copy(alloc, operand)?);
+    Ok(Test::Compare {
+        variable,
+        comparison,
+        operand,
+    })
+}
+
+/// The comparison of the value at `variable` with the one at the path that the operand spells.
+fn compare_with_path(
+    alloc: Global,
+    variable: RefPath,
+    comparison: Comparison,
+    operand: &Tree,
+) -> Result<Test, RuleRefusal>
+    ensures test { IfOk result (λ test. model.operator_test variable (model.WithPath (comparison_view comparison)) (trees.view operand.now) ≡ Ok (view test)) }
+    ensures refused { IfErr result (λ e. Tells e (model.fault_of (model.operator_test variable (model.WithPath (comparison_view comparison)) (trees.view operand.now)))) }
+{
+    let operand = Operand::AtPath(read_path(alloc, text_in(operand)?)?);
+    Ok(Test::Compare {
+        variable,
+        comparison,
+        operand,
+    })
+}
+
+/// The test whether the value at `variable` is a text that matches the pattern that the operand spells.
+fn match_pattern(alloc: Global, variable: RefPath, operand: &Tree) -> Result<Test, RuleRefusal>
+    ensures test { IfOk result (λ test. model.operator_test variable model.Matching (trees.view operand.now) ≡ Ok (view test)) }
+    ensures refused { IfErr result (λ e. Tells e (model.fault_of (model.operator_test variable model.Matching (trees.view operand.now)))) }
+{
+    let pattern = read_pattern(alloc, text_in(operand)?.as_bytes())?;
+    Ok(Test::StringMatches { variable, pattern })
+}
+
+/// The test whether the value at `variable` is of the kind, or isn't, as the operand says.
+fn ask_for_kind(variable: RefPath, kind: ValueKind, operand: &Tree) -> Result<Test, RuleRefusal>
+    ensures test { IfOk result (λ test. model.operator_test variable (model.OfKind (kind_view kind)) (trees.view operand.now) ≡ Ok (view test)) }
+    ensures refused { IfErr result (λ e. Tells e (model.fault_of (model.operator_test variable (model.OfKind (kind_view kind)) (trees.view operand.now)))) }
+{
+    let wanted = truth_in(operand)?;
+    Ok(Test::IsOfKind {
+        variable,
+        kind,
+        wanted,
+    })
+}
+
+/// The test whether `variable` names something, or nothing, as the operand says.
+fn ask_for_presence(variable: RefPath, operand: &Tree) -> Result<Test, RuleRefusal>
+    ensures test { IfOk result (λ test. model.operator_test variable model.Presence (trees.view operand.now) ≡ Ok (view test)) }
+    ensures refused { IfErr result (λ e. Tells e (model.fault_of (model.operator_test variable model.Presence (trees.view operand.now)))) }
+{
+    let wanted = truth_in(operand)?;
+    Ok(Test::IsPresent { variable, wanted })
 }
 
 /// The text that the operand is.

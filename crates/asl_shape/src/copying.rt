@@ -1,6 +1,7 @@
 // Copying shapes.
 ghost use Rattle.asl_shape.specs.View.{view, shapes_view, fields_view};
-ghost use Rattle.std.specs.Prelude.{◌≡◌, IfOk};
+ghost use Rattle.asl_shape.specs.Adding.{AddsField};
+ghost use Rattle.std.specs.Prelude.{◌≡◌, IfOk, OnOk};
 
 use crate::shape::{Field, Shape};
 use asl_tree::OutOfMemory;
@@ -50,12 +51,24 @@ fn copy_fields(
 {
     let mut copies = BTreeMap::new(alloc);
     for (name, field) in fields.iter() {
-        let key = name.clone()?;
         let copied = Field {
             needed: field.needed,
             shape: copy(alloc, &field.shape)?,
         };
-        drop(copies.insert(key, copied)?);
+        add_field(&mut copies, name, copied)?;
     }
     Ok(copies)
+}
+
+/// Adds the field under a copy of the name, in place of one of that name.
+pub(crate) fn add_field(
+    fields: &mut BTreeMap<String, Field>,
+    name: &String,
+    field: Field,
+) -> Result<(), OutOfMemory>
+    ensures { OnOk result (AddsField name.now field fields.old.entries fields.new.entries) }
+{
+    let key = name.clone()?;
+    drop(fields.insert(key, field)?);
+    Ok(())
 }

@@ -4,7 +4,7 @@ ghost use Rattle.asl_model.specs.ShapeOrder as model;
 ghost use Rattle.asl_shape.specs.View.{view, shapes_view, fields_view};
 ghost use Rattle.std.specs.Prelude.{◌≡◌, IfOk, false};
 
-use crate::copying::copy;
+use crate::copying::{add_field, copy};
 use crate::inhabiting::is_inhabited;
 use crate::shape::{Field, Shape};
 use asl_model::shape_laws::join_is_above_both;
@@ -211,18 +211,14 @@ fn join_fields(
     for (name, field) in fields.iter() {
         match others.get(name) {
             Some(other) => {
-                let key = name.clone()?;
                 let both = Field {
                     needed: field.needed && other.needed,
                     shape: join_shapes(alloc, &field.shape, &other.shape)?,
                 };
-                drop(joined.insert(key, both)?);
+                add_field(&mut joined, name, both)?;
             }
             None if more => {}
-            None => {
-                let key = name.clone()?;
-                drop(joined.insert(key, optional(alloc, field)?)?);
-            }
+            None => add_field(&mut joined, name, optional(alloc, field)?)?,
         }
     }
     Ok(joined)
@@ -243,8 +239,7 @@ fn add_others(
 {
     for (name, other) in others.iter().rev() {
         if !extra && !fields.contains_key(name) {
-            let key = name.clone()?;
-            drop(joined.insert(key, optional(alloc, other)?)?);
+            add_field(joined, name, optional(alloc, other)?)?;
         }
     }
     Ok(())

@@ -40,10 +40,10 @@ fn write_shape(alloc: Global, shape: &Shape) -> Result<Tree, OutOfMemory>
     match shape {
         Shape::Any => Ok(Tree::Bool(true)),
         Shape::Never => Ok(Tree::Bool(false)),
-        Shape::Null => Ok(Tree::Object(of_type(alloc, "null")?)),
-        Shape::Bool => Ok(Tree::Object(of_type(alloc, "boolean")?)),
-        Shape::Int => Ok(Tree::Object(of_type(alloc, "integer")?)),
-        Shape::Text => Ok(Tree::Object(of_type(alloc, "string")?)),
+        Shape::Null => write_simple(alloc, "null"),
+        Shape::Bool => write_simple(alloc, "boolean"),
+        Shape::Int => write_simple(alloc, "integer"),
+        Shape::Text => write_simple(alloc, "string"),
         Shape::List { first, rest } => {
             let prefix_items = write_shapes(alloc, first)?;
             let items = write_shape(alloc, rest)?;
@@ -55,6 +55,13 @@ fn write_shape(alloc: Global, shape: &Shape) -> Result<Tree, OutOfMemory>
             write_object(alloc, properties, required, *extra)
         }
     }
+}
+
+// For a shape of a simple kind.
+fn write_simple(alloc: Global, word: &str) -> Result<Tree, OutOfMemory>
+    ensures { IfOk result (λ t. trees.view t ≡ json.Object (model.type_field word.now)) }
+{
+    Ok(Tree::Object(of_type(alloc, word)?))
 }
 
 // For each of the shapes.
@@ -112,10 +119,16 @@ fn write_array(
         (λ t. trees.view t ≡ json.Object (model.array_fields has_items (is_some prefix_items.items) (trees.view items) (length prefix_items.items) (json.Array (trees.elements_view prefix_items.items)))) }
 {
     let has_first = !prefix_items.is_empty();
-    let min_items = Tree::Int(count(&prefix_items));
+    let min_items = count(&prefix_items);
     let mut keywords = of_type(alloc, "array")?;
     add_if(alloc, has_items, &mut keywords, "items", items)?;
-    add_if(alloc, has_first, &mut keywords, "minItems", min_items)?;
+    add_if(
+        alloc,
+        has_first,
+        &mut keywords,
+        "minItems",
+        Tree::Int(min_items),
+    )?;
     add_if(
         alloc,
         has_first,

@@ -26,8 +26,9 @@ copy_fields-loop-name-preserved t c =
     let left = c.next.new.self in
     let all : c.args.fields.now.entries ≡ done ++ m ∷ left = l.invariant.1 ∙ ap (λ ms. done ++ ms) c.in-Some.ensures.steps in
     let sorted = subst (λ ms. IsStrictlySortedBy string_cmp (keys_of ms)) all c.iter-name-items.ensures.ordered in
+    let added = c.in_ok-add_field.ensures in
     let copied = roll-Field (record { needed = m.1.needed; shape = c.in_ok-copy.field-0 }) in (
       done ++ m ∷ [],
       all ∙ sym (append_assoc done (m ∷ []) left),
-      ap fields_view c.in_ok-insert.ensures.entries ∙ field_copied done m left l.copies.entries c.in_ok-key.key copied sorted l.invariant.2 c.in_ok-key.ensures.cases refl c.in_ok-copy.ensures.copied,
+      ap fields_view added.entries ∙ field_copied done m left l.copies.entries added.key copied sorted l.invariant.2 added.spelled refl c.in_ok-copy.ensures.copied,
     )

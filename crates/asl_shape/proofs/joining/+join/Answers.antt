@@ -151,10 +151,11 @@ join_fields-loop-name-preserved-in-Some-get t c =
     let all : c.args.fields.now.entries ≡ done ++ e ∷ left = l.invariant.1 ∙ ap (λ ms. done ++ ms) c.in-Some.ensures.steps in
     let sorted = subst (λ ms. IsStrictlySortedBy string_cmp (keys_of ms)) all c.iter-name-items.ensures.ordered in
     let needed : c.if-field.both ≡ (e.1.needed && other.needed) = elim c.if-field.branch [ join_fields-then-field w ↦ w.both-is ∙ rw w.if-field.true refl | join_fields-else-field w ↦ w.both-is ∙ rw w.if-field.false refl ] in
+    let added = c.in_ok-add_field-in-Some-get.ensures in
     let both = roll-Field (record { needed = c.if-field.both; shape = c.in_ok-join_shapes-in-Some-get.field-0 }) in (
       done ++ e ∷ [],
       all ∙ sym (append_assoc done (e ∷ []) left),
-      ap fields_view c.in_ok-insert-in-Some-get.ensures.entries ∙ both_kept done e left l.joined.entries c.in_ok-key-in-Some-get.key both other c.args.others.now.entries c.args.more sorted l.invariant.2 c.in_ok-key-in-Some-get.ensures.cases (sym c.in-Some-get.ensures.value) needed c.in_ok-join_shapes-in-Some-get.ensures,
+      ap fields_view added.entries ∙ both_kept done e left l.joined.entries added.key both other c.args.others.now.entries c.args.more sorted l.invariant.2 added.spelled (sym c.in-Some-get.ensures.value) needed c.in_ok-join_shapes-in-Some-get.ensures,
     )
 
 pub join_fields-loop-name-preserved-then-more : goal.join_fields-loop-name-preserved-then-more
@@ -177,8 +178,9 @@ join_fields-loop-name-preserved t c =
     let left = c.next.new.self in
     let all : c.args.fields.now.entries ≡ done ++ e ∷ left = l.invariant.1 ∙ ap (λ ms. done ++ ms) c.in-Some.ensures.steps in
     let sorted = subst (λ ms. IsStrictlySortedBy string_cmp (keys_of ms)) all c.iter-name-items.ensures.ordered in
+    let added = c.in_ok-add_field-in-None-2.ensures in
     let one = c.in_ok-optional-in-None-2.field-0 in (
       done ++ e ∷ [],
       all ∙ sym (append_assoc done (e ∷ []) left),
-      ap fields_view c.in_ok-insert-in-None-2.ensures.entries ∙ one_kept done e left l.joined.entries c.in_ok-key-in-None-2.key one c.args.others.now.entries c.args.more sorted l.invariant.2 c.in_ok-key-in-None-2.ensures.cases (sym c.in-None-2.ensures.value) c.if-more.false c.in_ok-optional-in-None-2.ensures.needed c.in_ok-optional-in-None-2.ensures.same,
+      ap fields_view added.entries ∙ one_kept done e left l.joined.entries added.key one c.args.others.now.entries c.args.more sorted l.invariant.2 added.spelled (sym c.in-None-2.ensures.value) c.if-more.false c.in_ok-optional-in-None-2.ensures.needed c.in_ok-optional-in-None-2.ensures.same,
     )

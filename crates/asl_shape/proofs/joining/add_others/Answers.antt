@@ -16,11 +16,12 @@ loop-name-preserved-then-not-contains_key c =
     let left = rev_source c.next.new.self in
     let fields = c.args.fields.now.entries in
     let one = c.in_ok-optional.field-0 in
+    let added = c.in_ok-add_field.ensures in
     let closed : c.args.extra ≡ false = c.if-not-extra.true in
     let absent : is_some (lookup (is_at (string_cmp e.0)) fields) ≡ false = sym c.if-not-contains_key.ensures in (
       e ∷ done,
       l.invariant.1 ∙ ap (λ ms. ms ++ done) c.in-Some.ensures.steps ∙ append_assoc left (e ∷ []) done,
-      other_added fields c.args.extra e done l.joined.entries _ _ c.in_ok-key.key one l.invariant.2 closed absent c.in_ok-key.ensures.cases c.in_ok-optional.ensures.needed c.in_ok-optional.ensures.same c.insert.ensures.was_ordered c.in_ok-insert.ensures.entries,
+      other_added fields c.args.extra e done l.joined.entries _ _ added.key one l.invariant.2 closed absent added.spelled c.in_ok-optional.ensures.needed c.in_ok-optional.ensures.same added.ordered added.entries,
     )
 
 pub loop-name-preserved : goal.loop-name-preserved
