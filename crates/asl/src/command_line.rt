@@ -78,13 +78,25 @@ const MAX_STEPS: &str = "max-steps";
 pub(crate) fn words<R: Env + AllocGlobal>(rt: &R) -> Result<Vec<String>, Error> {
     match env::args(rt) {
         Ok(words) => Ok(words.collect(rt.alloc())?),
-        Err(error) if error.kind() == io::ErrorKind::OutOfMemory => Err(Error::from(AllocError)),
-        Err(_) => {
-            let mut command = command(rt.alloc())?;
-            let fault = "invalid UTF-8 was detected in one or more arguments";
-            Err(command.error(ErrorKind::InvalidValue, fault)?)
-        }
+        Err(error) => Err(words_error(rt.alloc(), error.kind())),
     }
+}
+
+/// Why there are no words: out of memory, or one of them isn't UTF-8.
+fn words_error(alloc: Global, kind: io::ErrorKind) -> Error {
+    if kind == io::ErrorKind::OutOfMemory {
+        return Error::from(AllocError);
+    }
+    match no_utf8_error(alloc) {
+        Ok(error) => error,
+        Err(error) => Error::from(error),
+    }
+}
+
+/// What clap says of a word that isn't UTF-8.
+fn no_utf8_error(alloc: Global) -> Result<Error, AllocError> {
+    let fault = "invalid UTF-8 was detected in one or more arguments";
+    command(alloc)?.error(ErrorKind::InvalidValue, fault)
 }
 
 /// What these words ask for.
@@ -92,22 +104,32 @@ pub(crate) fn words<R: Env + AllocGlobal>(rt: &R) -> Result<Vec<String>, Error> 
 /// Refused: as clap does, a request for help included; OutOfMemory.
 pub(crate) fn asked<'a>(alloc: Global, words: &'a [String]) -> Result<Request<'a>, Error> {
     let matches = command(alloc)?.try_get_matches_from(words)?;
+    Ok(request_of(&matches))
+}
+
+/// What the command that clap found asks for. Without one it is the check of standard input.
+fn request_of<'a>(matches: &ArgMatches<'a>) -> Request<'a> {
     if let Some(given) = matches.subcommand_matches("check") {
-        return Ok(Request::CheckFiles(TextFiles {
-            definition: file_named(given, DEFINITION),
-            declared: file_named(given, DECLARED),
-            certificate: file_named(given, CERTIFICATE),
-        }));
+        return Request::CheckFiles(text_files(given));
     }
     if let Some(given) = matches.subcommand_matches("infer") {
-        return Ok(Request::Infer(machine_files(given)));
+        return Request::Infer(machine_files(given));
     }
     if let Some(given) = matches.subcommand_matches("verify") {
-        return Ok(Request::Verify(machine_files(given)));
+        return Request::Verify(machine_files(given));
     }
     match matches.subcommand_matches("run") {
-        Some(given) => Ok(Request::Run(run_request(given))),
-        None => Ok(Request::CheckInput),
+        Some(given) => Request::Run(run_request(given)),
+        None => Request::CheckInput,
+    }
+}
+
+/// The files that the arguments of the command `check` name.
+fn text_files<'a>(given: &ArgMatches<'a>) -> TextFiles<'a> {
+    TextFiles {
+        definition: file_named(given, DEFINITION),
+        declared: file_named(given, DECLARED),
+        certificate: file_named(given, CERTIFICATE),
     }
 }
 
@@ -141,62 +163,111 @@ fn file_named<'a>(matches: &ArgMatches<'a>, argument: &str) -> &'a str {
 
 /// The command line of the program.
 fn command<'a>(alloc: Global) -> Result<Command<'a>, AllocError> {
+    let commands = commands(alloc)?;
+    program(alloc).subcommands(commands)
+}
+
+/// The program without its commands.
+fn program<'a>(alloc: Global) -> Command<'a> {
     Command::new(alloc, "asl")
         .about("Check the data flow of workflows in Amazon States Language, and run them")
         .after_help(AFTER_HELP)
-        .subcommand(check_command(alloc)?)?
-        .subcommand(infer_command(alloc)?)?
-        .subcommand(verify_command(alloc)?)?
-        .subcommand(run_command(alloc)?)
+}
+
+/// The commands of the program.
+fn commands<'a>(alloc: Global) -> Result<Vec<Command<'a>>, AllocError> {
+    let mut commands = Vec::new(alloc);
+    add_command(&mut commands, check_command(alloc))?;
+    add_command(&mut commands, infer_command(alloc))?;
+    add_command(&mut commands, verify_command(alloc))?;
+    add_command(&mut commands, run_command(alloc))?;
+    Ok(commands)
+}
+
+/// Adds a command, where there was memory to make it.
+fn add_command<'a>(
+    commands: &mut Vec<Command<'a>>,
+    command: Result<Command<'a>, AllocError>,
+) -> Result<(), AllocError> {
+    commands.push(command?)?;
+    Ok(())
 }
 
 /// The command `check`.
 fn check_command<'a>(alloc: Global) -> Result<Command<'a>, AllocError> {
-    Command::new(alloc, "check")
-        .about("Check a certificate of shapes and print the verdict")
-        .arg(definition(alloc))?
-        .arg(declared(alloc))?
-        .arg(file(alloc, CERTIFICATE, "File with the certificate"))
+    let about = "Check a certificate of shapes and print the verdict";
+    let command = machine_command(alloc, "check", about);
+    with_argument(
+        command,
+        file(alloc, CERTIFICATE, "File with the certificate"),
+    )
 }
 
 /// The command `infer`.
 fn infer_command<'a>(alloc: Global) -> Result<Command<'a>, AllocError> {
-    Command::new(alloc, "infer")
-        .about("Infer a certificate of shapes and print it")
-        .arg(definition(alloc))?
-        .arg(declared(alloc))
+    machine_command(alloc, "infer", "Infer a certificate of shapes and print it")
 }
 
 /// The command `verify`.
 fn verify_command<'a>(alloc: Global) -> Result<Command<'a>, AllocError> {
-    Command::new(alloc, "verify")
-        .about("Infer a certificate of shapes, check it and print the verdict")
-        .arg(definition(alloc))?
-        .arg(declared(alloc))
+    let about = "Infer a certificate of shapes, check it and print the verdict";
+    machine_command(alloc, "verify", about)
+}
+
+/// A command that takes the files with the definition and the declared shapes.
+fn machine_command<'a>(
+    alloc: Global,
+    name: &'a str,
+    about: &'a str,
+) -> Result<Command<'a>, AllocError> {
+    let command = Command::new(alloc, name).about(about);
+    let command = command.arg(definition(alloc));
+    with_argument(command, declared(alloc))
 }
 
 /// The command `run`.
 fn run_command<'a>(alloc: Global) -> Result<Command<'a>, AllocError> {
-    Command::new(alloc, "run")
-        .about("Run a state machine and print its trace")
-        .arg(definition(alloc))?
-        .arg(file(alloc, INPUT, "File with the input"))?
-        .arg(file(alloc, ANSWERS, "File with the answers of the tasks"))?
-        .arg(option(alloc, DECLARED_FILE, "FILE").help(
-            "File with the declared shapes, which the input and the answers must have",
-        ))?
-        .arg(
-            option(alloc, ORDER, "ORDER")
-                .value_parser(ORDERS.as_slice())
-                .default_value("first")
-                .help("Which of several places takes its turn"),
-        )?
-        .arg(
-            option(alloc, MAX_STEPS, "N")
-                .value_parser(value_parser!(u64).range(0..=10000))
-                .default_value("1000")
-                .help("How many events the run may take, at most 10000"),
-        )
+    let command = Command::new(alloc, "run").about("Run a state machine and print its trace");
+    let command = command.arg(definition(alloc));
+    let command = with_argument(command, file(alloc, INPUT, "File with the input"));
+    let command = with_argument(
+        command,
+        file(alloc, ANSWERS, "File with the answers of the tasks"),
+    );
+    let command = with_argument(command, declared_option(alloc));
+    let command = with_argument(command, order_option(alloc));
+    with_argument(command, max_steps_option(alloc))
+}
+
+/// A command with one more argument, where there was memory to make it.
+fn with_argument<'a>(
+    command: Result<Command<'a>, AllocError>,
+    argument: Arg<'a>,
+) -> Result<Command<'a>, AllocError> {
+    command?.arg(argument)
+}
+
+/// The option with the file of the declared shapes.
+fn declared_option<'a>(alloc: Global) -> Arg<'a> {
+    option(alloc, DECLARED_FILE, "FILE").help(
+        "File with the declared shapes, which the input and the answers must have",
+    )
+}
+
+/// The option with the order of the places.
+fn order_option<'a>(alloc: Global) -> Arg<'a> {
+    option(alloc, ORDER, "ORDER")
+        .value_parser(ORDERS.as_slice())
+        .default_value("first")
+        .help("Which of several places takes its turn")
+}
+
+/// The option with the most events.
+fn max_steps_option<'a>(alloc: Global) -> Arg<'a> {
+    option(alloc, MAX_STEPS, "N")
+        .value_parser(value_parser!(u64).range(0..=10000))
+        .default_value("1000")
+        .help("How many events the run may take, at most 10000")
 }
 
 /// The file with the definition.

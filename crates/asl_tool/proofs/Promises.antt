@@ -1,6 +1,6 @@
 -- What a right verdict promises, by the laws that a certificate without a broken rule is closed, and that closed runs
 -- never fault.
-use Rattle.std.proofs.Common.{◌≡◌, ℕ, List, []}
+use Rattle.std.proofs.Common.{◌≡◌, ℕ, List, [], Result, Ok, Err, IfOk}
 use Rattle.asl_model.specs.Tree.{Tree}
 use Rattle.asl_model.specs.Machine.{Scope}
 use Rattle.asl_model.specs.Run.{Event, run_of, trace}
@@ -38,3 +38,8 @@ headline definition declared certificate (Rejected told) quiet certified c = tt
 pub rejected : (definition declared certificate : List ℕ) (verdict : Verdict) → IsVerdictOn definition declared certificate verdict → WhereRejected (AreRejected definition declared certificate) verdict
 rejected definition declared certificate Accepted v = tt
 rejected definition declared certificate (Rejected told) v = record { machine = v.machine; shapes = v.shapes; certified = v.certified; read = v.read; telling = v.right }
+
+-- what follows of each answer holds where there is one
+pub follows : {T E : Type 0} (P Q : T → Type 0) (r : Result T E) → ((t : T) → P t → Q t) → IfOk r P → IfOk r Q
+follows P Q (Ok t) step h = step t h
+follows P Q (Err e) step h = tt

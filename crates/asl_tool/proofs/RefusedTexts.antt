@@ -6,11 +6,12 @@ use Rattle.asl_model.specs.Machine.{Scope}
 use Rattle.asl_model.specs.Certificate.{Declared}
 use Rattle.asl_model.specs.StandsFor.{Complaint}
 use Rattle.asl_model.specs.Json.{ReadsAsValue}
-use Rattle.asl_model.specs.Texts.{DefinitionText, DeclaredText, CertificateText, TextFault, NotJson, NotWhole, BadDefinition, BadRecord, BadAnswer, NoMemory, definition_no_json, definition_complaint, declared_no_json, declared_not_whole, declared_complaint, certificate_no_json, certificate_not_whole, certificate_complaint, definition_refused, declared_refused, certificate_refused, ReadsAsMachine, ReadsAsDeclared}
+use Rattle.asl_model.specs.Texts.{Which, DefinitionText, DeclaredText, CertificateText, InputText, AnswersText, TextFault, NotJson, NotWhole, BadDefinition, BadRecord, BadAnswer, NoMemory, definition_no_json, definition_complaint, declared_no_json, declared_not_whole, declared_complaint, certificate_no_json, certificate_not_whole, certificate_complaint, definition_refused, declared_refused, certificate_refused, ReadsAsMachine, ReadsAsDeclared}
 use Rattle.asl_machine.specs.Refusal.{IsRefused as IsRefusedValue, without_memory, for_broken_rule}
 use Rattle.asl_records.specs.Refusal.{IsDeclaredRefusal, IsCertificateRefusal}
 use Rattle.asl_records.specs.declared.refusals.ReadFault.{ReadFault}
 use Rattle.asl_records.specs.declared.refusals.ReadFault.TheVariants as kept
+use Rattle.asl_tool.specs.Inferred.{IsFirstOfTwo}
 use Rattle.asl_tool.specs.Verifying.{UnreadableStands, no_json, unread, record_fault_of, RefusesDefinition, definition_fault, definition_no_memory, RefusesDeclared, declared_fault, declared_no_memory, RefusesCertificate, certificate_fault, certificate_no_memory, IsRefused, fault_stands, no_memory}
 
 -- ---- a text that gives no JSON value
@@ -68,3 +69,11 @@ declared-first definition declared certificate machine NoMemory m declared_no_me
 pub certificate-first : (definition declared certificate : List ℕ) (machine : Scope) (shapes : Declared) (f : TextFault) → ReadsAsMachine definition machine → ReadsAsDeclared declared shapes → RefusesCertificate certificate f → IsRefused definition declared certificate CertificateText f
 certificate-first definition declared certificate machine shapes f m d (certificate_fault h) = fault_stands (certificate_refused m d h)
 certificate-first definition declared certificate machine shapes NoMemory m d certificate_no_memory = no_memory
+
+-- what is refused of the first two is refused of the three
+pub first_of_two : (definition declared certificate : List ℕ) (which : Which) (f : TextFault) → IsFirstOfTwo definition declared which f → IsRefused definition declared certificate which f
+first_of_two definition declared certificate DefinitionText f h = definition-first definition declared certificate f h
+first_of_two definition declared certificate DeclaredText f h = declared-first definition declared certificate h.0.machine f h.0.as_machine h.1
+first_of_two definition declared certificate CertificateText f h = absurd h
+first_of_two definition declared certificate InputText f h = absurd h
+first_of_two definition declared certificate AnswersText f h = absurd h

@@ -2,14 +2,15 @@
 use Rattle.std.specs.Prelude.{ℕ, List, Option, option_map, ⊤}
 use Rattle.std.specs.Option.{unwrap_or}
 use Rattle.asl_model.specs.Machine.{Scope}
-use Rattle.asl_model.specs.Texts.{Which, TextFault, NotJson, NotWhole, BadRecord, NoMemory, IsNoJson, IsDefinitionFault, IsDeclaredFault, IsCertificateFault, IsRefusal, ReadsAsMachine}
+use Rattle.asl_model.specs.Texts.{Which, TextFault, NotJson, NotWhole, BadRecord, NoMemory, IsNoJson, IsDefinitionFault, IsDeclaredFault, IsCertificateFault, IsRefusal, ReadsAsMachine, ReadsAsDeclared}
 use Rattle.asl_machine.specs.Table.{Shows}
 use Rattle.asl_machine.specs.declared.machine.Machine.{Machine}
-use Rattle.asl_records.specs.View.{complaint_view}
+use Rattle.asl_records.specs.View.{complaint_view, declared_view}
 use Rattle.asl_records.specs.declared.refusals.ReadFault.{ReadFault}
 use Rattle.asl_records.specs.declared.refusals.ReadFault.TheVariants as kept
 use Rattle.asl_tool.specs.Lines.{AreLines}
 use Rattle.asl_tool.specs.View.{which_view, text_fault_view}
+use Rattle.asl_tool.specs.declared.reading.DeclaredMachine.{DeclaredMachine}
 use Rattle.asl_tool.specs.declared.refusals.RunFault.{RunFault}
 use Rattle.asl_tool.specs.declared.refusals.RunFault.TheVariants as run
 
@@ -29,6 +30,11 @@ pub record ReadsInto (text : List ℕ) (machine : Machine) : Type 0 where
   pub definition : Scope
   pub reads : ReadsAsMachine text definition
   pub shown : Shows machine definition
+
+-- the two texts read as a definition, which the machine shows, and as the declared shapes
+pub record AreRead (definition declared : List ℕ) (read : DeclaredMachine) : Type 0 where
+  pub as_machine : ReadsInto definition read.machine
+  pub as_declared : ReadsAsDeclared declared (declared_view read.declared)
 
 -- why a text is refused as a definition: the fault stands in it, or there was no memory
 pub data RefusesDefinition (text : List ℕ) : TextFault → Type 0 where

@@ -1,6 +1,6 @@
 //! From a definition and declared shapes, given as texts, to the text of a certificate.
 
-ghost use Rattle.std.specs.Prelude.{◌≡◌, ◌≤◌, IfOk, IfErr, string_bytes};
+ghost use Rattle.std.specs.Prelude.{◌≡◌, ◌≤◌, ℕ, List, IfOk, IfErr, string_bytes};
 ghost use Rattle.serde_json.specs.Data.{depth};
 ghost use Rattle.serde_json.specs.Read.{max_depth};
 ghost use Rattle.asl_model.specs.Headline.{AreClosed};
@@ -9,9 +9,10 @@ ghost use Rattle.asl_model.specs.Texts.{ReadsAsCertificate};
 ghost use Rattle.asl_model.specs.Written.{written_certificate};
 ghost use Rattle.asl_records.specs.View.{certificate_view};
 ghost use Rattle.asl_tool.specs.Inferred.{AreFewRounds, InferFaultStands, IsFindingOn, IsWrittenFor, WhereCertificate, WhereFinding, WhereNotSettled};
+ghost use Rattle.asl_tool.specs.Verifying.{AreRead};
 
-use crate::reading::{declared_text, machine_text};
-use crate::refusals::{RunFault, TextRefusal, Which};
+use crate::reading::{DeclaredMachine, declared_machine_texts};
+use crate::refusals::RunFault;
 use asl_check::Finding;
 use asl_infer::{InferRefusal, infer};
 use asl_records::{Certificate, write_certificate};
@@ -49,21 +50,32 @@ pub fn infer_texts(
     ensures not_settled { IfOk result (WhereNotSettled (AreFewRounds definition.now declared.now max_rounds)) }
     ensures refused { IfErr result (InferFaultStands definition.now declared.now) }
 {
-    let machine = match machine_text(alloc, definition) {
-        Ok(machine) => machine,
-        Err(fault) => return Err(RunFault::Text(TextRefusal {
-            which: Which::Definition,
-            fault,
-        })),
+    let read = match declared_machine_texts(alloc, definition, declared) {
+        Ok(read) => read,
+        Err(refusal) => return Err(RunFault::Text(refusal)),
     };
-    let declared = match declared_text(alloc, declared) {
-        Ok(declared) => declared,
-        Err(fault) => return Err(RunFault::Text(TextRefusal {
-            which: Which::Declared,
-            fault,
-        })),
-    };
-    let certificate = match infer(alloc, &machine, &declared, max_rounds) {
+    infer_machine(alloc, &read, max_rounds)
+}
+
+/// Infers a certificate of a machine and its declared shapes, whichever texts those are read from.
+///
+/// Refused: OutOfMemory.
+fn infer_machine(
+    alloc: Global,
+    read: &DeclaredMachine,
+    max_rounds: u32,
+) -> Result<Inferred, RunFault>
+    ensures certificate { (definition declared : List ℕ) → AreRead definition declared read.now →
+        IfOk result (WhereCertificate (IsWrittenFor definition declared)) }
+    ensures reads_back { (definition declared : List ℕ) → AreRead definition declared read.now →
+        IfOk result (WhereCertificate (AreClosed definition declared)) }
+    ensures finding { (definition declared : List ℕ) → AreRead definition declared read.now →
+        IfOk result (WhereFinding (IsFindingOn definition declared)) }
+    ensures not_settled { (definition declared : List ℕ) → AreRead definition declared read.now →
+        IfOk result (WhereNotSettled (AreFewRounds definition declared max_rounds)) }
+    ensures refused { (definition declared : List ℕ) → IfErr result (InferFaultStands definition declared) }
+{
+    let certificate = match infer(alloc, &read.machine, &read.declared, max_rounds) {
         Ok(certificate) => certificate,
         Err(InferRefusal::Finding(finding)) => return Ok(Inferred::Finding(finding)),
         Err(InferRefusal::NotSettled) => return Ok(Inferred::NotSettled),

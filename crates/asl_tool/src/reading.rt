@@ -10,11 +10,12 @@ ghost use Rattle.asl_run.specs.Entries.{answer_view};
 ghost use Rattle.asl_tree.specs.View.{view};
 ghost use Rattle.asl_tool.specs.Answers.{answers_fault_of};
 ghost use Rattle.asl_tool.specs.Runs.{RefusesAnswers, RefusesTree};
-ghost use Rattle.asl_tool.specs.Verifying.{ReadsInto, RefusesDefinition, RefusesDeclared, RefusesCertificate, UnreadableStands, record_fault_of};
-ghost use Rattle.asl_tool.specs.View.{text_fault_view};
+ghost use Rattle.asl_tool.specs.Inferred.{IsFirstOfTwo};
+ghost use Rattle.asl_tool.specs.Verifying.{AreRead, ReadsInto, RefusesDefinition, RefusesDeclared, RefusesCertificate, UnreadableStands, record_fault_of};
+ghost use Rattle.asl_tool.specs.View.{text_fault_view, which_view};
 
 use crate::answering::{AnswersRefusal, read_answers};
-use crate::refusals::TextFault;
+use crate::refusals::{TextFault, TextRefusal, Which};
 use asl_machine::{DefFault, Machine};
 use asl_records::{Certificate, Declared, ReadFault, read_certificate, read_declared};
 use asl_run::Answer;
@@ -22,6 +23,42 @@ use asl_tree::{Tree, TreeRefusal};
 use serde_json::Value;
 use std::alloc::Global;
 use std::collections::VecDeque;
+
+/// A machine and its declared shapes.
+#[derive(Drop)]
+pub(crate) struct DeclaredMachine {
+    pub(crate) machine: Machine,
+    pub(crate) declared: Declared,
+}
+
+/// The machine and the declared shapes that two texts stand for.
+///
+/// Refused: the first text that is refused.
+pub(crate) fn declared_machine_texts(
+    alloc: Global,
+    definition: &[u8],
+    declared: &[u8],
+) -> Result<DeclaredMachine, TextRefusal>
+    ensures read { IfOk result (AreRead definition.now declared.now) }
+    ensures refused { IfErr result (λ refusal.
+        IsFirstOfTwo definition.now declared.now (which_view refusal.which)
+            (text_fault_view refusal.fault)) }
+{
+    let machine = match machine_text(alloc, definition) {
+        Ok(machine) => machine,
+        Err(fault) => return Err(TextRefusal {
+            which: Which::Definition,
+            fault,
+        }),
+    };
+    match declared_text(alloc, declared) {
+        Ok(declared) => Ok(DeclaredMachine { machine, declared }),
+        Err(fault) => Err(TextRefusal {
+            which: Which::Declared,
+            fault,
+        }),
+    }
+}
 
 /// The machine that shows the definition which a text stands for.
 pub(crate) fn machine_text(alloc: Global, text: &[u8]) -> Result<Machine, TextFault>

@@ -1,18 +1,18 @@
 //! From the three texts, or a source's first three lines, to a verdict.
 
-ghost use Rattle.std.specs.Prelude.{◌≡◌, IsTrue, IfOk, IfErr, OnOk};
+ghost use Rattle.std.specs.Prelude.{◌≡◌, ℕ, List, IsTrue, IfOk, IfErr, OnOk};
 ghost use Rattle.std.specs.Io.KnownBytes.{Appends};
 ghost use Rattle.asl_model.specs.Printed.{verdict_text};
 ghost use Rattle.asl_model.specs.Headline.{AreClosed, NeverFaults, AreRejected, IsVerdictOn, WhereAccepted, WhereRejected};
 ghost use Rattle.asl_check.specs.View.{verdict_view};
 ghost use Rattle.asl_tool.specs.Lines.{NoLineIsLong};
-ghost use Rattle.asl_tool.specs.Verifying.{IsRefused, OfLines, TellsRefusal};
+ghost use Rattle.asl_tool.specs.Verifying.{AreRead, IsRefused, OfLines, TellsRefusal};
 ghost use Rattle.asl_tool.specs.View.{which_view, text_fault_view};
 ghost use Rattle.asl_tool.specs.Writing.{CheckFaultStands};
 
 use crate::lines::read_lines;
 use crate::printing::verdict_text;
-use crate::reading::{certificate_text, declared_text, machine_text};
+use crate::reading::{DeclaredMachine, certificate_text, declared_machine_texts};
 use crate::refusals::{RunFault, TextFault, TextRefusal, Which};
 use crate::sinks::{Sink, write_all};
 use crate::sources::Source;
@@ -42,20 +42,28 @@ pub fn verify_texts(
     ensures no { IfOk result (λ v. WhereRejected (AreRejected definition.now declared.now certificate.now) (verdict_view v)) }
     ensures refused { IfErr result (λ r. IsRefused definition.now declared.now certificate.now (which_view r.which) (text_fault_view r.fault)) }
 {
-    let machine = match machine_text(alloc, definition) {
-        Ok(machine) => machine,
-        Err(fault) => return Err(TextRefusal {
-            which: Which::Definition,
-            fault,
-        }),
+    let read = match declared_machine_texts(alloc, definition, declared) {
+        Ok(read) => read,
+        Err(refusal) => return Err(refusal),
     };
-    let declared = match declared_text(alloc, declared) {
-        Ok(declared) => declared,
-        Err(fault) => return Err(TextRefusal {
-            which: Which::Declared,
-            fault,
-        }),
-    };
+    no_broken_rule_means_closed();
+    closed_runs_never_fault();
+    closed_runs_tell_no_fault();
+    verify_machine(alloc, &read, certificate)
+}
+
+/// Checks a certificate, given as a text, against a machine and its declared shapes, whichever texts those are read from.
+fn verify_machine(
+    alloc: Global,
+    read: &DeclaredMachine,
+    certificate: &[u8],
+) -> Result<Verdict, TextRefusal>
+    ensures verdict { (definition declared : List ℕ) → AreRead definition declared read.now →
+        IfOk result (λ v. IsVerdictOn definition declared certificate.now (verdict_view v)) }
+    ensures refused { (definition declared : List ℕ) → AreRead definition declared read.now →
+        IfErr result (λ r.
+            IsRefused definition declared certificate.now (which_view r.which) (text_fault_view r.fault)) }
+{
     let certificate = match certificate_text(alloc, certificate) {
         Ok(certificate) => certificate,
         Err(fault) => return Err(TextRefusal {
@@ -63,10 +71,7 @@ pub fn verify_texts(
             fault,
         }),
     };
-    no_broken_rule_means_closed();
-    closed_runs_never_fault();
-    closed_runs_tell_no_fault();
-    match check(alloc, &machine, &declared, &certificate) {
+    match check(alloc, &read.machine, &read.declared, &certificate) {
         Ok(verdict) => Ok(verdict),
         Err(_) => Err(TextRefusal {
             which: Which::Certificate,

@@ -1,46 +1,44 @@
-use Rattle.asl_records.specs.View.{declared_view, certificate_view}
+use Rattle.asl_model.specs.Headline.{AreClosed, AreRejected, IsVerdictOn, NeverFaults, WhereAccepted, WhereRejected}
 use Rattle.asl_check.specs.View.{verdict_view}
-use Rattle.asl_tool.specs.View.{text_fault_view}
-use Rattle.asl_tool.specs.Verifying.{no_memory}
-use Rattle.asl_tool.proofs.Promises.{closed, headline, rejected}
-use Rattle.asl_tool.proofs.RefusedTexts.{definition-first, declared-first, certificate-first}
+use Rattle.asl_check.specs.declared.verdicts.Verdict.{Verdict}
+use Rattle.asl_tool.specs.View.{which_view, text_fault_view}
+use Rattle.asl_tool.proofs.Promises.{closed, follows, headline, rejected}
+use Rattle.asl_tool.proofs.RefusedTexts.{first_of_two}
 use Rattle.asl_tool.proofs.verifying.verify_texts.Goals as goal
 
 pub returns-in-Err-clause-refused : goal.returns-in-Err-clause-refused
-returns-in-Err-clause-refused c = definition-first c.args.definition.now c.args.declared.now c.args.certificate.now (text_fault_view c.in-Err.fault) c.in-Err.ensures.refused
+returns-in-Err-clause-refused c =
+    first_of_two c.args.definition.now c.args.declared.now c.args.certificate.now (which_view c.in-Err.refusal.which) (text_fault_view c.in-Err.refusal.fault) c.in-Err.ensures.refused
 
-pub returns-in-Err-declared_text-clause-refused : goal.returns-in-Err-declared_text-clause-refused
-returns-in-Err-declared_text-clause-refused c =
-    declared-first c.args.definition.now c.args.declared.now c.args.certificate.now c.in-Ok.ensures.machine.definition (text_fault_view c.in-Err-declared_text.fault)
-    c.in-Ok.ensures.machine.reads c.in-Err-declared_text.ensures.refused
+pub returns-clause-verdict : goal.returns-clause-verdict
+returns-clause-verdict c = c.verify_machine.ensures.verdict c.args.definition.now c.args.declared.now c.in-Ok.ensures.read
 
-pub returns-in-Err-certificate_text-clause-refused : goal.returns-in-Err-certificate_text-clause-refused
-returns-in-Err-certificate_text-clause-refused c =
-    certificate-first c.args.definition.now c.args.declared.now c.args.certificate.now c.in-Ok.ensures.machine.definition (declared_view c.in-Ok-declared_text.declared) (text_fault_view c.in-Err-certificate_text.fault)
-    c.in-Ok.ensures.machine.reads c.in-Ok-declared_text.ensures.declared c.in-Err-certificate_text.ensures.refused
+pub returns-clause-yes : goal.returns-clause-yes
+returns-clause-yes c =
+    let definition = c.args.definition.now in
+    let declared = c.args.declared.now in
+    let certificate = c.args.certificate.now in
+    follows (λ (v : Verdict). IsVerdictOn definition declared certificate (verdict_view v)) (λ (v : Verdict). WhereAccepted (AreClosed definition declared certificate) (verdict_view v)) c.verify_machine.result
+    (λ (v : Verdict). closed definition declared certificate (verdict_view v) c.no_broken_rule_means_closed.ensures.closed)
+    (returns-clause-verdict c)
 
-pub returns-in-Ok-check-clause-verdict : goal.returns-in-Ok-check-clause-verdict
-returns-in-Ok-check-clause-verdict c = record {
-  machine = c.in-Ok.ensures.machine.definition;
-  shapes = declared_view c.in-Ok-declared_text.declared;
-  certified = certificate_view c.in-Ok-certificate_text.certificate;
-  read = record { as_machine = c.in-Ok.ensures.machine.reads; as_declared = c.in-Ok-declared_text.ensures.declared; as_certificate = c.in-Ok-certificate_text.ensures.certificate };
-  right = c.in-Ok-check.ensures.verdict c.in-Ok.ensures.machine.definition c.in-Ok.ensures.machine.shown;
-}
+pub returns-clause-headline : goal.returns-clause-headline
+returns-clause-headline c =
+    let definition = c.args.definition.now in
+    let declared = c.args.declared.now in
+    let certificate = c.args.certificate.now in
+    follows (λ (v : Verdict). WhereAccepted (AreClosed definition declared certificate) (verdict_view v)) (λ (v : Verdict). WhereAccepted (NeverFaults definition declared certificate) (verdict_view v)) c.verify_machine.result
+    (λ (v : Verdict). headline definition declared certificate (verdict_view v) c.closed_runs_tell_no_fault.ensures c.closed_runs_never_fault.ensures)
+    (returns-clause-yes c)
 
-pub returns-in-Ok-check-clause-yes : goal.returns-in-Ok-check-clause-yes
-returns-in-Ok-check-clause-yes c =
-    closed c.args.definition.now c.args.declared.now c.args.certificate.now (verdict_view c.in-Ok-check.verdict) c.no_broken_rule_means_closed.ensures.closed
-    (returns-in-Ok-check-clause-verdict c)
-
-pub returns-in-Ok-check-clause-headline : goal.returns-in-Ok-check-clause-headline
-returns-in-Ok-check-clause-headline c =
-    headline c.args.definition.now c.args.declared.now c.args.certificate.now (verdict_view c.in-Ok-check.verdict) c.closed_runs_tell_no_fault.ensures c.closed_runs_never_fault.ensures
-    (returns-in-Ok-check-clause-yes c)
-
-pub returns-in-Ok-check-clause-no : goal.returns-in-Ok-check-clause-no
-returns-in-Ok-check-clause-no c =
-    rejected c.args.definition.now c.args.declared.now c.args.certificate.now (verdict_view c.in-Ok-check.verdict) (returns-in-Ok-check-clause-verdict c)
+pub returns-clause-no : goal.returns-clause-no
+returns-clause-no c =
+    let definition = c.args.definition.now in
+    let declared = c.args.declared.now in
+    let certificate = c.args.certificate.now in
+    follows (λ (v : Verdict). IsVerdictOn definition declared certificate (verdict_view v)) (λ (v : Verdict). WhereRejected (AreRejected definition declared certificate) (verdict_view v)) c.verify_machine.result
+    (λ (v : Verdict). rejected definition declared certificate (verdict_view v))
+    (returns-clause-verdict c)
 
 pub returns-clause-refused : goal.returns-clause-refused
-returns-clause-refused c = no_memory
+returns-clause-refused c = c.verify_machine.ensures.refused c.args.definition.now c.args.declared.now c.in-Ok.ensures.read
