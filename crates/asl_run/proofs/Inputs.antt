@@ -1,13 +1,29 @@
 -- The inputs of the children of a Parallel and of a Map, which are gone through in order.
 use Rattle.std.proofs.Common.{◌≡◌, ℕ, suc, ◌+◌, ◌<◌, ◌≤◌, List, [], ◌∷◌, ◌++◌, length, get_or, drop, take, map, Option, Result, Ok, Err, String, Global, refl, sym, ap, ◌∙◌, subst, drop-cons, add-one, arith}
 use Rattle.std.proofs.lemmas.List.{take_all, drop_all, map-append}
-use Rattle.asl_machine.specs.Machine.{branches_view}
+use Rattle.asl_machine.specs.Machine.{branches_view, kind_view}
+use Rattle.asl_machine.specs.declared.states.Kind.{Kind}
+use Rattle.asl_machine.specs.declared.states.Kind.TheVariants as kinds
 use Rattle.asl_model.specs.Faults.{Fault, and_then}
-use Rattle.asl_model.specs.Flow.{branch_inputs, item_input, item_inputs}
+use Rattle.asl_model.specs.Flow.{Raises, branch_inputs, effective_input, item_input, item_inputs, work_of, works_on}
+use Rattle.asl_model.specs.Machine.{Settings}
 use Rattle.asl_model.specs.Template.{Template}
 use Rattle.asl_model.specs.Tree as model
 use Rattle.asl_tree.specs.View.{view, elements_view}
 use Rattle.asl_tree.specs.declared.Tree.{Tree}
+
+-- ---- the effective input
+
+-- where a fault is met on the way to it, the first move raises that, but for a Fail, which looks at none
+pub faulted_input : (kind : Kind) (settings : Settings) (raw : model.Tree) (fault : Fault) → ((error cause : String Global) → kind ≡ kinds.Fail error cause → ⊥) → effective_input settings raw ≡ Err fault → work_of (kind_view kind) settings raw ≡ Raises fault
+faulted_input (kinds.Pass result) settings raw fault some met = ap (works_on _) met
+faulted_input (kinds.Task resource) settings raw fault some met = ap (works_on _) met
+faulted_input (kinds.Choice choices default) settings raw fault some met = ap (works_on _) met
+faulted_input (kinds.Wait delay) settings raw fault some met = ap (works_on _) met
+faulted_input kinds.Succeed settings raw fault some met = ap (works_on _) met
+faulted_input (kinds.Fail error cause) settings raw fault some met = absurd (some error cause refl)
+faulted_input (kinds.Parallel branches) settings raw fault some met = ap (works_on _) met
+faulted_input (kinds.Map items_path item_selector processor) settings raw fault some met = ap (works_on _) met
 
 -- ---- branches
 

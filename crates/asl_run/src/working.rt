@@ -1,10 +1,13 @@
 //! What a state's first move comes to (States Language, "State Types").
 
-ghost use Rattle.std.specs.Prelude.{◌≡◌, IfOk, map, option_map, string_bytes};
+ghost use Rattle.std.specs.Prelude.{◌≡◌, IfOk, Ok, Some, map, option_map, string_bytes};
+ghost use Rattle.std.specs.Option.{unwrap_or};
 ghost use Rattle.asl_choice.specs.View.{rule_view};
 ghost use Rattle.asl_machine.specs.Machine.{branches_view, delay_view, kind_view, settings_view, state_view};
+ghost use Rattle.asl_model.specs.Faults.{and_then};
 ghost use Rattle.asl_model.specs.Flow as model;
-ghost use Rattle.asl_model.specs.Machine as machine;
+ghost use Rattle.asl_model.specs.Tree as trees;
+ghost use Rattle.asl_run.specs.Flowing.{data_view};
 ghost use Rattle.asl_run.specs.Working.{Works, work_view};
 ghost use Rattle.asl_template.specs.View as templates;
 ghost use Rattle.asl_tree.specs.View.{view};
@@ -60,57 +63,57 @@ pub(crate) fn first_move<'m>(
     }
 }
 
-/// The same by the state's type.
+/// The same, where want of memory stops it too.
 fn work_of<'m>(alloc: Global, state: &'m State, raw: &'m Tree) -> Result<Work<'m>, Stop>
     ensures { Works result (model.work_of (kind_view state.now.kind) (settings_view state.now.settings) (view raw.now)) }
 {
-    let settings = &state.settings;
     match &state.kind {
-        Kind::Pass { result } => pass(alloc, settings, result, raw),
-        Kind::Task { resource: _ } => Ok(Work::Asks(effective_input(alloc, settings, raw)?)),
-        Kind::Choice { choices, default } => choice(alloc, settings, choices, default, raw),
-        Kind::Wait { delay } => wait(alloc, settings, delay, raw),
-        Kind::Succeed => Ok(Work::Leaves {
-            next: None,
-            input: effective_input(alloc, settings, raw)?,
-        }),
         Kind::Fail { error, cause } => Ok(Work::Fails { error, cause }),
-        Kind::Parallel { branches } => parallel(alloc, settings, branches, raw),
+        _ => match effective_input(alloc, &state.settings, raw) {
+            Ok(input) => work_on(alloc, state, input),
+            Err(stop) => Err(stop),
+        },
+    }
+}
+
+/// What it comes to for its effective input, by the state's type; a Fail looks at none.
+fn work_on<'m>(alloc: Global, state: &'m State, input: Data<'m>) -> Result<Work<'m>, Stop>
+    ensures { (raw : trees.Tree) → model.effective_input (settings_view state.now.settings) raw ≡ Ok (data_view input.entry) → Works result (model.work_of (kind_view state.now.kind) (settings_view state.now.settings) raw) }
+{
+    match &state.kind {
+        Kind::Pass { result } => Ok(pass(result, input)),
+        Kind::Task { resource: _ } => Ok(Work::Asks(input)),
+        Kind::Choice { choices, default } => choice(choices, default, input),
+        Kind::Wait { delay } => wait(&state.settings, delay, input),
+        Kind::Succeed => Ok(Work::Leaves { next: None, input }),
+        Kind::Fail { error, cause } => Ok(Work::Fails { error, cause }),
+        Kind::Parallel { branches } => parallel(alloc, branches, &input),
         Kind::Map {
             items_path,
             item_selector,
             processor: _,
-        } => map(alloc, settings, items_path, item_selector, raw),
+        } => map(alloc, items_path, item_selector, &input),
     }
 }
 
 /// A Pass finishes with `Result`, or else its effective input.
-fn pass<'m>(
-    alloc: Global,
-    settings: &Settings,
-    value: &'m Option<Tree>,
-    raw: &'m Tree,
-) -> Result<Work<'m>, Stop>
-    ensures { Works result (model.work_of (machine.Pass (option_map view value.now)) (settings_view settings.now) (view raw.now)) }
+fn pass<'m>(value: &'m Option<Tree>, input: Data<'m>) -> Work<'m>
+    ensures { work_view result ≡ model.Finishes (unwrap_or (option_map view value.now) (data_view input.entry)) }
 {
-    let input = effective_input(alloc, settings, raw)?;
     match value {
-        Some(value) => Ok(Work::Finishes(Data::Lent(value))),
-        None => Ok(Work::Finishes(input)),
+        Some(value) => Work::Finishes(Data::Lent(value)),
+        None => Work::Finishes(input),
     }
 }
 
 /// A Choice leaves for the state that is chosen by its effective input.
 fn choice<'m>(
-    alloc: Global,
-    settings: &Settings,
     rules: &'m [Rule],
     default: &'m Option<String>,
-    raw: &'m Tree,
+    input: Data<'m>,
 ) -> Result<Work<'m>, Stop>
-    ensures { Works result (model.work_of (machine.Choice (map rule_view rules.now) (option_map string_bytes default.now)) (settings_view settings.now) (view raw.now)) }
+    ensures { Works result (model.works_on (λ next. model.Leaves (Some next) (data_view input.entry)) (model.chosen (map rule_view rules.now) (option_map string_bytes default.now) (data_view input.entry))) }
 {
-    let input = effective_input(alloc, settings, raw)?;
     let next = choose(rules, default, input.as_tree())?;
     Ok(Work::Leaves {
         next: Some(next),
@@ -119,15 +122,9 @@ fn choice<'m>(
 }
 
 /// A Wait looks at what its path names, and leaves.
-fn wait<'m>(
-    alloc: Global,
-    settings: &'m Settings,
-    delay: &Delay,
-    raw: &'m Tree,
-) -> Result<Work<'m>, Stop>
-    ensures { Works result (model.work_of (machine.Wait (delay_view delay.now)) (settings_view settings.now) (view raw.now)) }
+fn wait<'m>(settings: &'m Settings, delay: &Delay, input: Data<'m>) -> Result<Work<'m>, Stop>
+    ensures { Works result (model.works_on (λ _. model.Leaves (settings_view settings.now).next (data_view input.entry)) (model.delay_in (delay_view delay.now) (data_view input.entry))) }
 {
-    let input = effective_input(alloc, settings, raw)?;
     find_delay(delay, input.as_tree())?;
     Ok(Work::Leaves {
         next: settings.next.as_deref(),
@@ -136,29 +133,22 @@ fn wait<'m>(
 }
 
 /// A Parallel splits into its branches, each with the effective input.
-fn parallel<'m>(
-    alloc: Global,
-    settings: &Settings,
-    branches: &[String],
-    raw: &Tree,
-) -> Result<Work<'m>, Stop>
-    ensures { Works result (model.work_of (machine.Parallel (branches_view branches.now)) (settings_view settings.now) (view raw.now)) }
+fn parallel<'m>(alloc: Global, branches: &[String], input: &Data) -> Result<Work<'m>, Stop>
+    ensures { Works result (model.Splits (model.branch_inputs (branches_view branches.now) (data_view input.now))) }
 {
-    let input = effective_input(alloc, settings, raw)?;
     Ok(Work::Splits(branch_inputs(alloc, branches, input.as_tree())?))
 }
 
 /// A Map splits into a child for each of its items.
 fn map<'m>(
     alloc: Global,
-    settings: &Settings,
     items_path: &RefPath,
     item_selector: &Option<Template>,
-    raw: &Tree,
+    input: &Data,
 ) -> Result<Work<'m>, Stop>
-    ensures { (processor : machine.Scope) → Works result (model.work_of (machine.Map items_path.now (option_map templates.view item_selector.now) processor) (settings_view settings.now) (view raw.now)) }
+    ensures { Works result (model.works_on model.Splits (and_then (model.item_inputs (option_map templates.view item_selector.now) (data_view input.now) 0) (model.map_items items_path.now (data_view input.now)))) }
 {
-    let input = effective_input(alloc, settings, raw)?;
-    let items = find_items(items_path, input.as_tree())?;
-    Ok(Work::Splits(item_inputs(alloc, item_selector, input.as_tree(), items)?))
+    let tree = input.as_tree();
+    let items = find_items(items_path, tree)?;
+    Ok(Work::Splits(item_inputs(alloc, item_selector, tree, items)?))
 }
