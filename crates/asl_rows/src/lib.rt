@@ -28,6 +28,4 @@ mod shapes;
 #[cfg(test)]
 mod templates;
 #[cfg(test)]
-mod texts;
-#[cfg(test)]
 mod trees;
