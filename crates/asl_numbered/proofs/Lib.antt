@@ -1,4 +1,5 @@
 pub mod Appending
+pub mod Comparisons
 pub mod Expansions
 pub mod Growing
 pub mod Sameness

@@ -1,2 +1,3 @@
+pub mod Comparison
 pub mod Expansion
 pub mod Table

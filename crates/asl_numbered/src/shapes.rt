@@ -1,26 +1,32 @@
 // Shapes under numbers.
-ghost use Rattle.std.specs.Prelude.{◌≡◌, ◌<◌, ◌↔◌, ℕ, List, [], length, IsSome, IfSome, IfOk, slice_get};
+ghost use Rattle.std.specs.Prelude.{◌≡◌, ◌<◌, ◌↔◌, ℕ, List, [], length, IsTrue, IsSome, IfSome, IfOk, slice_get};
 ghost use Rattle.std.specs.Option.{option_copied};
 ghost use Rattle.asl_model.specs.Shape as model;
+ghost use Rattle.asl_model.specs.ShapeOrder as order;
 ghost use Rattle.asl_shape.specs.View.{view};
 ghost use Rattle.asl_numbered.specs.Expansion.{expansions, shape_at, shape_over, RefersBelow, IsNumberOf, Keeps};
 
 use crate::adding::add;
+use crate::comparing::{Compared, compare};
 use crate::expanding::expand;
 use crate::node::Node;
+use crate::pair::Pair;
 use crate::table::Table;
+use asl_model::shape_laws::sub_means_inside;
 use asl_shape::Shape;
 use asl_tree::OutOfMemory;
+use indexmap::IndexMap;
 use std::alloc::Global;
 use std::marker::Model;
 
 /// Distinct shapes, each under a number, counted from 0. Contracts see the list of their first levels, where each node
 /// has numbers of earlier ones alone; `expansions` are the shapes themselves. A number keeps its shape, whatever is
-/// added, and also where want of memory refuses a call, which may leave further entries.
+/// added, and also where a call runs out of memory, which may leave further entries.
 #[derive(Drop)]
 pub struct Shapes {
     alloc: Global,
     table: Table,
+    compared: Compared,
 }
 
 impl Model for Shapes {
@@ -28,12 +34,16 @@ impl Model for Shapes {
     ghost use Rattle.std.specs.Coded.{coded_list};
     ghost use Rattle.asl_numbered.specs.contracts.node.Node.{the_row};
     ghost use Rattle.asl_numbered.specs.declared.node.Node.{Node as Level};
+    ghost use Rattle.asl_numbered.specs.Comparison.{AreRight};
+    ghost use Rattle.asl_numbered.specs.Expansion.{expansions};
 
     ghost Value = { List Level };
 
     ghost coded = { coded_list the_row.coded };
 
     ghost view = { λ s. s.table };
+
+    ghost invariant = { λ s. AreRight (expansions s.table) s.compared.entries };
 }
 
 impl Shapes {
@@ -44,6 +54,7 @@ impl Shapes {
         Shapes {
             alloc,
             table: Table::new(alloc),
+            compared: IndexMap::new(alloc),
         }
     }
 
@@ -97,6 +108,28 @@ impl Shapes {
     {
         if number < self.table.len() {
             Ok(Some(expand(&self.table, self.alloc, number)?))
+        } else {
+            Ok(None)
+        }
+    }
+
+    /// Whether every tree of the first number's shape is seen to have the second's, as `sub` of `asl_shape` tells it;
+    /// `None` where one of the numbers isn't below the length. The answer is remembered, as those for the shapes' parts
+    /// are that were looked at on the way, so that none is found out twice. Refuses only where an allocation was refused.
+    pub fn sub(&mut self, inner: usize, outer: usize) -> Result<Option<bool>, OutOfMemory>
+        ensures exactly { IfOk result (λ r. IsSome r ↔ (inner < length self.old) × (outer < length self.old)) }
+        ensures as_defined { IfOk result (λ r. IfSome r (λ b. b ≡ order.sub (shape_at (expansions self.old) inner) (shape_at (expansions self.old) outer))) }
+        ensures inside { IfOk result (λ r. IfSome r (λ b. IsTrue b → model.Inside (shape_at (expansions self.old) inner) (shape_at (expansions self.old) outer))) }
+        ensures unchanged { self.new ≡ self.old }
+    {
+        sub_means_inside();
+        if inner < self.table.len() && outer < self.table.len() {
+            let pair = Pair {
+                first: inner,
+                second: outer,
+            };
+            let answer = compare(&self.table, &mut self.compared, self.alloc, pair)?;
+            Ok(Some(answer))
         } else {
             Ok(None)
         }

@@ -1,8 +1,9 @@
 //! Shapes in a table: their numbers, their nodes and the shapes again, each call once with ample memory.
-use asl_numbered::{Node, Shapes};
+use asl_numbered::{Node, NodeField, Shapes};
 use asl_shape::{Shape, read, write};
 use asl_tree::to_text;
 use std::alloc::Global;
+use std::collections::BTreeMap;
 use std::process::Abort;
 
 /// The shape that the JSON text spells.
@@ -30,6 +31,9 @@ fn told(rt: &impl Abort, alloc: Global, shapes: &Shapes, number: usize) -> Strin
     format!(in alloc; "{node:?} {inhabited:?} {shape}").expect(rt, "memory")
 }
 
+/// How many lists stand inside each other in a long chain.
+const LONG: usize = 300_000;
+
 /// The number that is given to the list whose further elements have the shape of that number.
 fn added_list(rt: &impl Abort, alloc: Global, shapes: &mut Shapes, rest: usize) -> Option<usize> {
     let first = Vec::new(alloc);
@@ -45,6 +49,9 @@ fn one_shape(rt: HostRuntime) {
     assert_eq!(rt; shapes.add(&Shape::Int).expect(&rt, "a number"), 0);
     assert_eq!(rt; shapes.add_node(Node::Int).expect(&rt, "a number"), Some(0));
     assert_eq!(rt; added_list(&rt, alloc, &mut shapes, 1), None);
+    assert_eq!(rt; shapes.sub(0, 0).expect(&rt, "an answer"), Some(true));
+    assert_eq!(rt; shapes.sub(0, 1).expect(&rt, "an answer"), None);
+    assert_eq!(rt; shapes.sub(1, 0).expect(&rt, "an answer"), None);
     for (number, wanted) in [
         (0, r#"Some(Int) Some(true) {"type":"integer"}"#),
         (1, "None None none"),
@@ -88,4 +95,76 @@ fn shared_parts(rt: HostRuntime) {
         answer.as_str(),
         r#"Some(List { first: [], rest: 3 }) Some(true) {"items":false,"type":"array"}"#
     );
+}
+
+/// The number of a list of lists of lists and so on, so many of them, over the shape of that number.
+fn chain(
+    rt: &impl Abort,
+    alloc: Global,
+    shapes: &mut Shapes,
+    base: usize,
+    count: usize,
+) -> usize {
+    let mut top = base;
+    for _ in 0..count {
+        top = added_list(rt, alloc, shapes, top).expect(rt, "a number");
+    }
+    top
+}
+
+/// The number of an object with the needed fields `a` and `b` of the shape of that number, and no other.
+fn doubled(rt: &impl Abort, alloc: Global, shapes: &mut Shapes, part: usize) -> usize {
+    let mut fields = BTreeMap::new(alloc);
+    for name in ["a", "b"] {
+        let key = String::from_str(alloc, name).expect(rt, "memory");
+        let field = NodeField {
+            needed: true,
+            shape: part,
+        };
+        let replaced: Result<_, _> = fields.insert(key, field);
+        drop(replaced.expect(rt, "memory"));
+    }
+    let node = Node::Object {
+        fields,
+        extra: false,
+    };
+    shapes
+        .add_node(node)
+        .expect(rt, "a number")
+        .expect(rt, "a number")
+}
+
+/// What the table tells of the first shape in the second, and of the second in the first.
+fn compared(rt: &impl Abort, shapes: &mut Shapes, first: usize, second: usize) -> [Option<bool>; 2] {
+    [
+        shapes.sub(first, second).expect(rt, "an answer"),
+        shapes.sub(second, first).expect(rt, "an answer"),
+    ]
+}
+
+#[test]
+fn long_chains(rt: HostRuntime) {
+    let alloc = rt.alloc();
+    let mut shapes = Shapes::new(alloc);
+    let int = shapes.add(&Shape::Int).expect(&rt, "a number");
+    let any = shapes.add(&Shape::Any).expect(&rt, "a number");
+    let first = chain(&rt, alloc, &mut shapes, int, LONG);
+    let second = chain(&rt, alloc, &mut shapes, any, LONG);
+    for _ in 0..2 {
+        assert_eq!(rt; compared(&rt, &mut shapes, first, second), [Some(true), Some(false)]);
+    }
+    assert_eq!(rt; shapes.inhabited(second), Some(true));
+}
+
+#[test]
+fn forty_doublings(rt: HostRuntime) {
+    let alloc = rt.alloc();
+    let mut shapes = Shapes::new(alloc);
+    let mut first = shapes.add(&Shape::Int).expect(&rt, "a number");
+    let mut second = shapes.add(&Shape::Any).expect(&rt, "a number");
+    for _ in 0..40 {
+        first = doubled(&rt, alloc, &mut shapes, first);
+        second = doubled(&rt, alloc, &mut shapes, second);
+    }
+    assert_eq!(rt; compared(&rt, &mut shapes, first, second), [Some(true), Some(false)]);
 }

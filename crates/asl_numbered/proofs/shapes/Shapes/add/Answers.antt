@@ -1,0 +1,5 @@
+use Rattle.asl_numbered.proofs.Comparisons.{right_kept}
+use Rattle.asl_numbered.proofs.shapes.Shapes.add.Goals as goal
+
+pub invariant_of-self : goal.invariant_of-self
+invariant_of-self c = right_kept _ _ c.self.inside.compared.entries c.add.ensures.keeps c.self.invariant

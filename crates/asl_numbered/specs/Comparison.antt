@@ -1,0 +1,157 @@
+-- How the shapes of a table are compared by their numbers: what is remembered, and what is left to do. No public clause
+-- cites this module.
+use Rattle.std.specs.Prelude.{◌≡◌, ◌<◌, ◌≤◌, ◌+◌, ◌*◌, ℕ, zero, suc, max, List, [], ◌∷◌, ◌++◌, length, Bool, true, false, if◌then◌else◌, ◌&&◌, ◌||◌, not, Option, Some, None, slice_get, option_map, String}
+use Rattle.std.specs.declared.alloc.Global.{Global}
+use Rattle.std.specs.BTreeMap.{is_at}
+use Rattle.std.specs.Map.{lookup}
+use Rattle.std.specs.String.{string_cmp}
+use Rattle.asl_model.specs.Shape as model
+use Rattle.asl_model.specs.ShapeOrder.{sub, is_any_shape, others_never_there}
+use Rattle.asl_numbered.specs.declared.node.Node.{Node}
+use Rattle.asl_numbered.specs.declared.node.Node.TheVariants.{Any, Never, Null, Bool as Truth, Int, Text, List as Elements, Object}
+use Rattle.asl_numbered.specs.declared.node.NodeField.{NodeField}
+use Rattle.asl_numbered.specs.declared.pair.Pair.{Pair}
+use Rattle.asl_numbered.specs.declared.comparing.Task.{Task}
+use Rattle.asl_numbered.specs.declared.comparing.Task.TheVariants.{Compare, Conclude}
+use Rattle.asl_numbered.specs.Expansion.{shape_at, fields_at, shape_over, expansions, parts, RefersBelow}
+
+-- the first shape is inside the second
+abbrev pub inside : List model.Shape → Pair → Bool
+inside table p = sub (shape_at table p.first) (shape_at table p.second)
+
+-- both numbers are in the table
+pub record IsWithin (table : List model.Shape) (p : Pair) : Type 0 where
+  pub first : p.first < length table
+  pub second : p.second < length table
+
+-- that node has the number
+pub record IsNodeAt (nodes : List Node) (n : ℕ) (node : Node) : Type 0 where
+  pub at : slice_get nodes n ≡ Some node
+  pub level : shape_over (expansions nodes) node ≡ shape_at (expansions nodes) n
+  pub below : RefersBelow n node
+
+-- the node has no parts, whatever shapes there are
+abbrev pub IsSimple : Node → Type 0
+IsSimple Any = Unit {0}
+IsSimple Never = Unit {0}
+IsSimple Null = Unit {0}
+IsSimple Truth = Unit {0}
+IsSimple Int = Unit {0}
+IsSimple Text = Unit {0}
+IsSimple (Elements first rest) = ⊥
+IsSimple (Object fields extra) = ⊥
+
+-- ---- what is remembered
+
+-- each answer says whether the first shape of its pair is inside the second
+abbrev pub AreEachRight : List model.Shape → List (Pair × Bool) → Type 0
+AreEachRight table [] = Unit {0}
+AreEachRight table (e ∷ entries) = IsWithin table e.0 × (e.1 ≡ inside table e.0) × AreEachRight table entries
+
+pub record AreRight (table : List model.Shape) (entries : List (Pair × Bool)) : Type 0 where
+  pub each : AreEachRight table entries
+
+-- ---- tasks
+
+-- of all that is to be compared the first shape is inside the second
+abbrev pub all_inside : List model.Shape → List Task → Bool
+all_inside table [] = true
+all_inside table (Compare p ∷ tasks) = inside table p && all_inside table tasks
+all_inside table (Conclude p ∷ tasks) = all_inside table tasks
+
+-- what is to be concluded is so exactly where all is that is to be compared behind it
+abbrev pub AreEachStanding : List model.Shape → List Task → Type 0
+AreEachStanding table [] = Unit {0}
+AreEachStanding table (Compare p ∷ tasks) = IsWithin table p × AreEachStanding table tasks
+AreEachStanding table (Conclude p ∷ tasks) = IsWithin table p × (inside table p ≡ all_inside table tasks) × AreEachStanding table tasks
+
+pub record AreStanding (table : List model.Shape) (tasks : List Task) : Type 0 where
+  pub each : AreEachStanding table tasks
+
+-- nothing that is to be concluded is so
+abbrev pub AreEachOutside : List model.Shape → List Task → Type 0
+AreEachOutside table [] = Unit {0}
+AreEachOutside table (Compare p ∷ tasks) = AreEachOutside table tasks
+AreEachOutside table (Conclude p ∷ tasks) = IsWithin table p × (inside table p ≡ false) × AreEachOutside table tasks
+
+pub record AreOutside (table : List model.Shape) (tasks : List Task) : Type 0 where
+  pub each : AreEachOutside table tasks
+
+-- ---- how much is left to do
+
+-- the most parts that a node has
+abbrev pub widest : List Node → ℕ
+widest [] = 0
+widest (node ∷ nodes) = max (length (parts node)) (widest nodes)
+
+-- at most so many steps compare the shape of that number with another, where no node has more parts than that
+abbrev pub cost : ℕ → ℕ → ℕ
+cost width zero = 2
+cost width (suc n) = 2 + width * cost width n
+
+-- at most so many steps do the tasks
+abbrev pub work : ℕ → List Task → ℕ
+work width [] = 0
+work width (Compare p ∷ tasks) = cost width p.first + work width tasks
+work width (Conclude p ∷ tasks) = 1 + work width tasks
+
+-- ---- a look at one pair
+
+-- The tasks grew by some, on which the pair now rests: where the answer is true, its first shape is inside its second
+-- exactly where all that is to be compared in these is so, and they are less work than the pair. Where the answer is
+-- false, it isn't, and nothing in these that is to be concluded is so.
+pub record RestsOn (nodes : List Node) (p : Pair) (answer : Bool) (old new : List Task) : Type 0 where
+  pub added : List Task
+  pub whole : new ≡ old ++ added
+  pub same : inside (expansions nodes) p ≡ (answer && all_inside (expansions nodes) added)
+  pub standing : answer ≡ true → AreStanding (expansions nodes) added
+  pub outside : answer ≡ false → AreOutside (expansions nodes) added
+  pub less : work (widest nodes) added < cost (widest nodes) p.first
+
+-- ---- lists
+
+-- each place is to be compared with the bound that stands there, or with that of the further elements
+abbrev pub place_tasks : List ℕ → List ℕ → ℕ → List Task
+place_tasks [] bounds rest = []
+place_tasks (place ∷ places) [] rest = Compare (record { first = place; second = rest }) ∷ place_tasks places [] rest
+place_tasks (place ∷ places) (bound ∷ bounds) rest = Compare (record { first = place; second = bound }) ∷ place_tasks places bounds rest
+
+-- what a look at a node and one of lists put down
+abbrev pub ListLooked : Node → List ℕ → ℕ → Pair → Bool → List Task → List Task → Type 0
+ListLooked (Elements places further) bounds rest p true old new = (length bounds ≤ length places.items) × (new ≡ old ++ Conclude p ∷ (place_tasks places.items bounds rest ++ Compare (record { first = further; second = rest }) ∷ []))
+ListLooked (Elements places further) bounds rest p false old new = (length places.items < length bounds) × (new ≡ old ++ Conclude p ∷ [])
+ListLooked node bounds rest p answer old new = (answer ≡ false) × (new ≡ old)
+
+-- ---- objects
+
+-- one that both objects mention is to be compared
+abbrev pub with_field_task : Option NodeField → NodeField → List Task → List Task
+with_field_task None field tasks = tasks
+with_field_task (Some other) field tasks = Compare (record { first = other.shape; second = field.shape }) ∷ tasks
+
+-- all that both mention are
+abbrev pub field_tasks : List (String Global × NodeField) → List (String Global × NodeField) → List Task
+field_tasks inner [] = []
+field_tasks inner (f ∷ outer) = with_field_task (lookup (is_at (string_cmp f.0)) inner) f.1 (field_tasks inner outer)
+
+-- the field fits its mention in an object that has `more` or not, but for its shape where that mentions it
+abbrev pub mention_fits_in : List model.Shape → NodeField → Bool → Option NodeField → Bool
+mention_fits_in table field more None = not field.needed && (not more || is_any_shape (shape_at table field.shape))
+mention_fits_in table field more (Some other) = not field.needed || other.needed
+
+-- all of them do
+abbrev pub mentions_fit_in : List model.Shape → List (String Global × NodeField) → Bool → List (String Global × NodeField) → Bool
+mentions_fit_in table inner more [] = true
+mentions_fit_in table inner more (f ∷ outer) = mention_fits_in table f.1 more (lookup (is_at (string_cmp f.0)) inner) && mentions_fit_in table inner more outer
+
+-- what a look at a node and one of objects put down
+abbrev pub ObjectLooked : List Node → Node → List (String Global × NodeField) → Bool → Pair → Bool → List Task → List Task → Type 0
+ObjectLooked nodes (Object others more) fields extra p answer old new = (answer ≡ ((extra || (not more && others_never_there (fields_at (expansions nodes) fields) (fields_at (expansions nodes) others.entries))) && mentions_fit_in (expansions nodes) others.entries more fields)) × (new ≡ old ++ Conclude p ∷ (if answer then field_tasks others.entries fields else []))
+ObjectLooked nodes node fields extra p answer old new = (answer ≡ false) × (new ≡ old)
+
+-- ---- all that is left to do
+
+-- the first shape of the pair that was asked for is inside its second exactly where all is that is to be compared
+pub record AreGoing (table : List model.Shape) (root : Pair) (tasks : List Task) : Type 0 where
+  pub standing : AreStanding table tasks
+  pub same : inside table root ≡ all_inside table tasks
