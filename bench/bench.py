@@ -1,20 +1,29 @@
 #!/usr/bin/env python3
-"""Times the program on large texts, beside Python's own reading of the same lines.
+"""Times the program on large texts, beside Python's own reading of the same texts.
 
-usage: python3 bench/bench.py [PROGRAM]
+usage: python3 bench/bench.py [--program FILE] [FORM..]
 
-Two forms of text, each in growing sizes:
-- a chain of Pass states, each with object shapes of 20 fields as input and output;
-- one Pass state, with object shapes of many fields.
-The certificate of the largest chain is just below the limit of 16 MiB a line.
+Each form is a kind of text in growing sizes; the names of all forms, or those that are named:
+- chains: the check of a chain of Pass states, each with object shapes of 20 fields as input and output; the certificate
+  of the largest is just below the limit of 16 MiB a line;
+- wide: the check of one Pass state with object shapes of many fields;
+- run-chain: the run of a chain of Pass states over a record of 20 fields;
+- run-loop: a loop of four states (a template with Format, a Result that is placed, a Choice back), cut off after so
+  many steps;
+- run-growing: a loop that nests its input one level deeper at each turn, cut off after so many turns;
+- run-map, run-map-last: a Map over so many items with an ItemSelector, its first and its last place first;
+- run-tasks-last: a Map of Tasks with declared shapes, its last place first;
+- run-parallel: a Parallel of so many branches;
+- run-retry: a Task that is retried so many times;
+- run-wide: an input of so many megabytes that goes through five states.
 
-For each text: the processor time of the program (user and system, the fastest of
-three runs), its peak memory, the time that json.loads takes for the same three
-lines (fastest of three), the ratio of the two, and the bytes of memory a byte of
-the longest line. Between two sizes: the exponent by which the time grows. Each
-answer must be 'yes'. The exit status is 0 where every answer was.
+For each size: the processor time of the program (user and system, the fastest of three runs) less that of a bare start,
+its peak memory, the time that json.loads takes for what the program reads and prints (fastest of three), the ratio of
+the two, and the bytes of memory a byte of what is read and printed. Between two sizes: the exponent by which the time
+grows in what is read and printed. The exit status is 0 where every run ended as it must.
 """
 
+import itertools
 import json
 import math
 import os
@@ -22,120 +31,235 @@ import pathlib
 import subprocess
 import sys
 import tempfile
+import threading
 import time
 
 TOP = pathlib.Path(__file__).resolve().parent.parent
 PROGRAM = TOP / "crates/asl/out/asl"
-CHAINS = [2500, 5000, 10000]
-WIDTHS = [50000, 100000]
-FIELDS = 20
 RUNS = 3
 LIMIT = 16777216
+# json.loads recurses: what a growing loop prints nests thousands of levels.
+DEPTH = 100000
+STACK = 1 << 29
+
+
+def names(count):
+    """The names of so many states, in byte order."""
+    return [f"S{i:05}" for i in range(count)]
+
+
+def record(fields):
+    """A record of so many fields."""
+    return {f"item{i:02}": i for i in range(fields)}
 
 
 def shape(fields):
-    """Returns a closed object shape of so many fields, each needed."""
-    names = [f"item{i:02}" for i in range(fields)]
-    properties = ",".join(f'"{name}":{{"type":"integer"}}' for name in names)
-    required = ",".join(f'"{name}"' for name in names)
-    return (f'{{"type":"object","properties":{{{properties}}},"required":[{required}],'
-            '"additionalProperties":false}')
+    """A closed object shape of so many fields, each needed."""
+    return {"type": "object", "properties": {it: {"type": "integer"} for it in record(fields)},
+            "required": [*record(fields)], "additionalProperties": False}
 
 
-def texts(states, fields):
-    """Gives the three lines for a chain of so many states, in pieces."""
+def chain(count):
+    """A machine of so many Pass states, one after the other."""
+    each = names(count)
+    follows = [*({"Next": it} for it in each[1:]), {"End": True}]
+    return {"StartAt": each[0], "States": {it: {"Type": "Pass", **after} for it, after in zip(each, follows)}}
+
+
+def alone(state, name="A"):
+    """A machine of one state."""
+    return {"StartAt": name, "States": {name: state}}
+
+
+def checked(count, fields):
+    """A chain, its declared shapes and its certificate."""
     one = shape(fields)
-    yield '{"StartAt":"S00000","States":{'
-    for i in range(states - 1):
-        yield f'"S{i:05}":{{"Type":"Pass","Next":"S{i + 1:05}"}},'
-    yield f'"S{states - 1:05}":{{"Type":"Pass","End":true}}}}}}\n'
-    yield f'{{"input":{one},"tasks":{{}}}}\n'
-    yield f'{{"version":1,"output":{one},"states":{{'
-    for i in range(states):
-        comma = "," if i else ""
-        yield f'{comma}"S{i:05}":{{"input":{one},"output":{one}}}'
-    yield "}}\n"
+    states = {it: {"input": one, "output": one} for it in names(count)}
+    return {"definition": chain(count), "declared": {"input": one, "tasks": {}},
+            "certificate": {"version": 1, "output": one, "states": states}}
 
 
-def run(program, path):
-    """Runs the program once on a file; returns its processor time in seconds and its peak memory in bytes."""
-    with open(path, "rb") as text, tempfile.TemporaryFile() as said:
-        child = subprocess.Popen([program], stdin=text, stdout=said)
-        _, status, used = os.wait4(child.pid, 0)
-        child.returncode = status
-        said.seek(0)
-        if status or said.read() != b"yes\n":
-            raise ValueError(f"{program} didn't answer yes")
-    return used.ru_utime + used.ru_stime, used.ru_maxrss * 1024
+def loop(steps):
+    """Four states that follow each other for ever."""
+    states = {
+        "Told": {"Type": "Pass", "Parameters": {"n.$": "$.n", "told.$": "States.Format('number {}', $.n)"},
+                 "ResultPath": "$.last", "Next": "Placed"},
+        "Placed": {"Type": "Pass", "Result": {"a": [1, 2, 3]}, "ResultPath": "$.placed.here", "Next": "Again"},
+        "Again": {"Type": "Choice", "Choices": [{"Variable": "$.n", "NumericGreaterThan": 0, "Next": "Told"}],
+                  "Default": "Over"},
+        "Over": {"Type": "Succeed"}}
+    return {"definition": {"StartAt": "Told", "States": states}, "input": {"n": 7}, "answers": []}
 
 
-def in_child(*words):
-    """Runs this script with the words, and returns the number that it prints.
-
-    A process's peak memory counts what its parent held when it was started, so the
-    large texts are made and read by children, and this process stays small.
-    """
-    done = subprocess.run([sys.executable, __file__, *map(str, words)], stdout=subprocess.PIPE, check=True)
-    return float(done.stdout)
+def growing(turns):
+    """A state that wraps its input up and comes next again."""
+    return {"definition": alone({"Type": "Pass", "Parameters": {"p.$": "$"}, "Next": "A"}), "input": {}, "answers": []}
 
 
-def make(path, states, fields):
-    """Writes the three lines to a file; returns the length of the longest one, without its break."""
-    with open(path, "w", encoding="utf-8") as text:
-        text.writelines(texts(states, fields))
-    with open(path, "rb") as text:
-        return max(len(line) - 1 for line in text)
+def mapped(items):
+    """A Map over so many items, each of which is selected with its number."""
+    selector = {"i.$": "$$.Map.Item.Index", "v.$": "$$.Map.Item.Value"}
+    state = {"Type": "Map", "ItemSelector": selector, "ItemProcessor": alone({"Type": "Pass", "End": True}, "P"), "End": True}
+    return {"definition": alone(state), "input": [*range(items)], "answers": []}
 
 
-def loads(path):
-    """Returns the shortest time of several in which json.loads reads the lines of a file."""
-    with open(path, encoding="utf-8") as text:
-        lines = text.read().splitlines()
+def tasks(items):
+    """A Map with a Task for each of so many items, and declared shapes."""
+    processor = alone({"Type": "Task", "Resource": "r", "End": True}, "T")
+    whole = {"type": "integer"}
+    return {"definition": alone({"Type": "Map", "ItemProcessor": processor, "End": True}), "input": [*range(items)],
+            "answers": [{"Gives": i} for i in range(items)],
+            "declared": {"input": {"type": "array", "items": whole}, "tasks": {"T": {"takes": whole, "gives": whole}}}}
+
+
+def parallel(branches):
+    """A Parallel of so many branches, each of one state."""
+    each = [{"StartAt": it, "States": {it: {"Type": "Pass", "End": True}}} for it in names(branches)]
+    return {"definition": alone({"Type": "Parallel", "Branches": each, "End": True}), "input": 1, "answers": []}
+
+
+def retried(times):
+    """A Task that fails so many times before it gives."""
+    retry = [{"ErrorEquals": ["States.ALL"], "MaxAttempts": times}]
+    failure = {"Fails": {"Error": "Busy"}}
+    return {"definition": alone({"Type": "Task", "Resource": "r", "Retry": retry, "End": True}), "input": 1,
+            "answers": [failure] * times + [{"Gives": 2}]}
+
+
+def long_input(megabytes):
+    """An input of so many megabytes, a list of records, that goes through five states."""
+    one = record(20)
+    count = megabytes * 1000000 // (len(json.dumps(one, separators=(",", ":"))) + 1)
+    return {"definition": chain(5), "input": [one] * count, "answers": []}
+
+
+# Each form: how its texts are made of a size, its sizes, its words, and the status with which it ends.
+FORMS = {
+    "chains": (lambda n: checked(n, 20), [2500, 5000, 10000], None, 0),
+    "wide": (lambda n: checked(1, n), [50000, 100000], None, 0),
+    "run-chain": (lambda n: {"definition": chain(n), "input": record(20), "answers": []}, [2500, 5000, 10000], [], 0),
+    "run-loop": (loop, [2500, 5000, 10000], "steps", 4),
+    "run-growing": (growing, [1250, 2500, 5000], "steps", 4),
+    "run-map": (mapped, [1250, 2500, 5000], [], 0),
+    "run-map-last": (mapped, [1250, 2500, 5000], ["--order", "last"], 0),
+    "run-tasks-last": (tasks, [1200, 2400, 4800], ["--order", "last", "--declared", "declared"], 0),
+    "run-parallel": (parallel, [1000, 2000, 4000], [], 0),
+    "run-retry": (retried, [1250, 2500, 4990], [], 0),
+    "run-wide": (long_input, [4, 8, 16], [], 0),
+}
+
+
+def words_of(form, size):
+    """The words behind the program's name."""
+    _, _, words, _ = FORMS[form]
+    if words is None:
+        return []
+    further = ["--max-steps", str(size)] if words == "steps" else ["--max-steps", "10000", *words]
+    return ["run", "definition", "input", "answers", *further]
+
+
+def make(form, size, folder):
+    """Writes the texts of one size: as the lines of a check, or as the files of a run."""
+    texts = FORMS[form][0](size)
+    spelled = {name: json.dumps(text, separators=(",", ":")) for name, text in texts.items()}
+    for name, text in spelled.items():
+        if len(text) > LIMIT:
+            raise ValueError(f"{form} {size}: the {name} has {len(text)} bytes, which is beyond the limit")
+        pathlib.Path(folder, name).write_text(text, encoding="utf-8")
+    asked = "\n".join(spelled.values()) if "certificate" in spelled else ""
+    pathlib.Path(folder, "asked").write_text(asked, encoding="utf-8")
+
+
+def loads(folder):
+    """Prints the shortest time of several in which json.loads reads what the program reads and prints."""
+    texts = [it.read_text(encoding="utf-8") for it in pathlib.Path(folder).iterdir() if it.name not in ("asked", "said")]
+    said = pathlib.Path(folder, "said").read_text(encoding="utf-8").splitlines()
+    texts += [it for it in said if it != "yes"]
     times = []
     for _ in range(RUNS):
         begin = time.process_time()
-        for line in lines:
-            json.loads(line)
+        for text in texts:
+            json.loads(text)
         times.append(time.process_time() - begin)
-    return min(times)
+    print(min(times))
 
 
-def measured(program, states, fields, folder):
-    """Makes the text of one size, runs the program on it, prints a line, and returns its size and time."""
-    path = os.path.join(folder, "text")
-    longest = int(in_child("--make", path, states, fields))
-    if longest > LIMIT:
-        raise ValueError(f"a line of {longest} bytes is beyond the limit")
-    runs = [run(program, path) for _ in range(RUNS)]
-    seconds, memory = min(it[0] for it in runs), max(it[1] for it in runs)
-    python = in_child("--loads", path)
-    print(f"{states:7} {fields:7} {longest:9} {seconds:9.3f} {memory / 1e6:8.1f}"
-          f" {python:9.3f} {seconds / python:6.2f} {memory / longest:7.1f}")
-    return os.path.getsize(path), seconds
+def in_child(*words):
+    """Runs this script with the words, and returns what it prints.
+
+    A process's peak memory counts what its parent held when it was started, so the large texts are made and read by
+    children, and this process stays small.
+    """
+    command = [sys.executable, __file__, *map(str, words)]
+    return subprocess.run(command, stdout=subprocess.PIPE, check=True, text=True).stdout
 
 
-def bench(program):
-    """Measures both forms in all sizes."""
-    forms = [("chains of Pass states", [(count, FIELDS) for count in CHAINS]),
-             ("one state with wide shapes", [(1, count) for count in WIDTHS])]
-    for name, sizes in forms:
-        print(f"== {name}")
-        print(" states  fields longest/B program/s  peak/MB  python/s  ratio  B per B")
-        with tempfile.TemporaryDirectory(prefix="asl-bench-") as folder:
-            done = [measured(program, states, fields, folder) for states, fields in sizes]
-        for (size, seconds), (next_size, next_seconds) in zip(done, done[1:]):
-            exponent = math.log(next_seconds / seconds) / math.log(next_size / size)
-            print(f"growth from {size} to {next_size} bytes: exponent {exponent:.2f}")
+def run(program, words, status, folder):
+    """Runs the program once; returns its processor time in seconds and its peak memory in bytes."""
+    with open(os.path.join(folder, "asked"), "rb") as asked, open(os.path.join(folder, "said"), "wb") as said:
+        child = subprocess.Popen([program, *words], cwd=folder, stdin=asked, stdout=said, stderr=subprocess.DEVNULL)
+        _, ended, used = os.wait4(child.pid, 0)
+    child.returncode = os.waitstatus_to_exitcode(ended)
+    if child.returncode != status:
+        raise ValueError(f"{program} {' '.join(words)} ended with {child.returncode}, not with {status}")
+    return used.ru_utime + used.ru_stime, used.ru_maxrss * 1024
+
+
+def bare_start(program, folder):
+    """The processor time of a start that does nothing else."""
+    pathlib.Path(folder, "asked").write_text("", encoding="utf-8")
+    return min(run(program, ["--help"], 0, folder)[0] for _ in range(10))
+
+
+def measured(program, form, size, bare, folder):
+    """Makes the texts of one size, runs the program on them, prints a line, and returns their size and its time."""
+    in_child("--make", form, size, folder)
+    words, status = words_of(form, size), FORMS[form][3]
+    done = [run(program, words, status, folder) for _ in range(RUNS)]
+    seconds, memory = min(it[0] for it in done) - bare, max(it[1] for it in done)
+    python = float(in_child("--loads", folder))
+    length = sum(it.stat().st_size for it in pathlib.Path(folder).iterdir() if it.name != "asked")
+    print(f"{size:7} {length:11} {seconds:9.3f} {memory / 1e6:8.1f} {python:9.3f} {seconds / python:6.2f}"
+          f" {memory / length:7.1f}", flush=True)
+    return length, seconds
+
+
+def bench(program, forms):
+    """Measures the forms in all their sizes."""
+    with tempfile.TemporaryDirectory(prefix="asl-bench-") as folder:
+        bare = bare_start(program, folder)
+    print(f"a bare start: {bare * 1000:.1f} ms")
+    for form in forms:
+        print(f"== {form}")
+        print("   size     bytes/B program/s  peak/MB  python/s  ratio  B per B")
+        done = []
+        for size in FORMS[form][1]:
+            with tempfile.TemporaryDirectory(prefix="asl-bench-") as folder:
+                done.append(measured(program, form, size, bare, folder))
+        for (length, seconds), (longer, more) in itertools.pairwise(done):
+            exponent = math.log(more / seconds) / math.log(longer / length)
+            print(f"growth from {length} to {longer} bytes: exponent {exponent:.2f}")
 
 
 def main(words):
     if words[:1] == ["--make"]:
-        print(make(words[1], int(words[2]), int(words[3])))
+        make(words[1], int(words[2]), words[3])
     elif words[:1] == ["--loads"]:
-        print(loads(words[1]))
+        sys.setrecursionlimit(DEPTH)
+        threading.stack_size(STACK)
+        reader = threading.Thread(target=loads, args=[words[1]])
+        reader.start()
+        reader.join()
     else:
-        bench(words[0] if words else PROGRAM)
+        program = PROGRAM
+        if words[:1] == ["--program"]:
+            program, words = pathlib.Path(words[1]).resolve(), words[2:]
+        if any(it not in FORMS for it in words):
+            print(__doc__, end="", file=sys.stderr)
+            return 2
+        bench(program, words or FORMS)
+    return 0
 
 
 if __name__ == "__main__":
-    main(sys.argv[1:])
+    sys.exit(main(sys.argv[1:]))
