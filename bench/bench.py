@@ -224,21 +224,30 @@ def measured(program, form, size, bare, folder):
     return length, seconds
 
 
+def sizes_of(program, form, bare):
+    """Measures the form in its sizes, and gives for each how much is read and printed and how long it takes."""
+    for size in FORMS[form][1]:
+        with tempfile.TemporaryDirectory(prefix="asl-bench-") as folder:
+            yield measured(program, form, size, bare, folder)
+
+
 def bench(program, forms):
-    """Measures the forms in all their sizes."""
+    """Measures the forms in all their sizes. Returns whether every run ended as it must."""
     with tempfile.TemporaryDirectory(prefix="asl-bench-") as folder:
         bare = bare_start(program, folder)
     print(f"a bare start: {bare * 1000:.1f} ms")
+    is_well = True
     for form in forms:
         print(f"== {form}")
         print("   size     bytes/B program/s  peak/MB  python/s  ratio  B per B")
-        done = []
-        for size in FORMS[form][1]:
-            with tempfile.TemporaryDirectory(prefix="asl-bench-") as folder:
-                done.append(measured(program, form, size, bare, folder))
-        for (length, seconds), (longer, more) in itertools.pairwise(done):
-            exponent = math.log(more / seconds) / math.log(longer / length)
-            print(f"growth from {length} to {longer} bytes: exponent {exponent:.2f}")
+        try:
+            for (length, seconds), (longer, more) in itertools.pairwise(sizes_of(program, form, bare)):
+                exponent = math.log(more / seconds) / math.log(longer / length)
+                print(f"growth from {length} to {longer} bytes: exponent {exponent:.2f}", flush=True)
+        except ValueError as why:
+            print(why, flush=True)
+            is_well = False
+    return is_well
 
 
 def main(words):
@@ -257,7 +266,7 @@ def main(words):
         if any(it not in FORMS for it in words):
             print(__doc__, end="", file=sys.stderr)
             return 2
-        bench(program, words or FORMS)
+        return 0 if bench(program, words or FORMS) else 1
     return 0
 
 
