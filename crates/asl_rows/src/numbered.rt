@@ -98,13 +98,7 @@ fn shared_parts(rt: HostRuntime) {
 }
 
 /// The number of a list of lists of lists and so on, so many of them, over the shape of that number.
-fn chain(
-    rt: &impl Abort,
-    alloc: Global,
-    shapes: &mut Shapes,
-    base: usize,
-    count: usize,
-) -> usize {
+fn chain(rt: &impl Abort, alloc: Global, shapes: &mut Shapes, base: usize, count: usize) -> usize {
     let mut top = base;
     for _ in 0..count {
         top = added_list(rt, alloc, shapes, top).expect(rt, "a number");
@@ -135,7 +129,12 @@ fn doubled(rt: &impl Abort, alloc: Global, shapes: &mut Shapes, part: usize) -> 
 }
 
 /// What the table tells of the first shape in the second, and of the second in the first.
-fn compared(rt: &impl Abort, shapes: &mut Shapes, first: usize, second: usize) -> [Option<bool>; 2] {
+fn compared(
+    rt: &impl Abort,
+    shapes: &mut Shapes,
+    first: usize,
+    second: usize,
+) -> [Option<bool>; 2] {
     [
         shapes.sub(first, second).expect(rt, "an answer"),
         shapes.sub(second, first).expect(rt, "an answer"),
@@ -151,7 +150,10 @@ fn long_chains(rt: HostRuntime) {
     let first = chain(&rt, alloc, &mut shapes, int, LONG);
     let second = chain(&rt, alloc, &mut shapes, any, LONG);
     for _ in 0..2 {
-        assert_eq!(rt; compared(&rt, &mut shapes, first, second), [Some(true), Some(false)]);
+        assert_eq!(rt;
+            compared(&rt, &mut shapes, first, second),
+            [Some(true), Some(false)]
+        );
     }
     assert_eq!(rt; shapes.inhabited(second), Some(true));
 }
@@ -166,5 +168,8 @@ fn forty_doublings(rt: HostRuntime) {
         first = doubled(&rt, alloc, &mut shapes, first);
         second = doubled(&rt, alloc, &mut shapes, second);
     }
-    assert_eq!(rt; compared(&rt, &mut shapes, first, second), [Some(true), Some(false)]);
+    assert_eq!(rt;
+        compared(&rt, &mut shapes, first, second),
+        [Some(true), Some(false)]
+    );
 }
