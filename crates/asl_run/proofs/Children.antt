@@ -1,5 +1,5 @@
 -- Children that start, by the numbers of their states and by their names.
-use Rattle.std.proofs.Common.{◌≡◌, ◌<◌, ◌≤◌, refl, sym, ap, ◌∙◌, arith, rules, ℕ, zero, suc, ◌+◌, List, [], ◌∷◌, ◌++◌, map, length, append_assoc, append-nil, slice_index_or, String, string_bytes}
+use Rattle.std.proofs.Common.{◌≡◌, ◌<◌, ◌≤◌, refl, sym, ap, ◌∙◌, arith, ℕ, zero, suc, ◌+◌, List, [], ◌∷◌, ◌++◌, map, length, append_assoc, append-nil, slice_index_or, String, string_bytes}
 use Rattle.std.proofs.lemmas.List.{length-append, map-append}
 use Rattle.std.specs.declared.alloc.Global.{Global}
 use Rattle.asl_machine.specs.Machine.{branches_view}
@@ -8,11 +8,8 @@ use Rattle.asl_model.specs.Run.{Activity, AndActivity, Ready, started}
 use Rattle.asl_model.specs.Tree.{Tree, trees_of}
 use Rattle.asl_tree.specs.View.{elements_view, view}
 use Rattle.asl_tree.specs.declared.Tree as trees
-use Rattle.asl_run.specs.Activities.{activity_view, ready_view, ready_children}
+use Rattle.asl_run.specs.Activities.{ready_view, ready_children}
 use Rattle.asl_run.specs.Standing.{name_in, number_in, children_of, EachIsNamed}
-use Rattle.asl_run.specs.declared.activities.Activity as activities
-use Rattle.asl_run.specs.declared.activities.Activity.{the_lemmas}
-use Rattle.asl_run.specs.declared.activities.Activity.TheVariants as variants
 use Rattle.asl_run.specs.declared.activities.Visit as code
 
 -- a child for each input, from number k on, with its state's name as it is found by its number
@@ -88,30 +85,3 @@ start_found slice starts i s same h is = ap string_bytes is ∙ within slice i s
 
 pub start_missing : (slice starts : List (String Global)) (i : ℕ) → slice ≡ starts → length slice ≤ i → [] ≡ start_of (scope_at i (branches_view starts))
 start_missing slice starts i same h = past slice i h ∙ ap (λ (l : List (String Global)). start_of (scope_at i (branches_view l))) same
-
--- ---- activities of executions
-
--- the activities so far and those of the executions left are those of all
-pub record AreReady (made : List activities.Activity) (left given : List code.Visit) : Type 0 where
-  pub same : (names : List (List ℕ)) → map (activity_view names) made ++ map (ready_view names) left ≡ map (ready_view names) given
-
-ready_seen : (names : List (List ℕ)) (visit : code.Visit) → activity_view names (variants.Ready visit) ≡ ready_view names visit
-ready_seen names visit = search (rules, the_lemmas)
-
--- one more
-pub one_ready : (made longer : List activities.Activity) (visit : code.Visit) (left rest given : List code.Visit) → left ≡ visit ∷ rest → longer ≡ made ++ variants.Ready visit ∷ [] → AreReady made left given → AreReady longer rest given
-one_ready made longer visit left rest given steps pushed before = record {
-  same = λ names.
-      ap (λ (v : List activities.Activity). map (activity_view names) v ++ map (ready_view names) rest) pushed
-      ∙ ap (λ xs. xs ++ map (ready_view names) rest) (map-append (activity_view names) made (variants.Ready visit ∷ []))
-      ∙ append_assoc (map (activity_view names) made) (activity_view names (variants.Ready visit) ∷ []) (map (ready_view names) rest)
-      ∙ ap (λ a. map (activity_view names) made ++ a ∷ map (ready_view names) rest) (ready_seen names visit)
-      ∙ ap (λ (vs : List code.Visit). map (activity_view names) made ++ map (ready_view names) vs) (sym steps)
-      ∙ before.same names;
-}
-
--- all of them
-pub all_ready : (made : List activities.Activity) (left given visits : List code.Visit) → left ≡ [] → given ≡ visits → AreReady made left given → (names : List (List ℕ)) → map (activity_view names) made ≡ map (ready_view names) visits
-all_ready made left given visits empty same before names =
-    sym (append-nil (map (activity_view names) made)) ∙ ap (λ (vs : List code.Visit). map (activity_view names) made ++ map (ready_view names) vs) (sym empty)
-    ∙ before.same names ∙ ap (λ (vs : List code.Visit). map (ready_view names) vs) same

@@ -4,9 +4,11 @@ use Rattle.std.proofs.lemmas.List.{drop_all}
 use Rattle.asl_model.specs.Run as model
 use Rattle.asl_model.specs.Run.{Ready, Waiting, Split, Done, Failed, Joining, AllDone, OneFailed, StillRunning, WantsMove, joining, child_before, running_before, done_before}
 use Rattle.asl_model.specs.Tree.{NoTrees}
-use Rattle.asl_run.specs.Activities.{activity_view, children_view}
 use Rattle.asl_run.specs.Enabling.{is_joinable, wanted_by_join, wanted_by, has_failed, has_ended}
-use Rattle.asl_run.specs.declared.activities.Activity.{Activity}
+use Rattle.asl_run.specs.Nodes.{AreHeads, shown_over}
+use Rattle.asl_run.specs.Standing.{children_of}
+use Rattle.asl_run.specs.declared.nodes.Node.{Node}
+use Rattle.asl_run.proofs.Heads.{next_head, no_more}
 
 -- one of the children has failed
 abbrev pub some_failed : Joining → Bool
@@ -20,8 +22,8 @@ decided true others = is_joinable others
 decided false others = some_failed others
 
 -- those from number i on decide
-pub record Decide (children : List Activity) (i : ℕ) (ended : Bool) : Type 0 where
-  pub same : (names : List (List ℕ)) → is_joinable (joining 0 (children_view names children)) ≡ decided ended (joining i (children_view names (drop i children)))
+pub record Decide (children : List Node) (i : ℕ) (ended : Bool) : Type 0 where
+  pub same : (names : List (List ℕ)) (below : List model.Activity) → AreHeads names children below → is_joinable (joining 0 (children_of below)) ≡ decided ended (joining i (children_of (drop i below)))
 
 running_decides : (ended : Bool) (others : Joining) → decided ended (running_before others) ≡ decided (ended && false) others
 running_decides true (AllDone outputs) = refl
@@ -56,37 +58,35 @@ failed_decides ended i (Done output) others h = absurd (cc)
 failed_decides true i (Failed error cause) others h = refl
 failed_decides false i (Failed error cause) others h = refl
 
--- the child at hand, in front of those behind it
-pub next_child : (names : List (List ℕ)) (children : List Activity) (i : ℕ) (child : Activity) → i < length children → child ≡ get_or children i child → children_view names (drop i children) ≡ model.AndActivity (activity_view names child) (children_view names (drop (i + 1) children))
-next_child names children i child within is = ap (children_view names) (drop-cons children i child within) ∙ rw (← is, add-one) refl
-
 -- it hasn't failed, and others decide
-pub one_further : (children : List Activity) (i : ℕ) (child : Activity) (ended was : Bool) → i < length children → child ≡ get_or children i child → ((names : List (List ℕ)) → false ≡ has_failed (activity_view names child)) → ((names : List (List ℕ)) → was ≡ has_ended (activity_view names child))
+pub one_further : (children : List Node) (i : ℕ) (child : Node) (ended was : Bool) → i < length children → child ≡ get_or children i child → ((names : List (List ℕ)) (under : model.Activities) → false ≡ has_failed (shown_over names under child)) → ((names : List (List ℕ)) (under : model.Activities) → was ≡ has_ended (shown_over names under child))
     → Decide children i ended → Decide children (i + 1) (ended && was)
 one_further children i child ended was within is failed ends h = record {
-  same = λ names.
-      let behind = children_view names (drop (i + 1) children) in
+  same = λ names below heads.
+      let there = next_head names children below i child heads within is in
+      let behind = joining (suc i) (children_of (drop (suc i) below)) in
       let next : suc i ≡ i + 1 = omega arith in
-      h.same names ∙ ap (λ cs. decided ended (joining i cs)) (next_child names children i child within is)
-      ∙ child_decides ended i (activity_view names child) (joining (suc i) behind) (failed names)
-      ∙ ap (λ (b : Bool). decided (ended && b) (joining (suc i) behind)) (sym (ends names))
-      ∙ ap (λ k. decided (ended && was) (joining k behind)) next;
+      h.same names below heads ∙ ap (λ all. decided ended (joining i (children_of all))) there.is
+      ∙ child_decides ended i (shown_over names there.under child) behind (failed names there.under)
+      ∙ ap (λ (b : Bool). decided (ended && b) behind) (sym (ends names there.under))
+      ∙ ap (λ k. decided (ended && was) (joining k (children_of (drop k below)))) next;
 }
 
 -- it has failed
-pub failed_joins : (children : List Activity) (i : ℕ) (child : Activity) (ended : Bool) → i < length children → child ≡ get_or children i child → ((names : List (List ℕ)) → true ≡ has_failed (activity_view names child))
-    → Decide children i ended → (names : List (List ℕ)) → true ≡ is_joinable (joining 0 (children_view names children))
-failed_joins children i child ended within is failed h names =
-    let behind = children_view names (drop (i + 1) children) in
-    sym (h.same names ∙ ap (λ cs. decided ended (joining i cs)) (next_child names children i child within is) ∙ failed_decides ended i (activity_view names child) (joining (suc i) behind) (failed names))
+pub failed_joins : (children : List Node) (i : ℕ) (child : Node) (ended : Bool) → i < length children → child ≡ get_or children i child → ((names : List (List ℕ)) (under : model.Activities) → true ≡ has_failed (shown_over names under child))
+    → Decide children i ended → (names : List (List ℕ)) (below : List model.Activity) → AreHeads names children below → true ≡ is_joinable (joining 0 (children_of below))
+failed_joins children i child ended within is failed h names below heads =
+    let there = next_head names children below i child heads within is in
+    let behind = joining (suc i) (children_of (drop (suc i) below)) in
+    sym (h.same names below heads ∙ ap (λ all. decided ended (joining i (children_of all))) there.is ∙ failed_decides ended i (shown_over names there.under child) behind (failed names there.under))
 
 none_left : (ended : Bool) → ended ≡ decided ended (AllDone NoTrees)
 none_left true = refl
 none_left false = refl
 
 -- all have been gone through
-pub all_decided : (children : List Activity) (i : ℕ) (ended : Bool) → length children ≤ i → Decide children i ended → (names : List (List ℕ)) → ended ≡ is_joinable (joining 0 (children_view names children))
-all_decided children i ended end h names = none_left ended ∙ sym (h.same names ∙ ap (λ cs. decided ended (joining i (children_view names cs))) (drop_all i children end))
+pub all_decided : (children : List Node) (i : ℕ) (ended : Bool) → length children ≤ i → Decide children i ended → (names : List (List ℕ)) (below : List model.Activity) → AreHeads names children below → ended ≡ is_joinable (joining 0 (children_of below))
+all_decided children i ended end h names below heads = none_left ended ∙ sym (h.same names below heads ∙ ap (λ all. decided ended (joining i (children_of all))) (no_more names children below i heads end))
 
 -- ---- what they want
 

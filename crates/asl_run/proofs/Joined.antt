@@ -11,17 +11,17 @@ use Rattle.asl_tree.specs.View.{view}
 use Rattle.asl_tree.specs.declared.Tree as trees
 use Rattle.asl_tree.specs.declared.Tree.{the_lemmas}
 use Rattle.asl_run.specs.Acting.{Plans, PlansAs, by_settings, by_state, names_at, told_at}
-use Rattle.asl_run.specs.Activities.{activity_view, children_view}
 use Rattle.asl_run.specs.Enabling.{has_ended}
 use Rattle.asl_run.specs.Entries.{entry_view}
 use Rattle.asl_run.specs.Joining.{failure_in, output_in, outputs_among, without_outputs}
+use Rattle.asl_run.specs.Nodes.{AreHeads, shown_over}
 use Rattle.asl_run.specs.Standing.{children_of}
-use Rattle.asl_run.specs.declared.activities.Activity as code
 use Rattle.asl_run.specs.declared.entries.Entry.{Entry}
+use Rattle.asl_run.specs.declared.nodes.Node.{Node}
 use Rattle.asl_run.specs.declared.planning.Here.{Here}
 use Rattle.asl_run.specs.declared.planning.Plan.{Plan}
 use Rattle.asl_run.proofs.Acted.{none_as, planned_as}
-use Rattle.asl_run.proofs.Joinable.{next_child}
+use Rattle.asl_run.proofs.Heads.{next_head, no_more}
 use Rattle.asl_run.proofs.Planned.{preceded_so}
 
 -- ---- how far they are
@@ -32,8 +32,8 @@ far_behind true others = without_outputs others
 far_behind false others = running_before (without_outputs others)
 
 -- the children from number i on say how far they are
-pub record Say (children : List code.Activity) (i : ℕ) (ended : Bool) : Type 0 where
-  pub same : (names : List (List ℕ)) → without_outputs (joining 0 (children_view names children)) ≡ far_behind ended (joining i (children_view names (drop i children)))
+pub record Say (children : List Node) (i : ℕ) (ended : Bool) : Type 0 where
+  pub same : (names : List (List ℕ)) (below : List Activity) → AreHeads names children below → without_outputs (joining 0 (children_of below)) ≡ far_behind ended (joining i (children_of (drop i below)))
 
 running_behind : (ended : Bool) (others : Joining) → far_behind ended (running_before others) ≡ far_behind (ended && false) others
 running_behind true (AllDone outputs) = refl
@@ -74,57 +74,59 @@ child_failed ended i (Failed e c) others error cause h =
     failed_behind ended i e c ∙ ap (λ (p : List ℕ × List ℕ). OneFailed i p.0 p.1) same
 
 -- one that hasn't failed, and others say how far they are
-pub one_further : (children : List code.Activity) (i : ℕ) (child : code.Activity) (ended was : Bool) → i < length children → child ≡ get_or children i child → ((names : List (List ℕ)) → None ≡ failure_in (activity_view names child))
-    → ((names : List (List ℕ)) → was ≡ has_ended (activity_view names child)) → Say children i ended → Say children (i + 1) (ended && was)
+pub one_further : (children : List Node) (i : ℕ) (child : Node) (ended was : Bool) → i < length children → child ≡ get_or children i child → ((names : List (List ℕ)) (under : model.Activities) → None ≡ failure_in (shown_over names under child))
+    → ((names : List (List ℕ)) (under : model.Activities) → was ≡ has_ended (shown_over names under child)) → Say children i ended → Say children (i + 1) (ended && was)
 one_further children i child ended was within is failed ends h = record {
-  same = λ names.
-      let behind = children_view names (drop (i + 1) children) in
+  same = λ names below heads.
+      let there = next_head names children below i child heads within is in
+      let behind = joining (suc i) (children_of (drop (suc i) below)) in
       let next : suc i ≡ i + 1 = omega arith in
-      h.same names ∙ ap (λ cs. far_behind ended (joining i cs)) (next_child names children i child within is)
-      ∙ child_behind ended i (activity_view names child) (joining (suc i) behind) (failed names)
-      ∙ ap (λ (b : Bool). far_behind (ended && b) (joining (suc i) behind)) (sym (ends names))
-      ∙ ap (λ k. far_behind (ended && was) (joining k behind)) next;
+      h.same names below heads ∙ ap (λ all. far_behind ended (joining i (children_of all))) there.is
+      ∙ child_behind ended i (shown_over names there.under child) behind (failed names there.under)
+      ∙ ap (λ (b : Bool). far_behind (ended && b) behind) (sym (ends names there.under))
+      ∙ ap (λ k. far_behind (ended && was) (joining k (children_of (drop k below)))) next;
 }
 
 -- one has failed
-pub one_failed : (children : List code.Activity) (i : ℕ) (child : code.Activity) (ended : Bool) (error cause : List ℕ) → i < length children → child ≡ get_or children i child → ((names : List (List ℕ)) → Some (error, cause) ≡ failure_in (activity_view names child))
-    → Say children i ended → (names : List (List ℕ)) → OneFailed i error cause ≡ without_outputs (joining 0 (children_view names children))
-one_failed children i child ended error cause within is failed h names =
-    let behind = children_view names (drop (i + 1) children) in
-    sym (h.same names ∙ ap (λ cs. far_behind ended (joining i cs)) (next_child names children i child within is) ∙ child_failed ended i (activity_view names child) (joining (suc i) behind) error cause (failed names))
+pub one_failed : (children : List Node) (i : ℕ) (child : Node) (ended : Bool) (error cause : List ℕ) → i < length children → child ≡ get_or children i child → ((names : List (List ℕ)) (under : model.Activities) → Some (error, cause) ≡ failure_in (shown_over names under child))
+    → Say children i ended → (names : List (List ℕ)) (below : List Activity) → AreHeads names children below → OneFailed i error cause ≡ without_outputs (joining 0 (children_of below))
+one_failed children i child ended error cause within is failed h names below heads =
+    let there = next_head names children below i child heads within is in
+    let behind = joining (suc i) (children_of (drop (suc i) below)) in
+    sym (h.same names below heads ∙ ap (λ all. far_behind ended (joining i (children_of all))) there.is ∙ child_failed ended i (shown_over names there.under child) behind error cause (failed names there.under))
 
-all_gone : (children : List code.Activity) (i : ℕ) (ended : Bool) → length children ≤ i → Say children i ended → (names : List (List ℕ)) → far_behind ended (AllDone NoTrees) ≡ without_outputs (joining 0 (children_view names children))
-all_gone children i ended end h names = sym (h.same names ∙ ap (λ cs. far_behind ended (joining i (children_view names cs))) (drop_all i children end))
+all_gone : (children : List Node) (i : ℕ) (ended : Bool) → length children ≤ i → Say children i ended → (names : List (List ℕ)) (below : List Activity) → AreHeads names children below → far_behind ended (AllDone NoTrees) ≡ without_outputs (joining 0 (children_of below))
+all_gone children i ended end h names below heads = sym (h.same names below heads ∙ ap (λ all. far_behind ended (joining i (children_of all))) (no_more names children below i heads end))
 
 -- all have been gone through, and have ended
-pub all_ended : (children : List code.Activity) (i : ℕ) (ended : Bool) → true ≡ ended → length children ≤ i → Say children i ended → (names : List (List ℕ)) → AllDone NoTrees ≡ without_outputs (joining 0 (children_view names children))
-all_ended children i ended have end h names = ap (λ (b : Bool). far_behind b (AllDone NoTrees)) have ∙ all_gone children i ended end h names
+pub all_ended : (children : List Node) (i : ℕ) (ended : Bool) → true ≡ ended → length children ≤ i → Say children i ended → (names : List (List ℕ)) (below : List Activity) → AreHeads names children below → AllDone NoTrees ≡ without_outputs (joining 0 (children_of below))
+all_ended children i ended have end h names below heads = ap (λ (b : Bool). far_behind b (AllDone NoTrees)) have ∙ all_gone children i ended end h names below heads
 
 -- so, and some haven't
-pub some_running : (children : List code.Activity) (i : ℕ) (ended : Bool) → false ≡ ended → length children ≤ i → Say children i ended → (names : List (List ℕ)) → StillRunning ≡ without_outputs (joining 0 (children_view names children))
-some_running children i ended lack end h names = ap (λ (b : Bool). far_behind b (AllDone NoTrees)) lack ∙ all_gone children i ended end h names
+pub some_running : (children : List Node) (i : ℕ) (ended : Bool) → false ≡ ended → length children ≤ i → Say children i ended → (names : List (List ℕ)) (below : List Activity) → AreHeads names children below → StillRunning ≡ without_outputs (joining 0 (children_of below))
+some_running children i ended lack end h names below heads = ap (λ (b : Bool). far_behind b (AllDone NoTrees)) lack ∙ all_gone children i ended end h names below heads
 
 -- ---- their outputs
 
 -- these outputs are those of the children before number i
-pub record AreOut (children : List code.Activity) (i : ℕ) (outputs : List trees.Tree) : Type 0 where
-  pub same : (names : List (List ℕ)) → map view outputs ++ outputs_among (map (activity_view names) (drop i children)) ≡ outputs_among (map (activity_view names) children)
+pub record AreOut (children : List Node) (i : ℕ) (outputs : List trees.Tree) : Type 0 where
+  pub same : (names : List (List ℕ)) (below : List Activity) → AreHeads names children below → map view outputs ++ outputs_among (drop i below) ≡ outputs_among below
 
 -- a child's is added
-pub one_out : (children : List code.Activity) (i : ℕ) (child : code.Activity) (outputs longer : List trees.Tree) → i < length children → child ≡ get_or children i child
-    → ((names : List (List ℕ)) → map view longer ≡ map view outputs ++ option_to_list (output_in (activity_view names child))) → AreOut children i outputs → AreOut children (i + 1) longer
+pub one_out : (children : List Node) (i : ℕ) (child : Node) (outputs longer : List trees.Tree) → i < length children → child ≡ get_or children i child
+    → ((names : List (List ℕ)) (under : model.Activities) → map view longer ≡ map view outputs ++ option_to_list (output_in (shown_over names under child))) → AreOut children i outputs → AreOut children (i + 1) longer
 one_out children i child outputs longer within is added h = record {
-  same = λ names.
-      let others = map (activity_view names) (drop (i + 1) children) in
-      let step : map (activity_view names) (drop i children) ≡ activity_view names child ∷ others = ap (map (activity_view names)) (drop-cons children i child within) ∙ rw (← is, add-one) refl in
-      ap (λ ts. ts ++ outputs_among others) (added names) ∙ append_assoc (map view outputs) (option_to_list (output_in (activity_view names child))) (outputs_among others)
-      ∙ ap (λ cs. map view outputs ++ outputs_among cs) (sym step) ∙ h.same names;
+  same = λ names below heads.
+      let there = next_head names children below i child heads within is in
+      let done = option_to_list (output_in (shown_over names there.under child)) in
+      let next : i + 1 ≡ suc i = omega arith in
+      ap (λ k. map view longer ++ outputs_among (drop k below)) next ∙ ap (λ ts. ts ++ outputs_among (drop (suc i) below)) (added names there.under)
+      ∙ append_assoc (map view outputs) done (outputs_among (drop (suc i) below)) ∙ ap (λ all. map view outputs ++ outputs_among all) (sym there.is) ∙ h.same names below heads;
 }
 
 -- all are
-pub all_out : (children : List code.Activity) (i : ℕ) (outputs : List trees.Tree) → length children ≤ i → AreOut children i outputs → (names : List (List ℕ)) → map view outputs ≡ outputs_among (map (activity_view names) children)
-all_out children i outputs end h names =
-    sym (append-nil (map view outputs)) ∙ ap (λ (cs : List code.Activity). map view outputs ++ outputs_among (map (activity_view names) cs)) (sym (drop_all i children end)) ∙ h.same names
+pub all_out : (children : List Node) (i : ℕ) (outputs : List trees.Tree) → length children ≤ i → AreOut children i outputs → (names : List (List ℕ)) (below : List Activity) → AreHeads names children below → map view outputs ≡ outputs_among below
+all_out children i outputs end h names below heads = sym (append-nil (map view outputs)) ∙ ap (λ all. map view outputs ++ outputs_among all) (sym (no_more names children below i heads end)) ∙ h.same names below heads
 
 -- a child that is done
 pub one_added : (outputs longer : List trees.Tree) (output t : trees.Tree) (there : Option Tree) → Some (view output) ≡ there → view t ≡ view output → longer ≡ outputs ++ t ∷ [] → map view longer ≡ map view outputs ++ option_to_list there
@@ -175,25 +177,25 @@ view_list : (v : Vec trees.Tree Global) → view (trees.List v) ≡ Array (trees
 view_list v = search (rules, the_lemmas)
 
 -- all are done: the state finishes with their outputs
-pub joined_all : (here : Here) (plan : Plan) (children : List code.Activity) (outputs : Vec trees.Tree Global) → AllDone NoTrees ≡ without_outputs (joining 0 (children_view (names_at here) children)) → map view outputs.items ≡ outputs_among (map (activity_view (names_at here)) children)
-    → Plans here plan (by_settings model.finishes here (view (trees.List outputs))) → PlansAs here (Some plan) (by_state model.joins here (joining 0 (children_view (names_at here) children)))
-joined_all here plan children outputs far told plans =
-    let found = far_done (joining 0 (children_view (names_at here) children)) far in
-    let same : trees_of (map view outputs.items) ≡ found.0 = ap trees_of told ∙ all_done (map (activity_view (names_at here)) children) 0 found.0 found.1 in
+pub joined_all : (here : Here) (plan : Plan) (below : List Activity) (outputs : Vec trees.Tree Global) → AllDone NoTrees ≡ without_outputs (joining 0 (children_of below)) → map view outputs.items ≡ outputs_among below
+    → Plans here plan (by_settings model.finishes here (view (trees.List outputs))) → PlansAs here (Some plan) (by_state model.joins here (joining 0 (children_of below)))
+joined_all here plan below outputs far told plans =
+    let found = far_done (joining 0 (children_of below)) far in
+    let same : trees_of (map view outputs.items) ≡ found.0 = ap trees_of told ∙ all_done below 0 found.0 found.1 in
     subst (λ j. PlansAs here (Some plan) (by_state model.joins here j)) (sym found.1)
     (planned_as here plan (by_settings model.finishes here (Array found.0)) (subst (λ t. Plans here plan (by_settings model.finishes here t)) (view_list outputs ∙ ap Array same) plans))
 
 -- one has failed
-pub joined_failed : (here : Here) (plan : Plan) (children : List code.Activity) (i : ℕ) (error cause : List ℕ) → OneFailed i error cause ≡ without_outputs (joining 0 (children_view (names_at here) children))
-    → Plans here plan (model.entry_then (model.BranchFailed here.name.now i error cause) (by_settings model.troubled here (model.join_error (kind_view here.state.now.kind) error) cause)) → PlansAs here (Some plan) (by_state model.joins here (joining 0 (children_view (names_at here) children)))
-joined_failed here plan children i error cause far plans =
-    subst (λ j. PlansAs here (Some plan) (by_state model.joins here j)) (sym (far_failed (joining 0 (children_view (names_at here) children)) i error cause far))
+pub joined_failed : (here : Here) (plan : Plan) (below : List Activity) (i : ℕ) (error cause : List ℕ) → OneFailed i error cause ≡ without_outputs (joining 0 (children_of below))
+    → Plans here plan (model.entry_then (model.BranchFailed here.name.now i error cause) (by_settings model.troubled here (model.join_error (kind_view here.state.now.kind) error) cause)) → PlansAs here (Some plan) (by_state model.joins here (joining 0 (children_of below)))
+joined_failed here plan below i error cause far plans =
+    subst (λ j. PlansAs here (Some plan) (by_state model.joins here j)) (sym (far_failed (joining 0 (children_of below)) i error cause far))
     (planned_as here plan (model.entry_then (model.BranchFailed here.name.now i error cause) (by_settings model.troubled here (model.join_error (kind_view here.state.now.kind) error) cause)) plans)
 
 -- some are still running
-pub not_joined : (here : Here) (children : List code.Activity) → StillRunning ≡ without_outputs (joining 0 (children_view (names_at here) children)) → PlansAs here None (by_state model.joins here (joining 0 (children_view (names_at here) children)))
-not_joined here children far =
-    subst (λ j. PlansAs here None (by_state model.joins here j)) (sym (far_running (joining 0 (children_view (names_at here) children)) far)) (none_as here None refl)
+pub not_joined : (here : Here) (below : List Activity) → StillRunning ≡ without_outputs (joining 0 (children_of below)) → PlansAs here None (by_state model.joins here (joining 0 (children_of below)))
+not_joined here below far =
+    subst (λ j. PlansAs here None (by_state model.joins here j)) (sym (far_running (joining 0 (children_of below)) far)) (none_as here None refl)
 
 -- a child has failed: the state is in trouble
 pub broken_off : {E F : Type 0} (here : Here) (r : Result Plan E) (before : Plan) (made : Result Entry F) (i : ℕ) (error cause joined : List ℕ) → joined ≡ model.join_error (kind_view here.state.now.kind) error → Plans here before (by_settings model.troubled here joined cause)

@@ -9,7 +9,6 @@ pub mod Leading
 pub mod Misfits
 pub mod Numbers
 pub mod OpenPlaces
-pub mod Places
 pub mod Planned
 pub mod Stopping
 pub mod Told
@@ -17,6 +16,7 @@ pub mod Turns
 pub mod Visits
 pub mod Waits
 pub mod Adding
+pub mod Heads
 pub mod Joinable
 pub mod Started
 pub mod Children
@@ -26,3 +26,12 @@ pub mod StepsBelow
 pub mod StepsRun
 pub mod StepsHere
 pub mod SomeEnabled
+pub mod Parts
+pub mod Tables
+pub mod Above
+pub mod ChangedTables
+pub mod NumbersAlong
+pub mod WrittenTables
+pub mod StepsAlong
+pub mod PlansAlong
+pub mod Outcomes

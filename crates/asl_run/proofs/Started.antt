@@ -1,5 +1,5 @@
 -- A run's start, in the machine's table.
-use Rattle.std.proofs.Common.{◌≡◌, refl, sym, ap, ◌∙◌, subst, ℕ, List, [], slice_get, Option, Some, None, option_map, rules}
+use Rattle.std.proofs.Common.{◌≡◌, refl, sym, ap, ◌∙◌, subst, ℕ, List, [], ◌∷◌, slice_get, Option, Some, None, option_map, rules}
 use Rattle.asl_machine.specs.Table.{Shows, table_view}
 use Rattle.asl_machine.specs.declared.machine.Machine.{Machine}
 use Rattle.asl_model.specs.Machine.{Scope, ScopeOf, NoStates, AndState, start_of}
@@ -8,11 +8,11 @@ use Rattle.asl_model.specs.Run as model
 use Rattle.asl_model.specs.Tree.{Tree}
 use Rattle.asl_model.proofs.RunOptions.{some_inj, none_some}
 use Rattle.asl_run.specs.Enabling.{Adds, open_in}
-use Rattle.asl_run.specs.Standing.{name_in, number_in, StandsIn}
-use Rattle.asl_run.specs.Activities.{activity_view}
-use Rattle.asl_run.specs.declared.activities.Activity.{the_lemmas}
-use Rattle.asl_run.specs.declared.activities.Activity.TheVariants.{Ready}
+use Rattle.asl_run.specs.Standing.{name_in, number_in, StandsIn, children_of}
+use Rattle.asl_run.specs.Nodes.{IsTable, in_table, range_of, shown_at, shown_from, shown_over}
 use Rattle.asl_run.specs.declared.activities.Visit.{Visit}
+use Rattle.asl_run.specs.declared.nodes.Node.{Node}
+use Rattle.asl_run.specs.declared.nodes.Node.TheVariants.{Ready}
 use Rattle.asl_tree.specs.View.{view}
 use Rattle.asl_run.proofs.KeptStanding.{start_stands}
 use Rattle.asl_run.proofs.Leading.{is_named}
@@ -46,12 +46,9 @@ start_missing {A = A} machine m shown e =
     subst (λ (t : Table). slice_get t.placements 0 ≡ None → A) (sym shown.table)
     (λ f. none_some (sym (ap (option_map (λ (q : Placement). q.start)) f) ∙ first_placed m shown.well_named.start)) e
 
-ready_shown : (names : List (List ℕ)) (visit : Visit) → activity_view names (Ready visit) ≡ model.Ready (name_in names visit.state) (view visit.raw) visit.counts.items
-ready_shown names visit = search (rules, the_lemmas)
-
--- an activity that is about to enter the start
-pub is_start : (m : Scope) (names : List (List ℕ)) (visit : Visit) → name_in names visit.state ≡ start_of m → visit.counts.items ≡ [] → activity_view names (Ready visit) ≡ model.start m (view visit.raw)
-is_start m names visit named none = ready_shown names visit ∙ ap (λ k. model.Ready k (view visit.raw) visit.counts.items) named ∙ ap (model.Ready (start_of m) (view visit.raw)) none
+-- the table of one node that is about to enter the start
+pub is_start : (m : Scope) (names : List (List ℕ)) (visit : Visit) (nodes : List Node) → nodes ≡ Ready visit ∷ [] → name_in names visit.state ≡ start_of m → visit.counts.items ≡ [] → shown_at names nodes 0 ≡ model.start m (view visit.raw)
+is_start m names visit nodes is named none = ap (λ (l : List Node). shown_at names l 0) is ∙ ap (λ k. model.Ready k (view visit.raw) visit.counts.items) named ∙ ap (model.Ready (start_of m) (view visit.raw)) none
 
 -- stands in the machine's scope
 pub starts_standing : (machine : Machine) (m : Scope) → Shows machine m → (a : model.Activity) (input : Tree) → a ≡ model.start m input → StandsIn a m

@@ -7,23 +7,23 @@ use Rattle.asl_model.specs.Machine.{Scope, State, state_named}
 use Rattle.asl_model.specs.Numbering.{HasNamed, IsScopeOf, Table, outline, table_of}
 use Rattle.asl_model.specs.Run as model
 use Rattle.asl_model.proofs.Outlines.{moves_ready_outlined, moves_waiting_outlined, moves_split_outlined}
-use Rattle.asl_model.proofs.RunOptions.{some_inj, none_some}
+use Rattle.asl_model.proofs.RunOptions.{some_inj, none_some, there_some}
 use Rattle.asl_run.specs.Acting.{Acts, ActsSo, StandsAt, moves}
-use Rattle.asl_run.specs.Activities.{activity_step, activity_view}
-use Rattle.asl_run.specs.Changing.{changed, visit_in, visit_step}
+use Rattle.asl_run.specs.Changing.{changed, visit_in}
 use Rattle.asl_run.specs.Enabling.{wanted_by}
 use Rattle.asl_run.specs.Entries.{answer_view, entry_view}
 use Rattle.asl_run.specs.Standing.{StandsIn, LeadsOn, name_in}
-use Rattle.asl_run.specs.Stepping.{StepsAt, names_for, action_of}
-use Rattle.asl_run.specs.declared.activities.Activity.{Activity, out-Activity, map-Activity, fold_out-Activity}
-use Rattle.asl_run.specs.declared.activities.Activity.TheOpen as layers
-use Rattle.asl_run.specs.declared.activities.Activity.TheOpen.{Activity-F}
+use Rattle.asl_run.specs.Nodes.{shown_over}
+use Rattle.asl_run.specs.Stepping.{RefusesThere, Steps, names_for, action_of}
 use Rattle.asl_run.specs.declared.activities.Visit.{Visit}
 use Rattle.asl_run.specs.declared.entries.Answer.{Answer}
 use Rattle.asl_run.specs.declared.entries.Answer.TheVariants as answers
 use Rattle.asl_run.specs.declared.entries.Outcome.TheVariants as outcomes
+use Rattle.asl_run.specs.declared.nodes.Node.{Node}
+use Rattle.asl_run.specs.declared.nodes.Node.TheVariants as nodes
 use Rattle.asl_run.specs.declared.planning.Plan.{Plan}
 use Rattle.asl_run.specs.declared.stepping.Happening.{Happening}
+use Rattle.asl_run.specs.declared.stepping.StepRefusal.{StepRefusal}
 use Rattle.asl_run.specs.declared.stepping.StepRefusal.TheVariants.{NotEnabled, OutOfMemory}
 use Rattle.asl_run.proofs.Leading.{IsFound, is_found}
 use Rattle.asl_run.proofs.OpenPlaces.{acts_as_wanted}
@@ -46,28 +46,18 @@ IsOfNone (model.Split m raw counts children) = ⊥
 IsOfNone (model.Done output) = Unit {0}
 IsOfNone (model.Failed error cause) = Unit {0}
 
-is_of : (names : List (List ℕ)) (a : Activity) (visit : Visit) → visit_in a ≡ Some visit → IsOf (name_in names visit.state) (activity_view names a)
-is_of names a visit e =
-    subst (IsOf (name_in names visit.state)) (sym (fold_out-Activity model.Activity (activity_step names) a))
-    (go (out-Activity a) (sym (fold_out-Activity (Option Visit) visit_step a) ∙ e))
-  where
-    go : (layer : Activity-F Activity) → visit_step (map-Activity Activity (Option Visit) visit_in layer) ≡ Some visit → IsOf (name_in names visit.state) (activity_step names (map-Activity Activity model.Activity (activity_view names) layer))
-    go (layers.Ready v) f = ap (λ (w : Visit). name_in names w.state) (some_inj f)
-    go (layers.Waiting v payload) f = ap (λ (w : Visit). name_in names w.state) (some_inj f)
-    go (layers.Split v children) f = ap (λ (w : Visit). name_in names w.state) (some_inj f)
-    go (layers.Ended outcome) f = none_some f
+is_of : (names : List (List ℕ)) (below : model.Activities) (node : Node) (visit : Visit) → visit_in node ≡ Some visit → IsOf (name_in names visit.state) (shown_over names below node)
+is_of names below (nodes.Ready v) visit e = ap (λ (w : Visit). name_in names w.state) (some_inj e)
+is_of names below (nodes.Waiting v payload) visit e = ap (λ (w : Visit). name_in names w.state) (some_inj e)
+is_of names below (nodes.Split v children) visit e = ap (λ (w : Visit). name_in names w.state) (some_inj e)
+is_of names below (nodes.Ended outcome) visit e = none_some e
 
-is_of_none : (names : List (List ℕ)) (a : Activity) → visit_in a ≡ None → IsOfNone (activity_view names a)
-is_of_none names a e =
-    subst IsOfNone (sym (fold_out-Activity model.Activity (activity_step names) a))
-    (go (out-Activity a) (sym (fold_out-Activity (Option Visit) visit_step a) ∙ e))
-  where
-    go : (layer : Activity-F Activity) → visit_step (map-Activity Activity (Option Visit) visit_in layer) ≡ None → IsOfNone (activity_step names (map-Activity Activity model.Activity (activity_view names) layer))
-    go (layers.Ready v) f = none_some (sym f)
-    go (layers.Waiting v payload) f = none_some (sym f)
-    go (layers.Split v children) f = none_some (sym f)
-    go (layers.Ended (outcomes.Output t)) f = tt
-    go (layers.Ended (outcomes.Failed error cause)) f = tt
+is_of_none : (names : List (List ℕ)) (below : model.Activities) (node : Node) → visit_in node ≡ None → IsOfNone (shown_over names below node)
+is_of_none names below (nodes.Ready v) e = none_some (sym e)
+is_of_none names below (nodes.Waiting v payload) e = none_some (sym e)
+is_of_none names below (nodes.Split v children) e = none_some (sym e)
+is_of_none names below (nodes.Ended (outcomes.Output t)) e = tt
+is_of_none names below (nodes.Ended (outcomes.Failed error cause)) e = tt
 
 -- its state is one of the scope
 has_named : (n : List ℕ) (a : model.Activity) (scope : Scope) → IsOf n a → StandsIn a scope → HasNamed scope n
@@ -132,66 +122,69 @@ acts_by machine m scope a action visit shown inside is stands = record {
 
 -- ---- the answers
 
+-- what a node shows over these children, in the machine where it happens
+abbrev pub seen_over : Happening → model.Activities → Node → model.Activity
+seen_over happening below node = shown_over (names_for happening) below node
+
 -- a plan that is carried out
-pub taken_here : (happening : Happening) (a b : Activity) (plan : Plan) (entries : Vec _ Global) → entries ≡ plan.entries → ActsSo happening.machine.now happening.at.now a (action_of happening) plan
-    → ((names : List (List ℕ)) (visit : Visit) → visit_in a ≡ Some visit → activity_view names b ≡ changed names visit plan.change) → StepsAt happening [] a b (Ok entries)
-taken_here happening a b plan entries same acts now = record {
-  whole = record {
-    steps = λ m scope shown inside stands.
-        let names = names_for happening in
-        let by = acts_by happening.machine.now m scope (activity_view names a) (action_of happening) acts.visit shown inside (is_of names a acts.visit acts.stands) stands in
-        let one = acts.does by.state by.stands in
-        record {
-          taken = record {
-            step = one.that;
-            is = by.acts ∙ one.is;
-            tells = ap (λ (es : Vec _ Global). map entry_view es.items) same ∙ one.does.told;
-            left = now names acts.visit acts.stands ∙ one.does.left;
-          };
-          refused = tt;
-          unchanged = tt;
+pub taken_here : (happening : Happening) (below : model.Activities) (node : Node) (after : model.Activity) (plan : Plan) (entries : Vec _ Global) → entries ≡ plan.entries → ActsSo happening.machine.now happening.at.now below node (action_of happening) plan
+    → ((visit : Visit) → visit_in node ≡ Some visit → after ≡ changed (names_for happening) visit plan.change) → Steps happening.machine.now happening.at.now [] (seen_over happening below node) after (action_of happening) (Ok entries)
+taken_here happening below node after plan entries same acts now = record {
+  steps = λ m scope shown inside stands.
+      let names = names_for happening in
+      let by = acts_by happening.machine.now m scope (seen_over happening below node) (action_of happening) acts.visit shown inside (is_of names below node acts.visit acts.stands) stands in
+      let one = acts.does by.state by.stands in
+      record {
+        taken = record {
+          step = one.that;
+          is = by.acts ∙ one.is;
+          tells = ap (λ (es : Vec _ Global). map entry_view es.items) same ∙ one.does.told;
+          left = now acts.visit acts.stands ∙ one.does.left;
         };
-  };
+        refused = tt;
+        unchanged = tt;
+      };
+}
+
+-- a plan that isn't carried out, for want of memory
+pub refused_here : (happening : Happening) (below : model.Activities) (node : Node) (plan : Plan) → ActsSo happening.machine.now happening.at.now below node (action_of happening) plan → RefusesThere happening.machine.now (seen_over happening below node) (action_of happening) OutOfMemory
+refused_here happening below node plan acts = record {
+  refuses = λ m scope shown inside stands.
+      let names = names_for happening in
+      let by = acts_by happening.machine.now m scope (seen_over happening below node) (action_of happening) acts.visit shown inside (is_of names below node acts.visit acts.stands) stands in
+      let one = acts.does by.state by.stands in
+      there_some (model.acts scope (seen_over happening below node) (action_of happening)) (by.acts ∙ one.is);
 }
 
 -- no plan is made
-pub not_here : (happening : Happening) (a : Activity) → Acts happening.machine.now happening.at.now a (action_of happening) None → StepsAt happening [] a a (Err NotEnabled)
-not_here happening a acts = record {
-  whole = record {
-    steps = λ m scope shown inside stands. record { taken = tt; refused = (refl, none m scope shown inside stands (visit_in a) refl); unchanged = refl };
-  };
-}
+pub not_here : (happening : Happening) (below : model.Activities) (node : Node) → Acts happening.machine.now happening.at.now below node (action_of happening) None → RefusesThere happening.machine.now (seen_over happening below node) (action_of happening) NotEnabled
+not_here happening below node acts = record { refuses = λ m scope shown inside stands. (refl, none m scope shown inside stands (visit_in node) refl) }
   where
     names : List (List ℕ)
     names = names_for happening
 
-    none : (m scope : Scope) → Shows happening.machine.now m → IsScopeOf m scope → StandsIn (activity_view names a) scope → (o : Option Visit) → visit_in a ≡ o → model.acts scope (activity_view names a) (action_of happening) ≡ None
-    none m scope shown inside stands None e = acts_never (activity_view names a) scope (action_of happening) (is_of_none names a e)
+    none : (m scope : Scope) → Shows happening.machine.now m → IsScopeOf m scope → StandsIn (seen_over happening below node) scope → (o : Option Visit) → visit_in node ≡ o → model.acts scope (seen_over happening below node) (action_of happening) ≡ None
+    none m scope shown inside stands None e = acts_never (seen_over happening below node) scope (action_of happening) (is_of_none names below node e)
     none m scope shown inside stands (Some visit) e =
-        let by = acts_by happening.machine.now m scope (activity_view names a) (action_of happening) visit shown inside (is_of names a visit e) stands in
+        let by = acts_by happening.machine.now m scope (seen_over happening below node) (action_of happening) visit shown inside (is_of names below node visit e) stands in
         by.acts ∙ acts.nothing refl by.state (subst (λ o. IfSome o (λ v. StandsAt happening.machine.now v by.state)) (sym e) by.stands)
 
 -- the activity wants no such event
-pub unwanted_here : (happening : Happening) (a : Activity) → ((names : List (List ℕ)) → wanted_by (activity_view names a) ≢ Some (model.want_of (action_of happening))) → StepsAt happening [] a a (Err NotEnabled)
-unwanted_here happening a unwanted = record {
-  whole = record {
-    steps = λ m scope shown inside stands.
-        let names = names_for happening in
-        let acts = acts_as_wanted scope (activity_view names a) (action_of happening) stands in
-        record { taken = tt; refused = (refl, acts.acts_nowhere_else (unwanted names)); unchanged = refl };
-  };
+pub unwanted_here : (machine : Machine) (a : model.Activity) (action : model.Action) → wanted_by a ≢ Some (model.want_of action) → RefusesThere machine a action NotEnabled
+unwanted_here machine a action unwanted = record {
+  refuses = λ m scope shown inside stands. (refl, (acts_as_wanted scope a action stands).acts_nowhere_else unwanted);
 }
 
 -- it wants such an event, and memory is refused
-pub no_memory_here : (happening : Happening) (a b : Activity) → ((names : List (List ℕ)) → wanted_by (activity_view names a) ≡ Some (model.want_of (action_of happening))) → ((names : List (List ℕ)) → activity_view names b ≡ activity_view names a)
-    → StepsAt happening [] a b (Err OutOfMemory)
-no_memory_here happening a b wanted same = record {
-  whole = record {
-    steps = λ m scope shown inside stands.
-        let names = names_for happening in
-        let acts = acts_as_wanted scope (activity_view names a) (action_of happening) stands in
-        record { taken = tt; refused = acts.acts_where_wanted (wanted names); unchanged = same names };
-  };
+pub no_memory_here : (machine : Machine) (a : model.Activity) (action : model.Action) → wanted_by a ≡ Some (model.want_of action) → RefusesThere machine a action OutOfMemory
+no_memory_here machine a action wanted = record {
+  refuses = λ m scope shown inside stands. (acts_as_wanted scope a action stands).acts_where_wanted wanted;
+}
+
+-- a refusal leaves the activity
+pub refused_there : (machine : Machine) (at : List ℕ) (a : model.Activity) (action : model.Action) (refusal : StepRefusal) → RefusesThere machine a action refusal → Steps machine at [] a a action (Err refusal)
+refused_there machine at a action refusal h = record {
+  steps = λ m scope shown inside stands. record { taken = tt; refused = h.refuses m scope shown inside stands; unchanged = refl };
 }
 
 -- an answer is wanted where one is waited for
@@ -232,8 +225,13 @@ pub so_wanted : (wanted : Bool) (own : Option model.Want) (kind : model.Want) �
 so_wanted wanted own kind told is = told.0 is
 
 -- a plan was made
-pub planned : {E : Type 0} (happening : Happening) (a : Activity) (plan : Plan) (made : Result (Option Plan) E) → made ≡ Ok (Some plan) → IfOk made (λ p. Acts happening.machine.now happening.at.now a (action_of happening) p)
-    → ActsSo happening.machine.now happening.at.now a (action_of happening) plan
-planned {E = E} happening a plan made is acts =
-    let known : IfOk {E = E} (Ok (Some plan)) (λ p. Acts happening.machine.now happening.at.now a (action_of happening) p) = subst (λ r. IfOk r (λ p. Acts happening.machine.now happening.at.now a (action_of happening) p)) is acts in
+pub planned : {E : Type 0} (happening : Happening) (below : model.Activities) (node : Node) (plan : Plan) (made : Result (Option Plan) E) → made ≡ Ok (Some plan) → IfOk made (λ p. Acts happening.machine.now happening.at.now below node (action_of happening) p)
+    → ActsSo happening.machine.now happening.at.now below node (action_of happening) plan
+planned {E = E} happening below node plan made is acts =
+    let known : IfOk {E = E} (Ok (Some plan)) (λ p. Acts happening.machine.now happening.at.now below node (action_of happening) p) = subst (λ r. IfOk r (λ p. Acts happening.machine.now happening.at.now below node (action_of happening) p)) is acts in
     known.planned
+
+-- none was
+pub unplanned : {E : Type 0} (happening : Happening) (below : model.Activities) (node : Node) (made : Result (Option Plan) E) → made ≡ Ok None → IfOk made (λ p. Acts happening.machine.now happening.at.now below node (action_of happening) p)
+    → Acts happening.machine.now happening.at.now below node (action_of happening) None
+unplanned happening below node made is acts = subst (λ r. IfOk r (λ p. Acts happening.machine.now happening.at.now below node (action_of happening) p)) is acts

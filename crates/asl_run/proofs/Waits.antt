@@ -1,5 +1,5 @@
 -- The tasks that wait in a run, and what stands at other places.
-use Rattle.std.proofs.Common.{◌≡◌, ◌≢◌, ℕ, List, [], ◌∷◌, Option, Some, None, option_map, option_and_then, Bor, Vec, Global, slice_get, refl, sym, ap, ◌∙◌, subst, rules}
+use Rattle.std.proofs.Common.{◌≡◌, ◌≢◌, ℕ, List, [], ◌∷◌, Option, Some, None, option_map, option_and_then, slice_get, refl, sym, ap, ◌∙◌, subst}
 use Rattle.std.specs.Option.{unwrap_or}
 use Rattle.asl_model.specs.Machine.{Scope}
 use Rattle.asl_model.specs.Numbering.{IsScopeOf, own_scope, IsWellNamed, table_of}
@@ -8,72 +8,75 @@ use Rattle.asl_model.specs.Run.{activity_at, child_at, scope_below}
 use Rattle.asl_model.proofs.RunOptions.{some_inj, none_some}
 use Rattle.asl_run.proofs.KeptStanding.{child_stands, scope_inside}
 use Rattle.asl_run.proofs.Leading.{IsFound, is_found}
-use Rattle.asl_run.proofs.Places.{view_split}
-use Rattle.asl_run.specs.Activities.{activity_view, children_view, ended_view}
-use Rattle.asl_run.specs.Standing.{StandsIn, name_in, no_name}
+use Rattle.asl_run.proofs.Tables.{place_shown, shown_here}
+use Rattle.asl_run.specs.Nodes.{IsTable, in_table, number_from, range_of, shown_at, shown_from, shown_over}
+use Rattle.asl_run.specs.Standing.{StandsIn, children_of, name_in, no_name}
 use Rattle.asl_run.specs.Waiting.{WaitsAt, NoneWaitsAt}
-use Rattle.asl_run.specs.declared.activities.Activity.{Activity, the_lemmas}
-use Rattle.asl_run.specs.declared.activities.Activity.TheVariants as activities
 use Rattle.asl_run.specs.declared.activities.Visit.{Visit}
 use Rattle.asl_run.specs.declared.entries.Outcome.{Outcome}
 use Rattle.asl_run.specs.declared.entries.Outcome.TheVariants as outcomes
+use Rattle.asl_run.specs.declared.nodes.Children.{Children}
+use Rattle.asl_run.specs.declared.nodes.Node.{Node}
+use Rattle.asl_run.specs.declared.nodes.Node.TheVariants as nodes
+use Rattle.asl_run.specs.declared.nodes.NodeNumber.{NodeNumber}
 use Rattle.asl_run.specs.declared.waiting.Asked.{Asked}
 use Rattle.asl_tree.specs.declared.Tree.{Tree}
 use Rattle.asl_tree.specs.View as trees
 
-pub view_waiting : (names : List (List ℕ)) (visit : Visit) (payload : Tree) → activity_view names (activities.Waiting visit payload) ≡ model.Waiting (name_in names visit.state) (trees.view visit.raw) visit.counts.items (trees.view payload)
-view_waiting names visit payload = search (rules, the_lemmas)
+-- ---- what stands at a place
+
+-- the node of its number
+pub node_stands : (names : List (List ℕ)) (nodes : List Node) → IsTable nodes → (place : List ℕ) (number : Option NodeNumber) (n : NodeNumber) (node : Node) → option_map (λ m. m.0) number ≡ number_from nodes 0 place → number ≡ Some n → slice_get nodes n.0 ≡ Some node
+    → activity_at place (shown_at names nodes 0) ≡ Some (shown_over names (children_of (in_table (range_of node) (shown_from names 0 nodes))) node)
+node_stands names nodes table place number n node found is there =
+    place_shown names nodes table place 0 table.some ∙ ap (option_map (shown_at names nodes)) (sym found ∙ ap (option_map (λ m. m.0)) is) ∙ ap Some (shown_here names nodes table n.0 node there)
+
+-- none where there is no such place
+pub nothing_stands : (names : List (List ℕ)) (nodes : List Node) → IsTable nodes → (place : List ℕ) (number : Option NodeNumber) → option_map (λ m. m.0) number ≡ number_from nodes 0 place → number ≡ None → activity_at place (shown_at names nodes 0) ≡ None
+nothing_stands names nodes table place number found is =
+    place_shown names nodes table place 0 table.some ∙ ap (option_map (shown_at names nodes)) (sym found ∙ ap (option_map (λ m. m.0)) is)
 
 -- a task that is found at a place waits there
-pub task_waits : (names : List (List ℕ)) (place : List ℕ) (a : model.Activity) (found : Option (Bor Activity)) (here : Bor Activity) (visit : Visit) (payload : Tree) (asked : Asked)
-    → option_map (λ x. activity_view names x.now) found ≡ activity_at place a → found ≡ Some here → here.now ≡ activities.Waiting visit payload → asked.state ≡ visit.state → slice_get names visit.state ≡ Some asked.name.now → asked.payload.now ≡ payload → WaitsAt names place a asked
-task_waits names place a found here visit payload asked stands is waits same named paid =
+pub task_waits : (names : List (List ℕ)) (place : List ℕ) (a : model.Activity) (below : model.Activities) (node : Node) (visit : Visit) (payload : Tree) (asked : Asked)
+    → activity_at place a ≡ Some (shown_over names below node) → node ≡ nodes.Waiting visit payload → asked.state ≡ visit.state → slice_get names visit.state ≡ Some asked.name.now → asked.payload.now ≡ payload → WaitsAt names place a asked
+task_waits names place a below node visit payload asked stands waits same named paid =
     let name : name_in names visit.state ≡ asked.name.now = ap (λ o. unwrap_or o (no_name names)) named in
-    let view : activity_view names here.now ≡ model.Waiting asked.name.now (trees.view visit.raw) visit.counts.items (trees.view asked.payload.now) =
-    ap (activity_view names) waits ∙ view_waiting names visit payload ∙ rw (name, paid) refl in
+    let view : shown_over names below node ≡ model.Waiting asked.name.now (trees.view visit.raw) visit.counts.items (trees.view asked.payload.now) =
+    ap (shown_over names below) waits ∙ rw (name, paid) refl in
     record {
       raw = trees.view visit.raw;
       counts = visit.counts.items;
       numbered = ap (slice_get names) same ∙ named;
-      waits = sym stands ∙ ap (option_map (λ x. activity_view names x.now)) is ∙ ap Some view;
+      waits = stands ∙ ap Some view;
     }
 
 -- ---- where none waits
 
 -- where there is no such place
-pub none_without_place : (names : List (List ℕ)) (place : List ℕ) (a : model.Activity) (found : Option (Bor Activity)) → option_map (λ x. activity_view names x.now) found ≡ activity_at place a → found ≡ None → NoneWaitsAt place a
-none_without_place names place a found stands is = record { none = λ n raw counts payload e. none_some (ap (option_map (λ x. activity_view names x.now)) (sym is) ∙ stands ∙ e) }
+pub none_without_place : (place : List ℕ) (a : model.Activity) → activity_at place a ≡ None → NoneWaitsAt place a
+none_without_place place a stands = record { none = λ n raw counts payload e. none_some (sym stands ∙ e) }
 
 none_at : (place : List ℕ) (a b : model.Activity) → activity_at place a ≡ Some b → ((n : List ℕ) (raw : _) (counts : List ℕ) (payload : _) → b ≢ model.Waiting n raw counts payload) → NoneWaitsAt place a
 none_at place a b stands other = record { none = λ n raw counts payload e. other n raw counts payload (some_inj (sym stands ∙ e)) }
 
-view_ready : (names : List (List ℕ)) (visit : Visit) → activity_view names (activities.Ready visit) ≡ model.Ready (name_in names visit.state) (trees.view visit.raw) visit.counts.items
-view_ready names visit = search (rules, the_lemmas)
-
-view_ended : (names : List (List ℕ)) (outcome : Outcome) → activity_view names (activities.Ended outcome) ≡ ended_view outcome
-view_ended names outcome = search (rules, the_lemmas)
-
 -- where a state is ready
-pub none_where_ready : (names : List (List ℕ)) (place : List ℕ) (a : model.Activity) (found : Option (Bor Activity)) (here : Bor Activity) (visit : Visit) → option_map (λ x. activity_view names x.now) found ≡ activity_at place a → found ≡ Some here → here.now ≡ activities.Ready visit → NoneWaitsAt place a
-none_where_ready names place a found here visit stands is ready =
-    let view = ap (activity_view names) ready ∙ view_ready names visit in
-    none_at place a (model.Ready (name_in names visit.state) (trees.view visit.raw) visit.counts.items) (sym stands ∙ ap (option_map (λ x. activity_view names x.now)) is ∙ ap Some view) (λ n raw counts payload e. absurd (cc))
+pub none_where_ready : (names : List (List ℕ)) (place : List ℕ) (a : model.Activity) (below : model.Activities) (node : Node) (visit : Visit) → activity_at place a ≡ Some (shown_over names below node) → node ≡ nodes.Ready visit → NoneWaitsAt place a
+none_where_ready names place a below node visit stands ready =
+    none_at place a (shown_over names below (nodes.Ready visit)) (stands ∙ ap (λ n. Some (shown_over names below n)) ready) (λ n raw counts payload e. absurd (cc))
 
-ended_otherwise : (outcome : Outcome) (n : List ℕ) (raw : _) (counts : List ℕ) (payload : _) → ended_view outcome ≢ model.Waiting n raw counts payload
-ended_otherwise (outcomes.Output t) n raw counts payload e = absurd (cc)
-ended_otherwise (outcomes.Failed error cause) n raw counts payload e = absurd (cc)
+ended_otherwise : (names : List (List ℕ)) (below : model.Activities) (outcome : Outcome) (n : List ℕ) (raw : _) (counts : List ℕ) (payload : _) → shown_over names below (nodes.Ended outcome) ≢ model.Waiting n raw counts payload
+ended_otherwise names below (outcomes.Output t) n raw counts payload e = absurd (cc)
+ended_otherwise names below (outcomes.Failed error cause) n raw counts payload e = absurd (cc)
 
 -- where a scope has ended
-pub none_where_ended : (names : List (List ℕ)) (place : List ℕ) (a : model.Activity) (found : Option (Bor Activity)) (here : Bor Activity) (outcome : Outcome) → option_map (λ x. activity_view names x.now) found ≡ activity_at place a → found ≡ Some here → here.now ≡ activities.Ended outcome → NoneWaitsAt place a
-none_where_ended names place a found here outcome stands is ended =
-    let view = ap (activity_view names) ended ∙ view_ended names outcome in
-    none_at place a (ended_view outcome) (sym stands ∙ ap (option_map (λ x. activity_view names x.now)) is ∙ ap Some view) (ended_otherwise outcome)
+pub none_where_ended : (names : List (List ℕ)) (place : List ℕ) (a : model.Activity) (below : model.Activities) (node : Node) (outcome : Outcome) → activity_at place a ≡ Some (shown_over names below node) → node ≡ nodes.Ended outcome → NoneWaitsAt place a
+none_where_ended names place a below node outcome stands ended =
+    none_at place a (shown_over names below (nodes.Ended outcome)) (stands ∙ ap (λ n. Some (shown_over names below n)) ended) (ended_otherwise names below outcome)
 
 -- where a state is split
-pub none_where_split : (names : List (List ℕ)) (place : List ℕ) (a : model.Activity) (found : Option (Bor Activity)) (here : Bor Activity) (visit : Visit) (children : Vec Activity Global) → option_map (λ x. activity_view names x.now) found ≡ activity_at place a → found ≡ Some here → here.now ≡ activities.Split visit children → NoneWaitsAt place a
-none_where_split names place a found here visit children stands is split =
-    let view = ap (activity_view names) split ∙ view_split names visit children in
-    none_at place a (model.Split (name_in names visit.state) (trees.view visit.raw) visit.counts.items (children_view names children.items)) (sym stands ∙ ap (option_map (λ x. activity_view names x.now)) is ∙ ap Some view) (λ n raw counts payload e. absurd (cc))
+pub none_where_split : (names : List (List ℕ)) (place : List ℕ) (a : model.Activity) (below : model.Activities) (node : Node) (visit : Visit) (children : Children) → activity_at place a ≡ Some (shown_over names below node) → node ≡ nodes.Split visit children → NoneWaitsAt place a
+none_where_split names place a below node visit children stands split =
+    none_at place a (shown_over names below (nodes.Split visit children)) (stands ∙ ap (λ n. Some (shown_over names below n)) split) (λ n raw counts payload e. absurd (cc))
 
 -- the activity stands in a scope of the machine
 record StandsWithin (machine : Scope) (a : model.Activity) : Type 0 where
@@ -103,11 +106,10 @@ waiting_is_named machine well place a i raw counts payload h e none =
     none_some (sym none ∙ found.name)
 
 -- so a task whose state has no name waits nowhere
-pub unnamed_waits_nowhere : (m : Scope) (names : List (List ℕ)) (place : List ℕ) (a : model.Activity) (found : Option (Bor Activity)) (here : Bor Activity) (visit : Visit) (payload : Tree) → names ≡ (table_of m).names → IsWellNamed m → StandsIn a m
-    → option_map (λ x. activity_view names x.now) found ≡ activity_at place a → found ≡ Some here → here.now ≡ activities.Waiting visit payload → slice_get names visit.state ≡ None → NoneWaitsAt place a
-unnamed_waits_nowhere m names place a found here visit payload same well h stands is waits none =
-    let there : activity_at place a ≡ Some (model.Waiting (name_in names visit.state) (trees.view visit.raw) visit.counts.items (trees.view payload)) =
-    sym stands ∙ ap (option_map (λ x. activity_view names x.now)) is ∙ ap (λ b. Some (activity_view names b)) waits ∙ ap Some (view_waiting names visit payload) in
+pub unnamed_waits_nowhere : (m : Scope) (names : List (List ℕ)) (place : List ℕ) (a : model.Activity) (below : model.Activities) (node : Node) (visit : Visit) (payload : Tree) → names ≡ (table_of m).names → IsWellNamed m → StandsIn a m
+    → activity_at place a ≡ Some (shown_over names below node) → node ≡ nodes.Waiting visit payload → slice_get names visit.state ≡ None → NoneWaitsAt place a
+unnamed_waits_nowhere m names place a below node visit payload same well h stands waits none =
+    let there : activity_at place a ≡ Some (model.Waiting (name_in names visit.state) (trees.view visit.raw) visit.counts.items (trees.view payload)) = stands ∙ ap (λ n. Some (shown_over names below n)) waits in
     absurd (waiting_is_named m well place a visit.state (trees.view visit.raw) visit.counts.items (trees.view payload) h
     (subst (λ ns. activity_at place a ≡ Some (model.Waiting (name_in ns visit.state) (trees.view visit.raw) visit.counts.items (trees.view payload))) same there)
     (subst (λ ns. slice_get ns visit.state ≡ None) same none))

@@ -1,4 +1,4 @@
--- What is to be done in one step of one activity.
+-- What is to be done in one step at one place.
 use Rattle.std.specs.Prelude.{◌≡◌, ℕ, List, map, Option, Some, None, IfSome, slice_get}
 use Rattle.asl_machine.specs.Machine.{settings_view, state_view}
 use Rattle.asl_machine.specs.Table.{table_view}
@@ -7,14 +7,14 @@ use Rattle.asl_model.specs.Machine.{State, Settings}
 use Rattle.asl_model.specs.Run as model
 use Rattle.asl_model.specs.Tree.{Tree}
 use Rattle.asl_tree.specs.View.{view}
-use Rattle.asl_run.specs.Activities.{activity_view}
 use Rattle.asl_run.specs.Changing.{CanApply, changed, visit_in}
 use Rattle.asl_run.specs.Entries.{entry_view}
+use Rattle.asl_run.specs.Nodes.{shown_over}
 use Rattle.asl_run.specs.Standing.{name_in, LeadsOn}
 use Rattle.asl_run.specs.Troubles.{CanRise}
-use Rattle.asl_run.specs.declared.activities.Activity.{Activity}
 use Rattle.asl_run.specs.declared.activities.Visit.{Visit}
 use Rattle.asl_run.specs.declared.changing.Change.TheVariants.{Retry}
+use Rattle.asl_run.specs.declared.nodes.Node.{Node}
 use Rattle.asl_run.specs.declared.planning.Here.{Here}
 use Rattle.asl_run.specs.declared.planning.Plan.{Plan}
 
@@ -94,35 +94,35 @@ moves_as (model.Split m r cs children) action n state raw counts = model.moves_s
 moves_as (model.Done output) action n state raw counts = None
 moves_as (model.Failed error cause) action n state raw counts = None
 
--- the same for the execution here
-abbrev pub moves_at : Here → Activity → model.Action → Option model.Step
-moves_at here a action = by_state (moves_as (activity_view (names_at here) a) action) here
+-- the same for the execution here, which stands in the node over these children
+abbrev pub moves_at : Here → model.Activities → Node → model.Action → Option model.Step
+moves_at here below node action = by_state (moves_as (shown_over (names_at here) below node) action) here
 
 -- the same where the execution here waits for an answer
 abbrev pub takes_at : Here → model.Action → Option model.Step
 takes_at here action = by_state (λ n state raw counts. model.moves_waiting n raw counts action state) here
 
--- the execution stands in the activity: what an action does at the activity, it does for that execution
-pub record IsVisitOf (a : Activity) (visit : Visit) : Type 0 where
-  pub stands : visit_in a ≡ Some visit
-  pub does : (names : List (List ℕ)) (action : model.Action) (state : State) → moves (activity_view names a) action state ≡ moves_as (activity_view names a) action (name_in names visit.state) state (view visit.raw) visit.counts.items
+-- the execution stands in the node: what an action does there, it does for that execution
+pub record IsVisitOf (node : Node) (visit : Visit) : Type 0 where
+  pub stands : visit_in node ≡ Some visit
+  pub does : (names : List (List ℕ)) (below : model.Activities) (action : model.Action) (state : State) → let shown = shown_over names below node in moves shown action state ≡ moves_as shown action (name_in names visit.state) state (view visit.raw) visit.counts.items
 
--- no execution of a state stands in the activity, and no action does anything there
-pub record HasNoVisit (a : Activity) : Type 0 where
-  pub none : visit_in a ≡ None
-  pub does : (names : List (List ℕ)) (action : model.Action) (state : State) → moves (activity_view names a) action state ≡ None
+-- no execution of a state stands in the node, and no action does anything there
+pub record HasNoVisit (node : Node) : Type 0 where
+  pub none : visit_in node ≡ None
+  pub does : (names : List (List ℕ)) (below : model.Activities) (action : model.Action) (state : State) → moves (shown_over names below node) action state ≡ None
 
--- an execution with its state, as the machine has it by its number, at that place and in that activity
-pub record IsFoundBy (machine : Machine) (place : List ℕ) (a : Activity) (here : Here) : Type 0 where
+-- an execution with its state, as the machine has it by its number, at that place and in that node
+pub record IsFoundBy (machine : Machine) (place : List ℕ) (node : Node) (here : Here) : Type 0 where
   pub same_machine : here.machine.now ≡ machine
   pub same_place : here.at.now ≡ place
-  pub visit : IsVisitOf a here.visit.now
+  pub visit : IsVisitOf node here.visit.now
   pub name : slice_get (table_view machine).names here.visit.now.state ≡ Some here.name.now
   pub state : slice_get (table_view machine).states here.visit.now.state ≡ Some (state_at here)
 
--- no action does anything at the activity
-pub record DoesNothing (machine : Machine) (a : Activity) : Type 0 where
-  pub nothing : (action : model.Action) (state : State) → IfSome (visit_in a) (λ visit. StandsAt machine visit state) → moves (activity_view (table_view machine).names a) action state ≡ None
+-- no action does anything at the node
+pub record DoesNothing (machine : Machine) (node : Node) : Type 0 where
+  pub nothing : (below : model.Activities) (action : model.Action) (state : State) → IfSome (visit_in node) (λ visit. StandsAt machine visit state) → moves (shown_over (table_view machine).names below node) action state ≡ None
 
 -- the plan does what the step does where that execution stands
 pub record Does (names : List (List ℕ)) (place : List ℕ) (visit : Visit) (plan : Plan) (step : model.Step) : Type 0 where
@@ -135,14 +135,14 @@ pub record DoesOne (names : List (List ℕ)) (place : List ℕ) (visit : Visit) 
   pub is : step ≡ Some that
   pub does : Does names place visit plan that
 
--- a plan is that of what the action does at the activity
-pub record ActsSo (machine : Machine) (place : List ℕ) (a : Activity) (action : model.Action) (plan : Plan) : Type 0 where
+-- a plan is that of what the action does at the node over these children
+pub record ActsSo (machine : Machine) (place : List ℕ) (below : model.Activities) (node : Node) (action : model.Action) (plan : Plan) : Type 0 where
   pub visit : Visit
-  pub stands : visit_in a ≡ Some visit
-  pub rises : CanApply a plan.change
-  pub does : (state : State) → StandsAt machine visit state → DoesOne (table_view machine).names place visit plan (moves (activity_view (table_view machine).names a) action state)
+  pub stands : visit_in node ≡ Some visit
+  pub rises : CanApply node plan.change
+  pub does : (state : State) → StandsAt machine visit state → DoesOne (table_view machine).names place visit plan (moves (shown_over (table_view machine).names below node) action state)
 
 -- so is the plan, if there is one; there is none only where the action does nothing there
-pub record Acts (machine : Machine) (place : List ℕ) (a : Activity) (action : model.Action) (plan : Option Plan) : Type 0 where
-  pub planned : IfSome plan (λ p. ActsSo machine place a action p)
-  pub nothing : plan ≡ None → (state : State) → IfSome (visit_in a) (λ visit. StandsAt machine visit state) → moves (activity_view (table_view machine).names a) action state ≡ None
+pub record Acts (machine : Machine) (place : List ℕ) (below : model.Activities) (node : Node) (action : model.Action) (plan : Option Plan) : Type 0 where
+  pub planned : IfSome plan (λ p. ActsSo machine place below node action p)
+  pub nothing : plan ≡ None → (state : State) → IfSome (visit_in node) (λ visit. StandsAt machine visit state) → moves (shown_over (table_view machine).names below node) action state ≡ None

@@ -1,15 +1,17 @@
--- What a change leaves of the activity at its place.
-use Rattle.std.specs.Prelude.{◌≡◌, ℕ, List, Option, Some, None}
+-- What a change leaves of what stands at its place.
+use Rattle.std.specs.Prelude.{◌≡◌, ◌<◌, ◌≤◌, ℕ, List, length, Option, Some, None, ◌++◌, slice_get, slice_set}
 use Rattle.asl_model.specs.Run as model
 use Rattle.asl_tree.specs.View as trees
 use Rattle.asl_run.specs.Activities.{ended_view, ready_view, ready_children}
-use Rattle.asl_run.specs.Standing.{name_in}
+use Rattle.asl_run.specs.Nodes.{IsTable, range_of, shown_at, shown_from, shown_over}
+use Rattle.asl_run.specs.Standing.{name_in, children_of}
 use Rattle.asl_run.specs.Troubles.{CanRise}
-use Rattle.asl_run.specs.declared.activities.Activity.{Activity, fold-Activity}
-use Rattle.asl_run.specs.declared.activities.Activity.TheOpen.{Activity-F}
 use Rattle.asl_run.specs.declared.activities.Visit.{Visit}
 use Rattle.asl_run.specs.declared.changing.Change.{Change}
 use Rattle.asl_run.specs.declared.changing.Change.TheVariants.{Enter, End, Ask, SplitInto, Retry}
+use Rattle.asl_run.specs.declared.nodes.Children.{Children}
+use Rattle.asl_run.specs.declared.nodes.Node.{Node}
+use Rattle.asl_run.specs.declared.nodes.Node.TheVariants.{Ready, Waiting, Split, Ended}
 
 -- the activity that a change leaves of a state's execution; the states have these names by their numbers
 abbrev pub changed : List (List ℕ) → Visit → Change → model.Activity
@@ -19,16 +21,12 @@ changed names visit (Ask payload) = model.Waiting (name_in names visit.state) (t
 changed names visit (SplitInto visits) = model.Split (name_in names visit.state) (trees.view visit.raw) visit.counts.items (ready_children names visits.items)
 changed names visit (Retry retrier) = model.Ready (name_in names visit.state) (trees.view visit.raw) (model.one_higher retrier visit.counts.items)
 
--- one level: the execution of a state that stands there
-abbrev pub visit_step : Activity-F (Option Visit) → Option Visit
-visit_step (Activity-F.Ready visit) = Some visit
-visit_step (Activity-F.Waiting visit payload) = Some visit
-visit_step (Activity-F.Split visit children) = Some visit
-visit_step (Activity-F.Ended outcome) = None
-
 -- the execution of a state that stands there; none where the scope has ended
-abbrev pub visit_in : Activity → Option Visit
-visit_in = fold-Activity (Option Visit) visit_step
+abbrev pub visit_in : Node → Option Visit
+visit_in (Ready visit) = Some visit
+visit_in (Waiting visit payload) = Some visit
+visit_in (Split visit children) = Some visit
+visit_in (Ended outcome) = None
 
 -- the same execution, the count of that retrier one higher
 pub record IsRaised (retrier : ℕ) (before after : Visit) : Type 0 where
@@ -43,5 +41,38 @@ pub record IsSame (before after : Visit) : Type 0 where
   pub counts : after.counts.items ≡ before.counts.items
 
 -- where the change is a retry, the count of its retrier can rise
-abbrev pub CanApply : Activity → Change → Type 0
-CanApply a change = (visit : Visit) (retrier : ℕ) → visit_in a ≡ Some visit → change ≡ Retry retrier → CanRise visit.counts.items retrier
+abbrev pub CanApply : Node → Change → Type 0
+CanApply node change = (visit : Visit) (retrier : ℕ) → visit_in node ≡ Some visit → change ≡ Retry retrier → CanRise visit.counts.items retrier
+
+-- ---- in a table
+
+-- the node shows the same, whatever its children show, and has the same children
+pub record IsAlike (before after : Node) : Type 0 where
+  pub range : range_of after ≡ range_of before
+  pub shows : (names : List (List ℕ)) (below : model.Activities) → shown_over names below after ≡ shown_over names below before
+
+-- so for each of a table, and no node is added
+pub record AreAlike (before after : List Node) : Type 0 where
+  pub long : length after ≡ length before
+  pub each : (i : ℕ) (old new : Node) → slice_get before i ≡ Some old → slice_get after i ≡ Some new → IsAlike old new
+
+-- node j has no children or those that are added, which have none; it shows what the change leaves there
+pub record IsWritten (j : ℕ) (before : List Node) (change : Change) (after : List Node) : Type 0 where
+  pub node : Node
+  pub more : List Node
+  pub written : after ≡ slice_set before j node ++ more
+  pub alone : (k : ℕ) (added : Node) → slice_get more k ≡ Some added → range_of added ≡ None
+  pub range : (children : Children) → range_of node ≡ Some children → (children.first.0 ≡ length before) × (children.count ≡ length more)
+  pub shows : (names : List (List ℕ)) (old : Node) (visit : Visit) → slice_get before j ≡ Some old → visit_in old ≡ Some visit → shown_over names (children_of (shown_from names (length before) more)) node ≡ changed names visit change
+
+-- the later table has the nodes of the earlier one, but for node j
+pub record IsChangedAt (j : ℕ) (before after : List Node) : Type 0 where
+  pub table : IsTable before
+  pub still : IsTable after
+  pub others : (i : ℕ) → i < length before → (i ≡ j → ⊥) → slice_get after i ≡ slice_get before i
+  pub no_shorter : length before ≤ length after
+
+-- it is changed at node j alone, which shows what the change leaves there
+pub record IsApplied (j : ℕ) (before : List Node) (change : Change) (after : List Node) : Type 0 where
+  pub at : IsChangedAt j before after
+  pub shows : (names : List (List ℕ)) (old : Node) (visit : Visit) → slice_get before j ≡ Some old → visit_in old ≡ Some visit → shown_at names after j ≡ changed names visit change

@@ -1,9 +1,11 @@
 -- The places where an event is enabled, in an activity whose states all stand in their scopes.
 use Rattle.std.specs.declared.alloc.Global.{Global}
 use Rattle.std.specs.Prelude.{Vec, ◌≡◌, ℕ, suc, Bool, true, false, List, [], ◌∷◌, ◌++◌, map, Option, Some, None}
-use Rattle.asl_run.specs.Activities.{activity_view, children_view}
 use Rattle.asl_run.specs.Entries.{want_view}
-use Rattle.asl_run.specs.declared.activities.Activity as activities
+use Rattle.asl_run.specs.Nodes.{AreHeads, in_table, shown_at, shown_from, shown_over}
+use Rattle.asl_run.specs.Standing.{children_of}
+use Rattle.asl_run.specs.declared.nodes.Children.{Children}
+use Rattle.asl_run.specs.declared.nodes.Node.{Node}
 use Rattle.asl_run.specs.declared.entries.Want as code
 use Rattle.asl_model.specs.Run.{Activity, Ready, Waiting, Split, Done, Failed, Activities, NoActivities, AndActivity, Joining, AllDone, OneFailed, StillRunning, joining, Want, WantsMove, WantsAnswer, down_from}
 
@@ -74,14 +76,14 @@ pub record Adds (place : List ℕ) (more before after : List (List ℕ × Want))
 abbrev pub found_view : Vec ℕ Global × code.Want → List ℕ × Want
 found_view found = (found.0.items, want_view found.1)
 
--- those of an activity of the code, whatever its states are called
-pub record AddsPlaces (a : activities.Activity) (place : List ℕ) (before after : List (List ℕ × Want)) : Type 0 where
-  pub adds : (names : List (List ℕ)) → Adds place (open_in (activity_view names a)) before after
+-- those of a node of a table, whatever the states are called
+pub record AddsPlaces (nodes : List Node) (i : ℕ) (place : List ℕ) (before after : List (List ℕ × Want)) : Type 0 where
+  pub adds : (names : List (List ℕ)) → Adds place (open_in (shown_at names nodes i)) before after
 
--- those of its children
-pub record AddsPlacesBelow (children : List activities.Activity) (place : List ℕ) (before after : List (List ℕ × Want)) : Type 0 where
-  pub adds : (names : List (List ℕ)) → Adds place (open_below (children_view names children) 0) before after
+-- those of some of its children
+pub record AddsPlacesBelow (nodes : List Node) (children : Children) (place : List ℕ) (before after : List (List ℕ × Want)) : Type 0 where
+  pub adds : (names : List (List ℕ)) → Adds place (open_below (children_of (in_table (Some children) (shown_from names 0 nodes))) 0) before after
 
--- its own
-pub record AddsOwn (a : activities.Activity) (place : List ℕ) (before after : List (List ℕ × Want)) : Type 0 where
-  pub adds : (names : List (List ℕ)) → Adds place (own_place (wanted_by (activity_view names a))) before after
+-- the own place of a node with these children
+pub record AddsOwn (node : Node) (children : List Node) (place : List ℕ) (before after : List (List ℕ × Want)) : Type 0 where
+  pub adds : (names : List (List ℕ)) (below : List Activity) → AreHeads names children below → Adds place (own_place (wanted_by (shown_over names (children_of below) node))) before after

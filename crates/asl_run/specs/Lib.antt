@@ -8,6 +8,7 @@ pub mod Enabling
 pub mod Answering
 pub mod Activities
 pub mod Standing
+pub mod Nodes
 pub mod Changing
 pub mod Waiting
 pub mod Running

@@ -1,11 +1,12 @@
 -- Steps of a run, as the definitions have them.
-use Rattle.std.specs.Prelude.{◌≡◌, ℕ, List, ◌∷◌, map, Option, Some, None, Result, IfOk, IfErr, Vec, option_map}
+use Rattle.std.specs.Prelude.{◌≡◌, ℕ, List, ◌∷◌, map, Option, Some, None, Result, IfOk, IfErr, Vec, option_map, slice_get}
 use Rattle.std.specs.Option.{IsSome, unwrap_or}
-use Rattle.asl_run.specs.Activities.{activity_view, children_view}
+use Rattle.asl_run.specs.Acting.{ActsSo}
 use Rattle.asl_run.specs.Entries.{answer_view}
-use Rattle.asl_run.specs.declared.activities.Activity.{Activity}
+use Rattle.asl_run.specs.Nodes.{in_table, range_of, shown_at, shown_from, shown_over}
+use Rattle.asl_run.specs.declared.nodes.Node.{Node}
+use Rattle.asl_run.specs.declared.planning.Plan.{Plan}
 use Rattle.asl_run.specs.declared.stepping.Happening.{Happening}
-use Rattle.asl_model.specs.Tree.{Tree}
 use Rattle.std.specs.declared.alloc.Global.{Global}
 use Rattle.asl_machine.specs.Table.{Shows, table_view}
 use Rattle.asl_machine.specs.declared.machine.Machine.{Machine}
@@ -13,7 +14,7 @@ use Rattle.asl_model.specs.Machine.{Scope}
 use Rattle.asl_model.specs.Numbering.{IsScopeOf}
 use Rattle.asl_model.specs.Run as model
 use Rattle.asl_run.specs.Entries.{entry_view}
-use Rattle.asl_run.specs.Standing.{StandsIn}
+use Rattle.asl_run.specs.Standing.{StandsIn, children_of}
 use Rattle.asl_run.specs.declared.entries.Entry.{Entry}
 use Rattle.asl_run.specs.declared.stepping.StepRefusal.{StepRefusal}
 use Rattle.asl_run.specs.declared.stepping.StepRefusal.TheVariants.{NoSuchPlace, NotEnabled, OutOfMemory}
@@ -53,10 +54,21 @@ names_for happening = (table_view happening.machine.now).names
 abbrev pub action_of : Happening → model.Action
 action_of happening = unwrap_or (option_map (λ a. answer_view a.now) happening.answer) model.Move
 
--- an answer to what happens at a place below that activity is right
-pub record StepsAt (happening : Happening) (place : List ℕ) (before after : Activity) (r : Result (Vec Entry Global) StepRefusal) : Type 0 where
-  pub whole : Steps happening.machine.now happening.at.now place (activity_view (names_for happening) before) (activity_view (names_for happening) after) (action_of happening) r
+-- an answer to what happens to a table of nodes is right
+pub record StepsAt (happening : Happening) (before after : List Node) (r : Result (Vec Entry Global) StepRefusal) : Type 0 where
+  pub whole : Steps happening.machine.now happening.at.now happening.at.now (shown_at (names_for happening) before 0) (shown_at (names_for happening) after 0) (action_of happening) r
 
--- the same below the child of that number of a Split with these children
-pub record StepsInChild (happening : Happening) (number : ℕ) (rest : List ℕ) (before after : List Activity) (r : Result (Vec Entry Global) StepRefusal) : Type 0 where
-  pub whole : (n : List ℕ) (raw : Tree) (counts : List ℕ) → Steps happening.machine.now happening.at.now (number ∷ rest) (model.Split n raw counts (children_view (names_for happening) before)) (model.Split n raw counts (children_view (names_for happening) after)) (action_of happening) r
+-- what is shown of the children of a node of a table
+abbrev pub below_node : Happening → List Node → Node → model.Activities
+below_node happening nodes node = children_of (in_table (range_of node) (shown_from (names_for happening) 0 nodes))
+
+-- a refusal is right for an activity itself
+pub record RefusesThere (machine : Machine) (a : model.Activity) (action : model.Action) (refusal : StepRefusal) : Type 0 where
+  pub refuses : (m scope : Scope) → Shows machine m → IsScopeOf m scope → StandsIn a scope → RefusedSo refusal (Some a) (model.acts scope a action)
+
+-- what is to be done at node i, or why there is nothing
+pub record IsPlanned (happening : Happening) (nodes : List Node) (i : ℕ) (r : Result Plan StepRefusal) : Type 0 where
+  pub node : Node
+  pub there : slice_get nodes i ≡ Some node
+  pub planned : IfOk r (λ plan. ActsSo happening.machine.now happening.at.now (below_node happening nodes node) node (action_of happening) plan)
+  pub refused : IfErr r (λ refusal. RefusesThere happening.machine.now (shown_over (names_for happening) (below_node happening nodes node) node) (action_of happening) refusal)

@@ -1,36 +1,41 @@
-//! One step of one activity (States Language, "State Types", "Errors").
+//! One step at one place (States Language, "State Types", "Errors").
 
-ghost use Rattle.std.specs.Prelude.{◌≡◌, IfOk, IfSome, None, option_map};
+ghost use Rattle.std.specs.Prelude.{◌≡◌, List, IfOk, IfSome, None, option_map};
 ghost use Rattle.std.specs.Option.{unwrap_or};
+ghost use Rattle.asl_machine.specs.Table.{table_view};
 ghost use Rattle.asl_model.specs.Run as model;
-ghost use Rattle.asl_run.specs.Acting.{Acts, DoesNothing, HasNoVisit, IsFoundBy, IsVisitOf, Plans, PlansAs, PlansOne, by_settings, moves_at, takes_at};
+ghost use Rattle.asl_run.specs.Acting.{Acts, DoesNothing, HasNoVisit, IsFoundBy, IsVisitOf, Plans, PlansAs, PlansOne, by_settings, moves_at, names_at, takes_at};
 ghost use Rattle.asl_run.specs.Entries.{answer_view};
+ghost use Rattle.asl_run.specs.Nodes.{AreHeads};
+ghost use Rattle.asl_run.specs.Standing.{children_of};
 
-use crate::activities::{Activity, Visit};
+use crate::activities::Visit;
 use crate::data::Data;
 use crate::entering::enter;
 use crate::entries::Answer;
 use crate::joining::join;
 use crate::leaving::finish;
+use crate::nodes::Node;
 use crate::planning::{Here, Plan};
 use crate::troubling::in_trouble;
 use asl_machine::Machine;
 use asl_tree::OutOfMemory;
 use std::alloc::Global;
 
-/// What an answer, or without one a move, is to do at the activity at that place; none where it isn't enabled there.
-/// Nothing is changed yet.
+/// What an answer, or without one a move, is to do at that place, where this node stands over these children; none where it
+/// isn't enabled there. Nothing is changed yet.
 pub(crate) fn plan(
     alloc: Global,
     machine: &Machine,
     at: &[usize],
-    activity: &Activity,
+    node: &Node,
+    children: &[Node],
     answer: Option<&Answer>,
 ) -> Result<Option<Plan>, OutOfMemory>
-    ensures { IfOk result (λ plan. Acts machine.now at.now activity.now (unwrap_or (option_map (λ a. answer_view a.now) answer.entry) model.Move) plan) }
+    ensures { IfOk result (λ plan. (below : List model.Activity) → AreHeads (table_view machine.now).names children.now below → Acts machine.now at.now (children_of below) node.now (unwrap_or (option_map (λ a. answer_view a.now) answer.entry) model.Move) plan) }
 {
-    match find(alloc, machine, at, activity) {
-        Some(here) => act(&here, activity, answer),
+    match find(alloc, machine, at, node) {
+        Some(here) => act(&here, node, children, answer),
         None => Ok(None),
     }
 }
@@ -41,12 +46,12 @@ fn find<'m>(
     alloc: Global,
     machine: &'m Machine,
     at: &'m [usize],
-    activity: &'m Activity,
+    node: &'m Node,
 ) -> Option<Here<'m>>
-    ensures found { IfSome result (λ here. IsFoundBy machine.now at.now activity.now here) }
-    ensures missing { result ≡ None → DoesNothing machine.now activity.now }
+    ensures found { IfSome result (λ here. IsFoundBy machine.now at.now node.now here) }
+    ensures missing { result ≡ None → DoesNothing machine.now node.now }
 {
-    let visit = visit_of(activity)?;
+    let visit = visit_of(node)?;
     let name = machine.name(visit.state)?;
     let state = machine.state(visit.state)?;
     Some(Here {
@@ -60,59 +65,60 @@ fn find<'m>(
 }
 
 /// The execution of a state that stands there; none where the scope has ended.
-fn visit_of(activity: &Activity) -> Option<&Visit>
-    ensures found { IfSome result (λ visit. IsVisitOf activity.now visit.now) }
-    ensures missing { result ≡ None → HasNoVisit activity.now }
+fn visit_of(node: &Node) -> Option<&Visit>
+    ensures found { IfSome result (λ visit. IsVisitOf node.now visit.now) }
+    ensures missing { result ≡ None → HasNoVisit node.now }
 {
-    match activity {
-        Activity::Ready(visit) => Some(visit),
-        Activity::Waiting { visit, payload: _ } => Some(visit),
-        Activity::Split { visit, children: _ } => Some(visit),
-        Activity::Ended(_) => None,
+    match node {
+        Node::Ready(visit) => Some(visit),
+        Node::Waiting { visit, payload: _ } => Some(visit),
+        Node::Split { visit, children: _ } => Some(visit),
+        Node::Ended(_) => None,
     }
 }
 
-/// What an answer, or without one a move, is to do at the activity of that execution.
+/// What an answer, or without one a move, is to do where that execution stands.
 fn act(
     here: &Here,
-    activity: &Activity,
+    node: &Node,
+    children: &[Node],
     answer: Option<&Answer>,
 ) -> Result<Option<Plan>, OutOfMemory>
-    ensures { IfOk result (λ plan. PlansAs here.now plan (moves_at here.now activity.now (unwrap_or (option_map (λ a. answer_view a.now) answer.entry) model.Move))) }
+    ensures { IfOk result (λ plan. (below : List model.Activity) → AreHeads (names_at here.now) children.now below → PlansAs here.now plan (moves_at here.now (children_of below) node.now (unwrap_or (option_map (λ a. answer_view a.now) answer.entry) model.Move))) }
 {
     match answer {
-        Some(answer) => take(here, activity, answer),
-        None => make_move(here, activity),
+        Some(answer) => take(here, node, answer),
+        None => make_move(here, node, children),
     }
 }
 
 /// What a move is to do there.
-fn make_move(here: &Here, activity: &Activity) -> Result<Option<Plan>, OutOfMemory>
-    ensures { IfOk result (λ plan. PlansAs here.now plan (moves_at here.now activity.now model.Move)) }
+fn make_move(here: &Here, node: &Node, children: &[Node]) -> Result<Option<Plan>, OutOfMemory>
+    ensures { IfOk result (λ plan. (below : List model.Activity) → AreHeads (names_at here.now) children.now below → PlansAs here.now plan (moves_at here.now (children_of below) node.now model.Move)) }
 {
-    match activity {
-        Activity::Ready(_) => {
+    match node {
+        Node::Ready(_) => {
             let entered = enter(here)?;
             Ok(Some(entered))
         }
-        Activity::Split { visit: _, children } => join(here, children),
-        Activity::Waiting { .. } => Ok(None),
-        Activity::Ended(_) => Ok(None),
+        Node::Split { .. } => join(here, children),
+        Node::Waiting { .. } => Ok(None),
+        Node::Ended(_) => Ok(None),
     }
 }
 
 /// What an answer is to do there.
-fn take(here: &Here, activity: &Activity, answer: &Answer) -> Result<Option<Plan>, OutOfMemory>
-    ensures { IfOk result (λ plan. PlansAs here.now plan (moves_at here.now activity.now (answer_view answer.now))) }
+fn take(here: &Here, node: &Node, answer: &Answer) -> Result<Option<Plan>, OutOfMemory>
+    ensures { IfOk result (λ plan. (below : model.Activities) → PlansAs here.now plan (moves_at here.now below node.now (answer_view answer.now))) }
 {
-    match activity {
-        Activity::Waiting { .. } => {
+    match node {
+        Node::Waiting { .. } => {
             let taken = take_on(here, answer)?;
             Ok(Some(taken))
         }
-        Activity::Ready(_) => Ok(None),
-        Activity::Split { .. } => Ok(None),
-        Activity::Ended(_) => Ok(None),
+        Node::Ready(_) => Ok(None),
+        Node::Split { .. } => Ok(None),
+        Node::Ended(_) => Ok(None),
     }
 }
 

@@ -5,14 +5,14 @@ ghost use Rattle.asl_machine.specs.Table.{table_view};
 ghost use Rattle.asl_model.specs.Machine.{Scope};
 ghost use Rattle.asl_model.specs.Run as model;
 ghost use Rattle.asl_model.specs.Tree as trees;
-ghost use Rattle.asl_run.specs.Activities.{activity_view};
 ghost use Rattle.asl_run.specs.Driving.{ComesNext, Pauses, GoesOn, Stops, BreaksOff, EndsSo, IsLeft, IsTold, answer_in, unused};
 ghost use Rattle.asl_run.specs.Entries.{entry_view, event_view};
+ghost use Rattle.asl_run.specs.Nodes.{shown_at};
 ghost use Rattle.asl_run.specs.Running.{run_view, IsRunOf};
 
-use crate::activities::Activity;
 use crate::answers::Answers;
 use crate::entries::{Answer, Entry, Event, Outcome, Place};
+use crate::nodes::Nodes;
 use crate::orders::Order;
 use crate::running::Run;
 use crate::waiting::waiting_at;
@@ -114,7 +114,7 @@ fn turn<O: Order, A: Answers>(
         Ok(place) => place,
         Err(OutOfMemory) => return Err(Pause::OutOfMemory(None)),
     };
-    let event = match next_event(run.machine, &run.activity, answers, place) {
+    let event = match next_event(run.machine, &run.nodes, answers, place) {
         Ok(event) => event,
         Err(pause) => return Err(pause),
     };
@@ -138,15 +138,15 @@ fn picked_place<O: Order>(run: &Run, order: &mut O) -> Result<Place, OutOfMemory
 /// The next event at the place: an answer of the source where a task waits, else a move.
 fn next_event<A: Answers>(
     machine: &Machine,
-    activity: &Activity,
+    nodes: &Nodes,
     answers: &mut A,
     place: Place,
 ) -> Result<Event, Pause>
-    ensures next { IfOk result (λ event. ComesNext (A.may_give answers.old) (activity_view (table_view machine.now).names activity.now) (A.content answers.old) (event_view event) (A.content answers.new)) }
-    ensures pauses { IfErr result (λ pause. let names = (table_view machine.now).names in Pauses (A.may_be_silent answers.new) names (activity_view names activity.now) (A.content answers.old) (A.content answers.new) pause) }
+    ensures next { IfOk result (λ event. ComesNext (A.may_give answers.old) (shown_at (table_view machine.now).names nodes.now 0) (A.content answers.old) (event_view event) (A.content answers.new)) }
+    ensures pauses { IfErr result (λ pause. let names = (table_view machine.now).names in Pauses (A.may_be_silent answers.new) names (shown_at names nodes.now 0) (A.content answers.old) (A.content answers.new) pause) }
     ensures lasting { (n : List ℕ) (t : trees.Tree) (answer : model.Action) → A.may_give answers.new n t answer → A.may_give answers.old n t answer }
 {
-    let Some(asked) = waiting_at(machine, activity, &place) else {
+    let Some(asked) = waiting_at(machine, nodes, &place) else {
         return Ok(Event::Move(place));
     };
     match answers.next(asked.name, asked.payload) {

@@ -1,38 +1,39 @@
-//! The places of an activity where an event is wanted.
+//! The places of a run where an event is wanted.
 
-ghost use Rattle.std.specs.Prelude.{◌≡◌, ℕ, List, map, option_map, IfOk};
-ghost use Rattle.asl_model.specs.Run.{joining};
-ghost use Rattle.asl_run.specs.Activities.{activity_view, children_view};
+ghost use Rattle.std.specs.Prelude.{◌≡◌, ◌+◌, ◌<◌, ◌≤◌, ℕ, List, length, map, option_map, IfOk};
+ghost use Rattle.asl_model.specs.Run.{Activities, Activity, joining};
 ghost use Rattle.asl_run.specs.Enabling as model;
 ghost use Rattle.asl_run.specs.Enabling.{AddsOwn, AddsPlaces, AddsPlacesBelow, found_view};
 ghost use Rattle.asl_run.specs.Entries.{want_view};
+ghost use Rattle.asl_run.specs.Nodes.{AreHeads, shown_over};
+ghost use Rattle.asl_run.specs.Standing.{children_of};
 
-use crate::activities::Activity;
 use crate::entries::{Outcome, Place, Want};
+use crate::nodes::{Children, Node, NodeNumber, Nodes};
 use asl_tree::OutOfMemory;
 use std::alloc::Global;
 
-/// The kind of event that the activity itself wants, if any.
-pub(crate) fn wanted_by(activity: &Activity) -> Option<Want>
-    ensures { (names : List (List ℕ)) → option_map want_view result ≡ model.wanted_by (activity_view names activity.now) }
+/// The kind of event that the node itself wants, over these children, if any.
+pub(crate) fn wanted_by(node: &Node, children: &[Node]) -> Option<Want>
+    ensures { (names : List (List ℕ)) (below : List Activity) → AreHeads names children.now below → option_map want_view result ≡ model.wanted_by (shown_over names (children_of below) node.now) }
 {
-    match activity {
-        Activity::Ready(_) => Some(Want::Move),
-        Activity::Waiting { .. } => Some(Want::Answer),
-        Activity::Split { visit: _, children } => {
+    match node {
+        Node::Ready(_) => Some(Want::Move),
+        Node::Waiting { .. } => Some(Want::Answer),
+        Node::Split { .. } => {
             if is_joinable(children) {
                 Some(Want::Move)
             } else {
                 None
             }
         }
-        Activity::Ended(_) => None,
+        Node::Ended(_) => None,
     }
 }
 
 /// Whether the children of a Parallel or a Map are far enough for its move: one has failed, or all have ended.
-fn is_joinable(children: &[Activity]) -> bool
-    ensures { (names : List (List ℕ)) → result ≡ model.is_joinable (joining 0 (children_view names children.now)) }
+fn is_joinable(children: &[Node]) -> bool
+    ensures { (names : List (List ℕ)) (below : List Activity) → AreHeads names children.now below → result ≡ model.is_joinable (joining 0 (children_of below)) }
 {
     let mut all_ended = true;
     for child in children {
@@ -45,67 +46,78 @@ fn is_joinable(children: &[Activity]) -> bool
 }
 
 /// Whether a scope has ended there with an error.
-fn has_failed(activity: &Activity) -> bool
-    ensures { (names : List (List ℕ)) → result ≡ model.has_failed (activity_view names activity.now) }
+fn has_failed(node: &Node) -> bool
+    ensures { (names : List (List ℕ)) (below : Activities) → result ≡ model.has_failed (shown_over names below node.now) }
 {
-    matches!(activity, Activity::Ended(Outcome::Failed { .. }))
+    matches!(node, Node::Ended(Outcome::Failed { .. }))
 }
 
 /// Whether a scope has ended there.
-pub(crate) fn has_ended(activity: &Activity) -> bool
-    ensures { (names : List (List ℕ)) → result ≡ model.has_ended (activity_view names activity.now) }
+pub(crate) fn has_ended(node: &Node) -> bool
+    ensures { (names : List (List ℕ)) (below : Activities) → result ≡ model.has_ended (shown_over names below node.now) }
 {
-    matches!(activity, Activity::Ended(_))
+    matches!(node, Node::Ended(_))
 }
 
-/// Adds the places where the activity at that place wants an event to those that were found, a place before those below
-/// it.
+/// Adds the places where an event is wanted at the node of that number, which stands at that place, or below it to those
+/// that were found, a place before those below it.
 #[cycle(add_places)]
 pub(crate) fn add_places(
     alloc: Global,
-    activity: &Activity,
+    nodes: &Nodes,
+    number: NodeNumber,
     place: &mut Place,
     found: &mut Vec<(Place, Want)>,
 ) -> Result<(), OutOfMemory>
-    ensures added { IfOk result (λ _. AddsPlaces activity.now place.old.items (map found_view found.old.items) (map found_view found.new.items)) }
+    requires { number.0 < length nodes.now }
+    ensures added { IfOk result (λ _. AddsPlaces nodes.now number.0 place.old.items (map found_view found.old.items) (map found_view found.new.items)) }
     ensures place { IfOk result (λ _. place.new.items ≡ place.old.items) }
 {
-    add_own_place(alloc, activity, place, found)?;
-    match activity {
-        Activity::Split { visit: _, children } => add_places_below(alloc, children, place, found),
-        Activity::Ready(_) | Activity::Waiting { .. } | Activity::Ended(_) => Ok(()),
+    nodes.known();
+    let node = nodes.node(number);
+    add_own_place(alloc, node, nodes.children(node), place, found)?;
+    match node {
+        Node::Split { visit: _, children } => {
+            add_places_below(alloc, nodes, *children, place, found)
+        }
+        Node::Ready(_) | Node::Waiting { .. } | Node::Ended(_) => Ok(()),
     }
 }
 
-/// Adds the places of the children of the activity at that place.
+/// Adds the places of these children of the node at that place.
 #[cycle(add_places)]
 fn add_places_below(
     alloc: Global,
-    children: &[Activity],
+    nodes: &Nodes,
+    children: Children,
     place: &mut Place,
     found: &mut Vec<(Place, Want)>,
 ) -> Result<(), OutOfMemory>
-    ensures added { IfOk result (λ _. AddsPlacesBelow children.now place.old.items (map found_view found.old.items) (map found_view found.new.items)) }
+    requires { children.first.0 + children.count ≤ length nodes.now }
+    ensures added { IfOk result (λ _. AddsPlacesBelow nodes.now children place.old.items (map found_view found.old.items) (map found_view found.new.items)) }
     ensures place { IfOk result (λ _. place.new.items ≡ place.old.items) }
 {
-    for (number, child) in children.iter().enumerate() {
+    nodes.known();
+    for number in 0..children.count {
         place.push(number)?;
-        add_places(alloc, child, place, found)?;
+        let child = NodeNumber(children.first.0 + number);
+        add_places(alloc, nodes, child, place, found)?;
         let _number = place.pop();
     }
     Ok(())
 }
 
-/// Adds the activity's own place, where it wants an event.
+/// Adds the place of the node with these children, where it wants an event.
 fn add_own_place(
     alloc: Global,
-    activity: &Activity,
+    node: &Node,
+    children: &[Node],
     place: &Place,
     found: &mut Vec<(Place, Want)>,
 ) -> Result<(), OutOfMemory>
-    ensures { IfOk result (λ _. AddsOwn activity.now place.now.items (map found_view found.old.items) (map found_view found.new.items)) }
+    ensures { IfOk result (λ _. AddsOwn node.now children.now place.now.items (map found_view found.old.items) (map found_view found.new.items)) }
 {
-    if let Some(want) = wanted_by(activity) {
+    if let Some(want) = wanted_by(node, children) {
         let own = Vec::from_slice(alloc, place)?;
         found.push((own, want))?;
     }

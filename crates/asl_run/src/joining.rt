@@ -5,15 +5,16 @@ ghost use Rattle.std.specs.Option.{option_to_list};
 ghost use Rattle.asl_machine.specs.Machine.{kind_view};
 ghost use Rattle.asl_model.specs.Run as model;
 ghost use Rattle.asl_run.specs.Acting.{Plans, PlansAs, by_settings, by_state, names_at};
-ghost use Rattle.asl_run.specs.Activities.{activity_view, children_view};
 ghost use Rattle.asl_run.specs.Joining.{failure_in, far_view, output_in, outputs_among, without_outputs};
+ghost use Rattle.asl_run.specs.Nodes.{AreHeads, shown_over};
+ghost use Rattle.asl_run.specs.Standing.{children_of};
 ghost use Rattle.asl_tree.specs.View.{view};
 
-use crate::activities::Activity;
 use crate::data::Data;
 use crate::enabling::has_ended;
 use crate::entries::Outcome;
 use crate::leaving::finish;
+use crate::nodes::Node;
 use crate::planning::{Here, Plan};
 use crate::troubling::in_trouble;
 use asl_machine::Kind;
@@ -35,8 +36,8 @@ enum Far<'c> {
 }
 
 /// The state's children are joined; none where they aren't far enough.
-pub(crate) fn join(here: &Here, children: &[Activity]) -> Result<Option<Plan>, OutOfMemory>
-    ensures { IfOk result (λ plan. PlansAs here.now plan (by_state model.joins here.now (model.joining 0 (children_view (names_at here.now) children.now)))) }
+pub(crate) fn join(here: &Here, children: &[Node]) -> Result<Option<Plan>, OutOfMemory>
+    ensures { IfOk result (λ plan. (below : List model.Activity) → AreHeads (names_at here.now) children.now below → PlansAs here.now plan (by_state model.joins here.now (model.joining 0 (children_of below)))) }
 {
     match how_far(children) {
         Far::AllDone => {
@@ -82,8 +83,8 @@ fn join_error<'e>(kind: &Kind, error: &'e str) -> &'e str
 }
 
 /// How far the children are.
-fn how_far(children: &[Activity]) -> Far<'_>
-    ensures { (names : List (List ℕ)) → far_view result ≡ without_outputs (model.joining 0 (children_view names children.now)) }
+fn how_far(children: &[Node]) -> Far<'_>
+    ensures { (names : List (List ℕ)) (below : List model.Activity) → AreHeads names children.now below → far_view result ≡ without_outputs (model.joining 0 (children_of below)) }
 {
     let mut all_ended = true;
     for (number, child) in children.iter().enumerate() {
@@ -104,21 +105,21 @@ fn how_far(children: &[Activity]) -> Far<'_>
 }
 
 /// The error and the cause with which a scope has ended there, if it has failed.
-fn failure_of(activity: &Activity) -> Option<(&str, &str)>
-    ensures { (names : List (List ℕ)) → option_map (λ f. (f.0.now, f.1.now)) result ≡ failure_in (activity_view names activity.now) }
+fn failure_of(node: &Node) -> Option<(&str, &str)>
+    ensures { (names : List (List ℕ)) (below : model.Activities) → option_map (λ f. (f.0.now, f.1.now)) result ≡ failure_in (shown_over names below node.now) }
 {
-    match activity {
-        Activity::Ended(Outcome::Failed { error, cause }) => Some((error, cause)),
-        Activity::Ready(_)
-        | Activity::Waiting { .. }
-        | Activity::Split { .. }
-        | Activity::Ended(Outcome::Output(_)) => None,
+    match node {
+        Node::Ended(Outcome::Failed { error, cause }) => Some((error, cause)),
+        Node::Ready(_)
+        | Node::Waiting { .. }
+        | Node::Split { .. }
+        | Node::Ended(Outcome::Output(_)) => None,
     }
 }
 
 /// The outputs of the children that are done, in order.
-fn outputs_of(alloc: Global, children: &[Activity]) -> Result<Vec<Tree>, OutOfMemory>
-    ensures { IfOk result (λ v. (names : List (List ℕ)) → map view v.items ≡ outputs_among (map (activity_view names) children.now)) }
+fn outputs_of(alloc: Global, children: &[Node]) -> Result<Vec<Tree>, OutOfMemory>
+    ensures { IfOk result (λ v. (names : List (List ℕ)) (below : List model.Activity) → AreHeads names children.now below → map view v.items ≡ outputs_among below) }
 {
     let mut outputs = Vec::with_capacity(alloc, children.len())?;
     for child in children {
@@ -128,14 +129,10 @@ fn outputs_of(alloc: Global, children: &[Activity]) -> Result<Vec<Tree>, OutOfMe
 }
 
 /// Adds the output of a scope that is done there to those of others.
-fn add_output(
-    alloc: Global,
-    activity: &Activity,
-    outputs: &mut Vec<Tree>,
-) -> Result<(), OutOfMemory>
-    ensures { IfOk result (λ _. (names : List (List ℕ)) → map view outputs.new.items ≡ map view outputs.old.items ++ option_to_list (output_in (activity_view names activity.now))) }
+fn add_output(alloc: Global, node: &Node, outputs: &mut Vec<Tree>) -> Result<(), OutOfMemory>
+    ensures { IfOk result (λ _. (names : List (List ℕ)) (below : model.Activities) → map view outputs.new.items ≡ map view outputs.old.items ++ option_to_list (output_in (shown_over names below node.now))) }
 {
-    if let Some(output) = output_of(activity) {
+    if let Some(output) = output_of(node) {
         let output = copy(alloc, output)?;
         outputs.push(output)?;
     }
@@ -143,14 +140,14 @@ fn add_output(
 }
 
 /// The output of a scope that is done there.
-fn output_of(activity: &Activity) -> Option<&Tree>
-    ensures { (names : List (List ℕ)) → option_map (λ t. view t.now) result ≡ output_in (activity_view names activity.now) }
+fn output_of(node: &Node) -> Option<&Tree>
+    ensures { (names : List (List ℕ)) (below : model.Activities) → option_map (λ t. view t.now) result ≡ output_in (shown_over names below node.now) }
 {
-    match activity {
-        Activity::Ended(Outcome::Output(output)) => Some(output),
-        Activity::Ready(_)
-        | Activity::Waiting { .. }
-        | Activity::Split { .. }
-        | Activity::Ended(Outcome::Failed { .. }) => None,
+    match node {
+        Node::Ended(Outcome::Output(output)) => Some(output),
+        Node::Ready(_)
+        | Node::Waiting { .. }
+        | Node::Split { .. }
+        | Node::Ended(Outcome::Failed { .. }) => None,
     }
 }

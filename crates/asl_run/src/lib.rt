@@ -17,6 +17,7 @@ mod flowing;
 mod items;
 mod joining;
 mod leaving;
+mod nodes;
 mod orders;
 mod planning;
 mod running;

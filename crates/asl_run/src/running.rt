@@ -1,6 +1,6 @@
 //! Runs: a machine with what stands at its places.
 
-ghost use Rattle.std.specs.Prelude.{◌≡◌, ◌≢◌, ◌↔◌, [], map, option_map, IfErr, IfOk, IsOk, None};
+ghost use Rattle.std.specs.Prelude.{◌≡◌, ◌≢◌, ◌↔◌, [], map, option_map, IfErr, IfOk, None};
 ghost use Rattle.std.specs.Option.{IsSome, unwrap_or};
 ghost use Rattle.asl_machine.specs.Table.{Shows, table_view};
 ghost use Rattle.asl_model.specs.Machine.{Scope, start_of};
@@ -13,10 +13,11 @@ ghost use Rattle.asl_run.specs.Running.{IsRunOf, run_view};
 ghost use Rattle.asl_run.specs.Standing.{name_in};
 ghost use Rattle.asl_tree.specs.View.{view};
 
-use crate::activities::{Activity, Visit};
+use crate::activities::Visit;
 use crate::enabling::add_places;
 use crate::entries::{Answer, Entry, Event, Outcome, Place, Want};
-use crate::stepping::{Happening, StepRefusal, step_at};
+use crate::nodes::{Node, NodeNumber, Nodes};
+use crate::stepping::{Happening, StepRefusal};
 use asl_machine::Machine;
 use asl_tree::{OutOfMemory, Tree};
 use std::alloc::Global;
@@ -26,7 +27,7 @@ use std::alloc::Global;
 pub struct Run<'m> {
     pub(crate) alloc: Global,
     pub(crate) machine: &'m Machine,
-    pub(crate) activity: Activity,
+    pub(crate) nodes: Nodes,
 }
 
 /// The number of the machine's start state: the state 0 stands in the machine's own scope.
@@ -39,8 +40,8 @@ fn first_state(machine: &Machine) -> usize
     }
 }
 
-/// A run of the machine with that input, about to enter its start state. A refusal would give the input back; this takes
-/// no memory yet, so there is none.
+/// A run of the machine with that input, about to enter its start state. A refusal, for want of memory, gives the input
+/// back.
 pub fn start<'m>(
     alloc: Global,
     machine: &'m Machine,
@@ -48,18 +49,25 @@ pub fn start<'m>(
 ) -> Result<Run<'m>, (OutOfMemory, Tree)>
     ensures of_machine { IfOk result (λ run. (m : Scope) → Shows machine.now m → IsRunOf m run) }
     ensures starts { IfOk result (λ run. (m : Scope) → Shows machine.now m → run_view run ≡ model.start m (view input)) }
-    ensures never_refused { IsOk result }
+    ensures returned { IfErr result (λ refusal. refusal.1 ≡ input) }
 {
     let visit = Visit {
         state: first_state(machine),
         raw: input,
         counts: Vec::new(alloc),
     };
-    Ok(Run {
-        alloc,
-        machine,
-        activity: Activity::Ready(visit),
-    })
+    match Nodes::new(alloc, visit) {
+        Ok(nodes) => Ok(Run {
+            alloc,
+            machine,
+            nodes,
+        }),
+        Err(Visit {
+            state: _,
+            raw,
+            counts: _,
+        }) => Err((OutOfMemory, raw)),
+    }
 }
 
 impl<'m> Run<'m> {
@@ -108,7 +116,7 @@ impl<'m> Run<'m> {
             at: place,
             answer,
         };
-        step_at(happening, &mut self.activity, place)
+        happening.take_step(&mut self.nodes)
     }
 
     /// The places where an event is enabled, each with its kind, in lexicographic order, a place before those below it. A
@@ -119,7 +127,14 @@ impl<'m> Run<'m> {
     {
         let mut place = Vec::new(self.alloc);
         let mut found = Vec::new(self.alloc);
-        add_places(self.alloc, &self.activity, &mut place, &mut found)?;
+        self.nodes.known();
+        add_places(
+            self.alloc,
+            &self.nodes,
+            NodeNumber(0),
+            &mut place,
+            &mut found,
+        )?;
         Ok(found)
     }
 
@@ -127,9 +142,10 @@ impl<'m> Run<'m> {
     pub fn outcome(&self) -> Option<&Outcome>
         ensures { option_map (λ o. outcome_view o.now) result ≡ model.outcome_of (run_view self.now) }
     {
-        match &self.activity {
-            Activity::Ended(outcome) => Some(outcome),
-            Activity::Ready(_) | Activity::Waiting { .. } | Activity::Split { .. } => None,
+        self.nodes.known();
+        match self.nodes.node(NodeNumber(0)) {
+            Node::Ended(outcome) => Some(outcome),
+            Node::Ready(_) | Node::Waiting { .. } | Node::Split { .. } => None,
         }
     }
 }

@@ -10,7 +10,7 @@ returns-in-Some c =
 pub loop-number-preserved : goal.loop-number-preserved
 loop-number-preserved c =
     one_further c.args.children.now c.loop-number.number c.index-children-number.result c.loop-number.all_ended c.has_ended-all_ended.result c.loop-number-test.true c.index-children-number.is
-    (λ names. ap (option_map (λ (f : Bor (List ℕ) × Bor (List ℕ)). (f.0.now, f.1.now))) (sym c.in_default.is) ∙ c.failure_of.ensures names) c.has_ended-all_ended.ensures c.loop-number.invariant
+    (λ names under. ap (option_map (λ (f : Bor (List ℕ) × Bor (List ℕ)). (f.0.now, f.1.now))) (sym c.in_default.is) ∙ c.failure_of.ensures names under) c.has_ended-all_ended.ensures c.loop-number.invariant
 
 pub returns-then-all_ended : goal.returns-then-all_ended
 returns-then-all_ended c = all_ended c.args.children.now c.loop-number.number c.loop-number.all_ended (sym c.if-all_ended.true) c.loop-number-test.false c.loop-number.invariant

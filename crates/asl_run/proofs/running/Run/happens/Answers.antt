@@ -3,4 +3,4 @@ use Rattle.asl_run.proofs.StepsRun.{still_stands}
 use Rattle.asl_run.proofs.running.Run.happens.Goals as goal
 
 pub returns-clause-kept : goal.returns-clause-kept
-returns-clause-kept c = λ m run. record { shown = run.shown; stands = still_stands c.args.self.now.machine.now m c.args.place.now (run_view c.args.self.now) _ _ c.step_at.result run.shown run.stands c.step_at.ensures.whole }
+returns-clause-kept c = λ m run. record { shown = run.shown; stands = still_stands c.args.self.now.machine.now m c.args.place.now (run_view c.args.self.now) _ _ c.take_step.result run.shown run.stands c.take_step.ensures.whole }

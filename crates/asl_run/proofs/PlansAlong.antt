@@ -1,0 +1,78 @@
+-- What is planned at a node of a table, over what is shown of its children.
+use Rattle.std.proofs.Common.{◌≡◌, ◌↔◌, refl, sym, ap, ◌∙◌, subst, ℕ, List, slice_get, Bool, true, false, IsTrue, Option, Some, None, Result, Ok, Err, IfOk}
+use Rattle.asl_machine.specs.Table.{table_view}
+use Rattle.asl_model.specs.Run as model
+use Rattle.asl_run.specs.Acting.{Acts, ActsSo}
+use Rattle.asl_run.specs.Enabling.{wanted_by}
+use Rattle.asl_run.specs.Nodes.{AreHeads, in_table, range_of, shown_from, shown_over}
+use Rattle.asl_run.specs.Standing.{children_of}
+use Rattle.asl_run.specs.Stepping.{IsPlanned, action_of, below_node, names_for}
+use Rattle.asl_run.specs.declared.nodes.Node.{Node}
+use Rattle.asl_run.specs.declared.planning.Plan.{Plan}
+use Rattle.asl_run.specs.declared.stepping.Happening.{Happening}
+use Rattle.asl_run.specs.declared.stepping.StepRefusal.TheVariants.{NotEnabled, OutOfMemory}
+use Rattle.asl_run.proofs.StepsHere.{no_memory_here, not_here, so_unwanted, so_wanted, unwanted_here}
+use Rattle.asl_run.proofs.Tables.{heads_below}
+
+-- a plan, or none, is right whatever is shown of the children
+abbrev pub PlansOver : Happening → Node → List Node → Option Plan → Type 0
+PlansOver happening node children plan = (below : List model.Activity) → AreHeads (names_for happening) children below → Acts happening.machine.now happening.at.now (children_of below) node (action_of happening) plan
+
+-- a kind of event is wanted or not, whatever is shown of the children
+abbrev pub WantsOver : Happening → Node → List Node → Bool → Type 0
+WantsOver happening node children wanted = (names : List (List ℕ)) (below : List model.Activity) → AreHeads names children below → IsTrue wanted ↔ (wanted_by (shown_over names (children_of below) node) ≡ Some (model.want_of (action_of happening)))
+
+heads_there : (names : List (List ℕ)) (nodes : List Node) (node : Node) (children : List Node) → children ≡ in_table (range_of node) nodes → AreHeads names children (in_table (range_of node) (shown_from names 0 nodes))
+heads_there names nodes node children are = subst (λ cs. AreHeads names cs (in_table (range_of node) (shown_from names 0 nodes))) (sym are) (heads_below names (range_of node) nodes)
+
+-- one is made
+pub plan_made : {E : Type 0} (happening : Happening) (nodes : List Node) (i : ℕ) (node : Node) (children : List Node) → slice_get nodes i ≡ Some node → children ≡ in_table (range_of node) nodes
+    → (plan : Plan) (made : Result (Option Plan) E) → made ≡ Ok (Some plan) → IfOk made (PlansOver happening node children) → IsPlanned happening nodes i (Ok plan)
+plan_made {E = E} happening nodes i node children there are plan made is over =
+    let known : IfOk {E = E} (Ok (Some plan)) (PlansOver happening node children) = subst (λ r. IfOk r (PlansOver happening node children)) is over in
+    let names = names_for happening in
+    record {
+      node = node;
+      there = there;
+      planned = (known (in_table (range_of node) (shown_from names 0 nodes)) (heads_there names nodes node children are)).planned;
+      refused = tt;
+    }
+
+-- none is
+pub plan_missing : {E : Type 0} (happening : Happening) (nodes : List Node) (i : ℕ) (node : Node) (children : List Node) → slice_get nodes i ≡ Some node → children ≡ in_table (range_of node) nodes
+    → (made : Result (Option Plan) E) → made ≡ Ok None → IfOk made (PlansOver happening node children) → IsPlanned happening nodes i (Err NotEnabled)
+plan_missing {E = E} happening nodes i node children there are made is over =
+    let known : IfOk {E = E} (Ok None) (PlansOver happening node children) = subst (λ r. IfOk r (PlansOver happening node children)) is over in
+    let names = names_for happening in
+    record {
+      node = node;
+      there = there;
+      planned = tt;
+      refused = not_here happening (below_node happening nodes node) node (known (in_table (range_of node) (shown_from names 0 nodes)) (heads_there names nodes node children are));
+    }
+
+-- none is wanted
+pub plan_unwanted : (happening : Happening) (nodes : List Node) (i : ℕ) (node : Node) (children : List Node) → slice_get nodes i ≡ Some node → children ≡ in_table (range_of node) nodes
+    → (wanted : Bool) → wanted ≡ false → WantsOver happening node children wanted → IsPlanned happening nodes i (Err NotEnabled)
+plan_unwanted happening nodes i node children there are wanted is over =
+    let names = names_for happening in
+    record {
+      node = node;
+      there = there;
+      planned = tt;
+      refused = unwanted_here happening.machine.now (shown_over names (below_node happening nodes node) node) (action_of happening)
+          (so_unwanted wanted _ _ (over names (in_table (range_of node) (shown_from names 0 nodes)) (heads_there names nodes node children are)) is);
+    }
+
+-- memory is refused
+pub plan_refused : (happening : Happening) (nodes : List Node) (i : ℕ) (node : Node) (children : List Node) → slice_get nodes i ≡ Some node → children ≡ in_table (range_of node) nodes
+    → (wanted : Bool) → wanted ≡ true → WantsOver happening node children wanted → IsPlanned happening nodes i (Err OutOfMemory)
+plan_refused happening nodes i node children there are wanted is over =
+    let names = names_for happening in
+    record {
+      node = node;
+      there = there;
+      planned = tt;
+      refused = no_memory_here happening.machine.now (shown_over names (below_node happening nodes node) node) (action_of happening)
+          (so_wanted wanted _ _ (over names (in_table (range_of node) (shown_from names 0 nodes)) (heads_there names nodes node children are)) is);
+    }
