@@ -4,7 +4,7 @@ use Rattle.std.proofs.lemmas.List.{length-map}
 use Rattle.asl_model.specs.Tree.{Tree}
 use Rattle.asl_model.specs.Machine.{Scope}
 use Rattle.asl_model.specs.Run.{Activity, Action, Event, Entry, activity_at}
-use Rattle.asl_run.specs.Driving.{answer_in, answer_given, ComesNext, Drives, GoesOn, IsLeft, IsTold}
+use Rattle.asl_run.specs.Driving.{answer_in, answer_given, ComesNext, Drives, GoesOn, IsLeft, IsPicked, IsTold}
 use Rattle.asl_run.specs.Entries.{answer_view, entry_view}
 use Rattle.asl_run.specs.Stepping.{Takes}
 use Rattle.asl_run.specs.Waiting.{WaitsAt}
@@ -17,28 +17,28 @@ use Rattle.asl_run.proofs.Turns.{drives_one, drives_then, drives_for}
 use Rattle.asl_tree.specs.View.{view}
 
 -- the event that comes next is taken and told
-pub turn_taken : (MayGive : List ℕ → Tree → Action → Type 0) (machine : Scope) (before after : Activity) (event : Event) (given left : List Action) (told longer : List (List ℕ × Option Entry))
-    → ComesNext MayGive before given event left → IsTold machine before event told longer after → GoesOn MayGive machine before given told longer after left
-turn_taken MayGive machine before after event given left told longer next taken =
+pub turn_taken : (MayPick : ℕ → ℕ → Type 0) (MayGive : List ℕ → Tree → Action → Type 0) (machine : Scope) (before after : Activity) (event : Event) (given left : List Action) (told longer : List (List ℕ × Option Entry))
+    → IsPicked MayPick machine before event.place → ComesNext MayGive before given event left → IsTold machine before event told longer after → GoesOn MayPick MayGive machine before given told longer after left
+turn_taken MayPick MayGive machine before after event given left told longer picked next taken =
     let more = map (λ entry. (event.place, Some entry)) taken.step.entries in
-    let d : Drives MayGive machine before 1 (answer_in event.action ++ left) more taken.step.after left = drives_one MayGive machine before event taken.step left more taken.enabled next.allowed refl in
+    let d : Drives MayPick MayGive machine before 1 (answer_in event.action ++ left) more taken.step.after left = drives_one MayPick MayGive machine before event taken.step left more taken.enabled picked next.allowed refl in
     record {
       more = more;
       grown = taken.grown;
-      drives = subst (λ a. Drives MayGive machine before 1 given more a left) (sym taken.stands) (subst (λ v. Drives MayGive machine before 1 v more taken.step.after left) (sym next.answered) d);
+      drives = subst (λ a. Drives MayPick MayGive machine before 1 given more a left) (sym taken.stands) (subst (λ v. Drives MayPick MayGive machine before 1 v more taken.step.after left) (sym next.answered) d);
     }
 
 -- a turn more
-pub one_turn_more : {MayGive MayGive' : List ℕ → Tree → Action → Type 0} {machine : Scope} {a b c : Activity} {count : ℕ} {given between left : List Action} {told longer : List (List ℕ × Option Entry)}
-    → ((n : List ℕ) (payload : Tree) (answer : Action) → MayGive' n payload answer → MayGive n payload answer) → Drives MayGive machine a count given told b between → GoesOn MayGive' machine b between told longer c left → Drives MayGive machine a (count + 1) given longer c left
-one_turn_more {MayGive = MayGive} {machine = machine} {a = a} {c = c} {count = count} {given = given} {left = left} wider so_far turn =
-    subst (λ v. Drives MayGive machine a (count + 1) given v c left) (sym turn.grown) (drives_then so_far (drives_for wider turn.drives))
+pub one_turn_more : {MayPick MayPick' : ℕ → ℕ → Type 0} {MayGive MayGive' : List ℕ → Tree → Action → Type 0} {machine : Scope} {a b c : Activity} {count : ℕ} {given between left : List Action} {told longer : List (List ℕ × Option Entry)}
+    → ((n k : ℕ) → MayPick' n k → MayPick n k) → ((n : List ℕ) (payload : Tree) (answer : Action) → MayGive' n payload answer → MayGive n payload answer) → Drives MayPick MayGive machine a count given told b between → GoesOn MayPick' MayGive' machine b between told longer c left → Drives MayPick MayGive machine a (count + 1) given longer c left
+one_turn_more {MayPick = MayPick} {MayGive = MayGive} {machine = machine} {a = a} {c = c} {count = count} {given = given} {left = left} may_pick wider so_far turn =
+    subst (λ v. Drives MayPick MayGive machine a (count + 1) given v c left) (sym turn.grown) (drives_then so_far (drives_for may_pick wider turn.drives))
 
 -- a turn that has no event
-pub no_turn_more : {MayGive : List ℕ → Tree → Action → Type 0} {machine : Scope} {a b c : Activity} {count : ℕ} {given between left : List Action} {told longer : List (List ℕ × Option Entry)}
-    → Drives MayGive machine a count given told b between → IsLeft b told c longer → between ≡ left → Drives MayGive machine a count given longer c left
-no_turn_more {MayGive = MayGive} {machine = machine} {a = a} {b = b} {c = c} {count = count} {given = given} {between = between} {left = left} {told = told} {longer = longer} so_far still same =
-    subst (λ v. Drives MayGive machine a count given longer c v) same (subst (λ v. Drives MayGive machine a count given v c between) (sym still.tells) (subst (λ v. Drives MayGive machine a count given told v between) (sym still.stands) so_far))
+pub no_turn_more : {MayPick : ℕ → ℕ → Type 0} {MayGive : List ℕ → Tree → Action → Type 0} {machine : Scope} {a b c : Activity} {count : ℕ} {given between left : List Action} {told longer : List (List ℕ × Option Entry)}
+    → Drives MayPick MayGive machine a count given told b between → IsLeft b told c longer → between ≡ left → Drives MayPick MayGive machine a count given longer c left
+no_turn_more {MayPick = MayPick} {MayGive = MayGive} {machine = machine} {a = a} {b = b} {c = c} {count = count} {given = given} {between = between} {left = left} {told = told} {longer = longer} so_far still same =
+    subst (λ v. Drives MayPick MayGive machine a count given longer c v) same (subst (λ v. Drives MayPick MayGive machine a count given v c between) (sym still.tells) (subst (λ v. Drives MayPick MayGive machine a count given told v between) (sym still.stands) so_far))
 
 -- ---- one event
 

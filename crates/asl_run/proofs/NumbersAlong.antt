@@ -10,7 +10,7 @@ use Rattle.asl_run.specs.declared.nodes.Children.{Children}
 use Rattle.asl_run.specs.declared.nodes.Node.{Node}
 use Rattle.asl_run.specs.declared.nodes.Node.TheVariants.{Ready, Split}
 use Rattle.asl_run.specs.declared.nodes.NodeNumber.{NodeNumber}
-use Rattle.asl_run.proofs.Parts.{read_there}
+use Rattle.asl_run.proofs.Tables.{child_found, child_within}
 
 -- ---- a table of one node
 
@@ -23,12 +23,6 @@ one_node visit = record { parents = λ k. 0; lower = λ k. omega arith; ranges =
 
 -- ---- a child
 
--- the node that was got
-pub got : (nodes all : List Node) (i : ℕ) (r : Option (Bor Node)) (here : Bor Node) (node : Node) → all ≡ nodes → is_some r ≡ ltb i (length all) → IfSome r (λ x. x.now ≡ get_or all i x.now) → r ≡ Some here → here.now ≡ node → slice_get nodes i ≡ Some node
-got nodes all i None here node same within found is e = none_some is
-got nodes all i (Some x) here node same within found is e =
-    ap (λ (l : List Node). slice_get l i) (sym same) ∙ read_there all i x.now (ltb-true i (length all) (sym within)) found ∙ ap (λ (b : Bor Node). Some b.now) (some_inj is) ∙ ap Some e
-
 -- the numbers of its children are small
 pub children_fit : (nodes : List Node) → IsTable nodes → length nodes < 2 ^ 64 → (i : ℕ) (visit : Visit) (children : Children) → slice_get nodes i ≡ Some (Split visit children) → children.first.0 + children.count < 2 ^ 64
 children_fit nodes table few i visit children e = omega (arith, few, (table.ranges i (Split visit children) children e refl).within)
@@ -36,8 +30,10 @@ children_fit nodes table few i visit children e = omega (arith, few, (table.rang
 pub number_of_child : (nodes : List Node) (i k : ℕ) (node : Node) (r : Option NodeNumber) → slice_get nodes i ≡ Some node → option_map (λ n. n.0) r ≡ number_in_range (range_of node) k → option_map (λ n. n.0) r ≡ child_number nodes i k
 number_of_child nodes i k node r e is = is ∙ sym (ap (λ o. number_in_range (option_and_then range_of o) k) e)
 
-pub no_node : (nodes : List Node) (i k : ℕ) → slice_get nodes i ≡ None → None ≡ child_number nodes i k
-no_node nodes i k e = sym (ap (λ o. number_in_range (option_and_then range_of o) k) e)
+-- its number is one of the table
+pub child_in_table : (nodes : List Node) → IsTable nodes → (i k : ℕ) (r : Option NodeNumber) → option_map (λ n. n.0) r ≡ child_number nodes i k → IfSome r (λ n. n.0 < length nodes)
+child_in_table nodes table i k None is = tt
+child_in_table nodes table i k (Some n) is = (child_within nodes table i k n.0 (child_found nodes i k n.0 (sym is))).1
 
 -- ---- going down a place
 

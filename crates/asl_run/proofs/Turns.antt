@@ -5,7 +5,7 @@ use Rattle.std.proofs.lemmas.List.Elements.{All-append, All-nil, All-cons, All-w
 use Rattle.asl_model.specs.Tree.{Tree}
 use Rattle.asl_model.specs.Machine.{Scope}
 use Rattle.asl_model.specs.Run.{Activity, Action, Event, Entry, Step, Turn, activity_at, after_step, run, step, trace, entries_of, last_activity}
-use Rattle.asl_run.specs.Driving.{answer_in, answers_among, MayHappen, any_move, answer_given, IsTaken, placed_entry, Drives}
+use Rattle.asl_run.specs.Driving.{answer_in, answers_among, MayHappen, any_move, answer_given, IsPicked, IsTaken, placed_entry, Drives}
 
 -- the turns of events in a row
 pub run_append : (machine : Scope) (a b : Activity) (xs ys : List Event) → last_activity a (run machine a xs) ≡ b → run machine a (xs ++ ys) ≡ run machine a xs ++ run machine b ys
@@ -33,19 +33,19 @@ map_append f [] ys = refl
 map_append f (x ∷ xs) ys = ap (λ v. f x ∷ v) (map_append f xs ys)
 
 -- no event leaves all as it is
-pub drives_none : (MayGive : List ℕ → Tree → Action → Type 0) (machine : Scope) (a : Activity) (given : List Action) → Drives MayGive machine a 0 given [] a given
-drives_none MayGive machine a given = record { events = []; counted = refl; taken = All-nil (IsTaken MayGive); answered = refl; traced = refl; stands = refl }
+pub drives_none : (MayPick : ℕ → ℕ → Type 0) (MayGive : List ℕ → Tree → Action → Type 0) (machine : Scope) (a : Activity) (given : List Action) → Drives MayPick MayGive machine a 0 given [] a given
+drives_none MayPick MayGive machine a given = record { events = []; counted = refl; taken = All-nil (IsTaken MayPick MayGive machine); answered = refl; traced = refl; stands = refl }
 
 -- one event
-pub drives_one : (MayGive : List ℕ → Tree → Action → Type 0) (machine : Scope) (a : Activity) (event : Event) (taken : Step) (left : List Action) (told : List (List ℕ × Option Entry))
-    → step machine a event ≡ Some taken → MayHappen MayGive (activity_at event.place a) event.action → told ≡ map (λ entry. (event.place, Some entry)) taken.entries
-    → Drives MayGive machine a 1 (answer_in event.action ++ left) told taken.after left
-drives_one MayGive machine a event taken left told is may entries =
+pub drives_one : (MayPick : ℕ → ℕ → Type 0) (MayGive : List ℕ → Tree → Action → Type 0) (machine : Scope) (a : Activity) (event : Event) (taken : Step) (left : List Action) (told : List (List ℕ × Option Entry))
+    → step machine a event ≡ Some taken → IsPicked MayPick machine a event.place → MayHappen MayGive (activity_at event.place a) event.action → told ≡ map (λ entry. (event.place, Some entry)) taken.entries
+    → Drives MayPick MayGive machine a 1 (answer_in event.action ++ left) told taken.after left
+drives_one MayPick MayGive machine a event taken left told is picked may entries =
     let turn : Turn = record { before = a; event = event; taken = step machine a event } in
     record {
       events = event ∷ [];
       counted = refl;
-      taken = All-cons (IsTaken MayGive) turn [] (record { step = taken; enabled = is; allowed = may }) (All-nil (IsTaken MayGive));
+      taken = All-cons (IsTaken MayPick MayGive machine) turn [] (record { step = taken; enabled = is; picked = picked; allowed = may }) (All-nil (IsTaken MayPick MayGive machine));
       answered = ap (λ v. v ++ left) (sym (append_none (answer_in event.action)));
       traced = entries ∙ rw is (sym (ap (map placed_entry) (append_none (map (λ entry. (event.place, entry)) taken.entries)) ∙ map_map taken.entries));
       stands = rw is refl;
@@ -60,28 +60,28 @@ drives_one MayGive machine a event taken left told is may entries =
     map_map (e ∷ es) = ap (λ (v : List (List ℕ × Option Entry)). (event.place, Some e) ∷ v) (map_map es)
 
 -- events after events
-pub drives_then : {MayGive : List ℕ → Tree → Action → Type 0} {machine : Scope} {a b c : Activity} {m n : ℕ} {given between left : List Action} {told further : List (List ℕ × Option Entry)}
-    → Drives MayGive machine a m given told b between → Drives MayGive machine b n between further c left → Drives MayGive machine a (m + n) given (told ++ further) c left
-drives_then {MayGive = MayGive} {machine = machine} {a = a} {b = b} {c = c} {m = m} {left = left} {further = further} d e =
+pub drives_then : {MayPick : ℕ → ℕ → Type 0} {MayGive : List ℕ → Tree → Action → Type 0} {machine : Scope} {a b c : Activity} {m n : ℕ} {given between left : List Action} {told further : List (List ℕ × Option Entry)}
+    → Drives MayPick MayGive machine a m given told b between → Drives MayPick MayGive machine b n between further c left → Drives MayPick MayGive machine a (m + n) given (told ++ further) c left
+drives_then {MayPick = MayPick} {MayGive = MayGive} {machine = machine} {a = a} {b = b} {c = c} {m = m} {left = left} {further = further} d e =
     let s = run machine a d.events in
     let t = run machine b e.events in
     let rows : run machine a (d.events ++ e.events) ≡ s ++ t = run_append machine a b d.events e.events d.stands in
     record {
       events = d.events ++ e.events;
       counted = length-append d.events e.events ∙ ap (λ k. k + length e.events) d.counted ∙ ap (λ k. m + k) e.counted;
-      taken = subst (All (IsTaken MayGive)) (sym rows) (All-append (IsTaken MayGive) s t d.taken e.taken);
+      taken = subst (All (IsTaken MayPick MayGive machine)) (sym rows) (All-append (IsTaken MayPick MayGive machine) s t d.taken e.taken);
       answered = d.answered ∙ ap (λ v. answers_among d.events ++ v) e.answered ∙ sym (append_assoc (answers_among d.events) (answers_among e.events) left) ∙ ap (λ v. v ++ left) (sym (answers_append d.events e.events));
       traced = ap (λ v. v ++ further) d.traced ∙ ap (λ v. map placed_entry (trace s) ++ v) e.traced ∙ sym (map_append placed_entry (trace s) (trace t)) ∙ ap (map placed_entry) (sym (trace_append s t)) ∙ ap (λ v. map placed_entry (trace v)) (sym rows);
       stands = ap (last_activity a) rows ∙ last_append a s t ∙ ap (λ x. last_activity x t) d.stands ∙ e.stands;
     }
 
--- what may be given may be given by another source too
-pub drives_for : {MayGive MayGive' : List ℕ → Tree → Action → Type 0} {machine : Scope} {a b : Activity} {n : ℕ} {given left : List Action} {told : List (List ℕ × Option Entry)}
-    → ((n : List ℕ) (payload : Tree) (answer : Action) → MayGive n payload answer → MayGive' n payload answer) → Drives MayGive machine a n given told b left → Drives MayGive' machine a n given told b left
-drives_for {MayGive = MayGive} {MayGive' = MayGive'} {machine = machine} {a = a} wider d = record {
+-- what may be picked and given may be so by another order and another source too
+pub drives_for : {MayPick MayPick' : ℕ → ℕ → Type 0} {MayGive MayGive' : List ℕ → Tree → Action → Type 0} {machine : Scope} {a b : Activity} {n : ℕ} {given left : List Action} {told : List (List ℕ × Option Entry)}
+    → ((n k : ℕ) → MayPick n k → MayPick' n k) → ((n : List ℕ) (payload : Tree) (answer : Action) → MayGive n payload answer → MayGive' n payload answer) → Drives MayPick MayGive machine a n given told b left → Drives MayPick' MayGive' machine a n given told b left
+drives_for {MayPick = MayPick} {MayPick' = MayPick'} {MayGive = MayGive} {MayGive' = MayGive'} {machine = machine} {a = a} may_pick wider d = record {
   events = d.events;
   counted = d.counted;
-  taken = All-weaker (IsTaken MayGive) (IsTaken MayGive') wide (run machine a d.events) d.taken;
+  taken = All-weaker (IsTaken MayPick MayGive machine) (IsTaken MayPick' MayGive' machine) wide (run machine a d.events) d.taken;
   answered = d.answered;
   traced = d.traced;
   stands = d.stands;
@@ -91,5 +91,5 @@ drives_for {MayGive = MayGive} {MayGive' = MayGive'} {machine = machine} {a = a}
     may any_move = any_move
     may (answer_given {n = n} {payload = payload} {answer = answer} is h) = answer_given is (wider n payload answer h)
 
-    wide : (turn : Turn) → IsTaken MayGive turn → IsTaken MayGive' turn
-    wide turn h = record { step = h.step; enabled = h.enabled; allowed = may h.allowed }
+    wide : (turn : Turn) → IsTaken MayPick MayGive machine turn → IsTaken MayPick' MayGive' machine turn
+    wide turn h = record { step = h.step; enabled = h.enabled; picked = record { number = h.picked.number; picks = may_pick _ h.picked.number h.picked.picks; stands = h.picked.stands }; allowed = may h.allowed }

@@ -1,10 +1,10 @@
 -- What driving a run does, in the definitions.
-use Rattle.std.specs.Prelude.{◌≡◌, ◌<◌, ◌≤◌, ℕ, List, [], ◌∷◌, ◌++◌, map, length, All, Option, Some, None, slice_get}
+use Rattle.std.specs.Prelude.{◌≡◌, ◌<◌, ◌≤◌, ℕ, List, [], ◌∷◌, ◌++◌, map, length, All, Option, Some, None, option_map, slice_get}
 use Rattle.asl_model.specs.Tree.{Tree}
 use Rattle.asl_model.specs.Machine.{Scope}
 use Rattle.asl_model.specs.Numbering.{table_of}
 use Rattle.asl_model.specs.Run as model
-use Rattle.asl_model.specs.Run.{Activity, Waiting, Action, Move, Gives, FailsTask, Event, Entry, Outcome, Output, FailedWith, Step, Turn, activity_at, outcome_of, run, trace, last_activity}
+use Rattle.asl_model.specs.Run.{Activity, Waiting, Action, Move, Gives, FailsTask, Event, Entry, Outcome, Output, FailedWith, Step, Turn, activity_at, enabled, outcome_of, run, trace, last_activity}
 use Rattle.asl_run.specs.Entries.{answer_view, entry_view}
 use Rattle.asl_run.specs.declared.driving.DriveRefusal.{DriveRefusal}
 use Rattle.asl_run.specs.declared.driving.Pause.{Pause}
@@ -29,22 +29,30 @@ pub data MayHappen (MayGive : List ℕ → Tree → Action → Type 0) (here : O
   any_move : MayHappen MayGive here Move
   answer_given : {n : List ℕ} {raw : Tree} {counts : List ℕ} {payload : Tree} {answer : Action} → here ≡ Some (Waiting n raw counts payload) → MayGive n payload answer → MayHappen MayGive here answer
 
--- the event of a turn was enabled, and it may happen where it stands
-pub record IsTaken (MayGive : List ℕ → Tree → Action → Type 0) (turn : Turn) : Type 0 where
+-- out of the places where an event is enabled, in their order, that one may be picked, by its number among so many
+pub record IsPicked (MayPick : ℕ → ℕ → Type 0) (machine : Scope) (a : Activity) (place : List ℕ) : Type 0 where
+  pub number : ℕ
+  pub picks : MayPick (length (enabled a machine)) number
+  pub stands : option_map (λ wanted. wanted.0) (slice_get (enabled a machine) number) ≡ Some place
+
+-- the event of a turn was enabled, its place may be picked, and it may happen where it stands
+pub record IsTaken (MayPick : ℕ → ℕ → Type 0) (MayGive : List ℕ → Tree → Action → Type 0) (machine : Scope) (turn : Turn) : Type 0 where
   pub step : Step
   pub enabled : turn.taken ≡ Some step
+  pub picked : IsPicked MayPick machine turn.before turn.event.place
   pub allowed : MayHappen MayGive (activity_at turn.event.place turn.before) turn.event.action
 
 -- an entry with its place, as the code's entries are seen
 abbrev pub placed_entry : List ℕ × Entry → List ℕ × Option Entry
 placed_entry told = (told.0, Some told.1)
 
--- That many events, all enabled, lead a run from one activity to another. They add these entries to its history. Their
--- answers, in order, are those that stand before the ones that are left, and each may be given where it is taken.
-pub record Drives (MayGive : List ℕ → Tree → Action → Type 0) (machine : Scope) (before : Activity) (count : ℕ) (given : List Action) (told : List (List ℕ × Option Entry)) (after : Activity) (left : List Action) : Type 0 where
+-- That many events, all enabled and each at a place that may be picked, lead a run from one activity to another. They add
+-- these entries to its history. Their answers, in order, are those that stand before the ones that are left, and each may
+-- be given where it is taken.
+pub record Drives (MayPick : ℕ → ℕ → Type 0) (MayGive : List ℕ → Tree → Action → Type 0) (machine : Scope) (before : Activity) (count : ℕ) (given : List Action) (told : List (List ℕ × Option Entry)) (after : Activity) (left : List Action) : Type 0 where
   pub events : List Event
   pub counted : length events ≡ count
-  pub taken : All (IsTaken MayGive) (run machine before events)
+  pub taken : All (IsTaken MayPick MayGive machine) (run machine before events)
   pub answered : given ≡ answers_among events ++ left
   pub traced : told ≡ map placed_entry (trace (run machine before events))
   pub stands : last_activity before (run machine before events) ≡ after
@@ -68,10 +76,10 @@ StopsSo MayBeSilent names most count a (stops.NoAnswer state) = (outcome_of a �
 StopsSo MayBeSilent names most count a stops.StepsSpent = (outcome_of a ≡ None) × (count ≡ most)
 
 -- a run is driven by at most so many events, until it stops so
-pub record Stops (MayGive : List ℕ → Tree → Action → Type 0) (MayBeSilent : List ℕ → Tree → Type 0) (machine : Scope) (before : Activity) (most : ℕ) (given : List Action) (stop : Stop) (told : List (List ℕ × Option Entry)) (after : Activity) (left : List Action) : Type 0 where
+pub record Stops (MayPick : ℕ → ℕ → Type 0) (MayGive : List ℕ → Tree → Action → Type 0) (MayBeSilent : List ℕ → Tree → Type 0) (machine : Scope) (before : Activity) (most : ℕ) (given : List Action) (stop : Stop) (told : List (List ℕ × Option Entry)) (after : Activity) (left : List Action) : Type 0 where
   pub count : ℕ
   pub within : count ≤ most
-  pub drives : Drives MayGive machine before count given told after left
+  pub drives : Drives MayPick MayGive machine before count given told after left
   pub why : StopsSo MayBeSilent (table_of machine).names most count after stop
 
 -- the answer that is unused, as a list
@@ -81,11 +89,11 @@ unused (Some answer) = answer_view answer ∷ []
 
 -- a run is driven by fewer than so many events, until it is broken off before its end; the answer that comes back was the
 -- next one
-pub record BreaksOff (MayGive : List ℕ → Tree → Action → Type 0) (machine : Scope) (before : Activity) (most : ℕ) (given : List Action) (refusal : DriveRefusal) (after : Activity) (left : List Action) : Type 0 where
+pub record BreaksOff (MayPick : ℕ → ℕ → Type 0) (MayGive : List ℕ → Tree → Action → Type 0) (machine : Scope) (before : Activity) (most : ℕ) (given : List Action) (refusal : DriveRefusal) (after : Activity) (left : List Action) : Type 0 where
   pub count : ℕ
   pub fewer : count < most
   pub going : outcome_of after ≡ None
-  pub drives : Drives MayGive machine before count given (map entry_view refusal.trace.items) after (unused refusal.answer ++ left)
+  pub drives : Drives MayPick MayGive machine before count given (map entry_view refusal.trace.items) after (unused refusal.answer ++ left)
 
 -- ---- a turn
 
@@ -115,10 +123,10 @@ pub record IsTold (machine : Scope) (before : Activity) (event : Event) (told lo
   pub stands : after ≡ step.after
 
 -- one event more is taken and told
-pub record GoesOn (MayGive : List ℕ → Tree → Action → Type 0) (machine : Scope) (before : Activity) (given : List Action) (told longer : List (List ℕ × Option Entry)) (after : Activity) (left : List Action) : Type 0 where
+pub record GoesOn (MayPick : ℕ → ℕ → Type 0) (MayGive : List ℕ → Tree → Action → Type 0) (machine : Scope) (before : Activity) (given : List Action) (told longer : List (List ℕ × Option Entry)) (after : Activity) (left : List Action) : Type 0 where
   pub more : List (List ℕ × Option Entry)
   pub grown : longer ≡ told ++ more
-  pub drives : Drives MayGive machine before 1 given more after left
+  pub drives : Drives MayPick MayGive machine before 1 given more after left
 
 -- nothing has happened, and nothing was told
 pub record IsLeft (before : Activity) (told : List (List ℕ × Option Entry)) (after : Activity) (after_told : List (List ℕ × Option Entry)) : Type 0 where

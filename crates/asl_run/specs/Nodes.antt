@@ -72,6 +72,11 @@ pub record IsTable (nodes : List Node) : Type 0 where
   pub ranges : (i : ℕ) (node : Node) (children : Children) → slice_get nodes i ≡ Some node → range_of node ≡ Some children → IsRange parents (length nodes) i children
   pub some : 0 < length nodes
 
+-- these children stand in a table, all of them
+pub record HasRange (nodes : List Node) (children : Children) : Type 0 where
+  pub table : IsTable nodes
+  pub within : children.first.0 + children.count ≤ length nodes
+
 -- ---- places
 
 -- the number of the child of that number

@@ -5,7 +5,7 @@ ghost use Rattle.asl_machine.specs.Table.{table_view};
 ghost use Rattle.asl_model.specs.Machine.{Scope};
 ghost use Rattle.asl_model.specs.Run as model;
 ghost use Rattle.asl_model.specs.Tree as trees;
-ghost use Rattle.asl_run.specs.Driving.{ComesNext, Pauses, GoesOn, Stops, BreaksOff, EndsSo, IsLeft, IsTold, answer_in, unused};
+ghost use Rattle.asl_run.specs.Driving.{ComesNext, IsPicked, Pauses, GoesOn, Stops, BreaksOff, EndsSo, IsLeft, IsTold, answer_in, unused};
 ghost use Rattle.asl_run.specs.Entries.{entry_view, event_view};
 ghost use Rattle.asl_run.specs.Nodes.{shown_at};
 ghost use Rattle.asl_run.specs.Running.{run_view, IsRunOf};
@@ -63,8 +63,9 @@ pub fn drive<O: Order, A: Answers>(
     max_steps: u64,
 ) -> Result<(Stop, Vec<Entry>), DriveRefusal>
     ensures run { (m : Scope) → IsRunOf m run.old → IsRunOf m run.new }
-    ensures stops { (m : Scope) → IsRunOf m run.old → IfOk result (λ driven. Stops (A.may_give answers.old) (A.may_be_silent answers.new) m (run_view run.old) max_steps (A.content answers.old) driven.0 (map entry_view driven.1.items) (run_view run.new) (A.content answers.new)) }
-    ensures broken_off { (m : Scope) → IsRunOf m run.old → IfErr result (λ refusal. BreaksOff (A.may_give answers.old) m (run_view run.old) max_steps (A.content answers.old) refusal (run_view run.new) (A.content answers.new)) }
+    ensures stops { (m : Scope) → IsRunOf m run.old → IfOk result (λ driven. Stops (O.may_pick order.old) (A.may_give answers.old) (A.may_be_silent answers.new) m (run_view run.old) max_steps (A.content answers.old) driven.0 (map entry_view driven.1.items) (run_view run.new) (A.content answers.new)) }
+    ensures broken_off { (m : Scope) → IsRunOf m run.old → IfErr result (λ refusal. BreaksOff (O.may_pick order.old) (A.may_give answers.old) m (run_view run.old) max_steps (A.content answers.old) refusal (run_view run.new) (A.content answers.new)) }
+    ensures lasting_order { (n : ℕ) (k : ℕ) → O.may_pick order.new n k → O.may_pick order.old n k }
     ensures lasting { (n : List ℕ) (t : trees.Tree) (answer : model.Action) → A.may_give answers.new n t answer → A.may_give answers.old n t answer }
 {
     let mut trace = Vec::new(run.alloc);
@@ -105,9 +106,10 @@ fn turn<O: Order, A: Answers>(
     trace: &mut Vec<Entry>,
 ) -> Result<(), Pause>
     ensures run { (m : Scope) → IsRunOf m run.old → IsRunOf m run.new }
-    ensures goes_on { (m : Scope) → IsRunOf m run.old → OnOk result (GoesOn (A.may_give answers.old) m (run_view run.old) (A.content answers.old) (map entry_view trace.old.items) (map entry_view trace.new.items) (run_view run.new) (A.content answers.new)) }
+    ensures goes_on { (m : Scope) → IsRunOf m run.old → OnOk result (GoesOn (O.may_pick order.old) (A.may_give answers.old) m (run_view run.old) (A.content answers.old) (map entry_view trace.old.items) (map entry_view trace.new.items) (run_view run.new) (A.content answers.new)) }
     ensures pauses { (m : Scope) → IsRunOf m run.old → IfErr result (λ pause. Pauses (A.may_be_silent answers.new) (table_view run.old.machine.now).names (run_view run.old) (A.content answers.old) (A.content answers.new) pause) }
     ensures stays { (m : Scope) → IsRunOf m run.old → IfErr result (λ _. IsLeft (run_view run.old) (map entry_view trace.old.items) (run_view run.new) (map entry_view trace.new.items)) }
+    ensures lasting_order { (n : ℕ) (k : ℕ) → O.may_pick order.new n k → O.may_pick order.old n k }
     ensures lasting { (n : List ℕ) (t : trees.Tree) (answer : model.Action) → A.may_give answers.new n t answer → A.may_give answers.old n t answer }
 {
     let place = match picked_place(run, order) {
@@ -125,7 +127,10 @@ fn turn<O: Order, A: Answers>(
 }
 
 /// The place whose turn it is, of those where an event is enabled.
-fn picked_place<O: Order>(run: &Run, order: &mut O) -> Result<Place, OutOfMemory> {
+fn picked_place<O: Order>(run: &Run, order: &mut O) -> Result<Place, OutOfMemory>
+    ensures picked { (m : Scope) → IsRunOf m run.now → IfOk result (λ place. IsPicked (O.may_pick order.old) m (run_view run.now) place.items) }
+    ensures lasting { (n : ℕ) (k : ℕ) → O.may_pick order.new n k → O.may_pick order.old n k }
+{
     let mut places = run.enabled()?;
     if places.is_empty() {
         return Err(OutOfMemory);
@@ -142,6 +147,7 @@ fn next_event<A: Answers>(
     answers: &mut A,
     place: Place,
 ) -> Result<Event, Pause>
+    ensures place { IfOk result (λ event. (event_view event).place ≡ place.items) }
     ensures next { IfOk result (λ event. ComesNext (A.may_give answers.old) (shown_at (table_view machine.now).names nodes.now 0) (A.content answers.old) (event_view event) (A.content answers.new)) }
     ensures pauses { IfErr result (λ pause. let names = (table_view machine.now).names in Pauses (A.may_be_silent answers.new) names (shown_at names nodes.now 0) (A.content answers.old) (A.content answers.new) pause) }
     ensures lasting { (n : List ℕ) (t : trees.Tree) (answer : model.Action) → A.may_give answers.new n t answer → A.may_give answers.old n t answer }

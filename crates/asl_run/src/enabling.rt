@@ -1,11 +1,11 @@
 //! The places of a run where an event is wanted.
 
-ghost use Rattle.std.specs.Prelude.{◌≡◌, ◌+◌, ◌<◌, ◌≤◌, ℕ, List, length, map, option_map, IfOk};
+ghost use Rattle.std.specs.Prelude.{◌≡◌, ◌<◌, ℕ, List, length, map, option_map, IfOk};
 ghost use Rattle.asl_model.specs.Run.{Activities, Activity, joining};
 ghost use Rattle.asl_run.specs.Enabling as model;
 ghost use Rattle.asl_run.specs.Enabling.{AddsOwn, AddsPlaces, AddsPlacesBelow, found_view};
 ghost use Rattle.asl_run.specs.Entries.{want_view};
-ghost use Rattle.asl_run.specs.Nodes.{AreHeads, shown_over};
+ghost use Rattle.asl_run.specs.Nodes.{AreHeads, HasRange, shown_over};
 ghost use Rattle.asl_run.specs.Standing.{children_of};
 
 use crate::entries::{Outcome, Place, Want};
@@ -73,7 +73,6 @@ pub(crate) fn add_places(
     ensures added { IfOk result (λ _. AddsPlaces nodes.now number.0 place.old.items (map found_view found.old.items) (map found_view found.new.items)) }
     ensures place { IfOk result (λ _. place.new.items ≡ place.old.items) }
 {
-    nodes.known();
     let node = nodes.node(number);
     add_own_place(alloc, node, nodes.children(node), place, found)?;
     match node {
@@ -93,11 +92,10 @@ fn add_places_below(
     place: &mut Place,
     found: &mut Vec<(Place, Want)>,
 ) -> Result<(), OutOfMemory>
-    requires { children.first.0 + children.count ≤ length nodes.now }
+    requires { HasRange nodes.now children }
     ensures added { IfOk result (λ _. AddsPlacesBelow nodes.now children place.old.items (map found_view found.old.items) (map found_view found.new.items)) }
     ensures place { IfOk result (λ _. place.new.items ≡ place.old.items) }
 {
-    nodes.known();
     for number in 0..children.count {
         place.push(number)?;
         let child = NodeNumber(children.first.0 + number);

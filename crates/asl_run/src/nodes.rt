@@ -1,6 +1,6 @@
 //! The table of what stands at the places of a run.
 
-ghost use Rattle.std.specs.Prelude.{◌+◌, ◌++◌, ◌<◌, ◌≡◌, ◌∷◌, ◌^◌, [], IfErr, IfOk, List, None, length, map, Some, option_and_then, option_map, slice_get, ℕ};
+ghost use Rattle.std.specs.Prelude.{◌+◌, ◌++◌, ◌<◌, ◌≡◌, ◌∷◌, ◌^◌, [], IfErr, IfOk, IfSome, List, None, length, map, Some, option_and_then, option_map, slice_get, ℕ};
 ghost use Rattle.asl_run.specs.Changing.{AreAlike, CanApply, IsApplied, IsWritten};
 ghost use Rattle.asl_run.specs.Nodes.{IsTable, child_number, in_table, number_from, number_in_range, range_of, shown_from};
 ghost use Rattle.asl_run.specs.declared.nodes.Node as code;
@@ -79,18 +79,21 @@ impl Nodes {
         Ok(Nodes { nodes })
     }
 
-    /// What is known of each table.
-    pub(crate) fn known(&self)
+    /// The number of the machine's own place.
+    pub(crate) fn root(&self) -> NodeNumber
+        ensures first { result.0 ≡ 0 }
         ensures table { IsTable self.now }
-        ensures few { length self.now < 2 ^ 64 }
     {
-        let _many = self.nodes.len();
+        let _ = &self.nodes;
+        NodeNumber(0)
     }
 
     /// The node of that number.
     pub(crate) fn node(&self, number: NodeNumber) -> &Node
         requires { number.0 < length self.now }
-        ensures { slice_get self.now number.0 ≡ Some result.now }
+        ensures node { slice_get self.now number.0 ≡ Some result.now }
+        ensures table { IsTable self.now }
+        ensures few { length self.now < 2 ^ 64 }
     {
         &self.nodes[number.0]
     }
@@ -117,9 +120,11 @@ impl Nodes {
 
     /// The number of the node at that place; none where there is no such place.
     pub(crate) fn number_at(&self, place: &[usize]) -> Option<NodeNumber>
-        ensures { option_map (λ n. n.0) result ≡ number_from self.now 0 place.now }
+        ensures number { option_map (λ n. n.0) result ≡ number_from self.now 0 place.now }
+        ensures within { IfSome result (λ n. n.0 < length self.now) }
+        ensures table { IsTable self.now }
     {
-        let mut here = NodeNumber(0);
+        let mut here = self.root();
         for number in place {
             here = self.child(here, *number)?;
         }
@@ -142,10 +147,11 @@ impl Nodes {
 
     /// The number of the child of that number.
     fn child(&self, parent: NodeNumber, number: usize) -> Option<NodeNumber>
-        ensures { option_map (λ n. n.0) result ≡ child_number self.now parent.0 number }
+        requires { parent.0 < length self.now }
+        ensures number { option_map (λ n. n.0) result ≡ child_number self.now parent.0 number }
+        ensures within { IfSome result (λ n. n.0 < length self.now) }
     {
-        self.known();
-        match self.nodes.get(parent.0)? {
+        match self.node(parent) {
             Node::Split { visit: _, children } => children.nth(number),
             Node::Ready(_) | Node::Waiting { .. } | Node::Ended(_) => None,
         }

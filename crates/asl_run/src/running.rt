@@ -16,7 +16,7 @@ ghost use Rattle.asl_tree.specs.View.{view};
 use crate::activities::Visit;
 use crate::enabling::add_places;
 use crate::entries::{Answer, Entry, Event, Outcome, Place, Want};
-use crate::nodes::{Node, NodeNumber, Nodes};
+use crate::nodes::{Node, Nodes};
 use crate::stepping::{Happening, StepRefusal};
 use asl_machine::Machine;
 use asl_tree::{OutOfMemory, Tree};
@@ -127,14 +127,8 @@ impl<'m> Run<'m> {
     {
         let mut place = Vec::new(self.alloc);
         let mut found = Vec::new(self.alloc);
-        self.nodes.known();
-        add_places(
-            self.alloc,
-            &self.nodes,
-            NodeNumber(0),
-            &mut place,
-            &mut found,
-        )?;
+        let root = self.nodes.root();
+        add_places(self.alloc, &self.nodes, root, &mut place, &mut found)?;
         Ok(found)
     }
 
@@ -142,8 +136,7 @@ impl<'m> Run<'m> {
     pub fn outcome(&self) -> Option<&Outcome>
         ensures { option_map (λ o. outcome_view o.now) result ≡ model.outcome_of (run_view self.now) }
     {
-        self.nodes.known();
-        match self.nodes.node(NodeNumber(0)) {
+        match self.nodes.node(self.nodes.root()) {
             Node::Ended(outcome) => Some(outcome),
             Node::Ready(_) | Node::Waiting { .. } | Node::Split { .. } => None,
         }

@@ -43,7 +43,6 @@ impl<'m> Happening<'m> {
     pub(crate) fn take_step(self, nodes: &mut Nodes) -> Result<Vec<Entry>, StepRefusal>
         ensures { StepsAt self.entry nodes.old nodes.new result }
     {
-        nodes.known();
         let Some(number) = nodes.number_at(self.at) else {
             return Err(StepRefusal::NoSuchPlace);
         };

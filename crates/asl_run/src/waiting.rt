@@ -28,7 +28,6 @@ pub(crate) fn waiting_at<'r>(
     ensures found { IfSome result (λ asked. let names = (table_view machine.now).names in WaitsAt names place.now (shown_at names nodes.now 0) asked) }
     ensures none { (m : Scope) → Shows machine.now m → let a = shown_at (table_view machine.now).names nodes.now 0 in StandsIn a m → IfNone result (NoneWaitsAt place.now a) }
 {
-    nodes.known();
     let number = nodes.number_at(place)?;
     match nodes.node(number) {
         Node::Waiting { visit, payload } => Some(Asked {

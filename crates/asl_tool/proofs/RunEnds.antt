@@ -6,7 +6,7 @@ use Rattle.std.proofs.lemmas.List.Elements.{All-head, All-tail}
 use Rattle.asl_model.specs.Certificate.{Declared, ActionObeys, TakenObeys, AnswersObey, waiting_name}
 use Rattle.asl_model.specs.Machine.{Scope}
 use Rattle.asl_model.specs.Numbering.{table_of}
-use Rattle.asl_model.specs.Run.{Activity, Action, Move, Gives, FailsTask, Event, Entry, Turn, activity_at, start, run_of, trace, last_activity}
+use Rattle.asl_model.specs.Run.{Activity, Action, Move, Gives, FailsTask, Event, Entry, Turn, activity_at, enabled, start, run_of, trace, last_activity}
 use Rattle.asl_model.specs.TracePrinted.{trace_text}
 use Rattle.asl_model.specs.Tree.{Tree}
 use Rattle.asl_model.specs.Printed.{RunEnd, InputShape}
@@ -18,12 +18,28 @@ use Rattle.asl_run.specs.declared.driving.Stop.{Stop}
 use Rattle.asl_run.specs.declared.driving.Stop.TheVariants as stops
 use Rattle.asl_run.specs.declared.entries.Answer.{Answer}
 use Rattle.asl_run.specs.declared.entries.Answer.TheVariants as answers
-use Rattle.asl_tool.specs.Runs.{AllEnabled, EndsSo, IsRun, MayGive, NextMisfits, ObeysShapes, RunsTo, input_misfits, is_run, Waits, fits_task, fits_input, next_fits, is_spent, end_at}
+use Rattle.asl_tool.specs.Runs.{AllEnabled, AllPicked, EndsSo, IsRun, MayGive, NextMisfits, ObeysShapes, RunsTo, input_misfits, is_run, Waits, fits_task, fits_input, next_fits, is_spent, end_at, place_picked}
+use Rattle.asl_tool.specs.declared.runs.Pick.{Pick}
+
+-- so the order picks the places
+abbrev By : Pick → ℕ → ℕ → Type 0
+By order many number = number ≡ place_picked order many
 
 -- the events that were taken were enabled
-all_enabled : (May : List ℕ → Tree → Action → Type 0) (turns : List Turn) → All (IsTaken May) turns → AllEnabled turns
-all_enabled May [] h = tt
-all_enabled May (turn ∷ turns) h = (ap is_some (All-head (IsTaken May) turn turns h).enabled, all_enabled May turns (All-tail (IsTaken May) turn turns h))
+all_enabled : (By' : ℕ → ℕ → Type 0) (May : List ℕ → Tree → Action → Type 0) (machine : Scope) (turns : List Turn) → All (IsTaken By' May machine) turns → AllEnabled turns
+all_enabled By' May machine [] h = tt
+all_enabled By' May machine (turn ∷ turns) h =
+    let P : Turn → Type 0 = IsTaken By' May machine in
+    (ap is_some (All-head P turn turns h).enabled, all_enabled By' May machine turns (All-tail P turn turns h))
+
+-- their places were those whose turn it was
+all_picked : (order : Pick) (May : List ℕ → Tree → Action → Type 0) (machine : Scope) (turns : List Turn) → All (IsTaken (By order) May machine) turns → AllPicked order machine turns
+all_picked order May machine [] h = tt
+all_picked order May machine (turn ∷ turns) h =
+    let P : Turn → Type 0 = IsTaken (By order) May machine in
+    let wanted = enabled turn.before machine in
+    let picked = (All-head P turn turns h).picked in
+    (ap (λ k. option_map (λ w. w.0) (slice_get wanted k)) (sym picked.picks) ∙ picked.stands, all_picked order May machine turns (All-tail P turn turns h))
 
 -- ---- what was taken obeys
 
@@ -32,18 +48,18 @@ answer_obeys declared p a Move h = tt
 answer_obeys declared p a (Gives answer) (answer_given is may) = rw is may
 answer_obeys declared p a (FailsTask error cause) h = tt
 
-taken_obeys : (declared : Declared) (turn : Turn) → IsTaken (MayGive (Some declared)) turn → TakenObeys declared turn.event.place turn.before turn.event.action turn.taken
-taken_obeys declared turn h = rw h.enabled (answer_obeys declared turn.event.place turn.before turn.event.action h.allowed)
+taken_obeys : (declared : Declared) (order : Pick) (machine : Scope) (turn : Turn) → IsTaken (By order) (MayGive (Some declared)) machine turn → TakenObeys declared turn.event.place turn.before turn.event.action turn.taken
+taken_obeys declared order machine turn h = rw h.enabled (answer_obeys declared turn.event.place turn.before turn.event.action h.allowed)
 
-answers_obey : (declared : Declared) (turns : List Turn) → All (IsTaken (MayGive (Some declared))) turns → AnswersObey declared turns
-answers_obey declared [] h = tt
-answers_obey declared (turn ∷ turns) h =
-    let P : Turn → Type 0 = IsTaken (MayGive (Some declared)) in
-    (taken_obeys declared turn (All-head P turn turns h), answers_obey declared turns (All-tail P turn turns h))
+answers_obey : (declared : Declared) (order : Pick) (machine : Scope) (turns : List Turn) → All (IsTaken (By order) (MayGive (Some declared)) machine) turns → AnswersObey declared turns
+answers_obey declared order machine [] h = tt
+answers_obey declared order machine (turn ∷ turns) h =
+    let P : Turn → Type 0 = IsTaken (By order) (MayGive (Some declared)) machine in
+    (taken_obeys declared order machine turn (All-head P turn turns h), answers_obey declared order machine turns (All-tail P turn turns h))
 
-obeys : (shapes : Option Declared) (machine : Scope) (input : Tree) (events : List Event) → fits_input shapes input ≡ true → All (IsTaken (MayGive shapes)) (run_of machine input events) → ObeysShapes shapes machine input events
-obeys None machine input events fits taken = tt
-obeys (Some declared) machine input events fits taken = record { has_input = fits; answers = answers_obey declared (run_of machine input events) taken }
+obeys : (shapes : Option Declared) (order : Pick) (machine : Scope) (input : Tree) (events : List Event) → fits_input shapes input ≡ true → All (IsTaken (By order) (MayGive shapes) machine) (run_of machine input events) → ObeysShapes shapes machine input events
+obeys None order machine input events fits taken = tt
+obeys (Some declared) order machine input events fits taken = record { has_input = fits; answers = answers_obey declared order machine (run_of machine input events) taken }
 
 -- ---- why it ends
 
@@ -80,14 +96,14 @@ ends_so shapes other names most count a left spent stops.StepsSpent keeps e h = 
 abbrev Told : Type 0
 Told = List ℕ × Entry
 
-pub driven_run : (shapes other : Option Declared) (machine : Scope) (input : Tree) (answers : List Action) (most : ℕ) (stop : Stop) (told : List (List ℕ × Option Entry)) (before after : Activity) (left : List Action) (spent : Bool) (end : RunEnd) (text : List ℕ)
+pub driven_run : (shapes other : Option Declared) (machine : Scope) (input : Tree) (answers : List Action) (order : Pick) (most : ℕ) (stop : Stop) (told : List (List ℕ × Option Entry)) (before after : Activity) (left : List Action) (spent : Bool) (end : RunEnd) (text : List ℕ)
     → Keeps shapes other → before ≡ start machine input → fits_input shapes input ≡ true → spent ≡ is_spent left
-    → Stops (MayGive shapes) (λ n t. next_fits other n left ≡ false) machine before most answers stop told after left
+    → Stops (By order) (MayGive shapes) (λ n t. next_fits other n left ≡ false) machine before most answers stop told after left
     → ((entries : List Told) → told ≡ map placed_entry entries → text ≡ trace_text entries)
     → end ≡ end_at (table_of machine).names spent stop
-    → IsRun shapes machine input answers most end text
-driven_run shapes other machine input answers most stop told before after left spent end text keeps at_start fits none_more stops traced ends =
-    let S : Activity → Type 0 = λ a. Stops (MayGive shapes) (λ n t. next_fits other n left ≡ false) machine a most answers stop told after left in
+    → IsRun shapes machine input answers order most end text
+driven_run shapes other machine input answers order most stop told before after left spent end text keeps at_start fits none_more stops traced ends =
+    let S : Activity → Type 0 = λ a. Stops (By order) (MayGive shapes) (λ n t. next_fits other n left ≡ false) machine a most answers stop told after left in
     let s : S (start machine input) = subst S at_start stops in
     let turns = run_of machine input s.drives.events in
     let E : ℕ → Activity → RunEnd → Type 0 = λ count a e. EndsSo shapes most count a left e in
@@ -96,24 +112,25 @@ driven_run shapes other machine input answers most stop told before after left s
       events = s.drives.events;
       left = left;
       within = subst (λ n. n ≤ most) (sym s.drives.counted) s.within;
-      enabled = all_enabled (MayGive shapes) turns s.drives.taken;
+      enabled = all_enabled (By order) (MayGive shapes) machine turns s.drives.taken;
+      picked = all_picked order (MayGive shapes) machine turns s.drives.taken;
       answered = s.drives.answered;
-      obeys = obeys shapes machine input s.drives.events fits s.drives.taken;
+      obeys = obeys shapes order machine input s.drives.events fits s.drives.taken;
       told = traced (trace turns) s.drives.traced;
       why = subst (λ n. E n (last_activity (start machine input) turns) end) (sym s.drives.counted)
           (subst (λ a. E s.count a end) (sym s.drives.stands) (subst (E s.count after) (sym ends) there));
     }
 
 -- the run that is told of, where it is
-pub told_run : {T E : Type 0} (end_of : T → RunEnd) (text_of : T → List ℕ) (r : Result T E) (shapes other : Option Declared) (machine : Scope) (input : Tree) (answers : List Action) (most : ℕ) (stop : Stop) (told : List (List ℕ × Option Entry)) (before after : Activity) (left : List Action) (spent : Bool)
+pub told_run : {T E : Type 0} (end_of : T → RunEnd) (text_of : T → List ℕ) (r : Result T E) (shapes other : Option Declared) (machine : Scope) (input : Tree) (answers : List Action) (order : Pick) (most : ℕ) (stop : Stop) (told : List (List ℕ × Option Entry)) (before after : Activity) (left : List Action) (spent : Bool)
     → Keeps shapes other → before ≡ start machine input → fits_input shapes input ≡ true → spent ≡ is_spent left
-    → Stops (MayGive shapes) (λ n t. next_fits other n left ≡ false) machine before most answers stop told after left
+    → Stops (By order) (MayGive shapes) (λ n t. next_fits other n left ≡ false) machine before most answers stop told after left
     → IfOk r (λ t. (entries : List Told) → told ≡ map placed_entry entries → text_of t ≡ trace_text entries)
     → IfOk r (λ t. end_of t ≡ end_at (table_of machine).names spent stop)
-    → IfOk r (λ t. IsRun shapes machine input answers most (end_of t) (text_of t))
-told_run end_of text_of (Ok t) shapes other machine input answers most stop told before after left spent keeps at_start fits none_more stops traced ends =
-    driven_run shapes other machine input answers most stop told before after left spent (end_of t) (text_of t) keeps at_start fits none_more stops traced ends
-told_run end_of text_of (Err e) shapes other machine input answers most stop told before after left spent keeps at_start fits none_more stops traced ends = tt
+    → IfOk r (λ t. IsRun shapes machine input answers order most (end_of t) (text_of t))
+told_run end_of text_of (Ok t) shapes other machine input answers order most stop told before after left spent keeps at_start fits none_more stops traced ends =
+    driven_run shapes other machine input answers order most stop told before after left spent (end_of t) (text_of t) keeps at_start fits none_more stops traced ends
+told_run end_of text_of (Err e) shapes other machine input answers order most stop told before after left spent keeps at_start fits none_more stops traced ends = tt
 
 -- ---- what is given
 
@@ -130,14 +147,14 @@ shapes_seen None declared is = ap (option_map declared_view) is
 shapes_seen (Some d) declared is = ap (option_map declared_view) is
 
 -- an input that isn't of its shape
-pub not_run : (shapes same : Option Declared) (machine : Scope) (input : Tree) (answers : List Action) (most : ℕ) (text : List ℕ) → same ≡ shapes → false ≡ fits_input same input → text ≡ [] → RunsTo shapes machine input answers most InputShape text
-not_run shapes same machine input answers most text is unfit empty =
-    subst (RunsTo shapes machine input answers most InputShape) (sym empty) (input_misfits (sym (unfit ∙ ap (λ s. fits_input s input) is)))
+pub not_run : (shapes same : Option Declared) (machine : Scope) (input : Tree) (answers : List Action) (order : Pick) (most : ℕ) (text : List ℕ) → same ≡ shapes → false ≡ fits_input same input → text ≡ [] → RunsTo shapes machine input answers order most InputShape text
+not_run shapes same machine input answers order most text is unfit empty =
+    subst (RunsTo shapes machine input answers order most InputShape) (sym empty) (input_misfits (sym (unfit ∙ ap (λ s. fits_input s input) is)))
 
 -- a run of an input that is, unless there was no memory for it
-abbrev pub Ran : {T E : Type 0} → (T → RunEnd) → (T → List ℕ) → Result T E → Option Declared → Scope → Tree → List Action → ℕ → Type 0
-Ran end text r shapes machine input answers most = IfOk r (λ t. IsRun shapes machine input answers most (end t) (text t))
+abbrev pub Ran : {T E : Type 0} → (T → RunEnd) → (T → List ℕ) → Result T E → Option Declared → Scope → Tree → List Action → Pick → ℕ → Type 0
+Ran end text r shapes machine input answers order most = IfOk r (λ t. IsRun shapes machine input answers order most (end t) (text t))
 
-pub run_so : {T E : Type 0} (end : T → RunEnd) (text : T → List ℕ) (r : Result T E) (shapes : Option Declared) (machine : Scope) (input : Tree) (answers : List Action) (most : ℕ) → Ran end text r shapes machine input answers most → IfOk r (λ t. RunsTo shapes machine input answers most (end t) (text t))
-run_so end text (Ok t) shapes machine input answers most h = is_run h
-run_so end text (Err e) shapes machine input answers most h = tt
+pub run_so : {T E : Type 0} (end : T → RunEnd) (text : T → List ℕ) (r : Result T E) (shapes : Option Declared) (machine : Scope) (input : Tree) (answers : List Action) (order : Pick) (most : ℕ) → Ran end text r shapes machine input answers order most → IfOk r (λ t. RunsTo shapes machine input answers order most (end t) (text t))
+run_so end text (Ok t) shapes machine input answers order most h = is_run h
+run_so end text (Err e) shapes machine input answers order most h = tt

@@ -6,6 +6,7 @@ use Rattle.asl_tool.specs.Runs.{GivesFault, InputReads, IsFirstRefused, RunFault
 use Rattle.asl_tool.specs.View.{text_fault_view}
 use Rattle.asl_tool.specs.declared.refusals.RunFault.{RunFault}
 use Rattle.asl_tool.specs.declared.refusals.RunFault.TheVariants as run
+use Rattle.asl_tool.specs.declared.runs.Pick.{Pick}
 
 -- the answers are what isn't read
 pub answers_unread : (definition : List ℕ) (declared : Option (List ℕ)) (input : List ℕ) (known : Option (List ℕ)) (failed : Bool) (fault : RunFault) → InputReads definition declared input → SourceFault known failed fault → GivesFault definition declared input known failed fault
@@ -17,10 +18,10 @@ answers_unread definition declared input known failed run.Write before h = h
 answers_unread definition declared input known failed run.OutOfMemory before h = h
 
 -- nothing was written
-pub nothing_written : (definition : List ℕ) (declared : Option (List ℕ)) (input : List ℕ) (known : Option (List ℕ)) (read_failed : Bool) (most : ℕ) (old new : Option (List ℕ)) (write_failed : Bool) (fault : RunFault)
-    → GivesFault definition declared input known read_failed fault → Keeps old new → RunFaultStands definition declared input known read_failed most old new write_failed fault
-nothing_written definition declared input known read_failed most old new write_failed (run.Text refusal) h kept = (h, kept)
-nothing_written definition declared input known read_failed most old new write_failed run.TooLong h kept = (h.0, h.1, kept)
-nothing_written definition declared input known read_failed most old new write_failed run.Read h kept = (h.0, h.1, kept)
-nothing_written definition declared input known read_failed most old new write_failed run.Write h kept = absurd h
-nothing_written definition declared input known read_failed most old new write_failed run.OutOfMemory h kept = kept
+pub nothing_written : (definition : List ℕ) (declared : Option (List ℕ)) (input : List ℕ) (known : Option (List ℕ)) (read_failed : Bool) (order : Pick) (most : ℕ) (old new : Option (List ℕ)) (write_failed : Bool) (fault : RunFault)
+    → GivesFault definition declared input known read_failed fault → Keeps old new → RunFaultStands definition declared input known read_failed order most old new write_failed fault
+nothing_written definition declared input known read_failed order most old new write_failed (run.Text refusal) h kept = (h, kept)
+nothing_written definition declared input known read_failed order most old new write_failed run.TooLong h kept = (h.0, h.1, kept)
+nothing_written definition declared input known read_failed order most old new write_failed run.Read h kept = (h.0, h.1, kept)
+nothing_written definition declared input known read_failed order most old new write_failed run.Write h kept = absurd h
+nothing_written definition declared input known read_failed order most old new write_failed run.OutOfMemory h kept = kept

@@ -8,7 +8,7 @@ use Rattle.asl_model.specs.Certificate.{Declared, Obeys, gives_of, waiting_at}
 use Rattle.asl_model.specs.Json.{ReadsAsTree, ReadsAsValue, tree_of}
 use Rattle.asl_model.specs.Machine.{Scope}
 use Rattle.asl_model.specs.Printed.{RunEnd, RunOutput, RunFailed, NoAnswer, StepsSpent, InputShape, AnswerShape}
-use Rattle.asl_model.specs.Run.{Activity, Action, Move, Gives, FailsTask, Event, Output, FailedWith, Turn, outcome_of, start, run_of, trace, last_activity}
+use Rattle.asl_model.specs.Run.{Activity, Action, Move, Gives, FailsTask, Event, Output, FailedWith, Turn, enabled, outcome_of, start, run_of, trace, last_activity}
 use Rattle.asl_model.specs.Shape.{Shape, Any, has}
 use Rattle.asl_model.specs.Texts.{Which, DefinitionText, DeclaredText, CertificateText, InputText, AnswersText, TextFault, NotJson, NotWhole, NoMemory, IsNoJson, ReadsAsMachine, ReadsAsDeclared}
 use Rattle.asl_model.specs.TracePrinted.{trace_text}
@@ -34,6 +34,10 @@ use Rattle.asl_tool.specs.declared.runs.Pick.TheVariants as picks
 abbrev pub place_picked : Pick → ℕ → ℕ
 place_picked picks.First n = 0
 place_picked picks.Last n = n - 1
+
+-- the place whose turn it is: in the order asked for it is picked out of those where an event is enabled
+abbrev pub place_of_turn : Pick → Scope → Activity → Option (List ℕ)
+place_of_turn order machine a = let wanted = enabled a machine in option_map (λ w. w.0) (slice_get wanted (place_picked order (length wanted)))
 
 -- ---- what fits the declared shapes, where some are given
 
@@ -77,6 +81,11 @@ abbrev pub AllEnabled : List Turn → Type 0
 AllEnabled [] = ⊤
 AllEnabled (turn ∷ turns) = IsTrue (is_some turn.taken) × AllEnabled turns
 
+-- every event of these turns was at the place whose turn it was
+abbrev pub AllPicked : Pick → Scope → List Turn → Type 0
+AllPicked order machine [] = ⊤
+AllPicked order machine (turn ∷ turns) = (place_of_turn order machine turn.before ≡ Some turn.event.place) × AllPicked order machine turns
+
 -- a place of a state of that name waits for an answer
 pub record Waits (n : List ℕ) (a : Activity) : Type 0 where
   pub place : List ℕ
@@ -99,21 +108,23 @@ EndsSo shapes most count a left InputShape = ⊥
 EndsSo shapes most count a left (AnswerShape n) = (outcome_of a ≡ None) × (count < most) × Waits n a × NextMisfits shapes n left
 
 -- A run of a machine on an input ends so, and its history is that text: at most so many events are taken, all enabled,
--- and their answers are a front of those that are given. The input and the events obey the declared shapes.
-pub record IsRun (shapes : Option Declared) (machine : Scope) (input : Tree) (answers : List Action) (most : ℕ) (end : RunEnd) (text : List ℕ) : Type 0 where
+-- each at the place whose turn it is in the order asked for, and their answers are a front of those that are given. The
+-- input and the events obey the declared shapes.
+pub record IsRun (shapes : Option Declared) (machine : Scope) (input : Tree) (answers : List Action) (order : Pick) (most : ℕ) (end : RunEnd) (text : List ℕ) : Type 0 where
   pub events : List Event
   pub left : List Action
   pub within : length events ≤ most
   pub enabled : AllEnabled (run_of machine input events)
+  pub picked : AllPicked order machine (run_of machine input events)
   pub answered : answers ≡ answers_among events ++ left
   pub obeys : ObeysShapes shapes machine input events
   pub told : text ≡ trace_text (trace (run_of machine input events))
   pub why : EndsSo shapes most (length events) (last_activity (start machine input) (run_of machine input events)) left end
 
 -- what comes of a machine, an input and answers: no run where the input isn't of its shape, else a run
-pub data RunsTo (shapes : Option Declared) (machine : Scope) (input : Tree) (answers : List Action) (most : ℕ) : RunEnd → List ℕ → Type 0 where
-  input_misfits : fits_input shapes input ≡ false → RunsTo shapes machine input answers most InputShape []
-  is_run : {end : RunEnd} {text : List ℕ} → IsRun shapes machine input answers most end text → RunsTo shapes machine input answers most end text
+pub data RunsTo (shapes : Option Declared) (machine : Scope) (input : Tree) (answers : List Action) (order : Pick) (most : ℕ) : RunEnd → List ℕ → Type 0 where
+  input_misfits : fits_input shapes input ≡ false → RunsTo shapes machine input answers order most InputShape []
+  is_run : {end : RunEnd} {text : List ℕ} → IsRun shapes machine input answers order most end text → RunsTo shapes machine input answers order most end text
 
 -- no answer is left
 abbrev pub is_spent : List Action → Bool
@@ -157,18 +168,18 @@ pub record IsGiven (definition : List ℕ) (declared : Option (List ℕ)) (input
   pub read : ReadsTexts definition declared input known machine (option_map declared_view given.declared) (view given.input) (map answer_view given.answers.items)
 
 -- the texts read, and what they read as runs to that end with that text
-pub record RunsTexts (definition : List ℕ) (declared : Option (List ℕ)) (input : List ℕ) (known : Option (List ℕ)) (most : ℕ) (end : RunEnd) (text : List ℕ) : Type 0 where
+pub record RunsTexts (definition : List ℕ) (declared : Option (List ℕ)) (input : List ℕ) (known : Option (List ℕ)) (order : Pick) (most : ℕ) (end : RunEnd) (text : List ℕ) : Type 0 where
   pub machine : Scope
   pub shapes : Option Declared
   pub given : Tree
   pub answers : List Action
   pub read : ReadsTexts definition declared input known machine shapes given answers
-  pub runs : RunsTo shapes machine given answers most end text
+  pub runs : RunsTo shapes machine given answers order most end text
 
 -- so, and known bytes have grown by that text
-pub record WritesRun (definition : List ℕ) (declared : Option (List ℕ)) (input : List ℕ) (known : Option (List ℕ)) (most : ℕ) (old new : Option (List ℕ)) (end : RunEnd) : Type 0 where
+pub record WritesRun (definition : List ℕ) (declared : Option (List ℕ)) (input : List ℕ) (known : Option (List ℕ)) (order : Pick) (most : ℕ) (old new : Option (List ℕ)) (end : RunEnd) : Type 0 where
   pub text : List ℕ
-  pub runs : RunsTexts definition declared input known most end text
+  pub runs : RunsTexts definition declared input known order most end text
   pub written : Appends old new text
 
 -- ---- refused texts
@@ -238,9 +249,9 @@ GivesFault definition declared input known failed run.OutOfMemory = ⊤
 
 -- why there is no end, and what the sink holds then: a failed write leaves a front of a run's text there, every other
 -- fault what it held before
-abbrev pub RunFaultStands : List ℕ → Option (List ℕ) → List ℕ → Option (List ℕ) → Bool → ℕ → Option (List ℕ) → Option (List ℕ) → Bool → RunFault → Type 0
-RunFaultStands definition declared input known read_failed most old new write_failed (run.Text refusal) = IsFirstRefused definition declared input known (which_view refusal.which) (text_fault_view refusal.fault) × Keeps old new
-RunFaultStands definition declared input known read_failed most old new write_failed run.TooLong = InputReads definition declared input × AreTooLong known × Keeps old new
-RunFaultStands definition declared input known read_failed most old new write_failed run.Read = InputReads definition declared input × IsTrue read_failed × Keeps old new
-RunFaultStands definition declared input known read_failed most old new write_failed run.Write = IsTrue write_failed × ((end : RunEnd) × (text : List ℕ) × RunsTexts definition declared input known most end text × AppendsFront old new text)
-RunFaultStands definition declared input known read_failed most old new write_failed run.OutOfMemory = Keeps old new
+abbrev pub RunFaultStands : List ℕ → Option (List ℕ) → List ℕ → Option (List ℕ) → Bool → Pick → ℕ → Option (List ℕ) → Option (List ℕ) → Bool → RunFault → Type 0
+RunFaultStands definition declared input known read_failed order most old new write_failed (run.Text refusal) = IsFirstRefused definition declared input known (which_view refusal.which) (text_fault_view refusal.fault) × Keeps old new
+RunFaultStands definition declared input known read_failed order most old new write_failed run.TooLong = InputReads definition declared input × AreTooLong known × Keeps old new
+RunFaultStands definition declared input known read_failed order most old new write_failed run.Read = InputReads definition declared input × IsTrue read_failed × Keeps old new
+RunFaultStands definition declared input known read_failed order most old new write_failed run.Write = IsTrue write_failed × ((end : RunEnd) × (text : List ℕ) × RunsTexts definition declared input known order most end text × AppendsFront old new text)
+RunFaultStands definition declared input known read_failed order most old new write_failed run.OutOfMemory = Keeps old new

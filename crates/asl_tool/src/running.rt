@@ -54,8 +54,8 @@ pub fn run_texts<R: Source, W: Sink>(
     order: Pick,
     max_steps: u64,
 ) -> Result<RunEnd, RunFault>
-    ensures run { IfOk result (λ end. WritesRun definition.now (option_map (λ text. text.now) declared.entry) input.now (R.remaining answers.old) max_steps (W.contents out.old) (W.contents out.new) (run_end_view end)) }
-    ensures fault { IfErr result (λ fault. RunFaultStands definition.now (option_map (λ text. text.now) declared.entry) input.now (R.remaining answers.old) (R.failed answers.new) max_steps (W.contents out.old) (W.contents out.new) (W.failed out.new) fault) }
+    ensures run { IfOk result (λ end. WritesRun definition.now (option_map (λ text. text.now) declared.entry) input.now (R.remaining answers.old) order max_steps (W.contents out.old) (W.contents out.new) (run_end_view end)) }
+    ensures fault { IfErr result (λ fault. RunFaultStands definition.now (option_map (λ text. text.now) declared.entry) input.now (R.remaining answers.old) (R.failed answers.new) order max_steps (W.contents out.old) (W.contents out.new) (W.failed out.new) fault) }
     ensures lasting_read { IsTrue (R.failed answers.old) → IsTrue (R.failed answers.new) }
     ensures lasting_write { IsTrue (W.failed out.old) → IsTrue (W.failed out.new) }
 {
@@ -75,7 +75,7 @@ pub fn run_texts<R: Source, W: Sink>(
 
 /// The run of what the texts read as; none where the input isn't of its shape.
 fn run_given(alloc: Global, given: Given, order: Pick, max_steps: u64) -> Result<Told, OutOfMemory>
-    ensures { (m : Scope) → Shows given.machine m → IfOk result (λ told. RunsTo (option_map declared_view given.declared) m (view given.input) (map answer_view given.answers.items) max_steps (run_end_view told.end) (string_bytes told.trace)) }
+    ensures { (m : Scope) → Shows given.machine m → IfOk result (λ told. RunsTo (option_map declared_view given.declared) m (view given.input) (map answer_view given.answers.items) order max_steps (run_end_view told.end) (string_bytes told.trace)) }
 {
     let Given {
         machine,
@@ -115,7 +115,7 @@ fn run_with(
     mut order: Pick,
     max_steps: u64,
 ) -> Result<Told, OutOfMemory>
-    ensures { let shapes = option_map (λ d. declared_view d.now) answers.old.declared in (m : Scope) → Shows machine.now m → IsTrue (fits_input shapes (view input)) → IfOk result (λ told. IsRun shapes m (view input) (map answer_view answers.old.list.items) max_steps (run_end_view told.end) (string_bytes told.trace)) }
+    ensures { let shapes = option_map (λ d. declared_view d.now) answers.old.declared in (m : Scope) → Shows machine.now m → IsTrue (fits_input shapes (view input)) → IfOk result (λ told. IsRun shapes m (view input) (map answer_view answers.old.list.items) order max_steps (run_end_view told.end) (string_bytes told.trace)) }
 {
     let mut run = match start(alloc, machine, input) {
         Ok(run) => run,

@@ -1,6 +1,6 @@
 //! What a run takes its turns by, and what it ends with.
 
-ghost use Rattle.std.specs.Prelude.{◌≡◌, ◌<◌};
+ghost use Rattle.std.specs.Prelude.{◌≡◌};
 ghost use Rattle.asl_tool.specs.Runs.{place_picked};
 
 use asl_run::Order;
@@ -15,11 +15,9 @@ pub enum Pick {
 }
 
 impl Order for Pick {
-    fn pick(&mut self, n: usize) -> usize
-        requires { 0 < n }
-        ensures below { result < n }
-        ensures place { result ≡ place_picked self.old n }
-    {
+    ghost may_pick = { λ order many number. number ≡ place_picked order many };
+
+    fn pick(&mut self, n: usize) -> usize {
         match self {
             Pick::First => 0,
             Pick::Last => n - 1,

@@ -9,7 +9,8 @@ turns-preserved g c =
     let so_far = c.turns.invariant in
     record {
       run = λ m h. c.in-Ok.ensures.run m (so_far.run m h);
-      drives = λ m h. one_turn_more so_far.lasting (so_far.drives m h) (c.in-Ok.ensures.goes_on m (so_far.run m h));
+      drives = λ m h. one_turn_more so_far.lasting_order so_far.lasting (so_far.drives m h) (c.in-Ok.ensures.goes_on m (so_far.run m h));
+      lasting_order = λ n k e. so_far.lasting_order n k (c.in-Ok.ensures.lasting_order n k e);
       lasting = λ n t answer e. so_far.lasting n t answer (c.in-Ok.ensures.lasting n t answer e);
     }
 

@@ -9,7 +9,7 @@ add_places-returns-in-Split-clause-added t c =
     let between = map found_view c.add_own_place.new.found.items in
     let after = map found_view c.add_places_below.new.found.items in
     where_ok c.add_places_below.result
-    (λ below. split_added c.args.nodes.now c.known.ensures.table c.args.number.0 c.node-node.result.now c.in-Split.visit c.in-Split.children c.children.result.now c.args.place.now.items (map found_view c.args.found.now.items) between after c.node-node.ensures c.in-Split.is c.children.ensures c.in_ok-add_own_place.ensures below) c.add_places_below.ensures.added
+    (λ below. split_added c.args.nodes.now c.node-node.ensures.table c.args.number.0 c.node-node.result.now c.in-Split.visit c.in-Split.children c.children.result.now c.args.place.now.items (map found_view c.args.found.now.items) between after c.node-node.ensures.node c.in-Split.is c.children.ensures c.in_ok-add_own_place.ensures below) c.add_places_below.ensures.added
 
 pub add_places_below-loop-number-preserved : goal.add_places_below-loop-number-preserved
 add_places_below-loop-number-preserved t c =
@@ -19,28 +19,28 @@ add_places_below-loop-number-preserved t c =
     let below : c.push.new.self.items ≡ place ++ number ∷ [] = pushed ∙ ap (λ (p : List ℕ). p ++ number ∷ []) c.loop-number.invariant.place in
     record {
       place = taken_off place c.add_places.new.place.items c.pop-number.new.self.items number _ (c.in_ok-add_places.ensures.place ∙ below) (omega (arith, c.add_places.new.place.ok.0)) c.pop-number.ensures.rest;
-      added = one_added c.args.nodes.now c.known.ensures.table c.args.children number _ place c.push.new.self.items (map found_view c.args.found.now.items) (map found_view c.loop-number.found.items) (map found_view c.add_places.new.found.items) c.requires c.loop-number-test.true refl below c.in_ok-add_places.ensures.added c.loop-number.invariant.added;
+      added = one_added c.args.nodes.now c.requires.table c.args.children number _ place c.push.new.self.items (map found_view c.args.found.now.items) (map found_view c.loop-number.found.items) (map found_view c.add_places.new.found.items) c.requires.within c.loop-number-test.true refl below c.in_ok-add_places.ensures.added c.loop-number.invariant.added;
     }
 
 pub add_places-add_places_below-requires : goal.add_places-add_places_below-requires
 add_places-add_places_below-requires t c =
-    let range = c.known.ensures.table.ranges c.args.number.0 c.node-node.result.now c.in-Split.children c.node-node.ensures (ap range_of c.in-Split.is) in
+    let range = c.node-node.ensures.table.ranges c.args.number.0 c.node-node.result.now c.in-Split.children c.node-node.ensures.node (ap range_of c.in-Split.is) in
     let behind = range.behind in
     let within = range.within in
     let inside = c.requires in
-    (omega arith, within)
+    (record { table = c.node-node.ensures.table; within = within }, omega arith)
 
 pub add_places-returns-in-Ready-clause-added : goal.add_places-returns-in-Ready-clause-added
-add_places-returns-in-Ready-clause-added t c = alone_added c.args.nodes.now c.known.ensures.table c.args.number.0 c.node-node.result.now c.children.result.now c.args.place.now.items _ _ c.node-node.ensures (search rules) c.children.ensures c.in_ok-add_own_place.ensures
+add_places-returns-in-Ready-clause-added t c = alone_added c.args.nodes.now c.node-node.ensures.table c.args.number.0 c.node-node.result.now c.children.result.now c.args.place.now.items _ _ c.node-node.ensures.node (search rules) c.children.ensures c.in_ok-add_own_place.ensures
 
 pub add_places-returns-in-Ready-2-clause-added : goal.add_places-returns-in-Ready-2-clause-added
-add_places-returns-in-Ready-2-clause-added t c = alone_added c.args.nodes.now c.known.ensures.table c.args.number.0 c.node-node.result.now c.children.result.now c.args.place.now.items _ _ c.node-node.ensures (search rules) c.children.ensures c.in_ok-add_own_place.ensures
+add_places-returns-in-Ready-2-clause-added t c = alone_added c.args.nodes.now c.node-node.ensures.table c.args.number.0 c.node-node.result.now c.children.result.now c.args.place.now.items _ _ c.node-node.ensures.node (search rules) c.children.ensures c.in_ok-add_own_place.ensures
 
 pub add_places-returns-in-Ready-3-clause-added : goal.add_places-returns-in-Ready-3-clause-added
-add_places-returns-in-Ready-3-clause-added t c = alone_added c.args.nodes.now c.known.ensures.table c.args.number.0 c.node-node.result.now c.children.result.now c.args.place.now.items _ _ c.node-node.ensures (search rules) c.children.ensures c.in_ok-add_own_place.ensures
+add_places-returns-in-Ready-3-clause-added t c = alone_added c.args.nodes.now c.node-node.ensures.table c.args.number.0 c.node-node.result.now c.children.result.now c.args.place.now.items _ _ c.node-node.ensures.node (search rules) c.children.ensures c.in_ok-add_own_place.ensures
 
 pub add_places_below-add_places-requires : goal.add_places_below-add_places-requires
-add_places_below-add_places-requires t c = let within = c.requires in let less = c.loop-number-test.true in omega arith
+add_places_below-add_places-requires t c = let within = c.requires.within in let less = c.loop-number-test.true in omega arith
 
 pub add_places_below-returns-clause-added : goal.add_places_below-returns-clause-added
 add_places_below-returns-clause-added t c = all_added c.args.nodes.now c.args.children c.loop-number.number c.args.place.now.items (map found_view c.args.found.now.items) (map found_view c.loop-number.found.items) c.loop-number-test.false c.loop-number.invariant.added

@@ -13,7 +13,7 @@ use Rattle.asl_tool.proofs.running.run_given.Goals as goal
 pub returns-then-not-fits_input : goal.returns-then-not-fits_input
 returns-then-not-fits_input c = λ m shown.
     let seen = λ (d : Bor Declared). declared_view d.now in
-    not_run (option_map declared_view c.args.given.declared) (option_map seen c.as_ref.result) m (view c.args.given.input) (map answer_view c.args.given.answers.items) c.args.max_steps (string_bytes c.new.result)
+    not_run (option_map declared_view c.args.given.declared) (option_map seen c.as_ref.result) m (view c.args.given.input) (map answer_view c.args.given.answers.items) c.args.order c.args.max_steps (string_bytes c.new.result)
     (shapes_seen c.as_ref.result c.args.given.declared c.as_ref.ensures.value) c.if-not-fits_input.ensures c.new.ensures.bytes
 
 pub returns : goal.returns
@@ -27,6 +27,6 @@ returns c = λ m shown.
     let same = shapes_seen c.as_ref.result c.args.given.declared c.as_ref.ensures.value in
     let again = shapes_seen c.as_ref-2.result c.args.given.declared c.as_ref-2.ensures.value in
     let fits : fits_input shapes input ≡ true = sym (c.if-not-fits_input.ensures ∙ ap (λ s. fits_input s input) same) in
-    let P : Option model.Declared → Type 0 = λ s. IsTrue (fits_input s input) → Ran end text c.run_with.result s m input answers c.args.max_steps in
+    let P : Option model.Declared → Type 0 = λ s. IsTrue (fits_input s input) → Ran end text c.run_with.result s m input answers c.args.order c.args.max_steps in
     let run : P shapes = subst P again (c.run_with.ensures m shown) in
-    run_so end text c.run_with.result shapes m input answers c.args.max_steps (run fits)
+    run_so end text c.run_with.result shapes m input answers c.args.order c.args.max_steps (run fits)

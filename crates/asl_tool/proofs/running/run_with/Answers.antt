@@ -22,7 +22,7 @@ returns c = λ m shown fits.
     let after = c.drive.new.answers in
     let stop = c.in-Ok-drive.driven.0 in
     let entries = c.in-Ok-drive.driven.1.items in
-    told_run end text c.tell.result (option_map seen before.declared) (option_map seen after.declared) m (view c.args.input) (map answer_view before.list.items) c.args.max_steps stop (map entry_view entries)
+    told_run end text c.tell.result (option_map seen before.declared) (option_map seen after.declared) m (view c.args.input) (map answer_view before.list.items) c.args.order c.args.max_steps stop (map entry_view entries)
     (run_view c.in-Ok.run') (run_view c.drive.new.run) (map answer_view after.list.items) c.is_spent.result
     c.in-Ok-drive.ensures.lasting (c.in-Ok.ensures.starts m shown) fits c.is_spent.ensures (c.in-Ok-drive.ensures.stops m (c.in-Ok.ensures.of_machine m shown))
     (subst (λ es. IfOk c.tell.result (λ t. (placed : List (List ℕ × model.Entry)) → map entry_view es ≡ map placed_entry placed → text t ≡ trace_text placed)) c.deref.ensures.value c.tell.ensures.trace)

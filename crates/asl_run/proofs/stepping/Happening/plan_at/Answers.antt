@@ -3,13 +3,13 @@ use Rattle.asl_run.proofs.PlansAlong.{plan_made, plan_missing, plan_refused, pla
 use Rattle.asl_run.proofs.stepping.Happening.plan_at.Goals as goal
 
 pub returns-then-not-is_wanted_by : goal.returns-then-not-is_wanted_by
-returns-then-not-is_wanted_by c = plan_unwanted c.args.self c.args.nodes.now c.args.number.0 c.node-node.result.now c.children-children.result.now c.node-node.ensures c.children-children.ensures c.is_wanted_by.result c.if-not-is_wanted_by.true c.is_wanted_by.ensures
+returns-then-not-is_wanted_by c = plan_unwanted c.args.self c.args.nodes.now c.args.number.0 c.node-node.result.now c.children-children.result.now c.node-node.ensures.node c.children-children.ensures c.is_wanted_by.result c.if-not-is_wanted_by.true c.is_wanted_by.ensures
 
 pub returns-in-Ok-Some : goal.returns-in-Ok-Some
-returns-in-Ok-Some c = plan_made c.args.self c.args.nodes.now c.args.number.0 c.node-node.result.now c.children-children.result.now c.node-node.ensures c.children-children.ensures c.in-Ok-Some.plan c.plan.result (c.in-Ok-Some.is ∙ ap Ok c.in-Ok-Some.field-0-is) c.plan.ensures
+returns-in-Ok-Some c = plan_made c.args.self c.args.nodes.now c.args.number.0 c.node-node.result.now c.children-children.result.now c.node-node.ensures.node c.children-children.ensures c.in-Ok-Some.plan c.plan.result (c.in-Ok-Some.is ∙ ap Ok c.in-Ok-Some.field-0-is) c.plan.ensures
 
 pub returns-in-Ok-None : goal.returns-in-Ok-None
-returns-in-Ok-None c = plan_missing c.args.self c.args.nodes.now c.args.number.0 c.node-node.result.now c.children-children.result.now c.node-node.ensures c.children-children.ensures c.plan.result (c.in-Ok-None.is ∙ ap Ok c.in-Ok-None.field-0-is) c.plan.ensures
+returns-in-Ok-None c = plan_missing c.args.self c.args.nodes.now c.args.number.0 c.node-node.result.now c.children-children.result.now c.node-node.ensures.node c.children-children.ensures c.plan.result (c.in-Ok-None.is ∙ ap Ok c.in-Ok-None.field-0-is) c.plan.ensures
 
 pub returns-in-Err : goal.returns-in-Err
-returns-in-Err c = plan_refused c.args.self c.args.nodes.now c.args.number.0 c.node-node.result.now c.children-children.result.now c.node-node.ensures c.children-children.ensures c.is_wanted_by.result c.if-not-is_wanted_by.false c.is_wanted_by.ensures
+returns-in-Err c = plan_refused c.args.self c.args.nodes.now c.args.number.0 c.node-node.result.now c.children-children.result.now c.node-node.ensures.node c.children-children.ensures c.is_wanted_by.result c.if-not-is_wanted_by.false c.is_wanted_by.ensures
