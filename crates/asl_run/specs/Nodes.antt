@@ -1,5 +1,5 @@
 -- What the nodes of a run's table show, and how their numbers lead along a place.
-use Rattle.std.specs.Prelude.{◌≡◌, ◌<◌, ◌≤◌, ◌+◌, ◌-◌, ℕ, zero, suc, List, [], ◌∷◌, length, take, drop, Option, Some, None, option_and_then, slice_get, nat_lt, if◌then◌else◌}
+use Rattle.std.specs.Prelude.{◌≡◌, ◌<◌, ◌≤◌, ◌+◌, ◌-◌, ◌^◌, ℕ, zero, suc, List, [], ◌∷◌, length, take, drop, Option, Some, None, option_and_then, slice_get, nat_lt, if◌then◌else◌}
 use Rattle.std.specs.Option.{unwrap_or}
 use Rattle.asl_model.specs.Run as model
 use Rattle.asl_model.specs.Tree.{Null}
@@ -75,6 +75,7 @@ pub record IsTable (nodes : List Node) : Type 0 where
 -- these children stand in a table, all of them
 pub record HasRange (nodes : List Node) (children : Children) : Type 0 where
   pub table : IsTable nodes
+  pub few : length nodes < 2 ^ 64
   pub within : children.first.0 + children.count ≤ length nodes
 
 -- ---- places

@@ -28,7 +28,7 @@ add_places-add_places_below-requires t c =
     let behind = range.behind in
     let within = range.within in
     let inside = c.requires in
-    (record { table = c.node-node.ensures.table; within = within }, omega arith)
+    (omega arith, record { table = c.node-node.ensures.table; few = c.node-node.ensures.few; within = within })
 
 pub add_places-returns-in-Ready-clause-added : goal.add_places-returns-in-Ready-clause-added
 add_places-returns-in-Ready-clause-added t c = alone_added c.args.nodes.now c.node-node.ensures.table c.args.number.0 c.node-node.result.now c.children.result.now c.args.place.now.items _ _ c.node-node.ensures.node (search rules) c.children.ensures c.in_ok-add_own_place.ensures
@@ -41,6 +41,9 @@ add_places-returns-in-Ready-3-clause-added t c = alone_added c.args.nodes.now c.
 
 pub add_places_below-add_places-requires : goal.add_places_below-add_places-requires
 add_places_below-add_places-requires t c = let within = c.requires.within in let less = c.loop-number-test.true in omega arith
+
+pub add_places_below-overflow_add-child : goal.add_places_below-overflow_add-child
+add_places_below-overflow_add-child t c = omega (arith, c.requires.within, c.requires.few, c.loop-number-test.true)
 
 pub add_places_below-returns-clause-added : goal.add_places_below-returns-clause-added
 add_places_below-returns-clause-added t c = all_added c.args.nodes.now c.args.children c.loop-number.number c.args.place.now.items (map found_view c.args.found.now.items) (map found_view c.loop-number.found.items) c.loop-number-test.false c.loop-number.invariant.added

@@ -3,10 +3,10 @@ use Rattle.asl_run.proofs.StepsAlong.{no_such_place, no_memory_along, number_wit
 use Rattle.asl_run.proofs.stepping.Happening.take_step.Goals as goal
 
 pub plan_at-requires : goal.plan_at-requires
-plan_at-requires c = WITHIN
+plan_at-requires c = rw c.in-Some.is at c.number_at.ensures.within
 
 pub change-requires-clause-within : goal.change-requires-clause-within
-change-requires-clause-within c = WITHIN
+change-requires-clause-within c = rw c.in-Some.is at c.number_at.ensures.within
 
 pub change-requires-clause-rises : goal.change-requires-clause-rises
 change-requires-clause-rises c = planned_can c.args.self c.args.nodes.now c.in-Some.number.0 c.plan_at.result c.in-Ok.plan c.in-Ok.is c.plan_at.ensures
