@@ -1,10 +1,10 @@
 -- The nodes above a node: its parent, that one's parent, and so on.
-use Rattle.std.proofs.Common.{◌≡◌, ◌≢◌, ◌<◌, ◌≤◌, refl, sym, ap, ◌∙◌, subst, arith, ℕ, zero, suc, ◌+◌, List, [], ◌∷◌, length, Option, Some, None, option_and_then}
+use Rattle.std.proofs.Common.{◌≡◌, ◌≢◌, ◌<◌, ◌≤◌, refl, sym, ap, ◌∙◌, arith, ℕ, zero, suc, ◌+◌, List, [], ◌∷◌, Option, Some, None, option_and_then}
 use Rattle.asl_model.proofs.RunOptions.{some_inj, none_some}
 use Rattle.asl_run.specs.Nodes.{IsTable, child_number, number_from}
 use Rattle.asl_run.specs.declared.nodes.Node.{Node}
 use Rattle.asl_run.specs.declared.nodes.Node.TheVariants.{Split}
-use Rattle.asl_run.proofs.Tables.{IsChild, child_found, child_within}
+use Rattle.asl_run.proofs.Tables.{child_found}
 
 -- the node so many levels above node j
 abbrev pub up : (ℕ → ℕ) → ℕ → ℕ → ℕ

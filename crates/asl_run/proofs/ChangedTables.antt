@@ -1,19 +1,16 @@
 -- A change at one node changes what is shown at its place alone.
-use Rattle.std.proofs.Common.{◌≡◌, ◌≢◌, ◌<◌, ◌≤◌, refl, sym, ap, ◌∙◌, subst, arith, ℕ, zero, suc, ◌+◌, List, [], ◌∷◌, length, take, drop, slice_get, slice_set, Option, Some, None, option_and_then}
-use Rattle.std.specs.Option.{unwrap_or}
+use Rattle.std.proofs.Common.{◌≡◌, ◌≢◌, ◌<◌, ◌≤◌, refl, sym, ap, ◌∙◌, subst, arith, ℕ, zero, suc, ◌+◌, List, length, drop, slice_get, slice_set, Option, Some, None}
 use Rattle.asl_model.specs.Run as model
 use Rattle.asl_model.specs.Run.{child_at, set_child}
-use Rattle.asl_model.specs.Tree.{Null}
-use Rattle.asl_model.proofs.RunOptions.{some_inj, none_some}
 use Rattle.asl_run.specs.Changing.{IsChangedAt}
-use Rattle.asl_run.specs.Nodes.{IsTable, child_number, in_table, number_from, range_of, shown_at, shown_from, shown_over}
+use Rattle.asl_run.specs.Nodes.{IsTable, in_table, range_of, shown_at, shown_from, shown_over}
 use Rattle.asl_run.specs.Standing.{children_of}
 use Rattle.asl_run.specs.declared.nodes.Children.{Children}
 use Rattle.asl_run.specs.declared.nodes.Node.{Node}
 use Rattle.asl_run.specs.declared.nodes.Node.TheVariants.{Split}
-use Rattle.asl_run.proofs.Above.{IsAbove, above_itself, above_lower, one_above, parent_above, place_above}
+use Rattle.asl_run.proofs.Above.{IsAbove, above_itself, above_lower, one_above, parent_above}
 use Rattle.asl_run.proofs.Parts.{there, get_drop, in_part, same_front, front_but_one}
-use Rattle.asl_run.proofs.Tables.{IsChild, child_found, child_of, child_within, set_of, shown_here, shown_there, some_shown}
+use Rattle.asl_run.proofs.Tables.{IsChild, child_of, child_within, set_of, shown_here, shown_there, some_shown}
 
 -- what stands elsewhere is shown as before
 pub same_elsewhere : (names : List (List ℕ)) (j : ℕ) (before after : List Node) (changed : IsChangedAt j before after) (fuel i : ℕ) → length before ≤ i + fuel → i < length before → (IsAbove changed.table.parents j i → ⊥)
@@ -39,9 +36,9 @@ same_elsewhere names j before after changed (suc fuel) i enough within elsewhere
         by_range (Some children) f =
             let range = changed.table.ranges i node children e f in
             same_front children.count (drop children.first.0 (shown_from names 0 after)) (drop children.first.0 (shown_from names 0 before)) (λ k less.
-                get_drop children.first.0 (shown_from names 0 after) k
-                ∙ rest (children.first.0 + k) (omega (arith, range.behind)) (omega (arith, range.within, less)) (λ h. elsewhere (parent_above parents j (children.first.0 + k) i h (range.owned k less)))
-                ∙ sym (get_drop children.first.0 (shown_from names 0 before) k))
+            get_drop children.first.0 (shown_from names 0 after) k
+            ∙ rest (children.first.0 + k) (omega (arith, range.behind)) (omega (arith, range.within, less)) (λ h. elsewhere (parent_above parents j (children.first.0 + k) i h (range.owned k less)))
+            ∙ sym (get_drop children.first.0 (shown_from names 0 before) k))
 
 -- ---- at a node on the way to node j
 
@@ -86,7 +83,7 @@ children_on_the_way names j before after changed i k c child above =
         let on_the_way = within k child.less in
         get_drop first now m
         ∙ same_elsewhere names j before after changed (length before) (first + m) (omega arith) here.1 (λ h.
-            one_above parents changed.table.lower j i c (first + m) (ap parents child.is ∙ on_the_way.2) here.2 (omega (arith, child.is, on_the_way.0)) here.0 (λ e. apart (omega (arith, e, child.is))) above h)
+        one_above parents changed.table.lower j i c (first + m) (ap parents child.is ∙ on_the_way.2) here.2 (omega (arith, child.is, on_the_way.0)) here.0 (λ e. apart (omega (arith, e, child.is))) above h)
         ∙ sym (get_drop first was m)
 
     but_one : in_table (Some children) now ≡ slice_set (in_table (Some children) was) k (shown_at names after c)
@@ -97,10 +94,10 @@ pub shown_on_the_way : (names : List (List ℕ)) (j : ℕ) (before after : List 
     → (shown_at names before i ≡ shown_over names (children_of (in_table (Some child.children) (shown_from names 0 before))) (Split child.visit child.children))
     × (shown_at names after i ≡ shown_over names (set_child k (shown_at names after c) (children_of (in_table (Some child.children) (shown_from names 0 before)))) (Split child.visit child.children))
 shown_on_the_way names j before after changed i k c child above = (
-    shown_here names before changed.table i node child.stands,
-    shown_here names after changed.still i node (changed.others i (omega (arith, within.0, within.1)) (λ e. absurd (omega (arith, e, within.0, lower))) ∙ child.stands)
-        ∙ ap (λ cs. shown_over names cs node) (children_on_the_way names j before after changed i k c child above),
-    )
+  shown_here names before changed.table i node child.stands,
+  shown_here names after changed.still i node (changed.others i (omega (arith, within.0, within.1)) (λ e. absurd (omega (arith, e, within.0, lower))) ∙ child.stands)
+      ∙ ap (λ cs. shown_over names cs node) (children_on_the_way names j before after changed i k c child above),
+)
   where
     node : Node
     node = Split child.visit child.children

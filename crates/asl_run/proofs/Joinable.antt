@@ -1,6 +1,5 @@
 -- Whether the children of a Parallel or a Map are far enough, which are gone through in order.
-use Rattle.std.proofs.Common.{◌≡◌, ℕ, suc, ◌+◌, ◌<◌, ◌≤◌, List, length, get_or, drop, Bool, true, false, Some, None, ◌&&◌, refl, sym, ap, ◌∙◌, drop-cons, add-one, arith}
-use Rattle.std.proofs.lemmas.List.{drop_all}
+use Rattle.std.proofs.Common.{◌≡◌, ℕ, suc, ◌+◌, ◌<◌, ◌≤◌, List, length, get_or, drop, Bool, true, false, Some, None, ◌&&◌, refl, sym, ap, ◌∙◌, arith}
 use Rattle.asl_model.specs.Run as model
 use Rattle.asl_model.specs.Run.{Ready, Waiting, Split, Done, Failed, Joining, AllDone, OneFailed, StillRunning, WantsMove, joining, child_before, running_before, done_before}
 use Rattle.asl_model.specs.Tree.{NoTrees}

@@ -1,6 +1,6 @@
 -- How far children are, which are gone through in order, and their outputs.
-use Rattle.std.proofs.Common.{◌≡◌, refl, sym, ap, ◌∙◌, subst, ℕ, suc, ◌+◌, ◌<◌, ◌≤◌, List, [], ◌∷◌, ◌++◌, length, get_or, drop, drop-cons, append_assoc, append-nil, Bool, true, false, ◌&&◌, map, Option, Some, None, Result, IfOk, IsOkAnd, Vec, Global, add-one, arith, rules}
-use Rattle.std.proofs.lemmas.List.{drop_all, map-append}
+use Rattle.std.proofs.Common.{◌≡◌, refl, sym, ap, ◌∙◌, subst, ℕ, suc, ◌+◌, ◌<◌, ◌≤◌, List, [], ◌∷◌, ◌++◌, length, get_or, drop, append_assoc, append-nil, Bool, true, false, ◌&&◌, map, Option, Some, None, Result, IfOk, IsOkAnd, Vec, Global, arith, rules}
+use Rattle.std.proofs.lemmas.List.{map-append}
 use Rattle.std.specs.Option.{option_to_list}
 use Rattle.asl_machine.specs.Machine.{kind_view}
 use Rattle.asl_model.specs.Run as model
@@ -10,7 +10,7 @@ use Rattle.asl_model.proofs.RunOptions.{some_inj}
 use Rattle.asl_tree.specs.View.{view}
 use Rattle.asl_tree.specs.declared.Tree as trees
 use Rattle.asl_tree.specs.declared.Tree.{the_lemmas}
-use Rattle.asl_run.specs.Acting.{Plans, PlansAs, by_settings, by_state, names_at, told_at}
+use Rattle.asl_run.specs.Acting.{Plans, PlansAs, by_settings, by_state, told_at}
 use Rattle.asl_run.specs.Enabling.{has_ended}
 use Rattle.asl_run.specs.Entries.{entry_view}
 use Rattle.asl_run.specs.Joining.{failure_in, output_in, outputs_among, without_outputs}

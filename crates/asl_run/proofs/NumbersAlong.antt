@@ -1,7 +1,5 @@
 -- The numbers of the nodes along a place, in the table.
-use Rattle.std.proofs.Common.{◌≡◌, ◌<◌, ◌≤◌, refl, sym, ap, ◌∙◌, arith, rules, ℕ, zero, suc, ◌+◌, ◌^◌, List, [], ◌∷◌, length, get_or, drop, drop-cons, add-one, slice_get, Option, Some, None, IfSome, is_some, option_map, option_and_then, Bor}
-use lib.Dec.{ltb}
-use Rattle.std.proofs.lemmas.Bool.{ltb-true}
+use Rattle.std.proofs.Common.{◌≡◌, ◌<◌, ◌≤◌, refl, sym, ap, ◌∙◌, arith, ℕ, zero, suc, ◌+◌, ◌^◌, List, [], ◌∷◌, length, get_or, drop, drop-cons, add-one, slice_get, Option, Some, None, IfSome, option_map, option_and_then}
 use Rattle.std.proofs.lemmas.List.{drop_all}
 use Rattle.asl_model.proofs.RunOptions.{some_inj, none_some}
 use Rattle.asl_run.specs.Nodes.{IsTable, child_number, number_from, number_in_range, range_of}

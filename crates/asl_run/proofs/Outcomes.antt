@@ -1,5 +1,5 @@
 -- How a run has ended, by the node at the machine's own place.
-use Rattle.std.proofs.Common.{◌≡◌, refl, sym, ap, ◌∙◌, ℕ, List, slice_get, Option, Some, None}
+use Rattle.std.proofs.Common.{◌≡◌, refl, sym, ap, ◌∙◌, ℕ, List, slice_get, Some, None}
 use Rattle.asl_model.specs.Run as model
 use Rattle.asl_model.specs.Run.{outcome_of}
 use Rattle.asl_run.specs.Entries.{outcome_view}

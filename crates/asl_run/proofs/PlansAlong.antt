@@ -1,8 +1,7 @@
 -- What is planned at a node of a table, over what is shown of its children.
-use Rattle.std.proofs.Common.{◌≡◌, ◌↔◌, refl, sym, ap, ◌∙◌, subst, ℕ, List, slice_get, Bool, true, false, IsTrue, Option, Some, None, Result, Ok, Err, IfOk}
-use Rattle.asl_machine.specs.Table.{table_view}
+use Rattle.std.proofs.Common.{◌≡◌, ◌↔◌, sym, subst, ℕ, List, slice_get, Bool, true, false, IsTrue, Option, Some, None, Result, Ok, Err, IfOk}
 use Rattle.asl_model.specs.Run as model
-use Rattle.asl_run.specs.Acting.{Acts, ActsSo}
+use Rattle.asl_run.specs.Acting.{Acts}
 use Rattle.asl_run.specs.Enabling.{wanted_by}
 use Rattle.asl_run.specs.Nodes.{AreHeads, in_table, range_of, shown_from, shown_over}
 use Rattle.asl_run.specs.Standing.{children_of}

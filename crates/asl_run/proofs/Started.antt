@@ -1,5 +1,5 @@
 -- A run's start, in the machine's table.
-use Rattle.std.proofs.Common.{◌≡◌, refl, sym, ap, ◌∙◌, subst, ℕ, List, [], ◌∷◌, slice_get, Option, Some, None, option_map, rules}
+use Rattle.std.proofs.Common.{◌≡◌, refl, sym, ap, ◌∙◌, subst, ℕ, List, [], ◌∷◌, slice_get, Option, Some, None, option_map}
 use Rattle.asl_machine.specs.Table.{Shows, table_view}
 use Rattle.asl_machine.specs.declared.machine.Machine.{Machine}
 use Rattle.asl_model.specs.Machine.{Scope, ScopeOf, NoStates, AndState, start_of}
@@ -8,8 +8,8 @@ use Rattle.asl_model.specs.Run as model
 use Rattle.asl_model.specs.Tree.{Tree}
 use Rattle.asl_model.proofs.RunOptions.{some_inj, none_some}
 use Rattle.asl_run.specs.Enabling.{Adds, open_in}
-use Rattle.asl_run.specs.Standing.{name_in, number_in, StandsIn, children_of}
-use Rattle.asl_run.specs.Nodes.{IsTable, in_table, range_of, shown_at, shown_from, shown_over}
+use Rattle.asl_run.specs.Standing.{name_in, number_in, StandsIn}
+use Rattle.asl_run.specs.Nodes.{shown_at}
 use Rattle.asl_run.specs.declared.activities.Visit.{Visit}
 use Rattle.asl_run.specs.declared.nodes.Node.{Node}
 use Rattle.asl_run.specs.declared.nodes.Node.TheVariants.{Ready}

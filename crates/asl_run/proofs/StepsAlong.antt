@@ -1,5 +1,5 @@
 -- The step at a node, as one of the run: along the place from the machine's own on.
-use Rattle.std.proofs.Common.{◌≡◌, ◌<◌, ◌≤◌, refl, sym, ap, ◌∙◌, subst, arith, ℕ, zero, List, [], ◌∷◌, length, slice_get, Option, Some, None, option_map, option_and_then, Result, Ok, Err, IfOk, IfErr, Vec, Global}
+use Rattle.std.proofs.Common.{◌≡◌, refl, sym, ap, ◌∙◌, subst, arith, ℕ, List, [], ◌∷◌, slice_get, Option, Some, None, option_map, option_and_then, Result, Ok, Err, IfOk, IfErr, Vec, Global}
 use Rattle.std.specs.Option.{unwrap_or}
 use Rattle.asl_machine.specs.declared.machine.Machine.{Machine}
 use Rattle.asl_model.specs.Run as model
@@ -8,14 +8,12 @@ use Rattle.asl_model.specs.Tree.{Null}
 use Rattle.asl_model.proofs.RunOptions.{some_inj, none_some}
 use Rattle.asl_tree.specs.View.{view}
 use Rattle.asl_run.specs.Acting.{ActsSo}
-use Rattle.asl_run.specs.Changing.{CanApply, IsApplied, IsChangedAt, changed, visit_in}
-use Rattle.asl_run.specs.Nodes.{IsTable, child_number, in_table, number_from, range_of, shown_at, shown_from, shown_over}
+use Rattle.asl_run.specs.Changing.{CanApply, IsApplied, IsChangedAt, changed}
+use Rattle.asl_run.specs.Nodes.{IsTable, child_number, in_table, number_from, shown_at, shown_from, shown_over}
 use Rattle.asl_run.specs.Standing.{children_of, name_in}
 use Rattle.asl_run.specs.Stepping.{IsPlanned, RefusesThere, Steps, StepsAt, action_of, below_node, names_for}
-use Rattle.asl_run.specs.declared.activities.Visit.{Visit}
 use Rattle.asl_run.specs.declared.entries.Entry.{Entry}
 use Rattle.asl_run.specs.declared.nodes.Node.{Node}
-use Rattle.asl_run.specs.declared.nodes.Node.TheVariants.{Split}
 use Rattle.asl_run.specs.declared.planning.Plan.{Plan}
 use Rattle.asl_run.specs.declared.stepping.Happening.{Happening}
 use Rattle.asl_run.specs.declared.stepping.StepRefusal.{StepRefusal}
@@ -24,7 +22,7 @@ use Rattle.asl_run.proofs.Above.{IsAbove, place_above}
 use Rattle.asl_run.proofs.ChangedTables.{child_shown, shown_on_the_way}
 use Rattle.asl_run.proofs.StepsBelow.{steps_below}
 use Rattle.asl_run.proofs.StepsHere.{refused_here, refused_there, taken_here}
-use Rattle.asl_run.proofs.Tables.{IsChild, child_found, child_within, place_shown, shown_here}
+use Rattle.asl_run.proofs.Tables.{IsChild, child_found, place_shown, shown_here}
 
 -- a step at node j is one at its place
 pub along : (machine : Machine) (at : List ℕ) (names : List (List ℕ)) (action : model.Action) (r : Result (Vec Entry Global) StepRefusal) (j : ℕ) (before after : List Node) (changed : IsChangedAt j before after)
@@ -52,15 +50,6 @@ along machine at names action r j before after changed here (k ∷ place) i e =
 -- nothing is changed
 unchanged_at : (j : ℕ) (nodes : List Node) → IsTable nodes → IsChangedAt j nodes nodes
 unchanged_at j nodes table = record { table = table; still = table; others = λ i less other. refl; no_shorter = omega arith }
-
--- the node at a place is in the table
-pub number_within : (nodes : List Node) → IsTable nodes → (place : List ℕ) (i j : ℕ) → i < length nodes → number_from nodes i place ≡ Some j → j < length nodes
-number_within nodes table [] i j within e = subst (λ n. n < length nodes) (some_inj e) within
-number_within nodes table (k ∷ place) i j within e = by_child (child_number nodes i k) refl e (λ c less f. number_within nodes table place c j less f)
-  where
-    by_child : (o : Option ℕ) → child_number nodes i k ≡ o → option_and_then (λ c. number_from nodes c place) o ≡ Some j → ((c : ℕ) → c < length nodes → number_from nodes c place ≡ Some j → j < length nodes) → j < length nodes
-    by_child None f g below = none_some g
-    by_child (Some c) f g below = below c (child_within nodes table i k c (child_found nodes i k c f)).1 g
 
 -- ---- the answers
 

@@ -1,21 +1,19 @@
 -- What is shown of the nodes of a table, one by one and along a place.
-use Rattle.std.proofs.Common.{◌≡◌, ◌≢◌, ◌<◌, ◌≤◌, refl, sym, ap, ◌∙◌, subst, arith, ℕ, zero, suc, ◌+◌, ◌-◌, Bool, true, false, nat_lt, if◌then◌else◌, List, [], ◌∷◌, length, take, drop, slice_get, slice_set, Option, Some, None, option_map, option_and_then}
+use Rattle.std.proofs.Common.{◌≡◌, ◌<◌, refl, sym, ap, ◌∙◌, arith, ℕ, zero, suc, ◌+◌, Bool, true, false, nat_lt, if◌then◌else◌, List, [], ◌∷◌, length, take, drop, slice_get, slice_set, Option, Some, None, option_map, option_and_then}
 use Rattle.std.specs.Option.{unwrap_or}
 use Rattle.std.proofs.lemmas.Bool.{ltb-true, ltb-false}
-use Rattle.std.proofs.lemmas.Option.{slice_get_within}
 use Rattle.asl_model.specs.Run as model
 use Rattle.asl_model.specs.Run.{activity_at, child_at, set_child}
 use Rattle.asl_model.specs.Tree.{Null}
 use Rattle.asl_model.proofs.RunOptions.{some_inj, none_some}
-use Rattle.asl_run.specs.Standing.{children_of, name_in}
-use Rattle.asl_run.specs.Nodes.{AreHeads, IsHead, IsRange, IsTable, child_number, in_range, in_table, number_from, number_in_range, range_of, shown_at, shown_from, shown_over}
+use Rattle.asl_run.specs.Standing.{children_of}
+use Rattle.asl_run.specs.Nodes.{AreHeads, IsTable, child_number, in_range, in_table, number_from, number_in_range, range_of, shown_at, shown_from, shown_over}
 use Rattle.asl_run.specs.declared.activities.Visit.{Visit}
 use Rattle.asl_run.specs.declared.entries.Outcome.{Outcome}
 use Rattle.asl_run.specs.declared.entries.Outcome.TheVariants as outcomes
 use Rattle.asl_run.specs.declared.nodes.Children.{Children}
 use Rattle.asl_run.specs.declared.nodes.Node.{Node}
 use Rattle.asl_run.specs.declared.nodes.Node.TheVariants.{Ready, Waiting, Split, Ended}
-use Rattle.asl_tree.specs.View.{view}
 use Rattle.asl_run.proofs.Parts.{there, in_part, past_part, from_behind}
 
 -- ---- one node

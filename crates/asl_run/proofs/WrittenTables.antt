@@ -1,13 +1,12 @@
 -- Writing to a node and adding nodes leaves a table, and what it shows.
-use Rattle.std.proofs.Common.{◌≡◌, ◌≢◌, ◌<◌, ◌≤◌, refl, sym, ap, ◌∙◌, subst, arith, ℕ, zero, suc, ◌+◌, ◌-◌, Bool, true, false, nat_lt, if◌then◌else◌, List, [], ◌∷◌, ◌++◌, append_assoc, append-nil, length, take, drop, map, get_or, slice_get, slice_set, Option, Some, None, Result, Ok, Err, IfOk, IfErr, Vec, Global}
+use Rattle.std.proofs.Common.{◌≡◌, ◌≢◌, ◌<◌, ◌≤◌, refl, sym, ap, ◌∙◌, subst, arith, ℕ, zero, suc, ◌+◌, ◌-◌, nat_lt, if◌then◌else◌, List, [], ◌∷◌, ◌++◌, append_assoc, append-nil, length, take, drop, map, get_or, slice_get, slice_set, Option, Some, None, Result, Ok, Err, IfOk, IfErr, Vec, Global}
 use Rattle.std.proofs.lemmas.Bool.{lt-ltb, le-ltb}
 use Rattle.std.proofs.lemmas.List.{length-append, take_all}
 use Rattle.std.proofs.lemmas.Option.{slice_get_within}
 use Rattle.asl_model.specs.Run as model
-use Rattle.asl_model.specs.Tree.{Null}
 use Rattle.asl_model.proofs.RunOptions.{some_inj, none_some}
 use Rattle.asl_run.specs.Activities.{ready_view}
-use Rattle.asl_run.specs.Changing.{AreAlike, IsAlike, IsApplied, IsChangedAt, IsRaised, IsSame, IsWritten, changed, visit_in}
+use Rattle.asl_run.specs.Changing.{AreAlike, IsAlike, IsApplied, IsRaised, IsSame, IsWritten, changed, visit_in}
 use Rattle.asl_run.specs.Nodes.{IsRange, IsTable, in_range, in_table, range_of, shown_at, shown_from, shown_over}
 use Rattle.asl_run.specs.Standing.{children_of, name_in}
 use Rattle.asl_run.specs.declared.activities.Visit.{Visit}
@@ -303,13 +302,13 @@ pub retry_written : (j : ℕ) (before after : List Node) (was node : Node) (retr
     → ((visit : Visit) → visit_in was ≡ Some visit → (later : Visit) × (node ≡ nodes.Ready later) × IsRaised retrier visit later) → IsWritten j before (Retry retrier) after
 retry_written j before after was node retrier there written alone retries =
     alone_there j before after (Retry retrier) was node there written alone (λ names visit e below.
-        let again = retries visit e in
-        let later = again.0 in
-        let raised = again.2 in
-        ap (shown_over names below) again.1
-        ∙ ap (λ i. model.Ready (name_in names i) (trees.view later.raw) later.counts.items) raised.state
-        ∙ ap (λ (t : Tree). model.Ready (name_in names visit.state) (trees.view t) later.counts.items) raised.raw
-        ∙ ap (model.Ready (name_in names visit.state) (trees.view visit.raw)) raised.counts)
+    let again = retries visit e in
+    let later = again.0 in
+    let raised = again.2 in
+    ap (shown_over names below) again.1
+    ∙ ap (λ i. model.Ready (name_in names i) (trees.view later.raw) later.counts.items) raised.state
+    ∙ ap (λ (t : Tree). model.Ready (name_in names visit.state) (trees.view t) later.counts.items) raised.raw
+    ∙ ap (model.Ready (name_in names visit.state) (trees.view visit.raw)) raised.counts)
 
 -- the same execution shows the same
 pub same_ready : (before after : Visit) → IsSame before after → IsAlike (nodes.Ready before) (nodes.Ready after)

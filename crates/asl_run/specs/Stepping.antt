@@ -1,5 +1,5 @@
 -- Steps of a run, as the definitions have them.
-use Rattle.std.specs.Prelude.{◌≡◌, ℕ, List, ◌∷◌, map, Option, Some, None, Result, IfOk, IfErr, Vec, option_map, slice_get}
+use Rattle.std.specs.Prelude.{◌≡◌, ℕ, List, map, Option, Some, None, Result, IfOk, IfErr, Vec, option_map, slice_get}
 use Rattle.std.specs.Option.{IsSome, unwrap_or}
 use Rattle.asl_run.specs.Acting.{ActsSo}
 use Rattle.asl_run.specs.Entries.{answer_view}

@@ -30,15 +30,9 @@ pub(crate) enum Node {
     /// A state about to be entered.
     Ready(Visit),
     /// A Task whose task was asked with a payload.
-    Waiting {
-        visit: Visit,
-        payload: Tree,
-    },
+    Waiting { visit: Visit, payload: Tree },
     /// A Parallel or a Map with its children.
-    Split {
-        visit: Visit,
-        children: Children,
-    },
+    Split { visit: Visit, children: Children },
     /// The scope has ended.
     Ended(Outcome),
 }
@@ -132,11 +126,7 @@ impl Nodes {
     }
 
     /// Changes what stands at the node of that number. A refusal leaves what the table shows as it is.
-    pub(crate) fn change(
-        &mut self,
-        number: NodeNumber,
-        change: Change,
-    ) -> Result<(), OutOfMemory>
+    pub(crate) fn change(&mut self, number: NodeNumber, change: Change) -> Result<(), OutOfMemory>
         requires within { number.0 < length self.old }
         requires rises { (node : code.Node) → slice_get self.old number.0 ≡ Some node → CanApply node change }
         ensures changed { IfOk result (λ _. IsApplied number.0 self.old change self.new) }

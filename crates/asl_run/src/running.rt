@@ -62,11 +62,13 @@ pub fn start<'m>(
             machine,
             nodes,
         }),
-        Err(Visit {
-            state: _,
-            raw,
-            counts: _,
-        }) => Err((OutOfMemory, raw)),
+        Err(
+            Visit {
+                state: _,
+                raw,
+                counts: _,
+            },
+        ) => Err((OutOfMemory, raw)),
     }
 }
 

@@ -1,5 +1,5 @@
 -- What a refusal of one text comes to, and of which of the three.
-use Rattle.std.proofs.Common.{◌≡◌, ℕ, List, Option, Some, None, option_map}
+use Rattle.std.proofs.Common.{ℕ, List, Option, Some, None, option_map}
 use Rattle.std.specs.Option.{unwrap_or}
 use Rattle.serde_json.specs.Data.{Data}
 use Rattle.asl_model.specs.Machine.{Scope}

@@ -1,6 +1,6 @@
 -- Parts of a list.
 use Rattle.std.proofs.Common.{◌≡◌, ◌+◌, ◌-◌, ◌≤◌, ℕ, List, length, take, drop, slice_range, arith, sym, ap, ◌∙◌}
-use Rattle.std.proofs.lemmas.List.{drop-take, drop-drop, length-take, length-drop}
+use Rattle.std.proofs.lemmas.List.{drop-take, drop-drop, length-take}
 
 -- what is left of a part when its first elements are passed over
 pub range_passed : (xs : List ℕ) (start end count : ℕ) → count ≤ length (slice_range xs start end)

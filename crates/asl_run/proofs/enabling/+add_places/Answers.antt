@@ -1,5 +1,5 @@
-use Rattle.std.proofs.Common.{ℕ, List, ◌≡◌, ◌++◌, ◌∷◌, [], ◌∙◌, ap, sym, subst, map, refl, rules, arith, length, ◌<◌, ◌≤◌}
-use Rattle.asl_run.specs.Enabling.{AddsPlacesBelow, found_view}
+use Rattle.std.proofs.Common.{ℕ, List, ◌≡◌, ◌++◌, ◌∷◌, [], ◌∙◌, ap, map, refl, rules, arith}
+use Rattle.asl_run.specs.Enabling.{found_view}
 use Rattle.asl_run.specs.Nodes.{range_of}
 use Rattle.asl_run.proofs.Adding.{alone_added, split_added, one_added, taken_off, all_added, where_ok}
 use Rattle.asl_run.proofs.enabling.+add_places.Goals as goal

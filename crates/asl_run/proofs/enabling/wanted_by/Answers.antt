@@ -1,4 +1,4 @@
-use Rattle.std.proofs.Common.{List, sym, ◌∙◌, ◌≡◌, rules}
+use Rattle.std.proofs.Common.{sym, ◌∙◌, rules}
 use Rattle.asl_tree.specs.View as trees
 use Rattle.asl_run.specs.Nodes.{shown_over}
 use Rattle.asl_run.specs.Standing.{children_of, name_in}

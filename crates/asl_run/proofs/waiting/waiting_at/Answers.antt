@@ -2,12 +2,11 @@ use Rattle.std.proofs.Common.{ap, sym, ◌∙◌, option_map, refl, inl, inr}
 use Rattle.asl_machine.specs.Table.{table_view}
 use Rattle.asl_run.specs.Nodes.{in_table, range_of, shown_at, shown_from}
 use Rattle.asl_run.specs.Standing.{children_of}
-use Rattle.asl_run.proofs.StepsAlong.{number_within}
 use Rattle.asl_run.proofs.Waits.{node_stands, nothing_stands, task_waits, none_without_place, none_where_ready, none_where_split, none_where_ended, unnamed_waits_nowhere}
 use Rattle.asl_run.proofs.waiting.waiting_at.Goals as goal
 
 pub node-requires : goal.node-requires
-node-requires c = number_within c.args.nodes.now c.number_at.ensures.table c.args.place.now 0 c.in_ok-number.number.0 c.number_at.ensures.table.some (sym c.number_at.ensures.number ∙ ap (option_map (λ n. n.0)) c.in_ok-number.was)
+node-requires c = rw c.in_ok-number.was at c.number_at.ensures.within
 
 pub returns-in_err-number-clause-none : goal.returns-in_err-number-clause-none
 returns-in_err-number-clause-none c = λ m shows h.

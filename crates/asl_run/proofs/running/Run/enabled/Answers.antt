@@ -7,9 +7,6 @@ use Rattle.asl_run.proofs.SomeEnabled.{some_enabled, some_found}
 use Rattle.asl_run.proofs.Started.{all_enabled}
 use Rattle.asl_run.proofs.running.Run.enabled.Goals as goal
 
-
-
-
 pub returns-clause-goes_on : goal.returns-clause-goes_on
 returns-clause-goes_on c =
     λ m run going. some_found found_view c.add_places.new.found.items (enabled (run_view c.args.self.now) m)

@@ -1,5 +1,5 @@
 use Rattle.std.proofs.Common.{◌∙◌, ap, sym, option_map, refl}
-use Rattle.asl_run.proofs.StepsAlong.{no_such_place, no_memory_along, number_within, planned_can, taken_along, unplanned_along}
+use Rattle.asl_run.proofs.StepsAlong.{no_such_place, no_memory_along, planned_can, taken_along, unplanned_along}
 use Rattle.asl_run.proofs.stepping.Happening.take_step.Goals as goal
 
 pub plan_at-requires : goal.plan_at-requires
