@@ -78,6 +78,7 @@ impl Nodes {
         ensures first { result.0 ≡ 0 }
         ensures table { IsTable self.now }
     {
+        // The field is named for what is always true of it; nothing is read.
         let _ = &self.nodes;
         NodeNumber(0)
     }
