@@ -30,6 +30,16 @@ pub(crate) enum Change {
     Retry(usize),
 }
 
+impl Change {
+    /// How many children it adds.
+    pub(crate) fn children(&self) -> usize {
+        match self {
+            Change::SplitInto(visits) => visits.len(),
+            Change::Enter(_) | Change::End(_) | Change::Ask(_) | Change::Retry(_) => 0,
+        }
+    }
+}
+
 impl Node {
     /// Its task waits for the answer to that payload.
     pub(crate) fn wait(&mut self, payload: Tree)

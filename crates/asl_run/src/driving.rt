@@ -131,13 +131,23 @@ fn picked_place<O: Order>(run: &Run, order: &mut O) -> Result<Place, OutOfMemory
     ensures picked { (m : Scope) → IsRunOf m run.now → IfOk result (λ place. IsPicked (O.may_pick order.old) m (run_view run.now) place.items) }
     ensures lasting { (n : ℕ) (k : ℕ) → O.may_pick order.new n k → O.may_pick order.old n k }
 {
-    let mut places = run.enabled()?;
-    if places.is_empty() {
+    let open = run.nodes.open();
+    if open == 0 {
         return Err(OutOfMemory);
     }
-    let picked = order.pick(places.len());
-    let (place, _) = places.swap_remove(picked);
-    Ok(place)
+    let picked = order.pick(open);
+    if picked == 0 {
+        return run.nodes.first_open(run.alloc);
+    }
+    if picked == open - 1 {
+        return run.nodes.last_open(run.alloc);
+    }
+    let mut places = run.enabled()?;
+    if picked < places.len() {
+        let (place, _) = places.swap_remove(picked);
+        return Ok(place);
+    }
+    Err(OutOfMemory)
 }
 
 /// The next event at the place: an answer of the source where a task waits, else a move.
