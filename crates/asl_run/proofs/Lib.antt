@@ -35,3 +35,4 @@ pub mod WrittenTables
 pub mod StepsAlong
 pub mod PlansAlong
 pub mod Outcomes
+pub mod OpenCounts

@@ -196,6 +196,7 @@ impl Nodes {
 
     /// How many places at the node of that number and below it want an event, where itself wants one. Only where a child
     /// has failed can others still want one.
+    #[cycle(open_from)]
     fn open_from(&self, number: NodeNumber) -> usize {
         match self.nodes[number.0] {
             Node::Ready(_) | Node::Waiting { .. } => 1,
@@ -209,6 +210,7 @@ impl Nodes {
     }
 
     /// How many places among these children and below them want an event.
+    #[cycle(open_from)]
     fn open_among(&self, children: Children, progress: Progress) -> usize {
         let mut open = 0;
         for child in progress.first..progress.behind_last {
