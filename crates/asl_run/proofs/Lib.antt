@@ -36,3 +36,4 @@ pub mod StepsAlong
 pub mod PlansAlong
 pub mod Outcomes
 pub mod OpenCounts
+pub mod CountsAlong
