@@ -1,7 +1,7 @@
 //! What a step does to what stands at its place.
 
 ghost use Rattle.std.specs.Prelude.{◌≡◌, ℕ, None, Some, IfOk, IfErr};
-ghost use Rattle.asl_run.specs.Changing.{IsAlike, IsRaised, IsSame, visit_in};
+ghost use Rattle.asl_run.specs.Changing.{children_in, IsAlike, IsRaised, IsSame, visit_in};
 ghost use Rattle.asl_run.specs.Nodes.{range_of};
 ghost use Rattle.asl_run.specs.Troubles.{CanRise};
 ghost use Rattle.asl_run.specs.declared.activities.Visit.{Visit};
@@ -32,7 +32,9 @@ pub(crate) enum Change {
 
 impl Change {
     /// How many children it adds.
-    pub(crate) fn children(&self) -> usize {
+    pub(crate) fn children(&self) -> usize
+        ensures { result ≡ children_in self.now }
+    {
         match self {
             Change::SplitInto(visits) => visits.len(),
             Change::Enter(_) | Change::End(_) | Change::Ask(_) | Change::Retry(_) => 0,

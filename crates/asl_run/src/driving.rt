@@ -1,6 +1,6 @@
 //! Driving a run: its places take turns, in an order, and a source answers its tasks.
 
-ghost use Rattle.std.specs.Prelude.{◌≡◌, ℕ, List, map, Option, IfOk, IfErr, OnOk};
+ghost use Rattle.std.specs.Prelude.{◌≡◌, ℕ, List, map, Option, None, IfOk, IfErr, OnOk};
 ghost use Rattle.asl_machine.specs.Table.{table_view};
 ghost use Rattle.asl_model.specs.Machine.{Scope};
 ghost use Rattle.asl_model.specs.Run as model;
@@ -96,7 +96,7 @@ fn how_ended(run: &Run) -> Option<Stop>
     }
 }
 
-/// One turn: an event at the place whose turn it is, which the trace tells.
+/// One turn of a run that hasn't ended: an event at the place whose turn it is, which the trace tells.
 ///
 /// Refused: no answer of the source, or want of memory; the run and the trace stay.
 fn turn<O: Order, A: Answers>(
@@ -105,6 +105,7 @@ fn turn<O: Order, A: Answers>(
     answers: &mut A,
     trace: &mut Vec<Entry>,
 ) -> Result<(), Pause>
+    requires goes_on { model.outcome_of (run_view run.old) ≡ None }
     ensures run { (m : Scope) → IsRunOf m run.old → IsRunOf m run.new }
     ensures goes_on { (m : Scope) → IsRunOf m run.old → OnOk result (GoesOn (O.may_pick order.old) (A.may_give answers.old) m (run_view run.old) (A.content answers.old) (map entry_view trace.old.items) (map entry_view trace.new.items) (run_view run.new) (A.content answers.new)) }
     ensures pauses { (m : Scope) → IsRunOf m run.old → IfErr result (λ pause. Pauses (A.may_be_silent answers.new) (table_view run.old.machine.now).names (run_view run.old) (A.content answers.old) (A.content answers.new) pause) }
@@ -116,7 +117,7 @@ fn turn<O: Order, A: Answers>(
         Ok(place) => place,
         Err(OutOfMemory) => return Err(Pause::OutOfMemory(None)),
     };
-    let event = match next_event(run.machine, &run.nodes, answers, place) {
+    let event = match next_event(run.machine, run.standing.nodes(), answers, place) {
         Ok(event) => event,
         Err(pause) => return Err(pause),
     };
@@ -126,28 +127,23 @@ fn turn<O: Order, A: Answers>(
     }
 }
 
-/// The place whose turn it is, of those where an event is enabled.
+/// The place whose turn it is, of those where an event is enabled, of a run that hasn't ended.
 fn picked_place<O: Order>(run: &Run, order: &mut O) -> Result<Place, OutOfMemory>
+    requires goes_on { model.outcome_of (run_view run.now) ≡ None }
     ensures picked { (m : Scope) → IsRunOf m run.now → IfOk result (λ place. IsPicked (O.may_pick order.old) m (run_view run.now) place.items) }
     ensures lasting { (n : ℕ) (k : ℕ) → O.may_pick order.new n k → O.may_pick order.old n k }
 {
-    let open = run.nodes.open();
-    if open == 0 {
-        return Err(OutOfMemory);
-    }
+    let open = run.standing.open();
     let picked = order.pick(open);
     if picked == 0 {
-        return run.nodes.first_open(run.alloc);
+        return run.standing.first_open(run.alloc);
     }
     if picked == open - 1 {
-        return run.nodes.last_open(run.alloc);
+        return run.standing.last_open(run.alloc);
     }
-    let mut places = run.enabled()?;
-    if picked < places.len() {
-        let (place, _) = places.swap_remove(picked);
-        return Ok(place);
-    }
-    Err(OutOfMemory)
+    let mut places = run.open_places()?;
+    let (place, _) = places.swap_remove(picked);
+    Ok(place)
 }
 
 /// The next event at the place: an answer of the source where a task waits, else a move.

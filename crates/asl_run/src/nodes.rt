@@ -8,7 +8,7 @@ ghost use Rattle.asl_run.specs.declared.nodes.Node.TheVariants as variants;
 
 use crate::activities::Visit;
 use crate::changing::Change;
-use crate::entries::{Outcome, Place};
+use crate::entries::Outcome;
 use asl_tree::{OutOfMemory, Tree};
 use std::alloc::Global;
 use std::marker::Model;
@@ -37,55 +37,10 @@ pub(crate) enum Node {
     Ended(Outcome),
 }
 
-/// How far the children of a node are, and whose child it is itself.
-#[derive(Clone, Copy, Drop)]
-pub(crate) struct Progress {
-    /// The node whose child this one is; the machine's own place is its own.
-    parent: NodeNumber,
-    /// How many children haven't ended.
-    running: usize,
-    /// A child has failed.
-    failed: bool,
-    /// All children before this one have ended.
-    first: usize,
-    /// This one and all behind it have ended.
-    behind_last: usize,
-}
-
-impl Progress {
-    /// That of a child, which has no children yet.
-    fn of_child(parent: NodeNumber) -> Progress {
-        Progress {
-            parent,
-            running: 0,
-            failed: false,
-            first: 0,
-            behind_last: 0,
-        }
-    }
-
-    /// So many children are about to enter their states.
-    fn begin(&mut self, count: usize) {
-        self.running = count;
-        self.failed = false;
-        self.first = 0;
-        self.behind_last = count;
-    }
-
-    /// The children are far enough for the move of their Parallel or Map: one has failed, or all have ended.
-    fn is_joinable(self) -> bool {
-        self.failed || self.running == 0
-    }
-}
-
 /// What stands at the places of a run: the machine's own place first, each node's children behind it.
 #[derive(Drop)]
 pub(crate) struct Nodes {
     nodes: Vec<Node>,
-    /// Of each node how far its children are.
-    progress: Vec<Progress>,
-    /// How many places want an event.
-    open: usize,
 }
 
 impl Model for Nodes {
@@ -114,16 +69,8 @@ impl Nodes {
         let Ok(mut nodes) = Vec::with_capacity(alloc, 1) else {
             return Err(visit);
         };
-        let Ok(mut progress) = Vec::with_capacity(alloc, 1) else {
-            return Err(visit);
-        };
         nodes.push_reserved(Node::Ready(visit));
-        progress.push_reserved(Progress::of_child(NodeNumber(0)));
-        Ok(Nodes {
-            nodes,
-            progress,
-            open: 1,
-        })
+        Ok(Nodes { nodes })
     }
 
     /// The number of the machine's own place.
@@ -186,128 +133,7 @@ impl Nodes {
         ensures changed { IfOk result (λ _. IsApplied number.0 self.old change self.new) }
         ensures unchanged { IfErr result (λ _. (names : List (List ℕ)) → shown_from names 0 self.new ≡ shown_from names 0 self.old) }
     {
-        self.progress.reserve(change.children())?;
-        let before = self.open_from(number);
-        apply(&mut self.nodes, number.0, change)?;
-        let after = self.begin(number);
-        self.open = self.open - before + after + self.tell_parent(number);
-        Ok(())
-    }
-
-    /// How many places at the node of that number and below it want an event, where itself wants one. Only where a child
-    /// has failed can others still want one.
-    #[cycle(open_from)]
-    fn open_from(&self, number: NodeNumber) -> usize {
-        match self.nodes[number.0] {
-            Node::Ready(_) | Node::Waiting { .. } => 1,
-            Node::Ended(_) => 0,
-            Node::Split { children, .. } => {
-                let progress = self.progress[number.0];
-                let own = usize::from(progress.is_joinable());
-                own + self.open_among(children, progress)
-            }
-        }
-    }
-
-    /// How many places among these children and below them want an event.
-    #[cycle(open_from)]
-    fn open_among(&self, children: Children, progress: Progress) -> usize {
-        let mut open = 0;
-        for child in progress.first..progress.behind_last {
-            open += self.open_from(NodeNumber(children.first.0 + child));
-        }
-        open
-    }
-
-    /// Notes the children of the node of that number that have just been added, if any, and tells how many places there
-    /// and below want an event.
-    fn begin(&mut self, number: NodeNumber) -> usize {
-        match self.nodes[number.0] {
-            Node::Ready(_) | Node::Waiting { .. } => 1,
-            Node::Ended(_) => 0,
-            Node::Split { children, .. } => {
-                self.progress[number.0].begin(children.count);
-                for _child in 0..children.count {
-                    self.progress.push_reserved(Progress::of_child(number));
-                }
-                usize::max(children.count, 1)
-            }
-        }
-    }
-
-    /// Where the node of that number has ended, notes so at its parent, and tells how many places more want an event for
-    /// it: the parent's own, where its children are far enough now and weren't before.
-    fn tell_parent(&mut self, number: NodeNumber) -> usize {
-        let failed = match self.nodes[number.0] {
-            Node::Ended(Outcome::Output(_)) => false,
-            Node::Ended(Outcome::Failed { .. }) => true,
-            Node::Ready(_) | Node::Waiting { .. } | Node::Split { .. } => return 0,
-        };
-        let parent = self.progress[number.0].parent;
-        let Node::Split { children, .. } = self.nodes[parent.0] else {
-            return 0;
-        };
-        let was = self.progress[parent.0].is_joinable();
-        self.progress[parent.0].running -= 1;
-        self.progress[parent.0].failed |= failed;
-        self.pass_ended(parent, children);
-        usize::from(self.progress[parent.0].is_joinable() && !was)
-    }
-
-    /// Moves the bounds of the children that haven't ended past those that have.
-    fn pass_ended(&mut self, parent: NodeNumber, children: Children) {
-        let Progress {
-            mut first,
-            mut behind_last,
-            ..
-        } = self.progress[parent.0];
-        while first < behind_last && self.has_ended(children.first.0 + first) {
-            first += 1;
-        }
-        while first < behind_last && self.has_ended(children.first.0 + behind_last - 1) {
-            behind_last -= 1;
-        }
-        self.progress[parent.0].first = first;
-        self.progress[parent.0].behind_last = behind_last;
-    }
-
-    fn has_ended(&self, number: usize) -> bool {
-        matches!(self.nodes[number], Node::Ended(_))
-    }
-
-    /// How many places want an event.
-    pub(crate) fn open(&self) -> usize {
-        self.open
-    }
-
-    /// The first place that wants an event, where one does: a place before those below it.
-    pub(crate) fn first_open(&self, alloc: Global) -> Result<Place, OutOfMemory> {
-        let mut place = Vec::new(alloc);
-        let mut here = NodeNumber(0);
-        while let Node::Split { children, .. } = self.nodes[here.0] {
-            let progress = self.progress[here.0];
-            if progress.is_joinable() {
-                return Ok(place);
-            }
-            place.push(progress.first)?;
-            here = NodeNumber(children.first.0 + progress.first);
-        }
-        Ok(place)
-    }
-
-    /// The last place that wants an event, where one does.
-    pub(crate) fn last_open(&self, alloc: Global) -> Result<Place, OutOfMemory> {
-        let mut place = Vec::new(alloc);
-        let mut here = NodeNumber(0);
-        while let Node::Split { children, .. } = self.nodes[here.0] {
-            let progress = self.progress[here.0];
-            if progress.running == 0 {
-                return Ok(place);
-            }
-            place.push(progress.behind_last - 1)?;
-            here = NodeNumber(children.first.0 + progress.behind_last - 1);
-        }
-        Ok(place)
+        apply(&mut self.nodes, number.0, change)
     }
 
     /// The number of the child of that number.

@@ -4,12 +4,12 @@ use Rattle.asl_run.proofs.Outcomes.{has_ended_so, goes_on_ready, goes_on_waiting
 use Rattle.asl_run.proofs.running.Run.outcome.Goals as goal
 
 pub returns-in-Ended : goal.returns-in-Ended
-returns-in-Ended c = has_ended_so (table_view c.args.self.now.machine.now).names c.args.self.now.nodes c.node.ensures.table 0 c.node.result.now c.in-Ended.outcome (ap (slice_get c.args.self.now.nodes) (sym c.root.ensures.first) ∙ c.node.ensures.node) c.in-Ended.is
+returns-in-Ended c = has_ended_so (table_view c.args.self.now.machine.now).names c.args.self.now.standing c.node.ensures.table 0 c.node.result.now c.in-Ended.outcome (ap (slice_get c.args.self.now.standing) (sym c.root.ensures.first) ∙ c.node.ensures.node) c.in-Ended.is
 
 pub returns-in-Ready : goal.returns-in-Ready
 returns-in-Ready c =
     let names = (table_view c.args.self.now.machine.now).names in
-    let nodes = c.args.self.now.nodes in
+    let nodes = c.args.self.now.standing in
     let node = c.node.result.now in
     let there = ap (slice_get nodes) (sym c.root.ensures.first) ∙ c.node.ensures.node in
     elim (c.in-Ready.is) [
