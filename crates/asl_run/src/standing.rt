@@ -51,7 +51,7 @@ pub(crate) struct Standing {
     /// Of each node how far its children are.
     progress: Vec<Progress>,
     /// How many places want an event.
-    open: usize,
+    open_count: usize,
 }
 
 impl Model for Standing {
@@ -67,7 +67,7 @@ impl Model for Standing {
 
     ghost view = { λ standing. standing.nodes };
 
-    ghost invariant = { λ standing. IsKept standing.nodes standing.progress.items standing.open };
+    ghost invariant = { λ standing. IsKept standing.nodes standing.progress.items standing.open_count };
 }
 
 impl Standing {
@@ -84,7 +84,7 @@ impl Standing {
         Ok(Standing {
             nodes,
             progress,
-            open: 1,
+            open_count: 1,
         })
     }
 
@@ -96,10 +96,10 @@ impl Standing {
     }
 
     /// How many places want an event.
-    pub(crate) fn open(&self) -> usize
+    pub(crate) fn open_count(&self) -> usize
         ensures { (names : List (List ℕ)) → result ≡ open_count (shown_at names self.now 0) }
     {
-        self.open
+        self.open_count
     }
 
     /// Changes what stands at that place, at the node of that number, which wants an event. A refusal leaves what is shown
@@ -124,7 +124,7 @@ impl Standing {
         begin(&mut self.progress, number, added);
         pass(&self.nodes, &mut self.progress, parent, number);
         let opened = count_places(&self.nodes, number) + own_place(&self.progress, parent);
-        self.open = self.open - closed + opened;
+        self.open_count = self.open_count - closed + opened;
         Ok(())
     }
 
