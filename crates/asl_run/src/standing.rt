@@ -3,7 +3,7 @@
 ghost use Rattle.std.specs.Vec.{vec_capacity};
 ghost use Rattle.std.specs.Prelude.{◌+◌, ◌<◌, ◌≤◌, ◌≡◌, ◌∷◌, ◌^◌, [], IfErr, IfOk, IfSome, List, length, slice_get, Some, true, false, ℕ};
 ghost use Rattle.asl_run.specs.Changing.{AreAlike, CanApply, IsApplied};
-ghost use Rattle.asl_run.specs.Counting.{CanPass, HasParent, IsBegun, IsBehindRunning, IsFirstRunning, IsFurther, IsGoing, IsOpenAt, IsPassed, open_count, own_count_of};
+ghost use Rattle.asl_run.specs.Counting.{CanPass, HasParent, IsBegun, IsBehindRunning, IsFirstRunning, IsFurther, IsGoing, IsOpenAt, IsPassed, is_joinable_so, of_new, open_count, own_count_of};
 ghost use Rattle.asl_run.specs.Nodes.{HasRange, number_from, shown_at, shown_from};
 ghost use Rattle.asl_run.specs.declared.nodes.Node as code;
 ghost use Rattle.asl_run.specs.declared.nodes.Node.TheVariants as variants;
@@ -30,7 +30,9 @@ pub(crate) struct Progress {
 
 impl Progress {
     /// So many children are about to enter their states.
-    fn of_new(count: usize) -> Progress {
+    fn of_new(count: usize) -> Progress
+        ensures { result ≡ of_new count }
+    {
         Progress {
             failed: false,
             first: 0,
@@ -39,7 +41,9 @@ impl Progress {
     }
 
     /// The children are far enough for the move of their Parallel or Map: one has failed, or all have ended.
-    fn is_joinable(self) -> bool {
+    fn is_joinable(self) -> bool
+        ensures { result ≡ is_joinable_so self }
+    {
         self.failed || self.behind_last <= self.first
     }
 }
