@@ -38,3 +38,5 @@ pub mod Outcomes
 pub mod OpenCounts
 pub mod CountsAlong
 pub mod Counted
+pub mod Passing
+pub mod Parents

@@ -24,10 +24,10 @@ use Rattle.asl_run.proofs.Tables.{shown_here}
 
 -- ---- numbers
 
-by_less : {C : Type 0} (i n : ℕ) → (i < n → C) → (n ≤ i → C) → C
+pub by_less : {C : Type 0} (i n : ℕ) → (i < n → C) → (n ≤ i → C) → C
 by_less i n less more = by_levels i n (λ e. more (omega (arith, e))) (λ t e. less (omega (arith, e))) (λ t e. more (omega (arith, e)))
 
-by_same : {C : Type 0} (i j : ℕ) → (i ≡ j → C) → (i ≢ j → C) → C
+pub by_same : {C : Type 0} (i j : ℕ) → (i ≡ j → C) → (i ≢ j → C) → C
 by_same i j same other = by_levels i j same (λ t e. other (λ f. absurd (omega (arith, e, f)))) (λ t e. other (λ f. absurd (omega (arith, e, f))))
 
 -- ---- nodes that are alike

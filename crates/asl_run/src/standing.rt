@@ -195,7 +195,7 @@ fn own_place(progress: &[Progress], number: Option<NodeNumber>) -> usize
 fn begin(progress: &mut Vec<Progress>, number: NodeNumber, added: usize)
     requires within { number.0 < length progress.old.items }
     requires room { length progress.old.items + added ≤ vec_capacity progress.old }
-    ensures { IsBegun number.0 added progress.old.items progress.new.items }
+    ensures { IsBegun number.0 added added progress.old.items progress.new.items }
 {
     progress[number.0] = Progress::of_new(added);
     for _child in 0..added {
