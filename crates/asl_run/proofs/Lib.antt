@@ -40,3 +40,4 @@ pub mod CountsAlong
 pub mod Counted
 pub mod Passing
 pub mod Parents
+pub mod FarEnough
