@@ -41,3 +41,6 @@ pub mod Counted
 pub mod Passing
 pub mod Parents
 pub mod FarEnough
+pub mod Kept
+pub mod KeptCounts
+pub mod KeptRuns

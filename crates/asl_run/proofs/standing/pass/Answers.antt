@@ -11,7 +11,7 @@ further-requires-clause-range c = record {
 }
 
 pub further-requires-clause-inside : goal.further-requires-clause-inside
-further-requires-clause-inside c = inside_noted c.args.nodes.now c.args.progress.now c.args.parent c.args.number.0 c.in-Some.parent c.node.result.now c.in-Split.children _ c.requires c.in-Some.is c.node.ensures.node (ap range_of c.in-Split.is)
+further-requires-clause-inside c = inside_noted c.args.nodes.now c.args.progress.now.items c.args.parent c.args.number.0 c.in-Some.parent c.node.result.now c.in-Split.children _ c.requires c.in-Some.is c.node.ensures.node (ap range_of c.in-Split.is)
 
 pub returns-in-Split : goal.returns-in-Split
-returns-in-Split c = passed_there c.args.nodes.now c.args.progress.now c.args.parent c.args.number.0 c.in-Some.parent c.node.result.now c.in-Split.children _ c.further.result c.requires c.in-Some.is c.node.ensures.node (ap range_of c.in-Split.is) c.further.ensures
+returns-in-Split c = passed_there c.args.nodes.now c.args.progress.now.items c.args.parent c.args.number.0 c.in-Some.parent c.node.result.now c.in-Split.children _ c.further.result c.requires c.in-Some.is c.node.ensures.node (ap range_of c.in-Split.is) c.further.ensures
