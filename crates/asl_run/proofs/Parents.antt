@@ -39,38 +39,19 @@ parent_found nodes place above k child (Some q) split is at = record {
 
 -- ---- what is noted
 
-pub index_there : {A : Type 0} (xs : List A) (i : ℕ) (d : A) → i < length xs → slice_get xs i ≡ Some (slice_index_or xs i d)
-index_there [] i d h = absurd (omega arith)
-index_there (x ∷ xs) zero d h = refl
-index_there (x ∷ xs) (suc i) d h = index_there xs i d (omega arith)
-
-pub inside_noted : (nodes : List Node) (progress : List Progress) (parent : Option NodeNumber) (j : ℕ) (q : NodeNumber) (node : Node) (children : Children) (d : Progress) → CanPass nodes progress parent j → parent ≡ Some q → slice_get nodes q.0 ≡ Some node → range_of node ≡ Some children
-    → (slice_index_or progress q.0 d).behind_last ≤ children.count
-inside_noted nodes progress parent j q node children d can is there range =
-    can.inside q node children (slice_index_or progress q.0 d) is there range (index_there progress q.0 d (can.noted q is).1)
-
 -- it is written anew
-pub passed_there : (nodes : List Node) (progress : List Progress) (parent : Option NodeNumber) (j : ℕ) (q : NodeNumber) (node : Node) (children : Children) (d far : Progress) → CanPass nodes progress parent j → parent ≡ Some q → slice_get nodes q.0 ≡ Some node → range_of node ≡ Some children
-    → IsFurther nodes children j (slice_index_or progress q.0 d) far → IsPassed nodes parent j progress (slice_set progress q.0 far)
-passed_there nodes progress parent j q node children d far can is there range further =
+pub passed_there : (nodes : List Node) (progress : List Progress) (parent : Option NodeNumber) (j : ℕ) (q : NodeNumber) (node : Node) (children : Children) (noted far : Progress) → CanPass nodes progress parent j → parent ≡ Some q → slice_get nodes q.0 ≡ Some node → range_of node ≡ Some children
+    → slice_get progress q.0 ≡ Some noted → IsFurther nodes children j noted far → IsPassed nodes parent j progress (slice_set progress q.0 far)
+passed_there nodes progress parent j q node children noted far can is there range at further =
     subst (λ p. IsPassed nodes p j progress (slice_set progress q.0 far)) (sym is) (record {
   long = length_set progress q.0 far;
   others = λ i other. get_set_other progress q.0 i far other;
   here = λ found others was now e f g h.
       let within = (can.noted q is).1 in
       let same : children ≡ others = some_inj (sym range ∙ ap range_of (some_inj (sym there ∙ e)) ∙ f) in
-      let before : slice_index_or progress q.0 d ≡ was = some_inj (sym (index_there progress q.0 d within) ∙ g) in
+      let before : noted ≡ was = some_inj (sym at ∙ g) in
       let after : far ≡ now = some_inj (sym (get_set_same progress q.0 far within) ∙ h) in
-      subst (λ (c : Children). IsFurther nodes c j was now) same (subst (λ (p : Progress). IsFurther nodes children j p now) before (subst (λ (p : Progress). IsFurther nodes children j (slice_index_or progress q.0 d) p) after further));
-})
-
--- a node without children passes nothing
-pub none_passed : (nodes : List Node) (progress : List Progress) (parent : Option NodeNumber) (j : ℕ) (q : NodeNumber) (node : Node) → parent ≡ Some q → slice_get nodes q.0 ≡ Some node → range_of node ≡ None → IsPassed nodes parent j progress progress
-none_passed nodes progress parent j q node is there alone =
-    subst (λ p. IsPassed nodes p j progress progress) (sym is) (record {
-  long = refl;
-  others = λ i other. refl;
-  here = λ found others was now e f g h. none_some (sym alone ∙ ap range_of (some_inj (sym there ∙ e)) ∙ f);
+      subst (λ (c : Children). IsFurther nodes c j was now) same (subst (λ (p : Progress). IsFurther nodes children j p now) before (subst (λ (p : Progress). IsFurther nodes children j noted p) after further));
 })
 
 -- ---- new children
