@@ -73,12 +73,12 @@ own_count_of progress (Some number) = own_count_so (slice_get progress number.0)
 -- ---- all that is kept
 
 -- how far the children of each node are, and how many places want an event
-pub record IsKept (nodes : List Node) (progress : List Progress) (open : ℕ) : Type 0 where
+pub record IsKept (nodes : List Node) (progress : List Progress) (counted : ℕ) : Type 0 where
   pub table : IsTable nodes
   pub long : length progress ≡ length nodes
   pub far : (i : ℕ) (node : Node) (children : Children) (far : Progress) → slice_get nodes i ≡ Some node → range_of node ≡ Some children → slice_get progress i ≡ Some far → IsFar nodes children far
-  pub counted : (names : List (List ℕ)) → open ≡ open_count (shown_at names nodes 0)
-  pub few : open ≤ length nodes
+  pub same : (names : List (List ℕ)) → counted ≡ open_count (shown_at names nodes 0)
+  pub few : counted ≤ length nodes
 
 -- ---- a child's parent
 
