@@ -37,3 +37,4 @@ pub mod PlansAlong
 pub mod Outcomes
 pub mod OpenCounts
 pub mod CountsAlong
+pub mod FarEnough
