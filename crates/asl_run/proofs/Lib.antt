@@ -38,3 +38,5 @@ pub mod Outcomes
 pub mod OpenCounts
 pub mod CountsAlong
 pub mod FarEnough
+pub mod OnTheWay
+pub mod FirstOpen
