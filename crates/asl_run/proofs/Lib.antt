@@ -40,3 +40,4 @@ pub mod CountsAlong
 pub mod FarEnough
 pub mod OnTheWay
 pub mod FirstOpen
+pub mod LastOpen
