@@ -99,7 +99,7 @@ joinable_before i (Done output) (OneFailed k error cause) = refl
 joinable_before i (Done output) StillRunning = refl
 joinable_before i (Failed error cause) others = refl
 
-or_true : (b : Bool) → (b || true) ≡ true
+pub or_true : (b : Bool) → (b || true) ≡ true
 or_true true = refl
 or_true false = refl
 
