@@ -45,19 +45,6 @@ pub no_turn_more : {MayPick : ℕ → ℕ → Type 0} {MayGive : List ℕ → Tr
 no_turn_more {MayPick = MayPick} {MayGive = MayGive} {machine = machine} {a = a} {b = b} {c = c} {count = count} {given = given} {between = between} {left = left} {told = told} {longer = longer} so_far still same =
     subst (λ v. Drives MayPick MayGive machine a count given longer c v) same (subst (λ v. Drives MayPick MayGive machine a count given v c between) (sym still.tells) (subst (λ v. Drives MayPick MayGive machine a count given told v between) (sym still.stands) so_far))
 
--- ---- the place
-
--- what was picked out of the places that were found
-pub place_picked : (MayPick : ℕ → ℕ → Type 0) (machine : Scope) (a : Activity) (found : List (Vec ℕ Global × Want)) (number : ℕ) (picked : Vec ℕ Global × Want)
-    → map found_view found ≡ enabled a machine → number < length found → picked ≡ get_or found number picked → MayPick (length found) number → IsPicked MayPick machine a picked.0.items
-place_picked MayPick machine a found number picked same within there may =
-    let many : length found ≡ length (enabled a machine) = sym (length-map found found_view) ∙ ap length same in
-    record {
-      number = number;
-      picks = subst (λ n. MayPick n number) many may;
-      stands = ap (λ l. option_map (λ w. w.0) (slice_get l number)) (sym same) ∙ ap (option_map (λ w. w.0)) (slice_get-map found_view found number ∙ ap (option_map found_view) (read_there found number picked within there));
-    }
-
 -- ---- one event
 
 -- a step is told by at most four entries

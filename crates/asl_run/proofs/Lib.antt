@@ -41,3 +41,4 @@ pub mod FarEnough
 pub mod OnTheWay
 pub mod FirstOpen
 pub mod LastOpen
+pub mod Picked
