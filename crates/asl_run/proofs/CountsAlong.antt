@@ -4,13 +4,14 @@ use Rattle.asl_model.specs.Run.{Split, joining, set_child}
 use Rattle.asl_model.proofs.RunOptions.{some_inj, none_some}
 use Rattle.asl_tree.specs.View.{view}
 use Rattle.asl_run.specs.Changing.{IsChangedAt}
+use Rattle.asl_run.specs.Counting.{open_count}
 use Rattle.asl_run.specs.Enabling.{has_ended}
 use Rattle.asl_run.specs.Nodes.{child_number, in_table, number_from, shown_at, shown_from}
 use Rattle.asl_run.specs.Standing.{children_of, name_in}
 use Rattle.asl_run.specs.declared.nodes.Node.{Node}
 use Rattle.asl_run.proofs.Above.{IsAbove, above_itself, place_above, up, up_add}
 use Rattle.asl_run.proofs.ChangedTables.{child_shown, shown_on_the_way}
-use Rattle.asl_run.proofs.OpenCounts.{open_count, own_count, split_changed, split_set}
+use Rattle.asl_run.proofs.OpenCounts.{own_count, split_changed, split_set}
 use Rattle.asl_run.proofs.Tables.{IsChild, child_found}
 
 -- node i goes on, and has d more places than before where it had c, whatever these numbers have in common

@@ -37,6 +37,13 @@ pub mod PlansAlong
 pub mod Outcomes
 pub mod OpenCounts
 pub mod CountsAlong
+pub mod Counted
+pub mod Passing
+pub mod Parents
+pub mod FarEnough
+pub mod Kept
+pub mod KeptCounts
+pub mod KeptRuns
 pub mod FarEnough
 pub mod OnTheWay
 pub mod FirstOpen

@@ -4,16 +4,8 @@ use Rattle.std.proofs.lemmas.List.{length-map}
 use Rattle.asl_model.specs.Run.{Activity, Ready, Waiting, Split, Done, Failed, Activities, NoActivities, AndActivity, Joining, joining, child_before, running_before, child_at, set_child, down_from}
 use Rattle.asl_model.specs.Tree.{Tree}
 use Rattle.asl_model.proofs.RunOptions.{some_inj, none_some}
+use Rattle.asl_run.specs.Counting.{open_among, open_count}
 use Rattle.asl_run.specs.Enabling.{own_place, open_in, open_below, has_ended, wanted_by_join}
-
--- how many places of an activity want an event
-abbrev pub open_count : Activity → ℕ
-open_count a = length (open_in a)
-
--- of all of these
-abbrev pub open_among : Activities → ℕ
-open_among NoActivities = 0
-open_among (AndActivity child others) = open_count child + open_among others
 
 -- how many own places a Split has that want an event: one where its children are far enough, else none
 abbrev pub own_count : Joining → ℕ

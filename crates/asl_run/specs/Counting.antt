@@ -101,10 +101,10 @@ HasParent nodes place child (Some parent) = IsParent nodes place child parent.0
 abbrev pub of_new : ℕ → Progress
 of_new count = record { failed = false; first = 0; behind_last = count }
 
--- the node has so many new children, for each of which a note is added
-pub record IsBegun (number added : ℕ) (before after : List Progress) : Type 0 where
+-- the node has so many new children, for as many of which a note is added
+pub record IsBegun (number count added : ℕ) (before after : List Progress) : Type 0 where
   pub long : length after ≡ length before + added
-  pub own : slice_get after number ≡ Some (of_new added)
+  pub own : slice_get after number ≡ Some (of_new count)
   pub others : (i : ℕ) → i < length before → (i ≡ number → ⊥) → slice_get after i ≡ slice_get before i
 
 -- from that child on all before the found one have ended, which hasn't, where it stands before the last

@@ -145,9 +145,9 @@ fn count_places_below(nodes: &Nodes, children: Children) -> usize
     requires few { (names : List (List ℕ)) → open_below_count names nodes.now children < 2 ^ 64 }
     ensures { (names : List (List ℕ)) → result ≡ open_below_count names nodes.now children }
 {
-    let mut open = 0;
+    let mut counted = 0;
     for number in 0..children.count {
-        open += count_places(nodes, NodeNumber(children.first.0 + number));
+        counted += count_places(nodes, NodeNumber(children.first.0 + number));
     }
-    open
+    counted
 }

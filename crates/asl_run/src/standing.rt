@@ -195,7 +195,7 @@ fn own_place(progress: &[Progress], number: Option<NodeNumber>) -> usize
 fn begin(progress: &mut Vec<Progress>, number: NodeNumber, added: usize)
     requires within { number.0 < length progress.old.items }
     requires room { length progress.old.items + added ≤ vec_capacity progress.old }
-    ensures { IsBegun number.0 added progress.old.items progress.new.items }
+    ensures { IsBegun number.0 added added progress.old.items progress.new.items }
 {
     progress[number.0] = Progress::of_new(added);
     for _child in 0..added {
@@ -206,12 +206,12 @@ fn begin(progress: &mut Vec<Progress>, number: NodeNumber, added: usize)
 /// Notes at the parent that the node of that number may have ended.
 fn pass(
     nodes: &Nodes,
-    progress: &mut [Progress],
+    progress: &mut Vec<Progress>,
     parent: Option<NodeNumber>,
     number: NodeNumber,
 )
-    requires { CanPass nodes.now progress.old parent number.0 }
-    ensures { IsPassed nodes.now parent number.0 progress.old progress.new }
+    requires { CanPass nodes.now progress.old.items parent number.0 }
+    ensures { IsPassed nodes.now parent number.0 progress.old.items progress.new.items }
 {
     if let Some(parent) = parent {
         if let Node::Split { visit: _, children } = nodes.node(parent) {

@@ -45,10 +45,11 @@ impl<'m> Happening<'m> {
     pub(crate) fn take_step(self, standing: &mut Standing) -> Result<Vec<Entry>, StepRefusal>
         ensures { StepsAt self.entry standing.old standing.new result }
     {
-        let Some(number) = standing.nodes().number_at(self.at) else {
+        let nodes = standing.nodes();
+        let Some(number) = nodes.number_at(self.at) else {
             return Err(StepRefusal::NoSuchPlace);
         };
-        let Plan { entries, change } = match self.plan_at(standing.nodes(), number) {
+        let Plan { entries, change } = match self.plan_at(nodes, number) {
             Ok(plan) => plan,
             Err(refusal) => return Err(refusal),
         };
