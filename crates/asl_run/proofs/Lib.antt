@@ -44,7 +44,6 @@ pub mod FarEnough
 pub mod Kept
 pub mod KeptCounts
 pub mod KeptRuns
-pub mod FarEnough
 pub mod OnTheWay
 pub mod FirstOpen
 pub mod LastOpen
