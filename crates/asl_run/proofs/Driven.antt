@@ -1,23 +1,18 @@
 -- What turns add to what was driven so far.
-use Rattle.std.proofs.Common.{◌≡◌, ℕ, ◌+◌, ◌<◌, Vec, get_or, option_map, slice_get, List, [], ◌∷◌, ◌++◌, map, length, Option, Some, sym, subst, ap, ◌∙◌, refl, arith}
-use Rattle.std.specs.declared.alloc.Global.{Global}
+use Rattle.std.proofs.Common.{◌≡◌, ℕ, ◌+◌, ◌<◌, List, [], ◌∷◌, ◌++◌, map, length, Option, Some, sym, subst, ap, ◌∙◌, refl, arith}
 use Rattle.std.proofs.lemmas.List.{length-map}
-use Rattle.std.proofs.lemmas.Option.{slice_get-map}
 use Rattle.asl_model.specs.Tree.{Tree}
 use Rattle.asl_model.specs.Machine.{Scope}
-use Rattle.asl_model.specs.Run.{Activity, Action, Event, Entry, activity_at, enabled}
+use Rattle.asl_model.specs.Run.{Activity, Action, Event, Entry, activity_at}
 use Rattle.asl_run.specs.Driving.{answer_in, answer_given, ComesNext, Drives, GoesOn, IsLeft, IsPicked, IsTold}
 use Rattle.asl_run.specs.Entries.{answer_view, entry_view}
-use Rattle.asl_run.specs.Enabling.{found_view}
 use Rattle.asl_run.specs.Stepping.{Takes}
 use Rattle.asl_run.specs.Waiting.{WaitsAt}
 use Rattle.asl_run.specs.declared.entries.Answer.{Answer}
 use Rattle.asl_run.specs.declared.entries.Answer.TheVariants as answers
 use Rattle.asl_run.specs.declared.entries.Entry as code
-use Rattle.asl_run.specs.declared.entries.Want.{Want}
 use Rattle.asl_run.specs.declared.waiting.Asked.{Asked}
 use Rattle.asl_run.proofs.FewEntries.{few_entries}
-use Rattle.asl_run.proofs.Parts.{read_there}
 use Rattle.asl_run.proofs.Turns.{drives_one, drives_then, drives_for}
 use Rattle.asl_tree.specs.View.{view}
 
