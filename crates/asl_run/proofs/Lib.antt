@@ -47,3 +47,4 @@ pub mod KeptRuns
 pub mod OnTheWay
 pub mod FirstOpen
 pub mod LastOpen
+pub mod Picked

@@ -133,12 +133,12 @@ fn picked_place<O: Order>(run: &Run, order: &mut O) -> Result<Place, OutOfMemory
     ensures picked { (m : Scope) → IsRunOf m run.now → IfOk result (λ place. IsPicked (O.may_pick order.old) m (run_view run.now) place.items) }
     ensures lasting { (n : ℕ) (k : ℕ) → O.may_pick order.new n k → O.may_pick order.old n k }
 {
-    let open = run.standing.open_count();
-    let picked = order.pick(open);
+    let count = run.standing.open_count();
+    let picked = order.pick(count);
     if picked == 0 {
         return run.standing.first_open(run.alloc);
     }
-    if picked == open - 1 {
+    if picked == count - 1 {
         return run.standing.last_open(run.alloc);
     }
     let mut places = run.open_places()?;
