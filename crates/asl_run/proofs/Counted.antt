@@ -1,12 +1,11 @@
 -- How many places want an event, counted at a node and below its children one after the other.
-use Rattle.std.proofs.Common.{◌≡◌, ◌<◌, ◌≤◌, refl, sym, ap, ◌∙◌, subst, arith, ℕ, suc, ◌+◌, List, length, drop, slice_get, Option, Some, None, option_map, is_some}
+use Rattle.std.proofs.Common.{◌≡◌, ◌<◌, ◌≤◌, sym, ap, ◌∙◌, subst, arith, ℕ, suc, ◌+◌, List, length, drop, slice_get, Option, Some, None, option_map, is_some}
 use mir.Val.{bool_byte}
 use Rattle.asl_model.specs.Run as model
 use Rattle.asl_model.specs.Run.{joining}
-use Rattle.asl_model.proofs.RunOptions.{none_some}
 use Rattle.asl_tree.specs.View.{view}
 use Rattle.asl_run.specs.Counting.{open_among, open_below_count, open_count}
-use Rattle.asl_run.specs.Enabling.{open_in, own_place, wanted_by}
+use Rattle.asl_run.specs.Enabling.{own_place, wanted_by}
 use Rattle.asl_run.specs.Entries.{want_view}
 use Rattle.asl_run.specs.Nodes.{AreHeads, IsTable, in_table, range_of, shown_at, shown_from, shown_over}
 use Rattle.asl_run.specs.Standing.{children_of, name_in}

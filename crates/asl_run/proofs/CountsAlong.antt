@@ -1,6 +1,6 @@
 -- How many places of a run want an event, where a node is changed: along the place from the machine's own on.
-use Rattle.std.proofs.Common.{◌≡◌, refl, sym, ap, ◌∙◌, subst, arith, ℕ, ◌+◌, Bool, false, List, [], ◌∷◌, Option, Some, None, option_and_then}
-use Rattle.asl_model.specs.Run.{Split, joining, set_child}
+use Rattle.std.proofs.Common.{◌≡◌, refl, sym, ap, ◌∙◌, subst, arith, ℕ, ◌+◌, false, List, [], ◌∷◌, Option, Some, None, option_and_then}
+use Rattle.asl_model.specs.Run.{joining, set_child}
 use Rattle.asl_model.proofs.RunOptions.{some_inj, none_some}
 use Rattle.asl_tree.specs.View.{view}
 use Rattle.asl_run.specs.Changing.{IsChangedAt}

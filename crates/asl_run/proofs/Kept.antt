@@ -1,23 +1,19 @@
 -- What is noted of children stays so where a node is changed.
-use Rattle.std.proofs.Common.{◌≡◌, ◌≢◌, ◌<◌, ◌≤◌, ◌⊎◌, inl, inr, refl, sym, ap, ◌∙◌, subst, arith, ℕ, zero, suc, ◌+◌, Bool, true, false, ◌||◌, List, [], length, slice_get, Option, Some, None}
+use Rattle.std.proofs.Common.{◌≡◌, ◌≢◌, ◌<◌, ◌≤◌, ◌⊎◌, inl, inr, refl, sym, ap, ◌∙◌, arith, ℕ, ◌+◌, Bool, true, false, ◌||◌, List, [], length, slice_get, Some}
 use Rattle.std.specs.Option.{unwrap_or}
 use Rattle.std.proofs.lemmas.Option.{slice_get_within}
 use Rattle.asl_model.specs.Run.{Activity, NoActivities, Ready}
 use Rattle.asl_model.specs.Tree.{Null}
-use Rattle.asl_model.proofs.RunOptions.{some_inj, none_some}
-use Rattle.asl_run.specs.Changing.{AreAdded, AreAlike, IsAlike, IsApplied, IsChangedAt, children_in, node_ended}
-use Rattle.asl_run.specs.Counting.{CanPass, HasFailed, HasParent, IsBegun, IsFar, IsFurther, IsKept, IsParent, IsPassed, node_failed, of_new, open_count}
+use Rattle.asl_model.proofs.RunOptions.{some_inj}
+use Rattle.asl_run.specs.Changing.{AreAlike, IsAlike, node_ended}
+use Rattle.asl_run.specs.Counting.{HasFailed, IsFar, IsFurther, IsKept, node_failed, open_count}
 use Rattle.asl_run.specs.Enabling.{has_ended, has_failed}
-use Rattle.asl_run.specs.Nodes.{IsTable, number_from, range_of, shown_at, shown_from, shown_over}
-use Rattle.asl_run.specs.declared.changing.Change.{Change}
 use Rattle.asl_run.specs.declared.entries.Outcome.TheVariants as outcomes
 use Rattle.asl_run.specs.declared.nodes.Children.{Children}
 use Rattle.asl_run.specs.declared.nodes.Node.{Node}
 use Rattle.asl_run.specs.declared.nodes.Node.TheVariants as nodes
-use Rattle.asl_run.specs.declared.nodes.NodeNumber.{NodeNumber}
 use Rattle.asl_run.specs.declared.standing.Progress.{Progress}
 use Rattle.asl_run.proofs.Parts.{there}
-use Rattle.asl_run.proofs.Tables.{IsChild, child_found, child_within}
 use Rattle.asl_run.proofs.WrittenTables.{alike_table, by_less, by_same, shown_alike}
 
 -- ---- one node

@@ -1,14 +1,13 @@
 -- How many places want an event, where a node is changed: all that is kept of a run stays so.
-use Rattle.std.proofs.Common.{◌≡◌, ◌≢◌, ◌<◌, ◌≤◌, refl, sym, ap, ◌∙◌, subst, arith, ℕ, zero, suc, ◌+◌, ◌-◌, Bool, true, false, if◌then◌else◌, List, [], ◌∷◌, length, map, slice_get, Option, Some, None, option_and_then}
-use Rattle.asl_model.specs.Run.{Activity, Activities, NoActivities, AndActivity, Ready, Waiting, Split, Done, Failed, Joining, AllDone, OneFailed, StillRunning, joining, child_at, set_child}
-use Rattle.asl_model.specs.Tree.{Tree}
+use Rattle.std.proofs.Common.{◌≡◌, ◌≤◌, refl, sym, ap, ◌∙◌, arith, ℕ, zero, suc, ◌+◌, Bool, true, false, if◌then◌else◌, List, [], ◌∷◌, length, map, slice_get, Option, Some, None, option_and_then}
+use Rattle.asl_model.specs.Run.{Activity, Activities, NoActivities, AndActivity, Split, Joining, AllDone, OneFailed, StillRunning, joining, child_at, set_child}
 use Rattle.asl_model.proofs.RunOptions.{some_inj, none_some}
 use Rattle.asl_tree.specs.View.{view}
-use Rattle.asl_run.specs.Activities.{ended_view, ready_view}
-use Rattle.asl_run.specs.Changing.{IsApplied, IsChangedAt, changed, children_in, visit_in}
-use Rattle.asl_run.specs.Counting.{HasParent, IsFar, IsKept, IsParent, is_joinable_so, open_among, open_count, own_count_of, own_count_so}
-use Rattle.asl_run.specs.Enabling.{has_ended, is_joinable, own_place, wanted_by_join}
-use Rattle.asl_run.specs.Nodes.{IsTable, child_number, in_table, number_from, range_of, shown_at, shown_from, shown_over}
+use Rattle.asl_run.specs.Activities.{ready_view}
+use Rattle.asl_run.specs.Changing.{changed, children_in}
+use Rattle.asl_run.specs.Counting.{IsFar, open_among, open_count, own_count_of, own_count_so}
+use Rattle.asl_run.specs.Enabling.{has_ended, is_joinable}
+use Rattle.asl_run.specs.Nodes.{IsTable, child_number, in_table, number_from, shown_at, shown_from}
 use Rattle.asl_run.specs.Standing.{children_of, name_in}
 use Rattle.asl_run.specs.declared.activities.Visit.{Visit}
 use Rattle.asl_run.specs.declared.changing.Change.{Change}
@@ -19,12 +18,10 @@ use Rattle.asl_run.specs.declared.nodes.Node.{Node}
 use Rattle.asl_run.specs.declared.nodes.Node.TheVariants as nodes
 use Rattle.asl_run.specs.declared.nodes.NodeNumber.{NodeNumber}
 use Rattle.asl_run.specs.declared.standing.Progress.{Progress}
-use Rattle.asl_run.proofs.Above.{IsAbove, above_itself, parent_above, place_above}
-use Rattle.asl_run.proofs.ChangedTables.{child_shown, children_on_the_way}
-use Rattle.asl_run.proofs.CountsAlong.{IsCounted, counted_along, counted_at_parent}
+use Rattle.asl_run.proofs.ChangedTables.{child_shown}
 use Rattle.asl_run.proofs.FarEnough.{far_enough}
 use Rattle.asl_run.proofs.OpenCounts.{own_count, same_joining, split_counted}
-use Rattle.asl_run.proofs.Tables.{IsChild, child_found, child_within, shown_here}
+use Rattle.asl_run.proofs.Tables.{IsChild, child_found, shown_here}
 
 -- ---- no more below than at all
 

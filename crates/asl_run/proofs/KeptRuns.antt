@@ -1,11 +1,11 @@
 -- All that is kept of a run stays so where a node is changed that wants an event.
-use Rattle.std.proofs.Common.{◌≡◌, ◌≢◌, ◌<◌, ◌≤◌, ◌⊎◌, inl, inr, refl, sym, ap, ◌∙◌, subst, arith, ℕ, zero, suc, ◌+◌, ◌-◌, Bool, true, false, List, [], ◌∷◌, ◌++◌, length, take, drop, append-nil, slice_get, Option, Some, None, option_and_then}
+use Rattle.std.proofs.Common.{◌≡◌, ◌≢◌, ◌<◌, ◌≤◌, ◌⊎◌, inl, inr, refl, sym, ap, ◌∙◌, subst, arith, ℕ, ◌+◌, ◌-◌, false, List, [], ◌∷◌, ◌++◌, length, take, drop, append-nil, slice_get, Option, Some, None, option_and_then}
 use Rattle.std.proofs.lemmas.List.{drop_all, take_all}
 use Rattle.std.proofs.lemmas.Option.{slice_get_within}
 use Rattle.asl_model.specs.Run.{Activity, Ready, Waiting, Split, Done, Failed, joining, set_child}
 use Rattle.asl_model.proofs.RunOptions.{some_inj, none_some}
 use Rattle.asl_run.specs.Changing.{AreAdded, IsApplied, IsChangedAt, changed, children_in, node_ended, visit_in}
-use Rattle.asl_run.specs.Counting.{CanPass, HasParent, IsBegun, IsFar, IsFurther, IsKept, IsParent, IsPassed, IsPassedAt, of_new, open_count, own_count_of}
+use Rattle.asl_run.specs.Counting.{CanPass, HasParent, IsBegun, IsFar, IsKept, IsParent, IsPassed, IsPassedAt, of_new, open_count, own_count_of}
 use Rattle.asl_run.specs.Enabling.{has_ended}
 use Rattle.asl_run.specs.Nodes.{IsRange, IsTable, child_number, in_table, number_from, range_of, shown_at, shown_from}
 use Rattle.asl_run.specs.Standing.{children_of}
@@ -17,7 +17,7 @@ use Rattle.asl_run.specs.declared.nodes.Node.{Node}
 use Rattle.asl_run.specs.declared.nodes.Node.TheVariants as nodes
 use Rattle.asl_run.specs.declared.nodes.NodeNumber.{NodeNumber}
 use Rattle.asl_run.specs.declared.standing.Progress.{Progress}
-use Rattle.asl_run.proofs.Above.{above_itself, parent_above, place_above}
+use Rattle.asl_run.proofs.Above.{above_itself, parent_above}
 use Rattle.asl_run.proofs.ChangedTables.{child_shown, children_on_the_way}
 use Rattle.asl_run.proofs.CountsAlong.{counted_along, counted_at_parent}
 use Rattle.asl_run.proofs.FarEnough.{ended_over}

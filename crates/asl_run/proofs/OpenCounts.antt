@@ -1,5 +1,5 @@
 -- How many places of an activity want an event, and how that number changes where a child is replaced.
-use Rattle.std.proofs.Common.{◌≡◌, refl, sym, ap, ◌∙◌, arith, ℕ, zero, suc, ◌+◌, Bool, true, false, List, map, length, Option, Some, length-append}
+use Rattle.std.proofs.Common.{◌≡◌, refl, sym, ap, ◌∙◌, arith, ℕ, zero, suc, ◌+◌, false, List, map, length, Some, length-append}
 use Rattle.std.proofs.lemmas.List.{length-map}
 use Rattle.asl_model.specs.Run.{Activity, Ready, Waiting, Split, Done, Failed, Activities, NoActivities, AndActivity, Joining, joining, child_before, running_before, child_at, set_child, down_from}
 use Rattle.asl_model.specs.Tree.{Tree}

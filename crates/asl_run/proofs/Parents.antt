@@ -1,8 +1,8 @@
 -- The parent of what stands at a place, and what is noted there.
-use Rattle.std.proofs.Common.{◌≡◌, ◌≢◌, ◌<◌, ◌≤◌, refl, sym, ap, ◌∙◌, subst, arith, ℕ, zero, suc, ◌+◌, List, [], ◌∷◌, ◌++◌, length, slice_get, slice_set, slice_index_or, Option, Some, None, option_map, option_and_then, length-append}
+use Rattle.std.proofs.Common.{◌≡◌, ◌<◌, refl, sym, ap, ◌∙◌, subst, arith, ℕ, ◌+◌, List, [], ◌∷◌, ◌++◌, length, slice_get, slice_set, Option, Some, None, option_map, option_and_then, length-append}
 use Rattle.std.specs.List.{IsLastAndRest}
 use Rattle.asl_model.proofs.RunOptions.{some_inj, none_some}
-use Rattle.asl_run.specs.Counting.{CanPass, HasParent, IsBegun, IsFurther, IsParent, IsPassed, of_new}
+use Rattle.asl_run.specs.Counting.{CanPass, HasParent, IsBegun, IsFurther, IsPassed, of_new}
 use Rattle.asl_run.specs.Nodes.{child_number, number_from, range_of}
 use Rattle.asl_run.specs.declared.nodes.Children.{Children}
 use Rattle.asl_run.specs.declared.nodes.Node.{Node}
@@ -44,15 +44,15 @@ pub passed_there : (nodes : List Node) (progress : List Progress) (parent : Opti
     → slice_get progress q.0 ≡ Some noted → IsFurther nodes children j noted far → IsPassed nodes parent j progress (slice_set progress q.0 far)
 passed_there nodes progress parent j q node children noted far can is there range at further =
     subst (λ p. IsPassed nodes p j progress (slice_set progress q.0 far)) (sym is) (record {
-  long = length_set progress q.0 far;
-  others = λ i other. get_set_other progress q.0 i far other;
-  here = λ found others was now e f g h.
-      let within = (can.noted q is).1 in
-      let same : children ≡ others = some_inj (sym range ∙ ap range_of (some_inj (sym there ∙ e)) ∙ f) in
-      let before : noted ≡ was = some_inj (sym at ∙ g) in
-      let after : far ≡ now = some_inj (sym (get_set_same progress q.0 far within) ∙ h) in
-      subst (λ (c : Children). IsFurther nodes c j was now) same (subst (λ (p : Progress). IsFurther nodes children j p now) before (subst (λ (p : Progress). IsFurther nodes children j noted p) after further));
-})
+      long = length_set progress q.0 far;
+      others = λ i other. get_set_other progress q.0 i far other;
+      here = λ found others was now e f g h.
+          let within = (can.noted q is).1 in
+          let same : children ≡ others = some_inj (sym range ∙ ap range_of (some_inj (sym there ∙ e)) ∙ f) in
+          let before : noted ≡ was = some_inj (sym at ∙ g) in
+          let after : far ≡ now = some_inj (sym (get_set_same progress q.0 far within) ∙ h) in
+          subst (λ (c : Children). IsFurther nodes c j was now) same (subst (λ (p : Progress). IsFurther nodes children j p now) before (subst (λ (p : Progress). IsFurther nodes children j noted p) after further));
+    })
 
 -- ---- new children
 

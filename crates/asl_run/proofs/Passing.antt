@@ -1,5 +1,5 @@
 -- Children that have ended, at the front and at the back of those of a node.
-use Rattle.std.proofs.Common.{◌≡◌, ◌≢◌, ◌<◌, ◌≤◌, refl, sym, ap, ◌∙◌, subst, arith, ℕ, suc, ◌+◌, ◌-◌, Bool, true, false, List, length, slice_get, Option, Some}
+use Rattle.std.proofs.Common.{◌≡◌, ◌<◌, ◌≤◌, sym, ap, ◌∙◌, arith, ℕ, ◌+◌, ◌-◌, true, false, List, slice_get, Some}
 use Rattle.asl_model.proofs.RunOptions.{some_inj}
 use Rattle.asl_run.specs.Changing.{node_ended}
 use Rattle.asl_run.specs.Counting.{IsBehindRunning, IsFirstRunning}

@@ -204,12 +204,7 @@ fn begin(progress: &mut Vec<Progress>, number: NodeNumber, added: usize)
 }
 
 /// Notes at the parent that the node of that number may have ended.
-fn pass(
-    nodes: &Nodes,
-    progress: &mut Vec<Progress>,
-    parent: Option<NodeNumber>,
-    number: NodeNumber,
-)
+fn pass(nodes: &Nodes, progress: &mut Vec<Progress>, parent: Option<NodeNumber>, number: NodeNumber)
     requires { CanPass nodes.now progress.old.items parent number.0 }
     ensures { IsPassed nodes.now parent number.0 progress.old.items progress.new.items }
 {

@@ -2,7 +2,7 @@ use Rattle.std.proofs.Common.{◌≡◌, ◌+◌, ◌<◌, ℕ, List, [], ap, ar
 use mir.Val.{bool_byte}
 use Rattle.asl_run.specs.Counting.{open_below_count, open_count}
 use Rattle.asl_run.specs.Nodes.{range_of, shown_at}
-use Rattle.asl_run.proofs.Counted.{alone_counted, all_counted, child_few, one_counted, split_node_counted}
+use Rattle.asl_run.proofs.Counted.{alone_counted, child_few, one_counted, split_node_counted}
 use Rattle.asl_run.proofs.enabling.+count_places.Goals as goal
 
 pub count_places-count_places_below-requires : goal.count_places-count_places_below-requires

@@ -1,5 +1,5 @@
 use Rattle.std.proofs.Common.{◌+◌, ◌≤◌, length}
-use Rattle.std.specs.Vec.{vec_capacity, vec_len}
+use Rattle.std.specs.Vec.{vec_capacity}
 use Rattle.asl_run.specs.Counting.{IsBegun}
 use Rattle.asl_run.proofs.standing.begin.Given as goal
 
