@@ -48,3 +48,4 @@ pub mod OnTheWay
 pub mod FirstOpen
 pub mod LastOpen
 pub mod Picked
+pub mod Suited
