@@ -20,7 +20,7 @@ up_first : (parents : ℕ → ℕ) (n j : ℕ) → up parents (suc n) j ≡ up p
 up_first parents zero j = refl
 up_first parents (suc n) j = ap parents (up_first parents n j)
 
-up_add : (parents : ℕ → ℕ) (m n j : ℕ) → up parents (m + n) j ≡ up parents m (up parents n j)
+pub up_add : (parents : ℕ → ℕ) (m n j : ℕ) → up parents (m + n) j ≡ up parents m (up parents n j)
 up_add parents zero n j = let e : 0 + n ≡ n = omega arith in ap (λ k. up parents k j) e
 up_add parents (suc m) n j = let e : suc m + n ≡ suc (m + n) = omega arith in ap (λ k. up parents k j) e ∙ ap parents (up_add parents m n j)
 

@@ -37,12 +37,12 @@ one_found before after own want place e same = ap (map found_view) e ∙ map-app
 -- ---- those of its children
 
 -- the element of that number, in front of those behind it
-drop_here : {A : Type 0} (xs : List A) (i : ℕ) (x : A) → slice_get xs i ≡ Some x → drop i xs ≡ x ∷ drop (suc i) xs
+pub drop_here : {A : Type 0} (xs : List A) (i : ℕ) (x : A) → slice_get xs i ≡ Some x → drop i xs ≡ x ∷ drop (suc i) xs
 drop_here [] i x e = none_some e
 drop_here (y ∷ xs) zero x e = ap (λ z. z ∷ xs) (some_inj e)
 drop_here (y ∷ xs) (suc i) x e = drop_here xs i x e
 
-drop_past : {A : Type 0} (i n : ℕ) (xs : List A) → n ≤ i → drop i (take n xs) ≡ []
+pub drop_past : {A : Type 0} (i n : ℕ) (xs : List A) → n ≤ i → drop i (take n xs) ≡ []
 drop_past zero zero xs h = refl
 drop_past (suc i) zero xs h = refl
 drop_past zero (suc n) xs h = absurd (omega arith)
@@ -94,7 +94,7 @@ taken_off place below left i n is count e = e ∙ rw (count, is) (go place (leng
 
 -- ---- all of them
 
-own_open : (names : List (List ℕ)) (below : model.Activities) (node : Node) → range_of node ≡ None → own_place (wanted_by (shown_over names below node)) ≡ open_in (shown_over names below node)
+pub own_open : (names : List (List ℕ)) (below : model.Activities) (node : Node) → range_of node ≡ None → own_place (wanted_by (shown_over names below node)) ≡ open_in (shown_over names below node)
 own_open names below (Ready visit) e = refl
 own_open names below (Waiting visit payload) e = refl
 own_open names below (Split visit children) e = none_some (sym e)

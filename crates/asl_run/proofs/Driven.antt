@@ -1,23 +1,18 @@
 -- What turns add to what was driven so far.
-use Rattle.std.proofs.Common.{◌≡◌, ℕ, ◌+◌, ◌<◌, Vec, get_or, option_map, slice_get, List, [], ◌∷◌, ◌++◌, map, length, Option, Some, sym, subst, ap, ◌∙◌, refl, arith}
-use Rattle.std.specs.declared.alloc.Global.{Global}
+use Rattle.std.proofs.Common.{◌≡◌, ℕ, ◌+◌, ◌<◌, List, [], ◌∷◌, ◌++◌, map, length, Option, Some, sym, subst, ap, ◌∙◌, refl, arith}
 use Rattle.std.proofs.lemmas.List.{length-map}
-use Rattle.std.proofs.lemmas.Option.{slice_get-map}
 use Rattle.asl_model.specs.Tree.{Tree}
 use Rattle.asl_model.specs.Machine.{Scope}
-use Rattle.asl_model.specs.Run.{Activity, Action, Event, Entry, activity_at, enabled}
+use Rattle.asl_model.specs.Run.{Activity, Action, Event, Entry, activity_at}
 use Rattle.asl_run.specs.Driving.{answer_in, answer_given, ComesNext, Drives, GoesOn, IsLeft, IsPicked, IsTold}
 use Rattle.asl_run.specs.Entries.{answer_view, entry_view}
-use Rattle.asl_run.specs.Enabling.{found_view}
 use Rattle.asl_run.specs.Stepping.{Takes}
 use Rattle.asl_run.specs.Waiting.{WaitsAt}
 use Rattle.asl_run.specs.declared.entries.Answer.{Answer}
 use Rattle.asl_run.specs.declared.entries.Answer.TheVariants as answers
 use Rattle.asl_run.specs.declared.entries.Entry as code
-use Rattle.asl_run.specs.declared.entries.Want.{Want}
 use Rattle.asl_run.specs.declared.waiting.Asked.{Asked}
 use Rattle.asl_run.proofs.FewEntries.{few_entries}
-use Rattle.asl_run.proofs.Parts.{read_there}
 use Rattle.asl_run.proofs.Turns.{drives_one, drives_then, drives_for}
 use Rattle.asl_tree.specs.View.{view}
 
@@ -44,19 +39,6 @@ pub no_turn_more : {MayPick : ℕ → ℕ → Type 0} {MayGive : List ℕ → Tr
     → Drives MayPick MayGive machine a count given told b between → IsLeft b told c longer → between ≡ left → Drives MayPick MayGive machine a count given longer c left
 no_turn_more {MayPick = MayPick} {MayGive = MayGive} {machine = machine} {a = a} {b = b} {c = c} {count = count} {given = given} {between = between} {left = left} {told = told} {longer = longer} so_far still same =
     subst (λ v. Drives MayPick MayGive machine a count given longer c v) same (subst (λ v. Drives MayPick MayGive machine a count given v c between) (sym still.tells) (subst (λ v. Drives MayPick MayGive machine a count given told v between) (sym still.stands) so_far))
-
--- ---- the place
-
--- what was picked out of the places that were found
-pub place_picked : (MayPick : ℕ → ℕ → Type 0) (machine : Scope) (a : Activity) (found : List (Vec ℕ Global × Want)) (number : ℕ) (picked : Vec ℕ Global × Want)
-    → map found_view found ≡ enabled a machine → number < length found → picked ≡ get_or found number picked → MayPick (length found) number → IsPicked MayPick machine a picked.0.items
-place_picked MayPick machine a found number picked same within there may =
-    let many : length found ≡ length (enabled a machine) = sym (length-map found found_view) ∙ ap length same in
-    record {
-      number = number;
-      picks = subst (λ n. MayPick n number) many may;
-      stands = ap (λ l. option_map (λ w. w.0) (slice_get l number)) (sym same) ∙ ap (option_map (λ w. w.0)) (slice_get-map found_view found number ∙ ap (option_map found_view) (read_there found number picked within there));
-    }
 
 -- ---- one event
 

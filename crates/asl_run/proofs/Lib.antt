@@ -35,3 +35,17 @@ pub mod WrittenTables
 pub mod StepsAlong
 pub mod PlansAlong
 pub mod Outcomes
+pub mod OpenCounts
+pub mod CountsAlong
+pub mod Counted
+pub mod Passing
+pub mod Parents
+pub mod FarEnough
+pub mod Kept
+pub mod KeptCounts
+pub mod KeptRuns
+pub mod OnTheWay
+pub mod FirstOpen
+pub mod LastOpen
+pub mod Picked
+pub mod Suited

@@ -1,9 +1,11 @@
 -- What is planned at a node of a table, over what is shown of its children.
-use Rattle.std.proofs.Common.{◌≡◌, ◌↔◌, sym, subst, ℕ, List, slice_get, Bool, true, false, IsTrue, Option, Some, None, Result, Ok, Err, IfOk}
+use Rattle.std.proofs.Common.{◌≡◌, ◌<◌, ◌↔◌, sym, ap, subst, arith, ℕ, List, length, slice_get, Bool, true, false, IsTrue, Option, Some, None, Result, Ok, Err, IfOk}
 use Rattle.asl_model.specs.Run as model
 use Rattle.asl_run.specs.Acting.{Acts}
-use Rattle.asl_run.specs.Enabling.{wanted_by}
-use Rattle.asl_run.specs.Nodes.{AreHeads, in_table, range_of, shown_from, shown_over}
+use Rattle.asl_model.proofs.RunOptions.{none_some}
+use Rattle.asl_run.specs.Counting.{open_count}
+use Rattle.asl_run.specs.Enabling.{own_place, wanted_by}
+use Rattle.asl_run.specs.Nodes.{AreHeads, IsTable, in_table, range_of, shown_at, shown_from, shown_over}
 use Rattle.asl_run.specs.Standing.{children_of}
 use Rattle.asl_run.specs.Stepping.{IsPlanned, action_of, below_node, names_for}
 use Rattle.asl_run.specs.declared.nodes.Node.{Node}
@@ -11,7 +13,8 @@ use Rattle.asl_run.specs.declared.planning.Plan.{Plan}
 use Rattle.asl_run.specs.declared.stepping.Happening.{Happening}
 use Rattle.asl_run.specs.declared.stepping.StepRefusal.TheVariants.{NotEnabled, OutOfMemory}
 use Rattle.asl_run.proofs.StepsHere.{no_memory_here, not_here, so_unwanted, so_wanted, unwanted_here}
-use Rattle.asl_run.proofs.Tables.{heads_below}
+use Rattle.asl_run.proofs.OpenCounts.{split_counted}
+use Rattle.asl_run.proofs.Tables.{heads_below, shown_here}
 
 -- a plan, or none, is right whatever is shown of the children
 abbrev pub PlansOver : Happening → Node → List Node → Option Plan → Type 0
@@ -75,3 +78,21 @@ plan_refused happening nodes i node children there are wanted is over =
       refused = no_memory_here happening.machine.now (shown_over names (below_node happening nodes node) node) (action_of happening)
           (so_wanted wanted _ _ (over names (in_table (range_of node) (shown_from names 0 nodes)) (heads_there names nodes node children are)) is);
     }
+
+wants_counts : (a : model.Activity) (want : model.Want) → wanted_by a ≡ Some want → 0 < open_count a
+wants_counts (model.Ready n raw counts) want e = omega arith
+wants_counts (model.Waiting n raw counts payload) want e = omega arith
+wants_counts (model.Split n raw counts children) want e =
+    let own : length (own_place (wanted_by (model.Split n raw counts children))) ≡ 1 = ap (λ w. length (own_place w)) e in
+    let whole = split_counted n raw counts children in
+    omega (arith, own, whole)
+wants_counts (model.Done output) want e = none_some e
+wants_counts (model.Failed error cause) want e = none_some e
+
+-- where an event is wanted, a place is counted
+pub plan_wanted : (happening : Happening) (nodes : List Node) → IsTable nodes → (i : ℕ) (node : Node) (children : List Node) → slice_get nodes i ≡ Some node → children ≡ in_table (range_of node) nodes
+    → (wanted : Bool) → wanted ≡ true → WantsOver happening node children wanted → (names : List (List ℕ)) → 0 < open_count (shown_at names nodes i)
+plan_wanted happening nodes table i node children there are wanted is over names =
+    let below = in_table (range_of node) (shown_from names 0 nodes) in
+    let wants = so_wanted wanted _ _ (over names below (heads_there names nodes node children are)) is in
+    subst (λ a. 0 < open_count a) (sym (shown_here names nodes table i node there)) (wants_counts (shown_over names (children_of below) node) (model.want_of (action_of happening)) wants)

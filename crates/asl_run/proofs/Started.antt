@@ -7,7 +7,7 @@ use Rattle.asl_model.specs.Numbering.{Placement, Table, table_of, own_scope, Has
 use Rattle.asl_model.specs.Run as model
 use Rattle.asl_model.specs.Tree.{Tree}
 use Rattle.asl_model.proofs.RunOptions.{some_inj, none_some}
-use Rattle.asl_run.specs.Enabling.{Adds, open_in}
+use Rattle.asl_run.specs.Enabling.{Adds, AddsPlaces, open_in}
 use Rattle.asl_run.specs.Standing.{name_in, number_in, StandsIn}
 use Rattle.asl_run.specs.Nodes.{shown_at}
 use Rattle.asl_run.specs.declared.activities.Visit.{Visit}
@@ -54,7 +54,12 @@ is_start m names visit nodes is named none = ap (λ (l : List Node). shown_at na
 pub starts_standing : (machine : Machine) (m : Scope) → Shows machine m → (a : model.Activity) (input : Tree) → a ≡ model.start m input → StandsIn a m
 starts_standing machine m shown a input is = subst (λ b. StandsIn b m) (sym is) (start_stands m shown.well_named input)
 
--- the places that were added to none are those where an event is enabled
-pub all_enabled : (m : Scope) (a : model.Activity) (place : List ℕ) (before after : List (List ℕ × model.Want)) → StandsIn a m → place ≡ [] → before ≡ [] → Adds place (open_in a) before after → after ≡ model.enabled a m
-all_enabled m a place before after stands own none added =
-    adds_to_none (subst (λ b. Adds [] (open_in a) b after) none (subst (λ p. Adds p (open_in a) before after) own added)) ∙ sym (enabled_is_open a m stands)
+-- the places that were added to none are all that want an event
+pub all_open : (nodes all : List Node) (i : ℕ) (place : List ℕ) (before after : List (List ℕ × model.Want)) → nodes ≡ all → i ≡ 0 → place ≡ [] → before ≡ [] → AddsPlaces nodes i place before after → (names : List (List ℕ)) → after ≡ open_in (shown_at names all 0)
+all_open nodes all i place before after same first own none added names =
+    let of : List Node → ℕ → List ℕ → List (List ℕ × model.Want) → Type 0 = λ l j p b. Adds p (open_in (shown_at names l j)) b after in
+    adds_to_none (subst (λ b. of all 0 [] b) none (subst (λ p. of all 0 p before) own (subst (λ j. of all j place before) first (subst (λ l. of l i place before) same (added.adds names)))))
+
+-- where all states stand in their scopes, an event is enabled at each of them
+pub all_enabled : (m : Scope) (a : model.Activity) (found : List (List ℕ × model.Want)) → StandsIn a m → found ≡ open_in a → found ≡ model.enabled a m
+all_enabled m a found stands same = same ∙ sym (enabled_is_open a m stands)

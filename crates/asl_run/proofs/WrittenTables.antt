@@ -1,12 +1,12 @@
 -- Writing to a node and adding nodes leaves a table, and what it shows.
-use Rattle.std.proofs.Common.{◌≡◌, ◌≢◌, ◌<◌, ◌≤◌, refl, sym, ap, ◌∙◌, subst, arith, ℕ, zero, suc, ◌+◌, ◌-◌, nat_lt, if◌then◌else◌, List, [], ◌∷◌, ◌++◌, append_assoc, append-nil, length, take, drop, map, get_or, slice_get, slice_set, Option, Some, None, Result, Ok, Err, IfOk, IfErr, Vec, Global}
+use Rattle.std.proofs.Common.{◌≡◌, ◌≢◌, ◌<◌, ◌≤◌, refl, sym, ap, ◌∙◌, subst, arith, ℕ, zero, suc, ◌+◌, ◌-◌, false, nat_lt, if◌then◌else◌, List, [], ◌∷◌, ◌++◌, append_assoc, append-nil, length, take, drop, map, get_or, slice_get, slice_set, Option, Some, None, Result, Ok, Err, IfOk, IfErr, Vec, Global}
 use Rattle.std.proofs.lemmas.Bool.{lt-ltb, le-ltb}
 use Rattle.std.proofs.lemmas.List.{length-append, take_all}
 use Rattle.std.proofs.lemmas.Option.{slice_get_within}
 use Rattle.asl_model.specs.Run as model
 use Rattle.asl_model.proofs.RunOptions.{some_inj, none_some}
 use Rattle.asl_run.specs.Activities.{ready_view}
-use Rattle.asl_run.specs.Changing.{AreAlike, IsAlike, IsApplied, IsRaised, IsSame, IsWritten, changed, visit_in}
+use Rattle.asl_run.specs.Changing.{AreAlike, IsAlike, IsApplied, IsRaised, IsSame, IsWritten, changed, children_in, node_ended, visit_in}
 use Rattle.asl_run.specs.Nodes.{IsRange, IsTable, in_range, in_table, range_of, shown_at, shown_from, shown_over}
 use Rattle.asl_run.specs.Standing.{children_of, name_in}
 use Rattle.asl_run.specs.declared.activities.Visit.{Visit}
@@ -24,10 +24,10 @@ use Rattle.asl_run.proofs.Tables.{shown_here}
 
 -- ---- numbers
 
-by_less : {C : Type 0} (i n : ℕ) → (i < n → C) → (n ≤ i → C) → C
+pub by_less : {C : Type 0} (i n : ℕ) → (i < n → C) → (n ≤ i → C) → C
 by_less i n less more = by_levels i n (λ e. more (omega (arith, e))) (λ t e. less (omega (arith, e))) (λ t e. more (omega (arith, e)))
 
-by_same : {C : Type 0} (i j : ℕ) → (i ≡ j → C) → (i ≢ j → C) → C
+pub by_same : {C : Type 0} (i j : ℕ) → (i ≡ j → C) → (i ≢ j → C) → C
 by_same i j same other = by_levels i j same (λ t e. other (λ f. absurd (omega (arith, e, f)))) (λ t e. other (λ f. absurd (omega (arith, e, f))))
 
 -- ---- nodes that are alike
@@ -202,6 +202,15 @@ applied j before change after table within h = record {
     others = λ i less other. ap (λ (l : List Node). slice_get l i) h.written ∙ other_kept before j h.node h.more i less other;
     no_shorter = subst (λ (l : List Node). length before ≤ length l) (sym h.written) (omega (arith, long_written before j h.node h.more));
   };
+  added = record {
+    long = ap (λ (l : List Node). length l) h.written ∙ long_written before j h.node h.more ∙ ap (λ n. length before + n) h.many;
+    alone = λ i node past e. h.alone (i - length before) node (sym (node_added before j h.node h.more i past) ∙ ap (λ (l : List Node). slice_get l i) (sym h.written) ∙ e);
+    fresh = λ i node past e. h.fresh (i - length before) node (sym (node_added before j h.node h.more i past) ∙ ap (λ (l : List Node). slice_get l i) (sym h.written) ∙ e);
+    range = λ node children e f.
+        let is : h.node ≡ node = some_inj (sym (node_written before j h.node h.more within) ∙ ap (λ (l : List Node). slice_get l j) (sym h.written) ∙ e) in
+        let own = h.range children (ap range_of is ∙ f) in
+        (own.0, own.1 ∙ h.many);
+  };
   shows = λ names old visit e f.
       ap (λ (l : List Node). shown_at names l j) h.written
       ∙ written_shows names before j h.node h.more (still_table before table j h.node h.more within h.alone h.range) within h.range
@@ -218,13 +227,15 @@ no_more before j node = go (slice_set before j node)
     go (x ∷ xs) = ap (λ l. x ∷ l) (go xs)
 
 -- a node without children is written
-pub alone_written : (j : ℕ) (before : List Node) (change : Change) (after : List Node) (node : Node) → after ≡ slice_set before j node → range_of node ≡ None
+pub alone_written : (j : ℕ) (before : List Node) (change : Change) (after : List Node) (node : Node) → children_in change ≡ 0 → after ≡ slice_set before j node → range_of node ≡ None
     → ((names : List (List ℕ)) (old : Node) (visit : Visit) → slice_get before j ≡ Some old → visit_in old ≡ Some visit → (below : model.Activities) → shown_over names below node ≡ changed names visit change) → IsWritten j before change after
-alone_written j before change after node e alone shows = record {
+alone_written j before change after node none e alone shows = record {
   node = node;
   more = [];
   written = e ∙ no_more before j node;
+  many = sym none;
   alone = λ k added f. none_some f;
+  fresh = λ k added f. none_some f;
   range = λ children f. none_some (sym alone ∙ f);
   shows = λ names old visit f g. shows names old visit f g (children_of (shown_from names (length before) []));
 }
@@ -238,6 +249,11 @@ ready_alone : (visits : List Visit) (k : ℕ) (added : Node) → slice_get (map 
 ready_alone [] k added e = none_some e
 ready_alone (visit ∷ visits) zero added e = ap range_of (sym (some_inj e))
 ready_alone (visit ∷ visits) (suc k) added e = ready_alone visits k added e
+
+ready_fresh : (visits : List Visit) (k : ℕ) (added : Node) → slice_get (map nodes.Ready visits) k ≡ Some added → node_ended added ≡ false
+ready_fresh [] k added e = none_some e
+ready_fresh (visit ∷ visits) zero added e = ap node_ended (sym (some_inj e))
+ready_fresh (visit ∷ visits) (suc k) added e = ready_fresh visits k added e
 
 length_ready : (visits : List Visit) → length (map nodes.Ready visits) ≡ length visits
 length_ready [] = refl
@@ -258,7 +274,9 @@ split_written j before longer after visits node children within first count is w
   node = node;
   more = map nodes.Ready visits.items;
   written = written ∙ ap (λ (l : List Node). slice_set l j node) is ∙ set_in_front before (map nodes.Ready visits.items) j node within;
+  many = length_ready visits.items;
   alone = ready_alone visits.items;
+  fresh = ready_fresh visits.items;
   range = λ found f. (ap (λ (c : Children). c.first.0) (others found f) ∙ first, ap (λ (c : Children). c.count) (others found f) ∙ count ∙ sym (length_ready visits.items));
   shows = λ names old visit f g.
       ap (λ xs. shown_over names (children_of xs) node) (shown_ready names (length before) visits.items)
@@ -278,30 +296,30 @@ split_made j before longer after visits was node children within first count is 
     split_written j before longer after visits node children within first count is written others (λ old visit e f. splits visit (ap visit_in (some_inj (sym there ∙ e)) ∙ f))
 
 -- the same where the node's own execution is found again
-alone_there : (j : ℕ) (before after : List Node) (change : Change) (was node : Node) → slice_get before j ≡ Some was → after ≡ slice_set before j node → range_of node ≡ None
+alone_there : (j : ℕ) (before after : List Node) (change : Change) (was node : Node) → children_in change ≡ 0 → slice_get before j ≡ Some was → after ≡ slice_set before j node → range_of node ≡ None
     → ((names : List (List ℕ)) (visit : Visit) → visit_in was ≡ Some visit → (below : model.Activities) → shown_over names below node ≡ changed names visit change) → IsWritten j before change after
-alone_there j before after change was node there written alone shows =
-    alone_written j before change after node written alone (λ names old visit f g. shows names visit (ap visit_in (some_inj (sym there ∙ f)) ∙ g))
+alone_there j before after change was node none there written alone shows =
+    alone_written j before change after node none written alone (λ names old visit f g. shows names visit (ap visit_in (some_inj (sym there ∙ f)) ∙ g))
 
 -- another state is about to be entered
 pub enter_written : (j : ℕ) (before after : List Node) (visit : Visit) → after ≡ slice_set before j (nodes.Ready visit) → IsWritten j before (Enter visit) after
-enter_written j before after visit written = alone_written j before (Enter visit) after (nodes.Ready visit) written refl (λ names old v f g below. refl)
+enter_written j before after visit written = alone_written j before (Enter visit) after (nodes.Ready visit) refl written refl (λ names old v f g below. refl)
 
 -- the scope has ended
 pub end_written : (j : ℕ) (before after : List Node) (outcome : Outcome) → after ≡ slice_set before j (nodes.Ended outcome) → IsWritten j before (End outcome) after
-end_written j before after outcome written = alone_written j before (End outcome) after (nodes.Ended outcome) written refl (λ names old v f g below. refl)
+end_written j before after outcome written = alone_written j before (End outcome) after (nodes.Ended outcome) refl written refl (λ names old v f g below. refl)
 
 -- a task waits
 pub ask_written : (j : ℕ) (before after : List Node) (was node : Node) (payload : Tree) → slice_get before j ≡ Some was → after ≡ slice_set before j node → range_of node ≡ None
     → ((visit : Visit) → visit_in was ≡ Some visit → node ≡ nodes.Waiting visit payload) → IsWritten j before (Ask payload) after
 ask_written j before after was node payload there written alone waits =
-    alone_there j before after (Ask payload) was node there written alone (λ names visit e below. ap (shown_over names below) (waits visit e))
+    alone_there j before after (Ask payload) was node refl there written alone (λ names visit e below. ap (shown_over names below) (waits visit e))
 
 -- a state is about to be entered again
 pub retry_written : (j : ℕ) (before after : List Node) (was node : Node) (retrier : ℕ) → slice_get before j ≡ Some was → after ≡ slice_set before j node → range_of node ≡ None
     → ((visit : Visit) → visit_in was ≡ Some visit → (later : Visit) × (node ≡ nodes.Ready later) × IsRaised retrier visit later) → IsWritten j before (Retry retrier) after
 retry_written j before after was node retrier there written alone retries =
-    alone_there j before after (Retry retrier) was node there written alone (λ names visit e below.
+    alone_there j before after (Retry retrier) was node refl there written alone (λ names visit e below.
     let again = retries visit e in
     let later = again.0 in
     let raised = again.2 in
@@ -359,6 +377,10 @@ table_kept (Err e) j before change after table within ok err = alike_table befor
 pub applied_where_ok : {A E : Type 0} (r : Result A E) (j : ℕ) (before old : List Node) (change : Change) (after : List Node) → before ≡ old → IsTable before → j < length before → IfOk r (λ _. IsWritten j before change after) → IfOk r (λ _. IsApplied j old change after)
 applied_where_ok (Ok a) j before old change after same table within ok = subst (λ b. IsApplied j b change after) same (applied j before change after table within ok)
 applied_where_ok (Err e) j before old change after same table within ok = tt
+
+pub alike_where_err : {A E : Type 0} (r : Result A E) (before old after : List Node) → before ≡ old → IfErr r (λ _. AreAlike before after) → IfErr r (λ _. AreAlike old after)
+alike_where_err (Ok a) before old after same err = tt
+alike_where_err (Err e) before old after same err = subst (λ (l : List Node). AreAlike l after) same err
 
 pub same_where_err : {A E : Type 0} (r : Result A E) (before old after : List Node) → before ≡ old → IfErr r (λ _. AreAlike before after) → IfErr r (λ _. (names : List (List ℕ)) → shown_from names 0 after ≡ shown_from names 0 old)
 same_where_err (Ok a) before old after same err = tt

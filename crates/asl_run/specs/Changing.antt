@@ -1,9 +1,10 @@
 -- What a change leaves of what stands at its place.
-use Rattle.std.specs.Prelude.{◌≡◌, ◌<◌, ◌≤◌, ℕ, List, length, Option, Some, None, ◌++◌, slice_get, slice_set}
+use Rattle.std.specs.Prelude.{◌≡◌, ◌<◌, ◌≤◌, ◌+◌, ℕ, Bool, false, List, [], length, Option, Some, None, ◌++◌, slice_get, slice_set}
 use Rattle.asl_model.specs.Run as model
 use Rattle.asl_tree.specs.View as trees
 use Rattle.asl_run.specs.Activities.{ended_view, ready_view, ready_children}
 use Rattle.asl_run.specs.Nodes.{IsTable, range_of, shown_at, shown_from, shown_over}
+use Rattle.asl_run.specs.Enabling.{has_ended}
 use Rattle.asl_run.specs.Standing.{name_in, children_of}
 use Rattle.asl_run.specs.Troubles.{CanRise}
 use Rattle.asl_run.specs.declared.activities.Visit.{Visit}
@@ -40,11 +41,23 @@ pub record IsSame (before after : Visit) : Type 0 where
   pub raw : after.raw ≡ before.raw
   pub counts : after.counts.items ≡ before.counts.items
 
+-- so many children a change adds
+abbrev pub children_in : Change → ℕ
+children_in (Enter entered) = 0
+children_in (End outcome) = 0
+children_in (Ask payload) = 0
+children_in (SplitInto visits) = length visits.items
+children_in (Retry retrier) = 0
+
 -- where the change is a retry, the count of its retrier can rise
 abbrev pub CanApply : Node → Change → Type 0
 CanApply node change = (visit : Visit) (retrier : ℕ) → visit_in node ≡ Some visit → change ≡ Retry retrier → CanRise visit.counts.items retrier
 
 -- ---- in a table
+
+-- the node shows an activity that has ended, whatever its children show
+abbrev pub node_ended : Node → Bool
+node_ended node = has_ended (shown_over [] model.NoActivities node)
 
 -- the node shows the same, whatever its children show, and has the same children
 pub record IsAlike (before after : Node) : Type 0 where
@@ -62,6 +75,8 @@ pub record IsWritten (j : ℕ) (before : List Node) (change : Change) (after : L
   pub more : List Node
   pub written : after ≡ slice_set before j node ++ more
   pub alone : (k : ℕ) (added : Node) → slice_get more k ≡ Some added → range_of added ≡ None
+  pub many : length more ≡ children_in change
+  pub fresh : (k : ℕ) (added : Node) → slice_get more k ≡ Some added → node_ended added ≡ false
   pub range : (children : Children) → range_of node ≡ Some children → (children.first.0 ≡ length before) × (children.count ≡ length more)
   pub shows : (names : List (List ℕ)) (old : Node) (visit : Visit) → slice_get before j ≡ Some old → visit_in old ≡ Some visit → shown_over names (children_of (shown_from names (length before) more)) node ≡ changed names visit change
 
@@ -72,7 +87,15 @@ pub record IsChangedAt (j : ℕ) (before after : List Node) : Type 0 where
   pub others : (i : ℕ) → i < length before → (i ≡ j → ⊥) → slice_get after i ≡ slice_get before i
   pub no_shorter : length before ≤ length after
 
+-- So many nodes are added that have no children and haven't ended, and these are the children of node j, if it has some.
+pub record AreAdded (j : ℕ) (before : List Node) (many : ℕ) (after : List Node) : Type 0 where
+  pub long : length after ≡ length before + many
+  pub alone : (i : ℕ) (node : Node) → length before ≤ i → slice_get after i ≡ Some node → range_of node ≡ None
+  pub fresh : (i : ℕ) (node : Node) → length before ≤ i → slice_get after i ≡ Some node → node_ended node ≡ false
+  pub range : (node : Node) (children : Children) → slice_get after j ≡ Some node → range_of node ≡ Some children → (children.first.0 ≡ length before) × (children.count ≡ many)
+
 -- it is changed at node j alone, which shows what the change leaves there
 pub record IsApplied (j : ℕ) (before : List Node) (change : Change) (after : List Node) : Type 0 where
   pub at : IsChangedAt j before after
+  pub added : AreAdded j before (children_in change) after
   pub shows : (names : List (List ℕ)) (old : Node) (visit : Visit) → slice_get before j ≡ Some old → visit_in old ≡ Some visit → shown_at names after j ≡ changed names visit change

@@ -29,6 +29,20 @@ pub data MayHappen (MayGive : List ℕ → Tree → Action → Type 0) (here : O
   any_move : MayHappen MayGive here Move
   answer_given : {n : List ℕ} {raw : Tree} {counts : List ℕ} {payload : Tree} {answer : Action} → here ≡ Some (Waiting n raw counts payload) → MayGive n payload answer → MayHappen MayGive here answer
 
+-- a task waits there
+pub record IsWaiting (here : Option Activity) : Type 0 where
+  pub name : List ℕ
+  pub raw : Tree
+  pub counts : List ℕ
+  pub payload : Tree
+  pub is : here ≡ Some (Waiting name raw counts payload)
+
+-- what stands there is no task that waits, for a move, and one that does for an answer
+abbrev pub Suits : Option Activity → Action → Type 0
+Suits here Move = (n : List ℕ) (raw : Tree) (counts : List ℕ) (payload : Tree) → here ≡ Some (Waiting n raw counts payload) → ⊥
+Suits here (Gives answer) = IsWaiting here
+Suits here (FailsTask error cause) = IsWaiting here
+
 -- out of the places where an event is enabled, in their order, that one may be picked, by its number among so many
 pub record IsPicked (MayPick : ℕ → ℕ → Type 0) (machine : Scope) (a : Activity) (place : List ℕ) : Type 0 where
   pub number : ℕ

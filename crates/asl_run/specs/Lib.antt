@@ -5,6 +5,7 @@ pub mod Flowing
 pub mod Working
 pub mod Driving
 pub mod Enabling
+pub mod Counting
 pub mod Answering
 pub mod Activities
 pub mod Standing

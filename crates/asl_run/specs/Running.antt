@@ -8,7 +8,7 @@ use Rattle.asl_run.specs.declared.running.Run.{Run}
 
 -- what stands at the machine's own place, with all below it; the states have their names in the machine
 abbrev pub run_view : Run → model.Activity
-run_view run = shown_at (table_view run.machine.now).names run.nodes 0
+run_view run = shown_at (table_view run.machine.now).names run.standing 0
 
 -- the run is of that machine: its machine shows it, and the states of its activities stand in their scopes
 pub record IsRunOf (machine : Scope) (run : Run) : Type 0 where

@@ -1,7 +1,7 @@
 //! What a step does to what stands at its place.
 
 ghost use Rattle.std.specs.Prelude.{◌≡◌, ℕ, None, Some, IfOk, IfErr};
-ghost use Rattle.asl_run.specs.Changing.{IsAlike, IsRaised, IsSame, visit_in};
+ghost use Rattle.asl_run.specs.Changing.{children_in, IsAlike, IsRaised, IsSame, visit_in};
 ghost use Rattle.asl_run.specs.Nodes.{range_of};
 ghost use Rattle.asl_run.specs.Troubles.{CanRise};
 ghost use Rattle.asl_run.specs.declared.activities.Visit.{Visit};
@@ -28,6 +28,18 @@ pub(crate) enum Change {
     SplitInto(Vec<Visit>),
     /// The retrier of that number retries: the state is Ready again, that count one higher.
     Retry(usize),
+}
+
+impl Change {
+    /// How many children it adds.
+    pub(crate) fn children(&self) -> usize
+        ensures { result ≡ children_in self.now }
+    {
+        match self {
+            Change::SplitInto(visits) => visits.len(),
+            Change::Enter(_) | Change::End(_) | Change::Ask(_) | Change::Retry(_) => 0,
+        }
+    }
 }
 
 impl Node {

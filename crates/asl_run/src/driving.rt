@@ -1,14 +1,16 @@
 //! Driving a run: its places take turns, in an order, and a source answers its tasks.
 
-ghost use Rattle.std.specs.Prelude.{◌≡◌, ℕ, List, map, Option, IfOk, IfErr, OnOk};
-ghost use Rattle.asl_machine.specs.Table.{table_view};
+ghost use Rattle.std.specs.Prelude.{◌≡◌, ℕ, List, map, Option, None, IfOk, IfErr, OnOk};
+ghost use Rattle.asl_machine.specs.Table.{Shows, table_view};
 ghost use Rattle.asl_model.specs.Machine.{Scope};
 ghost use Rattle.asl_model.specs.Run as model;
 ghost use Rattle.asl_model.specs.Tree as trees;
-ghost use Rattle.asl_run.specs.Driving.{ComesNext, IsPicked, Pauses, GoesOn, Stops, BreaksOff, EndsSo, IsLeft, IsTold, answer_in, unused};
+ghost use Rattle.asl_run.specs.Driving.{ComesNext, IsPicked, Pauses, GoesOn, Stops, BreaksOff, EndsSo, IsLeft, IsTold, Suits, answer_in, unused};
 ghost use Rattle.asl_run.specs.Entries.{entry_view, event_view};
 ghost use Rattle.asl_run.specs.Nodes.{shown_at};
 ghost use Rattle.asl_run.specs.Running.{run_view, IsRunOf};
+ghost use Rattle.asl_run.specs.Standing.{StandsIn};
+ghost use Rattle.std.specs.Option.{IsSome};
 
 use crate::answers::Answers;
 use crate::entries::{Answer, Entry, Event, Outcome, Place};
@@ -96,7 +98,7 @@ fn how_ended(run: &Run) -> Option<Stop>
     }
 }
 
-/// One turn: an event at the place whose turn it is, which the trace tells.
+/// One turn of a run that hasn't ended: an event at the place whose turn it is, which the trace tells.
 ///
 /// Refused: no answer of the source, or want of memory; the run and the trace stay.
 fn turn<O: Order, A: Answers>(
@@ -105,6 +107,7 @@ fn turn<O: Order, A: Answers>(
     answers: &mut A,
     trace: &mut Vec<Entry>,
 ) -> Result<(), Pause>
+    requires goes_on { model.outcome_of (run_view run.old) ≡ None }
     ensures run { (m : Scope) → IsRunOf m run.old → IsRunOf m run.new }
     ensures goes_on { (m : Scope) → IsRunOf m run.old → OnOk result (GoesOn (O.may_pick order.old) (A.may_give answers.old) m (run_view run.old) (A.content answers.old) (map entry_view trace.old.items) (map entry_view trace.new.items) (run_view run.new) (A.content answers.new)) }
     ensures pauses { (m : Scope) → IsRunOf m run.old → IfErr result (λ pause. Pauses (A.may_be_silent answers.new) (table_view run.old.machine.now).names (run_view run.old) (A.content answers.old) (A.content answers.new) pause) }
@@ -116,7 +119,7 @@ fn turn<O: Order, A: Answers>(
         Ok(place) => place,
         Err(OutOfMemory) => return Err(Pause::OutOfMemory(None)),
     };
-    let event = match next_event(run.machine, &run.nodes, answers, place) {
+    let event = match next_event(run.machine, run.standing.nodes(), answers, place) {
         Ok(event) => event,
         Err(pause) => return Err(pause),
     };
@@ -126,16 +129,21 @@ fn turn<O: Order, A: Answers>(
     }
 }
 
-/// The place whose turn it is, of those where an event is enabled.
+/// The place whose turn it is, of those where an event is enabled, of a run that hasn't ended.
 fn picked_place<O: Order>(run: &Run, order: &mut O) -> Result<Place, OutOfMemory>
+    requires goes_on { model.outcome_of (run_view run.now) ≡ None }
     ensures picked { (m : Scope) → IsRunOf m run.now → IfOk result (λ place. IsPicked (O.may_pick order.old) m (run_view run.now) place.items) }
     ensures lasting { (n : ℕ) (k : ℕ) → O.may_pick order.new n k → O.may_pick order.old n k }
 {
-    let mut places = run.enabled()?;
-    if places.is_empty() {
-        return Err(OutOfMemory);
+    let count = run.standing.open_count();
+    let picked = order.pick(count);
+    if picked == 0 {
+        return run.standing.first_open(run.alloc);
     }
-    let picked = order.pick(places.len());
+    if picked == count - 1 {
+        return run.standing.last_open(run.alloc);
+    }
+    let mut places = run.open_places()?;
     let (place, _) = places.swap_remove(picked);
     Ok(place)
 }
@@ -149,6 +157,9 @@ fn next_event<A: Answers>(
 ) -> Result<Event, Pause>
     ensures place { IfOk result (λ event. (event_view event).place ≡ place.items) }
     ensures next { IfOk result (λ event. ComesNext (A.may_give answers.old) (shown_at (table_view machine.now).names nodes.now 0) (A.content answers.old) (event_view event) (A.content answers.new)) }
+    ensures suited { (m : Scope) → Shows machine.now m
+        → let a = shown_at (table_view machine.now).names nodes.now 0 in StandsIn a m
+        → IfOk result (λ event. Suits (model.activity_at (event_view event).place a) (event_view event).action) }
     ensures pauses { IfErr result (λ pause. let names = (table_view machine.now).names in Pauses (A.may_be_silent answers.new) names (shown_at names nodes.now 0) (A.content answers.old) (A.content answers.new) pause) }
     ensures lasting { (n : List ℕ) (t : trees.Tree) (answer : model.Action) → A.may_give answers.new n t answer → A.may_give answers.old n t answer }
 {
@@ -162,10 +173,12 @@ fn next_event<A: Answers>(
     }
 }
 
-/// Takes the event, which the trace tells.
+/// Takes the event, which is enabled and which the trace tells.
 ///
 /// Refused: want of memory, with the event's answer; the run and the trace stay.
 fn take(run: &mut Run, event: Event, trace: &mut Vec<Entry>) -> Result<(), Option<Answer>>
+    requires enabled { (m : Scope) → IsRunOf m run.old
+        → IsSome (model.step m (run_view run.old) (event_view event)) }
     ensures run { (m : Scope) → IsRunOf m run.old → IsRunOf m run.new }
     ensures taken { (m : Scope) → IsRunOf m run.old → OnOk result (IsTold m (run_view run.old) (event_view event) (map entry_view trace.old.items) (map entry_view trace.new.items) (run_view run.new)) }
     ensures stays { (m : Scope) → IsRunOf m run.old → IfErr result (λ _. IsLeft (run_view run.old) (map entry_view trace.old.items) (run_view run.new) (map entry_view trace.new.items)) }
@@ -179,6 +192,7 @@ fn take(run: &mut Run, event: Event, trace: &mut Vec<Entry>) -> Result<(), Optio
             Ok(()) => Ok(()),
             Err(_) => Err(None),
         },
+        // The event is enabled, so an allocation was refused.
         Err((_, event)) => Err(answer_of(event)),
     }
 }

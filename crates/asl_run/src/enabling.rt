@@ -1,11 +1,12 @@
 //! The places of a run where an event is wanted.
 
-ghost use Rattle.std.specs.Prelude.{◌≡◌, ◌<◌, ℕ, List, length, map, option_map, IfOk};
+ghost use Rattle.std.specs.Prelude.{◌≡◌, ◌<◌, ◌^◌, ℕ, List, length, map, option_map, IfOk};
 ghost use Rattle.asl_model.specs.Run.{Activities, Activity, joining};
+ghost use Rattle.asl_run.specs.Counting.{open_below_count, open_count};
 ghost use Rattle.asl_run.specs.Enabling as model;
 ghost use Rattle.asl_run.specs.Enabling.{AddsOwn, AddsPlaces, AddsPlacesBelow, found_view};
 ghost use Rattle.asl_run.specs.Entries.{want_view};
-ghost use Rattle.asl_run.specs.Nodes.{AreHeads, HasRange, shown_over};
+ghost use Rattle.asl_run.specs.Nodes.{AreHeads, HasRange, shown_at, shown_over};
 ghost use Rattle.asl_run.specs.Standing.{children_of};
 
 use crate::entries::{Outcome, Place, Want};
@@ -46,7 +47,7 @@ fn is_joinable(children: &[Node]) -> bool
 }
 
 /// Whether a scope has ended there with an error.
-fn has_failed(node: &Node) -> bool
+pub(crate) fn has_failed(node: &Node) -> bool
     ensures { (names : List (List ℕ)) (below : Activities) → result ≡ model.has_failed (shown_over names below node.now) }
 {
     matches!(node, Node::Ended(Outcome::Failed { .. }))
@@ -120,4 +121,33 @@ fn add_own_place(
         found.push((own, want))?;
     }
     Ok(())
+}
+
+/// How many places want an event at the node of that number and below it.
+#[cycle(count_places)]
+pub(crate) fn count_places(nodes: &Nodes, number: NodeNumber) -> usize
+    requires within { number.0 < length nodes.now }
+    requires few { (names : List (List ℕ)) → open_count (shown_at names nodes.now number.0) < 2 ^ 64 }
+    ensures { (names : List (List ℕ)) → result ≡ open_count (shown_at names nodes.now number.0) }
+{
+    let node = nodes.node(number);
+    let own = usize::from(wanted_by(node, nodes.children(node)).is_some());
+    match node {
+        Node::Split { visit: _, children } => own + count_places_below(nodes, *children),
+        Node::Ready(_) | Node::Waiting { .. } | Node::Ended(_) => own,
+    }
+}
+
+/// How many want one at these children and below them.
+#[cycle(count_places)]
+fn count_places_below(nodes: &Nodes, children: Children) -> usize
+    requires range { HasRange nodes.now children }
+    requires few { (names : List (List ℕ)) → open_below_count names nodes.now children < 2 ^ 64 }
+    ensures { (names : List (List ℕ)) → result ≡ open_below_count names nodes.now children }
+{
+    let mut counted = 0;
+    for number in 0..children.count {
+        counted += count_places(nodes, NodeNumber(children.first.0 + number));
+    }
+    counted
 }

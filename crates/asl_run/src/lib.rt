@@ -21,6 +21,7 @@ mod nodes;
 mod orders;
 mod planning;
 mod running;
+mod standing;
 mod stepping;
 mod troubles;
 mod troubling;

@@ -131,6 +131,8 @@ impl Nodes {
         requires within { number.0 < length self.old }
         requires rises { (node : code.Node) → slice_get self.old number.0 ≡ Some node → CanApply node change }
         ensures changed { IfOk result (λ _. IsApplied number.0 self.old change self.new) }
+        ensures few { length self.new < 2 ^ 64 }
+        ensures alike { IfErr result (λ _. AreAlike self.old self.new) }
         ensures unchanged { IfErr result (λ _. (names : List (List ℕ)) → shown_from names 0 self.new ≡ shown_from names 0 self.old) }
     {
         apply(&mut self.nodes, number.0, change)

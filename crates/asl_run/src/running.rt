@@ -1,14 +1,15 @@
 //! Runs: a machine with what stands at its places.
 
-ghost use Rattle.std.specs.Prelude.{◌≡◌, ◌≢◌, ◌↔◌, [], map, option_map, IfErr, IfOk, None};
+ghost use Rattle.std.specs.Prelude.{◌≡◌, ◌≢◌, ◌↔◌, [], List, map, option_map, IfErr, IfOk, None, ℕ};
 ghost use Rattle.std.specs.Option.{IsSome, unwrap_or};
 ghost use Rattle.asl_machine.specs.Table.{Shows, table_view};
 ghost use Rattle.asl_model.specs.Machine.{Scope, start_of};
 ghost use Rattle.asl_model.specs.Run as model;
-ghost use Rattle.asl_run.specs.Enabling.{found_view};
+ghost use Rattle.asl_run.specs.Enabling.{found_view, open_in};
 ghost use Rattle.asl_run.specs.Entries.{answer_view, entry_view, event_view, outcome_view};
 ghost use Rattle.asl_run.specs.Stepping.{Steps, Takes};
 ghost use Rattle.asl_run.specs.declared.stepping.StepRefusal.TheVariants as refusals;
+ghost use Rattle.asl_run.specs.Nodes.{shown_at};
 ghost use Rattle.asl_run.specs.Running.{IsRunOf, run_view};
 ghost use Rattle.asl_run.specs.Standing.{name_in};
 ghost use Rattle.asl_tree.specs.View.{view};
@@ -16,7 +17,8 @@ ghost use Rattle.asl_tree.specs.View.{view};
 use crate::activities::Visit;
 use crate::enabling::add_places;
 use crate::entries::{Answer, Entry, Event, Outcome, Place, Want};
-use crate::nodes::{Node, Nodes};
+use crate::nodes::Node;
+use crate::standing::Standing;
 use crate::stepping::{Happening, StepRefusal};
 use asl_machine::Machine;
 use asl_tree::{OutOfMemory, Tree};
@@ -27,7 +29,7 @@ use std::alloc::Global;
 pub struct Run<'m> {
     pub(crate) alloc: Global,
     pub(crate) machine: &'m Machine,
-    pub(crate) nodes: Nodes,
+    pub(crate) standing: Standing,
 }
 
 /// The number of the machine's start state: the state 0 stands in the machine's own scope.
@@ -56,11 +58,11 @@ pub fn start<'m>(
         raw: input,
         counts: Vec::new(alloc),
     };
-    match Nodes::new(alloc, visit) {
-        Ok(nodes) => Ok(Run {
+    match Standing::new(alloc, visit) {
+        Ok(standing) => Ok(Run {
             alloc,
             machine,
-            nodes,
+            standing,
         }),
         Err(
             Visit {
@@ -118,7 +120,7 @@ impl<'m> Run<'m> {
             at: place,
             answer,
         };
-        happening.take_step(&mut self.nodes)
+        happening.take_step(&mut self.standing)
     }
 
     /// The places where an event is enabled, each with its kind, in lexicographic order, a place before those below it. A
@@ -127,10 +129,17 @@ impl<'m> Run<'m> {
         ensures goes_on { IfOk result (λ found. (m : Scope) → IsRunOf m self.now → model.outcome_of (run_view self.now) ≡ None → found.items ≢ []) }
         ensures exactly { IfOk result (λ found. (m : Scope) → IsRunOf m self.now → map found_view found.items ≡ model.enabled (run_view self.now) m) }
     {
+        self.open_places()
+    }
+
+    /// The places where an event is wanted, each with its kind, a place before those below it.
+    pub(crate) fn open_places(&self) -> Result<Vec<(Place, Want)>, OutOfMemory>
+        ensures { IfOk result (λ found. (names : List (List ℕ)) → map found_view found.items ≡ open_in (shown_at names self.now.standing 0)) }
+    {
         let mut place = Vec::new(self.alloc);
         let mut found = Vec::new(self.alloc);
-        let root = self.nodes.root();
-        add_places(self.alloc, &self.nodes, root, &mut place, &mut found)?;
+        let nodes = self.standing.nodes();
+        add_places(self.alloc, nodes, nodes.root(), &mut place, &mut found)?;
         Ok(found)
     }
 
@@ -138,7 +147,8 @@ impl<'m> Run<'m> {
     pub fn outcome(&self) -> Option<&Outcome>
         ensures { option_map (λ o. outcome_view o.now) result ≡ model.outcome_of (run_view self.now) }
     {
-        match self.nodes.node(self.nodes.root()) {
+        let nodes = self.standing.nodes();
+        match nodes.node(nodes.root()) {
             Node::Ended(outcome) => Some(outcome),
             Node::Ready(_) | Node::Waiting { .. } | Node::Split { .. } => None,
         }

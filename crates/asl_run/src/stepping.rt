@@ -1,10 +1,11 @@
 //! One step of a run: an event at a place.
 
-ghost use Rattle.std.specs.Prelude.{◌≡◌, ◌<◌, ◌↔◌, IsTrue, List, length, Some, ℕ};
+ghost use Rattle.std.specs.Prelude.{◌≡◌, ◌<◌, ◌↔◌, IfOk, IsTrue, List, length, Some, ℕ};
 ghost use Rattle.asl_model.specs.Run as model;
 ghost use Rattle.asl_model.specs.Run.{want_of};
+ghost use Rattle.asl_run.specs.Counting.{open_count};
 ghost use Rattle.asl_run.specs.Enabling.{wanted_by};
-ghost use Rattle.asl_run.specs.Nodes.{AreHeads, shown_over};
+ghost use Rattle.asl_run.specs.Nodes.{AreHeads, shown_at, shown_over};
 ghost use Rattle.asl_run.specs.Standing.{children_of};
 ghost use Rattle.asl_run.specs.Stepping.{IsPlanned, StepsAt, action_of};
 
@@ -13,6 +14,7 @@ use crate::enabling::wanted_by;
 use crate::entries::{Answer, Entry, Want};
 use crate::nodes::{Node, NodeNumber, Nodes};
 use crate::planning::Plan;
+use crate::standing::Standing;
 use asl_machine::Machine;
 use asl_tree::OutOfMemory;
 use std::alloc::Global;
@@ -40,9 +42,10 @@ pub(crate) struct Happening<'m> {
 
 impl<'m> Happening<'m> {
     /// The step, and its entries.
-    pub(crate) fn take_step(self, nodes: &mut Nodes) -> Result<Vec<Entry>, StepRefusal>
-        ensures { StepsAt self.entry nodes.old nodes.new result }
+    pub(crate) fn take_step(self, standing: &mut Standing) -> Result<Vec<Entry>, StepRefusal>
+        ensures { StepsAt self.entry standing.old standing.new result }
     {
+        let nodes = standing.nodes();
         let Some(number) = nodes.number_at(self.at) else {
             return Err(StepRefusal::NoSuchPlace);
         };
@@ -50,7 +53,7 @@ impl<'m> Happening<'m> {
             Ok(plan) => plan,
             Err(refusal) => return Err(refusal),
         };
-        match nodes.change(number, change) {
+        match standing.change(self.at, number, change) {
             Ok(()) => Ok(entries),
             Err(OutOfMemory) => Err(StepRefusal::OutOfMemory),
         }
@@ -59,7 +62,8 @@ impl<'m> Happening<'m> {
     /// What is to be done at the node of that number. That it wants such an event is known before anything is made.
     fn plan_at(self, nodes: &Nodes, number: NodeNumber) -> Result<Plan, StepRefusal>
         requires { number.0 < length nodes.now }
-        ensures { IsPlanned self.entry nodes.now number.0 result }
+        ensures planned { IsPlanned self.entry nodes.now number.0 result }
+        ensures wanted { IfOk result (λ _. (names : List (List ℕ)) → 0 < open_count (shown_at names nodes.now number.0)) }
     {
         let node = nodes.node(number);
         let children = nodes.children(node);

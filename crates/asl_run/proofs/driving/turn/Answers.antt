@@ -1,15 +1,40 @@
-use Rattle.std.proofs.Common.{map, ◌++◌, ap, sym, ◌∙◌, subst}
-use Rattle.asl_run.specs.Driving.{IsPicked}
+use Rattle.std.proofs.Common.{List, map, ◌++◌, ap, sym, ◌∙◌, subst}
+use Rattle.asl_machine.specs.Table.{table_view}
+use Rattle.asl_model.specs.Run.{activity_at}
+use Rattle.asl_run.specs.Driving.{ComesNext, IsPicked, Suits}
 use Rattle.asl_run.specs.Entries.{entry_view, event_view}
+use Rattle.asl_run.specs.Nodes.{shown_at}
 use Rattle.asl_run.specs.Running.{run_view}
+use Rattle.asl_run.specs.Standing.{StandsIn}
+use Rattle.asl_run.specs.declared.nodes.Node.{Node}
 use Rattle.asl_run.proofs.Driven.{turn_taken}
+use Rattle.asl_run.proofs.Suited.{suited_steps}
 use Rattle.asl_run.proofs.driving.turn.Goals as goal
 
 pub returns-in-Ok-take-clause-goes_on : goal.returns-in-Ok-take-clause-goes_on
-returns-in-Ok-take-clause-goes_on g c = λ m h.
-    turn_taken (g.O.Order.may_pick c.args.order.now) (g.A.Answers.may_give c.args.answers.now) m (run_view c.args.run.now) (run_view c.take.new.run) (event_view c.in-Ok-next_event.event) (g.A.Answers.content c.args.answers.now) (g.A.Answers.content c.next_event.new.answers)
-    (map entry_view c.args.trace.now.items) (map entry_view c.take.new.trace.items) (subst (IsPicked (g.O.Order.may_pick c.args.order.now) m (run_view c.args.run.now)) (sym c.in-Ok-next_event.ensures.place) (c.in-Ok.ensures.picked m h)) c.in-Ok-next_event.ensures.next (c.in-Ok-take.ensures.taken m h)
+returns-in-Ok-take-clause-goes_on g c =
+    let MayPick = g.O.Order.may_pick c.args.order.now in
+    let MayGive = g.A.Answers.may_give c.args.answers.now in
+    let names = (table_view c.args.run.now.machine.now).names in
+    let event = event_view c.in-Ok-next_event.event in
+    let given = g.A.Answers.content c.args.answers.now in
+    let left = g.A.Answers.content c.next_event.new.answers in
+    let next = subst (λ (l : List Node). ComesNext MayGive (shown_at names l 0) given event left) c.nodes.ensures c.in-Ok-next_event.ensures.next in
+    λ m h.
+    turn_taken MayPick MayGive m (run_view c.args.run.now) (run_view c.take.new.run) event given left (map entry_view c.args.trace.now.items) (map entry_view c.take.new.trace.items)
+    (subst (IsPicked MayPick m (run_view c.args.run.now)) (sym c.in-Ok-next_event.ensures.place) (c.in-Ok.ensures.picked m h)) next (c.in-Ok-take.ensures.taken m h)
 
 pub returns-in-Err-take-clause-pauses : goal.returns-in-Err-take-clause-pauses
 returns-in-Err-take-clause-pauses g c = λ m h.
     c.in-Ok-next_event.ensures.next.answered ∙ ap (λ v. v ++ g.A.Answers.content c.next_event.new.answers) (sym (c.in-Err-take.ensures.returned m h))
+
+pub take-requires : goal.take-requires
+take-requires g c = record {
+  enabled = λ m h.
+      let MayPick = g.O.Order.may_pick c.args.order.now in
+      let names = (table_view c.args.run.now.machine.now).names in
+      let event = event_view c.in-Ok-next_event.event in
+      let stands = subst (λ (l : List Node). StandsIn (shown_at names l 0) m) (sym c.nodes.ensures) h.stands in
+      let suited = subst (λ (l : List Node). Suits (activity_at event.place (shown_at names l 0)) event.action) c.nodes.ensures (c.in-Ok-next_event.ensures.suited m h.shown stands) in
+      suited_steps MayPick m (run_view c.args.run.now) event h.stands (subst (IsPicked MayPick m (run_view c.args.run.now)) (sym c.in-Ok-next_event.ensures.place) (c.in-Ok.ensures.picked m h)) suited;
+}

@@ -1,7 +1,7 @@
 use Rattle.std.proofs.Common.{◌≡◌, ◌<◌, List, length, slice_get, Some, sym, subst}
 use Rattle.asl_run.specs.Changing.{CanApply}
 use Rattle.asl_run.specs.declared.nodes.Node.{Node}
-use Rattle.asl_run.proofs.WrittenTables.{applied_where_ok, same_where_err, table_kept}
+use Rattle.asl_run.proofs.WrittenTables.{alike_where_err, applied_where_ok, same_where_err, table_kept}
 use Rattle.asl_run.proofs.nodes.Nodes.change.Goals as goal
 
 pub apply-requires-clause-rises : goal.apply-requires-clause-rises
@@ -17,3 +17,6 @@ returns-clause-changed c =
 
 pub returns-clause-unchanged : goal.returns-clause-unchanged
 returns-clause-unchanged c = same_where_err c.apply.result c.self.inside.nodes.items c.args.self.now c.apply.new.nodes.items c.self.view_is c.apply.ensures.unchanged
+
+pub returns-clause-alike : goal.returns-clause-alike
+returns-clause-alike c = alike_where_err c.apply.result c.self.inside.nodes.items c.args.self.now c.apply.new.nodes.items c.self.view_is c.apply.ensures.unchanged

@@ -1,15 +1,18 @@
 use Rattle.std.proofs.Common.{◌∙◌, ap, Ok}
-use Rattle.asl_run.proofs.PlansAlong.{plan_made, plan_missing, plan_refused, plan_unwanted}
+use Rattle.asl_run.proofs.PlansAlong.{plan_made, plan_wanted, plan_missing, plan_refused, plan_unwanted}
 use Rattle.asl_run.proofs.stepping.Happening.plan_at.Goals as goal
 
-pub returns-then-not-is_wanted_by : goal.returns-then-not-is_wanted_by
-returns-then-not-is_wanted_by c = plan_unwanted c.args.self c.args.nodes.now c.args.number.0 c.node-node.result.now c.children-children.result.now c.node-node.ensures.node c.children-children.ensures c.is_wanted_by.result c.if-not-is_wanted_by.true c.is_wanted_by.ensures
+pub returns-then-not-is_wanted_by-clause-planned : goal.returns-then-not-is_wanted_by-clause-planned
+returns-then-not-is_wanted_by-clause-planned c = plan_unwanted c.args.self c.args.nodes.now c.args.number.0 c.node-node.result.now c.children-children.result.now c.node-node.ensures.node c.children-children.ensures c.is_wanted_by.result c.if-not-is_wanted_by.true c.is_wanted_by.ensures
 
-pub returns-in-Ok-Some : goal.returns-in-Ok-Some
-returns-in-Ok-Some c = plan_made c.args.self c.args.nodes.now c.args.number.0 c.node-node.result.now c.children-children.result.now c.node-node.ensures.node c.children-children.ensures c.in-Ok-Some.plan c.plan.result (c.in-Ok-Some.is ∙ ap Ok c.in-Ok-Some.field-0-is) c.plan.ensures
+pub returns-in-Ok-Some-clause-planned : goal.returns-in-Ok-Some-clause-planned
+returns-in-Ok-Some-clause-planned c = plan_made c.args.self c.args.nodes.now c.args.number.0 c.node-node.result.now c.children-children.result.now c.node-node.ensures.node c.children-children.ensures c.in-Ok-Some.plan c.plan.result (c.in-Ok-Some.is ∙ ap Ok c.in-Ok-Some.field-0-is) c.plan.ensures
 
-pub returns-in-Ok-None : goal.returns-in-Ok-None
-returns-in-Ok-None c = plan_missing c.args.self c.args.nodes.now c.args.number.0 c.node-node.result.now c.children-children.result.now c.node-node.ensures.node c.children-children.ensures c.plan.result (c.in-Ok-None.is ∙ ap Ok c.in-Ok-None.field-0-is) c.plan.ensures
+pub returns-in-Ok-None-clause-planned : goal.returns-in-Ok-None-clause-planned
+returns-in-Ok-None-clause-planned c = plan_missing c.args.self c.args.nodes.now c.args.number.0 c.node-node.result.now c.children-children.result.now c.node-node.ensures.node c.children-children.ensures c.plan.result (c.in-Ok-None.is ∙ ap Ok c.in-Ok-None.field-0-is) c.plan.ensures
 
-pub returns-in-Err : goal.returns-in-Err
-returns-in-Err c = plan_refused c.args.self c.args.nodes.now c.args.number.0 c.node-node.result.now c.children-children.result.now c.node-node.ensures.node c.children-children.ensures c.is_wanted_by.result c.if-not-is_wanted_by.false c.is_wanted_by.ensures
+pub returns-in-Err-clause-planned : goal.returns-in-Err-clause-planned
+returns-in-Err-clause-planned c = plan_refused c.args.self c.args.nodes.now c.args.number.0 c.node-node.result.now c.children-children.result.now c.node-node.ensures.node c.children-children.ensures c.is_wanted_by.result c.if-not-is_wanted_by.false c.is_wanted_by.ensures
+
+pub returns-in-Ok-Some-clause-wanted : goal.returns-in-Ok-Some-clause-wanted
+returns-in-Ok-Some-clause-wanted c = plan_wanted c.args.self c.args.nodes.now c.node-node.ensures.table c.args.number.0 c.node-node.result.now c.children-children.result.now c.node-node.ensures.node c.children-children.ensures c.is_wanted_by.result c.if-not-is_wanted_by.false c.is_wanted_by.ensures
