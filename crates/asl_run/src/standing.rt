@@ -118,15 +118,16 @@ impl Standing {
         requires wanted { (names : List (List ℕ)) → 0 < open_count (shown_at names self.old number.0) }
         requires rises { (node : code.Node) → slice_get self.old number.0 ≡ Some node → CanApply node change }
         ensures changed { IfOk result (λ _. IsApplied number.0 self.old change self.new) }
-        ensures unchanged { IfErr result (λ _. (names : List (List ℕ)) → shown_from names 0 self.new ≡ shown_from names 0 self.old) }
+        ensures unchanged { IfErr result (λ _. (names : List (List ℕ))
+            → shown_from names 0 self.new ≡ shown_from names 0 self.old) }
     {
         let added = change.children();
         self.progress.reserve(added)?;
         let parent = parent_of(&self.nodes, place);
         let closed = count_places(&self.nodes, number) + own_place(&self.progress, parent);
         self.nodes.change(number, change)?;
-        begin(&mut self.progress, number, added);
-        pass(&self.nodes, &mut self.progress, parent, number);
+        note_children(&mut self.progress, number, added);
+        note_end(&self.nodes, &mut self.progress, parent, number);
         let opened = count_places(&self.nodes, number) + own_place(&self.progress, parent);
         self.open_count = self.open_count - closed + opened;
         Ok(())
@@ -153,7 +154,8 @@ impl Standing {
     /// The last place that wants an event, of a run that hasn't ended.
     pub(crate) fn last_open(&self, alloc: Global) -> Result<Place, OutOfMemory>
         requires goes_on { IsGoing self.now }
-        ensures { IfOk result (λ place. (names : List (List ℕ)) (last : ℕ) → last + 1 ≡ open_count (shown_at names self.now 0) → IsOpenAt self.now last place.items) }
+        ensures { IfOk result (λ place. (names : List (List ℕ)) (last : ℕ)
+            → last + 1 ≡ open_count (shown_at names self.now 0) → IsOpenAt self.now last place.items) }
     {
         let mut place = Vec::new(alloc);
         let mut here = self.nodes.root();
@@ -172,7 +174,8 @@ impl Standing {
 
 /// The number of the node whose child stands at that place; none for the machine's own place.
 fn parent_of(nodes: &Nodes, place: &[usize]) -> Option<NodeNumber>
-    ensures { (child : ℕ) → number_from nodes.now 0 place.now ≡ Some child → HasParent nodes.now place.now child result }
+    ensures { (child : ℕ) → number_from nodes.now 0 place.now ≡ Some child
+        → HasParent nodes.now place.now child result }
 {
     match place.split_last() {
         Some((_, above)) => nodes.number_at(above),
@@ -192,7 +195,7 @@ fn own_place(progress: &[Progress], number: Option<NodeNumber>) -> usize
 }
 
 /// Notes that the node of that number has so many children, which have just been added.
-fn begin(progress: &mut Vec<Progress>, number: NodeNumber, added: usize)
+fn note_children(progress: &mut Vec<Progress>, number: NodeNumber, added: usize)
     requires within { number.0 < length progress.old.items }
     requires room { length progress.old.items + added ≤ vec_capacity progress.old }
     ensures { IsBegun number.0 added added progress.old.items progress.new.items }
@@ -204,7 +207,12 @@ fn begin(progress: &mut Vec<Progress>, number: NodeNumber, added: usize)
 }
 
 /// Notes at the parent that the node of that number may have ended.
-fn pass(nodes: &Nodes, progress: &mut Vec<Progress>, parent: Option<NodeNumber>, number: NodeNumber)
+fn note_end(
+    nodes: &Nodes,
+    progress: &mut Vec<Progress>,
+    parent: Option<NodeNumber>,
+    number: NodeNumber,
+)
     requires { CanPass nodes.now progress.old.items parent number.0 }
     ensures { IsPassed nodes.now parent number.0 progress.old.items progress.new.items }
 {

@@ -26,25 +26,25 @@ invariant_of-self-in_err-change c =
     kept_alike c.self.inside.nodes c.change.new.self c.reserve.new.self.items c.self.inside.open_count c.in_err-change.ensures.alike
     (subst (λ (l : List Progress). IsKept c.self.inside.nodes l c.self.inside.open_count) (sym c.in_ok-reserve.ensures.items) c.self.invariant)
 
-pub pass-requires : goal.pass-requires
-pass-requires c =
+pub note_end-requires : goal.note_end-requires
+note_end-requires c =
     let changes = changes_made c.args.self.now c.self.inside.nodes c.change.new.self c.self.inside.progress.items c.self.inside.open_count c.args.place.now c.args.number.0 c.parent_of-parent.result c.args.change c.self.view_is c.self.invariant c.requires.at c.parent_of-parent.ensures c.requires.wanted c.in_ok-change.ensures.changed in
-    can_pass c.self.inside.nodes c.change.new.self c.self.inside.progress.items c.begin.new.progress.items c.self.inside.open_count c.args.place.now c.args.number.0 c.parent_of-parent.result c.args.change changes
-    (begun_made c.args.number.0 c.children-added.result _ c.self.inside.progress.items c.reserve.new.self.items c.begin.new.progress.items c.in_ok-reserve.ensures.items c.children-added.ensures c.begin.ensures)
+    can_pass c.self.inside.nodes c.change.new.self c.self.inside.progress.items c.note_children.new.progress.items c.self.inside.open_count c.args.place.now c.args.number.0 c.parent_of-parent.result c.args.change changes
+    (begun_made c.args.number.0 c.children-added.result _ c.self.inside.progress.items c.reserve.new.self.items c.note_children.new.progress.items c.in_ok-reserve.ensures.items c.children-added.ensures c.note_children.ensures)
 
 pub count_places-requires-2-clause-few : goal.count_places-requires-2-clause-few
 count_places-requires-2-clause-few c = λ names.
     let changes = changes_made c.args.self.now c.self.inside.nodes c.change.new.self c.self.inside.progress.items c.self.inside.open_count c.args.place.now c.args.number.0 c.parent_of-parent.result c.args.change c.self.view_is c.self.invariant c.requires.at c.parent_of-parent.ensures c.requires.wanted c.in_ok-change.ensures.changed in
-    let begun = begun_made c.args.number.0 c.children-added.result _ c.self.inside.progress.items c.reserve.new.self.items c.begin.new.progress.items c.in_ok-reserve.ensures.items c.children-added.ensures c.begin.ensures in
-    let fits = opened_fits c.self.inside.nodes c.change.new.self c.self.inside.progress.items c.begin.new.progress.items c.pass.new.progress.items c.self.inside.open_count c.args.place.now c.args.number.0 c.parent_of-parent.result c.args.change (record { changes = changes; begins = begun; passes = c.pass.ensures }) names in
+    let begun = begun_made c.args.number.0 c.children-added.result _ c.self.inside.progress.items c.reserve.new.self.items c.note_children.new.progress.items c.in_ok-reserve.ensures.items c.children-added.ensures c.note_children.ensures in
+    let fits = opened_fits c.self.inside.nodes c.change.new.self c.self.inside.progress.items c.note_children.new.progress.items c.note_end.new.progress.items c.self.inside.open_count c.args.place.now c.args.number.0 c.parent_of-parent.result c.args.change (record { changes = changes; begins = begun; passes = c.note_end.ensures }) names in
     omega (arith, fits, c.in_ok-change.ensures.few)
 
 pub overflow_add-opened : goal.overflow_add-opened
 overflow_add-opened c =
     let changes = changes_made c.args.self.now c.self.inside.nodes c.change.new.self c.self.inside.progress.items c.self.inside.open_count c.args.place.now c.args.number.0 c.parent_of-parent.result c.args.change c.self.view_is c.self.invariant c.requires.at c.parent_of-parent.ensures c.requires.wanted c.in_ok-change.ensures.changed in
-    let begun = begun_made c.args.number.0 c.children-added.result _ c.self.inside.progress.items c.reserve.new.self.items c.begin.new.progress.items c.in_ok-reserve.ensures.items c.children-added.ensures c.begin.ensures in
-    let fits = opened_fits c.self.inside.nodes c.change.new.self c.self.inside.progress.items c.begin.new.progress.items c.pass.new.progress.items c.self.inside.open_count c.args.place.now c.args.number.0 c.parent_of-parent.result c.args.change (record { changes = changes; begins = begun; passes = c.pass.ensures }) [] in
-    let own : c.own_place-2.result ≡ own_count_of c.pass.new.progress.items c.parent_of-parent.result = search rules in
+    let begun = begun_made c.args.number.0 c.children-added.result _ c.self.inside.progress.items c.reserve.new.self.items c.note_children.new.progress.items c.in_ok-reserve.ensures.items c.children-added.ensures c.note_children.ensures in
+    let fits = opened_fits c.self.inside.nodes c.change.new.self c.self.inside.progress.items c.note_children.new.progress.items c.note_end.new.progress.items c.self.inside.open_count c.args.place.now c.args.number.0 c.parent_of-parent.result c.args.change (record { changes = changes; begins = begun; passes = c.note_end.ensures }) [] in
+    let own : c.own_place-2.result ≡ own_count_of c.note_end.new.progress.items c.parent_of-parent.result = search rules in
     omega (arith, fits, c.in_ok-change.ensures.few, c.count_places-2.ensures [], own)
 
 pub overflow_sub-self : goal.overflow_sub-self
@@ -56,18 +56,18 @@ overflow_sub-self c =
 pub overflow_add-self : goal.overflow_add-self
 overflow_add-self c =
     let changes = changes_made c.args.self.now c.self.inside.nodes c.change.new.self c.self.inside.progress.items c.self.inside.open_count c.args.place.now c.args.number.0 c.parent_of-parent.result c.args.change c.self.view_is c.self.invariant c.requires.at c.parent_of-parent.ensures c.requires.wanted c.in_ok-change.ensures.changed in
-    let begun = begun_made c.args.number.0 c.children-added.result _ c.self.inside.progress.items c.reserve.new.self.items c.begin.new.progress.items c.in_ok-reserve.ensures.items c.children-added.ensures c.begin.ensures in
+    let begun = begun_made c.args.number.0 c.children-added.result _ c.self.inside.progress.items c.reserve.new.self.items c.note_children.new.progress.items c.in_ok-reserve.ensures.items c.children-added.ensures c.note_children.ensures in
     let own : c.own_place.result ≡ own_count_of c.self.inside.progress.items c.parent_of-parent.result = search rules in
-    let again : c.own_place-2.result ≡ own_count_of c.pass.new.progress.items c.parent_of-parent.result = search rules in
-    let kept = kept_after c.self.inside.nodes c.change.new.self c.self.inside.progress.items c.begin.new.progress.items c.pass.new.progress.items c.self.inside.open_count c.args.place.now c.args.number.0 c.parent_of-parent.result c.args.change (record { changes = changes; begins = begun; passes = c.pass.ensures })
+    let again : c.own_place-2.result ≡ own_count_of c.note_end.new.progress.items c.parent_of-parent.result = search rules in
+    let kept = kept_after c.self.inside.nodes c.change.new.self c.self.inside.progress.items c.note_children.new.progress.items c.note_end.new.progress.items c.self.inside.open_count c.args.place.now c.args.number.0 c.parent_of-parent.result c.args.change (record { changes = changes; begins = begun; passes = c.note_end.ensures })
     c.count_places.result c.own_place.result c.count_places-2.result c.own_place-2.result c.count_places.ensures own c.count_places-2.ensures again in
     omega (arith, kept.few, c.in_ok-change.ensures.few)
 
 pub invariant_of-self-2 : goal.invariant_of-self-2
 invariant_of-self-2 c =
     let changes = changes_made c.args.self.now c.self.inside.nodes c.change.new.self c.self.inside.progress.items c.self.inside.open_count c.args.place.now c.args.number.0 c.parent_of-parent.result c.args.change c.self.view_is c.self.invariant c.requires.at c.parent_of-parent.ensures c.requires.wanted c.in_ok-change.ensures.changed in
-    let begun = begun_made c.args.number.0 c.children-added.result _ c.self.inside.progress.items c.reserve.new.self.items c.begin.new.progress.items c.in_ok-reserve.ensures.items c.children-added.ensures c.begin.ensures in
+    let begun = begun_made c.args.number.0 c.children-added.result _ c.self.inside.progress.items c.reserve.new.self.items c.note_children.new.progress.items c.in_ok-reserve.ensures.items c.children-added.ensures c.note_children.ensures in
     let own : c.own_place.result ≡ own_count_of c.self.inside.progress.items c.parent_of-parent.result = search rules in
-    let again : c.own_place-2.result ≡ own_count_of c.pass.new.progress.items c.parent_of-parent.result = search rules in
-    kept_after c.self.inside.nodes c.change.new.self c.self.inside.progress.items c.begin.new.progress.items c.pass.new.progress.items c.self.inside.open_count c.args.place.now c.args.number.0 c.parent_of-parent.result c.args.change (record { changes = changes; begins = begun; passes = c.pass.ensures })
+    let again : c.own_place-2.result ≡ own_count_of c.note_end.new.progress.items c.parent_of-parent.result = search rules in
+    kept_after c.self.inside.nodes c.change.new.self c.self.inside.progress.items c.note_children.new.progress.items c.note_end.new.progress.items c.self.inside.open_count c.args.place.now c.args.number.0 c.parent_of-parent.result c.args.change (record { changes = changes; begins = begun; passes = c.note_end.ensures })
     c.count_places.result c.own_place.result c.count_places-2.result c.own_place-2.result c.count_places.ensures own c.count_places-2.ensures again

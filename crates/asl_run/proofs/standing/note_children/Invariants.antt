@@ -1,7 +1,7 @@
 use Rattle.std.proofs.Common.{◌+◌, ◌≤◌, length}
 use Rattle.std.specs.Vec.{vec_capacity}
 use Rattle.asl_run.specs.Counting.{IsBegun}
-use Rattle.asl_run.proofs.standing.begin.Given as goal
+use Rattle.asl_run.proofs.standing.note_children.Given as goal
 
 abbrev pub invariant-loop-child : goal.invariant-loop-child
 invariant-loop-child l = record {

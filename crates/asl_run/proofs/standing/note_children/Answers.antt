@@ -1,6 +1,6 @@
 use Rattle.std.proofs.Common.{arith}
 use Rattle.asl_run.proofs.Parents.{one_begun}
-use Rattle.asl_run.proofs.standing.begin.Goals as goal
+use Rattle.asl_run.proofs.standing.note_children.Goals as goal
 
 pub loop-child-preserved : goal.loop-child-preserved
 loop-child-preserved c =

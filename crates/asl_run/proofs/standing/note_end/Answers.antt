@@ -2,7 +2,7 @@ use Rattle.std.proofs.Common.{ap}
 use Rattle.asl_run.specs.Nodes.{range_of}
 use Rattle.asl_run.proofs.Parents.{passed_there}
 use Rattle.asl_run.proofs.Parts.{read_there}
-use Rattle.asl_run.proofs.standing.pass.Goals as goal
+use Rattle.asl_run.proofs.standing.note_end.Goals as goal
 
 pub further-requires-clause-range : goal.further-requires-clause-range
 further-requires-clause-range c = record {
