@@ -8,6 +8,7 @@
 mod adding;
 mod comparing;
 mod expanding;
+mod joining;
 mod node;
 mod pair;
 mod shapes;

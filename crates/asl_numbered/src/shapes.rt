@@ -9,6 +9,7 @@ ghost use Rattle.asl_numbered.specs.Expansion.{expansions, shape_at, shape_over,
 use crate::adding::add;
 use crate::comparing::{Compared, compare};
 use crate::expanding::expand;
+use crate::joining::{Joined, join};
 use crate::node::Node;
 use crate::pair::Pair;
 use crate::table::Table;
@@ -27,6 +28,7 @@ pub struct Shapes {
     alloc: Global,
     table: Table,
     compared: Compared,
+    joined: Joined,
 }
 
 impl Model for Shapes {
@@ -55,6 +57,7 @@ impl Shapes {
             alloc,
             table: Table::new(alloc),
             compared: IndexMap::new(alloc),
+            joined: IndexMap::new(alloc),
         }
     }
 
@@ -130,6 +133,19 @@ impl Shapes {
             };
             let answer = compare(&self.table, &mut self.compared, self.alloc, pair)?;
             Ok(Some(answer))
+        } else {
+            Ok(None)
+        }
+    }
+
+    /// The number of the join of the two shapes, as `join` of `asl_shape` makes it: every tree of either has it; `None`
+    /// where one of the numbers isn't below the length. The answer is remembered, as those for the shapes' parts are that
+    /// were joined on the way, so that none is found out twice. Refuses only where an allocation was refused.
+    pub fn join(&mut self, first: usize, second: usize) -> Result<Option<usize>, OutOfMemory> {
+        if first < self.table.len() && second < self.table.len() {
+            let pair = Pair { first, second };
+            let number = join(&mut self.table, &mut self.joined, self.alloc, pair)?;
+            Ok(Some(number))
         } else {
             Ok(None)
         }

@@ -1,0 +1,157 @@
+-- How the shapes of a table are joined by their numbers: what is remembered, and what is left to do. No public clause
+-- cites this module.
+use Rattle.std.specs.Prelude.{◌≡◌, ◌<◌, ◌≤◌, ◌+◌, ℕ, zero, suc, max, List, [], ◌∷◌, ◌++◌, length, map, take, drop, Bool, true, Option, Some, None}
+use Rattle.asl_model.specs.Shape as model
+use Rattle.asl_model.specs.Shape.{Shape, Shapes, NoShapes, AndShape, FieldShapes, NoFieldShapes, AndFieldShape, ArrayShape, ObjectShape, inhabited}
+use Rattle.asl_model.specs.ShapeOrder.{depth, mention_of, further_places, joined_with_each, join}
+use Rattle.asl_numbered.specs.declared.node.Node.{Node}
+use Rattle.asl_numbered.specs.declared.pair.Pair.{Pair}
+use Rattle.asl_numbered.specs.declared.joining.JoinTask.{JoinTask}
+use Rattle.asl_numbered.specs.declared.joining.JoinTask.TheVariants.{Join, Nothing, With, Finish}
+use Rattle.asl_numbered.specs.Comparison.{IsWithin}
+use Rattle.asl_numbered.specs.Expansion.{shape_at}
+
+-- the join of the shapes of a pair
+abbrev pub joint : List Shape → Pair → Shape
+joint table p = join (shape_at table p.first) (shape_at table p.second)
+
+-- the number is in the table, and its shape is that one
+pub record Shows (table : List Shape) (s : Shape) (n : ℕ) : Type 0 where
+  pub within : n < length table
+  pub same : shape_at table n ≡ s
+
+-- ---- what is remembered
+
+-- each number is that of the join of its pair
+abbrev pub AreEachJoins : List Shape → List (Pair × ℕ) → Type 0
+AreEachJoins table [] = Unit {0}
+AreEachJoins table (e ∷ entries) = IsWithin table e.0 × Shows table (joint table e.0) e.1 × AreEachJoins table entries
+
+pub record AreJoins (table : List Shape) (entries : List (Pair × ℕ)) : Type 0 where
+  pub each : AreEachJoins table entries
+
+-- ---- the joins of parts
+
+-- the joins place by place, as far as both go
+abbrev pub place_joins : Shapes → Shapes → List Shape
+place_joins NoShapes others = []
+place_joins (AndShape s first) NoShapes = []
+place_joins (AndShape s first) (AndShape other others) = join s other ∷ place_joins first others
+
+-- one that both objects mention is joined
+abbrev pub with_field_join : Shape → Option (Bool × Shape) → List Shape → List Shape
+with_field_join s None joins = joins
+with_field_join s (Some mention) joins = join s mention.1 ∷ joins
+
+-- the joins of the fields that both objects mention
+abbrev pub field_joins : FieldShapes → FieldShapes → List Shape
+field_joins NoFieldShapes others = []
+field_joins (AndFieldShape n needed s shapes) others = with_field_join s (mention_of n others) (field_joins shapes others)
+
+-- The joins of the parts of two shapes that are both of arrays, the further elements first, or both of objects.
+pub data ArePartsOf : Shape → Shape → List Shape → Type 0 where
+  array_parts : {first others : Shapes} {rest further : Shape} → ArePartsOf (ArrayShape first rest) (ArrayShape others further) (join (join (joined_with_each join model.Never (further_places first others)) rest) further ∷ place_joins first others)
+  object_parts : {shapes others : FieldShapes} {extra more : Bool} → ArePartsOf (ObjectShape shapes extra) (ObjectShape others more) (field_joins shapes others)
+
+-- ---- what tasks do to the shapes of the numbers that were found
+
+-- a task, with shapes in place of their numbers
+pub data Step : Type 0 where
+  JoinStep : Shape → Shape → Step
+  NothingStep : Step
+  WithStep : Shape → Step
+  FinishStep : Shape → Shape → ℕ → Step
+
+abbrev pub step_of : List Shape → JoinTask → Step
+step_of table (Join p) = JoinStep (shape_at table p.first) (shape_at table p.second)
+step_of table Nothing = NothingStep
+step_of table (With n) = WithStep (shape_at table n)
+step_of table (Finish p start) = FinishStep (shape_at table p.first) (shape_at table p.second) start
+
+abbrev pub steps_of : List Shape → List JoinTask → List Step
+steps_of table tasks = map (step_of table) tasks
+
+-- the last shape joined with that one
+abbrev pub joined_last : Shape → List Shape → List Shape
+joined_last s [] = []
+joined_last s (t ∷ []) = join t s ∷ []
+joined_last s (t ∷ u ∷ found) = t ∷ joined_last s (u ∷ found)
+
+abbrev pub done : Step → List Shape → List Shape
+done (JoinStep a b) found = found ++ join a b ∷ []
+done NothingStep found = found ++ model.Never ∷ []
+done (WithStep s) found = joined_last s found
+done (FinishStep a b start) found = take start found ++ join a b ∷ []
+
+-- what is found once all steps are done, the last one first
+abbrev pub all_done : List Step → List Shape → List Shape
+all_done [] found = found
+all_done (step ∷ steps) found = done step (all_done steps found)
+
+-- a pair that is to be finished finds the joins of its parts
+abbrev pub IsFed : Step → List Shape → Type 0
+IsFed (JoinStep a b) found = Unit {0}
+IsFed NothingStep found = Unit {0}
+IsFed (WithStep s) found = Unit {0}
+IsFed (FinishStep a b start) found = (start ≤ length found) × ArePartsOf a b (drop start found) × (inhabited a ≡ true) × (inhabited b ≡ true)
+
+abbrev pub AreEachFed : List Step → List Shape → Type 0
+AreEachFed [] found = Unit {0}
+AreEachFed (step ∷ steps) found = IsFed step (all_done steps found) × AreEachFed steps found
+
+-- ---- how much is left to do
+
+-- so many steps join the places, where a join takes so many
+abbrev pub places_cost : (Shape → Shape → ℕ) → Shapes → Shapes → ℕ
+places_cost cost NoShapes others = 0
+places_cost cost (AndShape s first) NoShapes = 0
+places_cost cost (AndShape s first) (AndShape other others) = cost s other + places_cost cost first others
+
+-- so many join a shape with each of the shapes
+abbrev pub each_cost : (Shape → Shape → ℕ) → Shape → Shapes → ℕ
+each_cost cost s NoShapes = 0
+each_cost cost s (AndShape other others) = 1 + cost s other + each_cost cost (join s other) others
+
+-- so many join the further elements
+abbrev pub rest_cost : (Shape → Shape → ℕ) → Shapes → Shape → Shape → ℕ
+rest_cost cost behind rest further = each_cost cost model.Never behind + (1 + cost (joined_with_each join model.Never behind) rest) + (1 + cost (join (joined_with_each join model.Never behind) rest) further)
+
+abbrev pub with_field_cost : (Shape → Shape → ℕ) → Shape → Option (Bool × Shape) → ℕ → ℕ
+with_field_cost cost s None n = n
+with_field_cost cost s (Some mention) n = cost s mention.1 + n
+
+-- so many join the fields
+abbrev pub fields_cost : (Shape → Shape → ℕ) → FieldShapes → FieldShapes → ℕ
+fields_cost cost NoFieldShapes others = 0
+fields_cost cost (AndFieldShape n needed s shapes) others = with_field_cost cost s (mention_of n others) (fields_cost cost shapes others)
+
+-- so many join the parts of two shapes
+abbrev pub parts_cost : (Shape → Shape → ℕ) → Shape → Shape → ℕ
+parts_cost cost (ArrayShape first rest) (ArrayShape others further) = places_cost cost first others + rest_cost cost (further_places first others) rest further
+parts_cost cost (ObjectShape shapes extra) (ObjectShape others more) = fields_cost cost shapes others
+parts_cost cost a b = 0
+
+-- at most so many join two shapes that are at most so deep
+abbrev pub cost_within : ℕ → Shape → Shape → ℕ
+cost_within zero a b = 1
+cost_within (suc n) a b = 3 + parts_cost (cost_within n) a b
+
+abbrev pub cost_of : Shape → Shape → ℕ
+cost_of a b = cost_within (max (depth a) (depth b)) a b
+
+-- the last shape
+abbrev pub last_of : List Shape → Shape
+last_of [] = model.Never
+last_of (s ∷ []) = s
+last_of (s ∷ t ∷ found) = last_of (t ∷ found)
+
+abbrev pub step_cost : Step → List Shape → ℕ
+step_cost (JoinStep a b) found = cost_of a b
+step_cost NothingStep found = 1
+step_cost (WithStep s) found = 1 + cost_of (last_of found) s
+step_cost (FinishStep a b start) found = 1
+
+-- at most so many steps are left
+abbrev pub work_left : List Step → List Shape → ℕ
+work_left [] found = 0
+work_left (step ∷ steps) found = step_cost step (all_done steps found) + work_left steps found

@@ -1,0 +1,358 @@
+// The join of two shapes of a table.
+//
+// The join of two lists or objects is made of joins of their parts. These are gone through one by one, from a list of
+// what is still to be done, and the numbers that are found stand in a second list, so that no call goes from a shape to
+// its parts.
+use crate::node::{Node, NodeField};
+use crate::pair::Pair;
+use crate::table::Table;
+use asl_tree::OutOfMemory;
+use indexmap::IndexMap;
+use std::alloc::Global;
+use std::collections::BTreeMap;
+
+/// For pairs of numbers, the number of the join of their shapes.
+pub(crate) type Joined = IndexMap<Pair, usize>;
+
+/// What is left to do.
+#[derive(Clone, Copy)]
+pub(crate) enum JoinTask {
+    /// To put the number of the join of the two shapes behind the numbers.
+    Join(Pair),
+    /// To put the number of `Never` there.
+    Nothing,
+    /// To put in place of the last number that of the join of its shape with this one.
+    With(usize),
+    /// To put in place of all numbers from that index on, which are those of the joins of parts, the number of the join
+    /// of the two shapes.
+    Finish { pair: Pair, start: usize },
+}
+
+/// What is left to do, the next one last, and the numbers that were found.
+#[derive(Drop)]
+pub(crate) struct Work {
+    pub(crate) alloc: Global,
+    pub(crate) tasks: Vec<JoinTask>,
+    pub(crate) numbers: Vec<usize>,
+}
+
+/// The number of the join of the two shapes of the pair: as before, where that is remembered; else it is found out and
+/// remembered, and so it is for the pairs of parts that had to be joined.
+pub(crate) fn join(
+    table: &mut Table,
+    joined: &mut Joined,
+    alloc: Global,
+    pair: Pair,
+) -> Result<usize, OutOfMemory> {
+    let mut work = Work {
+        alloc,
+        tasks: Vec::new(alloc),
+        numbers: Vec::new(alloc),
+    };
+    work.tasks.push(JoinTask::Join(pair))?;
+    while let Some(task) = work.tasks.pop() {
+        perform(table, joined, &mut work, task)?;
+    }
+    Ok(work.numbers.pop().unwrap_or(pair.first))
+}
+
+// Does one task, which may put down others.
+fn perform(
+    table: &mut Table,
+    joined: &mut Joined,
+    work: &mut Work,
+    task: JoinTask,
+) -> Result<(), OutOfMemory> {
+    match task {
+        JoinTask::Join(pair) => look(table, joined, work, pair),
+        JoinTask::Nothing => {
+            let never = table.put(Node::Never)?;
+            work.numbers.push(never)?;
+            Ok(())
+        }
+        JoinTask::With(number) => {
+            if let Some(last) = work.numbers.pop() {
+                work.tasks.push(JoinTask::Join(Pair {
+                    first: last,
+                    second: number,
+                }))?;
+            }
+            Ok(())
+        }
+        JoinTask::Finish { pair, start } => finish(table, joined, work, pair, start),
+    }
+}
+
+// Looks at one pair, and puts the number of its join behind the numbers, or the joins of its parts behind the tasks.
+fn look(
+    table: &mut Table,
+    joined: &Joined,
+    work: &mut Work,
+    pair: Pair,
+) -> Result<(), OutOfMemory> {
+    if let Some(number) = known(table, joined, pair) {
+        work.numbers.push(number)?;
+        return Ok(());
+    }
+    if let Some(node) = look_inside(table, work, pair)? {
+        let number = table.put(node)?;
+        work.numbers.push(number)?;
+    }
+    Ok(())
+}
+
+// The number of the join, where one of the shapes isn't inhabited or it is remembered.
+fn known(table: &Table, joined: &Joined, pair: Pair) -> Option<usize> {
+    if !table.is_inhabited(pair.first) {
+        return Some(pair.second);
+    }
+    if !table.is_inhabited(pair.second) {
+        return Some(pair.first);
+    }
+    match joined.get(&pair) {
+        Some(number) => Some(*number),
+        None => None,
+    }
+}
+
+// The first level of the join of two shapes that are inhabited, where they aren't both of lists or both of objects; else
+// the joins of the parts are put behind the tasks.
+fn look_inside(table: &Table, work: &mut Work, pair: Pair) -> Result<Option<Node>, OutOfMemory> {
+    match table.node(pair.first) {
+        None => Ok(Some(Node::Any)),
+        Some(first) => match table.node(pair.second) {
+            None => Ok(Some(Node::Any)),
+            Some(second) => look_at(work, pair, first, second),
+        },
+    }
+}
+
+// The same for the two nodes.
+fn look_at(
+    work: &mut Work,
+    pair: Pair,
+    first: &Node,
+    second: &Node,
+) -> Result<Option<Node>, OutOfMemory> {
+    match first {
+        Node::Null if matches!(second, Node::Null) => Ok(Some(Node::Null)),
+        Node::Bool if matches!(second, Node::Bool) => Ok(Some(Node::Bool)),
+        Node::Int if matches!(second, Node::Int) => Ok(Some(Node::Int)),
+        Node::Text if matches!(second, Node::Text) => Ok(Some(Node::Text)),
+        Node::Any | Node::Never | Node::Null | Node::Bool | Node::Int | Node::Text => {
+            Ok(Some(Node::Any))
+        }
+        Node::List {
+            first: places,
+            rest,
+        } => look_at_list(work, pair, places, *rest, second),
+        Node::Object { fields, .. } => look_at_object(work, pair, fields, second),
+    }
+}
+
+// The same for a node of lists and another node.
+fn look_at_list(
+    work: &mut Work,
+    pair: Pair,
+    places: &[usize],
+    rest: usize,
+    second: &Node,
+) -> Result<Option<Node>, OutOfMemory> {
+    match second {
+        Node::List {
+            first: others,
+            rest: further,
+        } => {
+            let start = work.numbers.len();
+            work.tasks.push(JoinTask::Finish { pair, start })?;
+            put_places(&mut work.tasks, places, others)?;
+            work.tasks.push(JoinTask::With(*further))?;
+            work.tasks.push(JoinTask::With(rest))?;
+            put_behind(&mut work.tasks, places, others.len())?;
+            put_behind(&mut work.tasks, others, places.len())?;
+            work.tasks.push(JoinTask::Nothing)?;
+            Ok(None)
+        }
+        _ => Ok(Some(Node::Any)),
+    }
+}
+
+// Puts down the joins place by place, as far as both go, so that the first comes first.
+fn put_places(
+    tasks: &mut Vec<JoinTask>,
+    places: &[usize],
+    others: &[usize],
+) -> Result<(), OutOfMemory> {
+    let mut index = places.len().min(others.len());
+    while index > 0 {
+        index -= 1;
+        tasks.push(JoinTask::Join(Pair {
+            first: places[index],
+            second: others[index],
+        }))?;
+    }
+    Ok(())
+}
+
+// Puts down the joins with the places from that index on, so that the first comes first.
+fn put_behind(
+    tasks: &mut Vec<JoinTask>,
+    places: &[usize],
+    start: usize,
+) -> Result<(), OutOfMemory> {
+    let mut index = places.len();
+    while index > start {
+        index -= 1;
+        tasks.push(JoinTask::With(places[index]))?;
+    }
+    Ok(())
+}
+
+// The same for a node of objects and another node.
+fn look_at_object(
+    work: &mut Work,
+    pair: Pair,
+    fields: &BTreeMap<String, NodeField>,
+    second: &Node,
+) -> Result<Option<Node>, OutOfMemory> {
+    match second {
+        Node::Object { fields: others, .. } => {
+            let start = work.numbers.len();
+            work.tasks.push(JoinTask::Finish { pair, start })?;
+            put_fields(&mut work.tasks, fields, others)?;
+            Ok(None)
+        }
+        _ => Ok(Some(Node::Any)),
+    }
+}
+
+// Puts down the joins of the fields that both objects mention, so that the first comes first.
+fn put_fields(
+    tasks: &mut Vec<JoinTask>,
+    fields: &BTreeMap<String, NodeField>,
+    others: &BTreeMap<String, NodeField>,
+) -> Result<(), OutOfMemory> {
+    for (name, field) in fields.iter().rev() {
+        if let Some(other) = others.get(name) {
+            tasks.push(JoinTask::Join(Pair {
+                first: field.shape,
+                second: other.shape,
+            }))?;
+        }
+    }
+    Ok(())
+}
+
+// Makes the join of the two shapes of the joins of their parts, and remembers its number.
+fn finish(
+    table: &mut Table,
+    joined: &mut Joined,
+    work: &mut Work,
+    pair: Pair,
+    start: usize,
+) -> Result<(), OutOfMemory> {
+    let parts = &work.numbers[start..];
+    let node = made(table, work.alloc, pair, parts)?;
+    let number = table.put(node)?;
+    remember(joined, pair, number)?;
+    work.numbers.truncate(start);
+    work.numbers.push(number)?;
+    Ok(())
+}
+
+// Remembers the number for the pair.
+fn remember(joined: &mut Joined, pair: Pair, number: usize) -> Result<(), OutOfMemory> {
+    drop(joined.insert(pair, number)?);
+    Ok(())
+}
+
+// The first level of the join of two shapes that are both of lists or both of objects, made of the joins of the parts.
+fn made(table: &Table, alloc: Global, pair: Pair, parts: &[usize]) -> Result<Node, OutOfMemory> {
+    match table.node(pair.first) {
+        Some(Node::Object { fields, extra }) => match table.node(pair.second) {
+            Some(
+                Node::Object {
+                    fields: others,
+                    extra: more,
+                },
+            ) => {
+                let mut joined = join_fields(alloc, fields, others, *more, parts)?;
+                add_others(fields, *extra, others, &mut joined)?;
+                Ok(Node::Object {
+                    fields: joined,
+                    extra: *extra || *more,
+                })
+            }
+            _ => Ok(Node::Any),
+        },
+        _ => made_list(alloc, parts),
+    }
+}
+
+// The first level of a shape of lists: first the shape of its further elements, and then its places.
+fn made_list(alloc: Global, parts: &[usize]) -> Result<Node, OutOfMemory> {
+    match parts.split_first() {
+        None => Ok(Node::Any),
+        Some((rest, places)) => {
+            let mut first = Vec::new(alloc);
+            first.extend_from_slice(places)?;
+            Ok(Node::List { first, rest: *rest })
+        }
+    }
+}
+
+// The first object's fields, joined with the second's, where `more` says whether the second may have fields that it
+// doesn't mention, and `parts` are the joins of those that both mention.
+fn join_fields(
+    alloc: Global,
+    fields: &BTreeMap<String, NodeField>,
+    others: &BTreeMap<String, NodeField>,
+    more: bool,
+    parts: &[usize],
+) -> Result<BTreeMap<String, NodeField>, OutOfMemory> {
+    let mut joined = BTreeMap::new(alloc);
+    let mut left = parts.iter();
+    for (name, field) in fields.iter() {
+        match others.get(name) {
+            Some(other) => {
+                let key = name.clone()?;
+                let both = NodeField {
+                    needed: field.needed && other.needed,
+                    shape: *left.next().unwrap_or(&field.shape),
+                };
+                drop(joined.insert(key, both)?);
+            }
+            None if more => {}
+            None => {
+                let key = name.clone()?;
+                drop(joined.insert(key, optional(field))?);
+            }
+        }
+    }
+    Ok(joined)
+}
+
+// Adds the second object's fields that the first doesn't mention, the last one first, as optional ones, unless `extra`
+// says that the first may have fields that it doesn't mention.
+fn add_others(
+    fields: &BTreeMap<String, NodeField>,
+    extra: bool,
+    others: &BTreeMap<String, NodeField>,
+    joined: &mut BTreeMap<String, NodeField>,
+) -> Result<(), OutOfMemory> {
+    for (name, other) in others.iter().rev() {
+        if !extra && !fields.contains_key(name) {
+            let key = name.clone()?;
+            drop(joined.insert(key, optional(other))?);
+        }
+    }
+    Ok(())
+}
+
+// The field, as one that doesn't have to be there.
+fn optional(field: &NodeField) -> NodeField {
+    NodeField {
+        needed: false,
+        shape: field.shape,
+    }
+}
