@@ -45,10 +45,10 @@ pub right_kept : (old new : List model.Shape) (entries : List (Pair × Bool)) �
 right_kept old new entries keeps h = record { each = each-kept old new entries keeps h.each }
 
 -- equal pairs
-abbrev same : Pair → Pair → Bool
+abbrev pub same : Pair → Pair → Bool
 same = pair_eq.ghosts.eq
 
-same-is : (p q : Pair) → same p q ≡ true → p ≡ q
+pub same-is : (p q : Pair) → same p q ≡ true → p ≡ q
 same-is p q e =
     let both = and_parts _ _ e in
     let first : p.first ≡ q.first = eqb-true p.first q.first both.0 in

@@ -2,5 +2,6 @@ pub mod Appending
 pub mod Comparisons
 pub mod Expansions
 pub mod Growing
+pub mod Joins
 pub mod Sameness
 pub mod Tables

@@ -1,10 +1,14 @@
 -- How the shapes of a table are joined by their numbers: what is remembered, and what is left to do. No public clause
 -- cites this module.
-use Rattle.std.specs.Prelude.{◌≡◌, ◌<◌, ◌≤◌, ◌+◌, ℕ, zero, suc, max, List, [], ◌∷◌, ◌++◌, length, map, take, drop, Bool, true, Option, Some, None}
+use Rattle.std.specs.Prelude.{◌≡◌, ◌<◌, ◌≤◌, ◌+◌, ℕ, zero, suc, max, List, [], ◌∷◌, ◌++◌, length, map, take, drop, Bool, true, Option, Some, None, String}
+use Rattle.std.specs.declared.alloc.Global.{Global}
+use Rattle.std.specs.BTreeMap.{is_at}
+use Rattle.std.specs.Map.{lookup}
+use Rattle.std.specs.String.{string_cmp}
 use Rattle.asl_model.specs.Shape as model
 use Rattle.asl_model.specs.Shape.{Shape, Shapes, NoShapes, AndShape, FieldShapes, NoFieldShapes, AndFieldShape, ArrayShape, ObjectShape, inhabited}
 use Rattle.asl_model.specs.ShapeOrder.{depth, mention_of, further_places, joined_with_each, join}
-use Rattle.asl_numbered.specs.declared.node.Node.{Node}
+use Rattle.asl_numbered.specs.declared.node.NodeField.{NodeField}
 use Rattle.asl_numbered.specs.declared.pair.Pair.{Pair}
 use Rattle.asl_numbered.specs.declared.joining.JoinTask.{JoinTask}
 use Rattle.asl_numbered.specs.declared.joining.JoinTask.TheVariants.{Join, Nothing, With, Finish}
@@ -155,3 +159,31 @@ step_cost (FinishStep a b start) found = 1
 abbrev pub work_left : List Step → List Shape → ℕ
 work_left [] found = 0
 work_left (step ∷ steps) found = step_cost step (all_done steps found) + work_left steps found
+
+-- ---- tasks that are put down
+
+-- the joins place by place, the first last
+abbrev pub place_joinings : List ℕ → List ℕ → List JoinTask
+place_joinings [] others = []
+place_joinings (place ∷ places) [] = []
+place_joinings (place ∷ places) (other ∷ others) = place_joinings places others ++ Join (record { first = place; second = other }) ∷ []
+
+-- the joins with each of the places, the first last
+abbrev pub joinings_with : List ℕ → List JoinTask
+joinings_with [] = []
+joinings_with (place ∷ places) = joinings_with places ++ With place ∷ []
+
+-- a field is joined with one of its name, where that is there
+abbrev pub field_joining : NodeField → Option NodeField → List JoinTask
+field_joining field None = []
+field_joining field (Some other) = Join (record { first = field.shape; second = other.shape }) ∷ []
+
+-- the joins of the fields that both mention, the first last
+abbrev pub field_joinings : List (String Global × NodeField) → List (String Global × NodeField) → List JoinTask
+field_joinings [] others = []
+field_joinings (f ∷ fields) others = field_joinings fields others ++ field_joining f.1 (lookup (is_at (string_cmp f.0)) others)
+
+-- both shapes of the pair are inhabited
+pub record AreInhabited (table : List Shape) (p : Pair) : Type 0 where
+  pub first : inhabited (shape_at table p.first) ≡ true
+  pub second : inhabited (shape_at table p.second) ≡ true

@@ -3,6 +3,12 @@
 // The join of two lists or objects is made of joins of their parts. These are gone through one by one, from a list of
 // what is still to be done, and the numbers that are found stand in a second list, so that no call goes from a shape to
 // its parts.
+ghost use Rattle.asl_model.specs.Shape as shape;
+ghost use Rattle.asl_numbered.specs.Comparison.{IsWithin};
+ghost use Rattle.asl_numbered.specs.Expansion.{expansions};
+ghost use Rattle.asl_numbered.specs.Joins.{joint, Shows, AreJoins, AreInhabited, place_joinings, joinings_with, field_joinings};
+ghost use Rattle.std.specs.Prelude.{◌≡◌, ◌++◌, List, None, IfSome, IfOk, drop, false};
+
 use crate::node::{Node, NodeField};
 use crate::pair::Pair;
 use crate::table::Table;
@@ -102,7 +108,12 @@ fn look(
 }
 
 // The number of the join, where one of the shapes isn't inhabited or it is remembered.
-fn known(table: &Table, joined: &Joined, pair: Pair) -> Option<usize> {
+fn known(table: &Table, joined: &Joined, pair: Pair) -> Option<usize>
+    requires right { AreJoins (expansions table.now) joined.now.entries }
+    requires within { IsWithin (expansions table.now) pair }
+    ensures number { IfSome result (Shows (expansions table.now) (joint (expansions table.now) pair)) }
+    ensures inhabited { result ≡ None → AreInhabited (expansions table.now) pair }
+{
     if !table.is_inhabited(pair.first) {
         return Some(pair.second);
     }
@@ -182,7 +193,9 @@ fn put_places(
     tasks: &mut Vec<JoinTask>,
     places: &[usize],
     others: &[usize],
-) -> Result<(), OutOfMemory> {
+) -> Result<(), OutOfMemory>
+    ensures put { IfOk result (λ _. tasks.new.items ≡ tasks.old.items ++ place_joinings places.now others.now) }
+{
     let mut index = places.len().min(others.len());
     while index > 0 {
         index -= 1;
@@ -199,7 +212,9 @@ fn put_behind(
     tasks: &mut Vec<JoinTask>,
     places: &[usize],
     start: usize,
-) -> Result<(), OutOfMemory> {
+) -> Result<(), OutOfMemory>
+    ensures put { IfOk result (λ _. tasks.new.items ≡ tasks.old.items ++ joinings_with (drop start places.now)) }
+{
     let mut index = places.len();
     while index > start {
         index -= 1;
@@ -231,7 +246,9 @@ fn put_fields(
     tasks: &mut Vec<JoinTask>,
     fields: &BTreeMap<String, NodeField>,
     others: &BTreeMap<String, NodeField>,
-) -> Result<(), OutOfMemory> {
+) -> Result<(), OutOfMemory>
+    ensures put { IfOk result (λ _. tasks.new.items ≡ tasks.old.items ++ field_joinings fields.now.entries others.now.entries) }
+{
     for (name, field) in fields.iter().rev() {
         if let Some(other) = others.get(name) {
             tasks.push(JoinTask::Join(Pair {
@@ -261,7 +278,9 @@ fn finish(
 }
 
 // Remembers the number for the pair.
-fn remember(joined: &mut Joined, pair: Pair, number: usize) -> Result<(), OutOfMemory> {
+fn remember(joined: &mut Joined, pair: Pair, number: usize) -> Result<(), OutOfMemory>
+    ensures right { (table : List shape.Shape) → IsWithin table pair → Shows table (joint table pair) number → AreJoins table joined.old.entries → AreJoins table joined.new.entries }
+{
     drop(joined.insert(pair, number)?);
     Ok(())
 }
@@ -350,7 +369,10 @@ fn add_others(
 }
 
 // The field, as one that doesn't have to be there.
-fn optional(field: &NodeField) -> NodeField {
+fn optional(field: &NodeField) -> NodeField
+    ensures needed { result.needed ≡ false }
+    ensures same { result.shape ≡ field.now.shape }
+{
     NodeField {
         needed: false,
         shape: field.shape,

@@ -1,0 +1,114 @@
+-- The joins of shapes of a table, by their numbers: what is remembered, and what tasks do.
+use Rattle.std.proofs.Common.{◌≡◌, ◌<◌, ◌≤◌, ◌+◌, ℕ, zero, suc, max, List, [], ◌∷◌, ◌++◌, length, map, take, drop, Bool, true, false, cond, Option, Some, None, refl, sym, ap, ◌∙◌, subst, arith}
+use Rattle.std.proofs.lemmas.List.{map-append}
+use Rattle.std.specs.Map.{lookup}
+use Rattle.indexmap.specs.IndexMap.{insert_entry}
+use Rattle.asl_model.specs.Shape as model
+use Rattle.asl_model.specs.Shape.{Shape, Shapes, NoShapes, AndShape, FieldShapes, NoFieldShapes, AndFieldShape, inhabited}
+use Rattle.asl_model.specs.ShapeOrder.{depth, depth_of_elements, depth_of_fields, mention_of, further_places, joined_with_each, join}
+use Rattle.asl_model.proofs.JoinFuel.{one_deep, further-low, join-low, join_each-low}
+use Rattle.asl_numbered.specs.declared.pair.Pair.{Pair}
+use Rattle.asl_numbered.specs.declared.joining.JoinTask.{JoinTask}
+use Rattle.asl_numbered.specs.declared.joining.JoinTask.TheVariants.{Join, Nothing, With, Finish}
+use Rattle.asl_numbered.specs.Comparison.{IsWithin}
+use Rattle.asl_numbered.specs.Expansion.{shape_at, shapes_at, Keeps}
+use Rattle.asl_numbered.specs.Joins.{joint, Shows, AreEachJoins, AreJoins, place_joins, Step, JoinStep, NothingStep, WithStep, FinishStep, step_of, steps_of, joined_last, done, all_done, IsFed, AreEachFed, places_cost, each_cost, rest_cost, cost_within, cost_of, last_of, step_cost, work_left, place_joinings, joinings_with}
+use Rattle.asl_numbered.proofs.Comparisons.{same, same-is, within_kept}
+use Rattle.asl_numbered.proofs.Expansions.{keeps_longer, kept_shape}
+
+-- ---- what is remembered
+
+pub shows_kept : (old new : List Shape) (s : Shape) (n : ℕ) → Keeps old new → Shows old s n → Shows new s n
+shows_kept old new s n keeps h =
+    let longer = keeps_longer old new keeps in
+    record { within = omega (arith, h.within); same = kept_shape old new n keeps h.within ∙ h.same }
+
+pub joint_kept : (old new : List Shape) (p : Pair) → Keeps old new → IsWithin old p → joint new p ≡ joint old p
+joint_kept old new p keeps h = rw (kept_shape old new p.first keeps h.first, kept_shape old new p.second keeps h.second) refl
+
+each-kept : (old new : List Shape) (entries : List (Pair × ℕ)) → Keeps old new → AreEachJoins old entries → AreEachJoins new entries
+each-kept old new [] keeps h = tt
+each-kept old new (e ∷ entries) keeps h =
+    let shown = subst (λ s. Shows new s e.1) (sym (joint_kept old new e.0 keeps h.0)) (shows_kept old new (joint old e.0) e.1 keeps h.1) in
+    (within_kept old new e.0 keeps h.0, shown, each-kept old new entries keeps h.2)
+
+-- in a table that has grown it stays right
+pub joins_kept : (old new : List Shape) (entries : List (Pair × ℕ)) → Keeps old new → AreJoins old entries → AreJoins new entries
+joins_kept old new entries keeps h = record { each = each-kept old new entries keeps h.each }
+
+each-put : (table : List Shape) (entries : List (Pair × ℕ)) (p : Pair) (n : ℕ) → IsWithin table p → Shows table (joint table p) n → AreEachJoins table entries → AreEachJoins table (insert_entry same entries p n)
+each-put table [] p n within is h = (within, is, tt)
+each-put table (e ∷ entries) p n within is h = go (same p e.0) refl (each-put table entries p n within is h.2)
+  where
+    go : (here : Bool) → same p e.0 ≡ here → AreEachJoins table (insert_entry same entries p n) → AreEachJoins table (cond here ((e.0, n) ∷ entries) (e ∷ insert_entry same entries p n))
+    go true found behind = (h.0, subst (λ q. Shows table (joint table q) n) (same-is p e.0 found) is, h.2)
+    go false found behind = (h.0, h.1, behind)
+
+-- one more, or another number for its pair
+pub joins_put : (table : List Shape) (entries new : List (Pair × ℕ)) (p : Pair) (n : ℕ) → IsWithin table p → Shows table (joint table p) n → AreJoins table entries → new ≡ insert_entry same entries p n → AreJoins table new
+joins_put table entries new p n within is h made = rw made (record { each = each-put table entries p n within is h.each })
+
+each-found : (table : List Shape) (entries : List (Pair × ℕ)) (p : Pair) (n : ℕ) → AreEachJoins table entries → lookup (same p) entries ≡ Some n → Shows table (joint table p) n
+each-found table [] p n h found = absurd (cc)
+each-found table (e ∷ entries) p n h found = go (same p e.0) refl (λ below. each-found table entries p n h.2 below)
+  where
+    go : (here : Bool) → same p e.0 ≡ here → (lookup (same p) entries ≡ Some n → Shows table (joint table p) n) → Shows table (joint table p) n
+    go true is later =
+        let there : Some e.1 ≡ Some n = rw is at found in
+        let own : e.1 ≡ n = cc in
+        subst (Shows table (joint table p)) own (subst (λ q. Shows table (joint table q) e.1) (sym (same-is p e.0 is)) h.1)
+    go false is later = later (rw is at found)
+
+-- a number that is found is right
+pub joins_found : (table : List Shape) (entries : List (Pair × ℕ)) (p : Pair) (n : ℕ) → AreJoins table entries → lookup (same p) entries ≡ Some n → Shows table (joint table p) n
+joins_found table entries p n h found = each-found table entries p n h.each found
+
+-- ---- steps behind others
+
+pub done_append : (front more : List Step) (found : List Shape) → all_done (front ++ more) found ≡ all_done front (all_done more found)
+done_append [] more found = refl
+done_append (step ∷ front) more found = ap (done step) (done_append front more found)
+
+pub work_append : (front more : List Step) (found : List Shape) → work_left (front ++ more) found ≡ work_left front (all_done more found) + work_left more found
+work_append [] more found = omega arith
+work_append (step ∷ front) more found = rw (work_append front more found, done_append front more found) (omega arith)
+
+pub fed_append : (front more : List Step) (found : List Shape) → AreEachFed front (all_done more found) → AreEachFed more found → AreEachFed (front ++ more) found
+fed_append [] more found h further = further
+fed_append (step ∷ front) more found h further = (subst (IsFed step) (sym (done_append front more found)) h.0, fed_append front more found h.1 further)
+
+-- the last of some shapes
+pub joined_behind : (s t : Shape) (found : List Shape) → joined_last s (found ++ t ∷ []) ≡ found ++ join t s ∷ []
+joined_behind s t [] = refl
+joined_behind s t (u ∷ []) = refl
+joined_behind s t (u ∷ v ∷ found) = ap (λ x. u ∷ x) (joined_behind s t (v ∷ found))
+
+pub last_behind : (t : Shape) (found : List Shape) → last_of (found ++ t ∷ []) ≡ t
+last_behind t [] = refl
+last_behind t (u ∷ []) = refl
+last_behind t (u ∷ v ∷ found) = last_behind t (v ∷ found)
+
+-- ---- joins with places, one after another
+
+steps-last : (table : List Shape) (n : ℕ) (ns : List ℕ) → steps_of table (joinings_with (n ∷ ns)) ≡ steps_of table (joinings_with ns) ++ WithStep (shape_at table n) ∷ []
+steps-last table n ns = map-append (step_of table) (joinings_with ns) (With n ∷ [])
+
+pub with_each : (table : List Shape) (ns : List ℕ) (t : Shape) (found : List Shape) → all_done (steps_of table (joinings_with ns)) (found ++ t ∷ []) ≡ found ++ joined_with_each join t (shapes_at table ns) ∷ []
+with_each table [] t found = refl
+with_each table (n ∷ ns) t found =
+    ap (λ steps. all_done steps (found ++ t ∷ [])) (steps-last table n ns)
+    ∙ done_append (steps_of table (joinings_with ns)) (WithStep (shape_at table n) ∷ []) (found ++ t ∷ [])
+    ∙ ap (all_done (steps_of table (joinings_with ns))) (joined_behind (shape_at table n) t found)
+    ∙ with_each table ns (join t (shape_at table n)) found
+
+pub with_each_work : (table : List Shape) (ns : List ℕ) (t : Shape) (found : List Shape) → work_left (steps_of table (joinings_with ns)) (found ++ t ∷ []) ≡ each_cost cost_of t (shapes_at table ns)
+with_each_work table [] t found = refl
+with_each_work table (n ∷ ns) t found =
+    let s = shape_at table n in
+    let steps = steps_of table (joinings_with ns) in
+    let split : work_left (steps_of table (joinings_with (n ∷ ns))) (found ++ t ∷ []) ≡ work_left steps (joined_last s (found ++ t ∷ [])) + (1 + cost_of (last_of (found ++ t ∷ [])) s + 0) =
+    ap (λ all. work_left all (found ++ t ∷ [])) (steps-last table n ns) ∙ work_append steps (WithStep s ∷ []) (found ++ t ∷ []) in
+    let front : work_left steps (joined_last s (found ++ t ∷ [])) ≡ each_cost cost_of (join t s) (shapes_at table ns) =
+    ap (work_left steps) (joined_behind s t found) ∙ with_each_work table ns (join t s) found in
+    let last : cost_of (last_of (found ++ t ∷ [])) s ≡ cost_of t s = ap (λ x. cost_of x s) (last_behind t found) in
+    omega (arith, split, front, last)
