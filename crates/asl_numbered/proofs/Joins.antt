@@ -1,18 +1,22 @@
 -- The joins of shapes of a table, by their numbers: what is remembered, and what tasks do.
-use Rattle.std.proofs.Common.{◌≡◌, ◌<◌, ◌≤◌, ◌+◌, ℕ, zero, suc, max, List, [], ◌∷◌, ◌++◌, length, map, take, drop, Bool, true, false, cond, Option, Some, None, refl, sym, ap, ◌∙◌, subst, arith}
-use Rattle.std.proofs.lemmas.List.{map-append}
+use Rattle.std.proofs.Common.{◌≡◌, ◌<◌, ◌≤◌, ◌+◌, ℕ, zero, suc, max, List, [], ◌∷◌, ◌++◌, length, map, take, drop, Bool, true, false, cond, Option, Some, None, refl, sym, ap, ◌∙◌, subst, arith, ◌⊎◌, inl, inr, min, String, Global}
+use Rattle.std.proofs.lemmas.Bool.{cases_lt}
+use Rattle.std.proofs.lemmas.List.{append-nil, map-append}
+use Rattle.std.specs.BTreeMap.{is_at}
+use Rattle.std.specs.String.{string_cmp}
 use Rattle.std.specs.Map.{lookup}
 use Rattle.indexmap.specs.IndexMap.{insert_entry}
 use Rattle.asl_model.specs.Shape as model
 use Rattle.asl_model.specs.Shape.{Shape, Shapes, NoShapes, AndShape, FieldShapes, NoFieldShapes, AndFieldShape, inhabited}
 use Rattle.asl_model.specs.ShapeOrder.{depth, depth_of_elements, depth_of_fields, mention_of, further_places, joined_with_each, join}
-use Rattle.asl_model.proofs.JoinFuel.{one_deep, further-low, join-low, join_each-low}
+use Rattle.asl_model.proofs.JoinFuel.{join-first_uninhabited, join-second_uninhabited}
+use Rattle.asl_numbered.specs.declared.node.NodeField.{NodeField}
 use Rattle.asl_numbered.specs.declared.pair.Pair.{Pair}
 use Rattle.asl_numbered.specs.declared.joining.JoinTask.{JoinTask}
 use Rattle.asl_numbered.specs.declared.joining.JoinTask.TheVariants.{Join, Nothing, With, Finish}
 use Rattle.asl_numbered.specs.Comparison.{IsWithin}
 use Rattle.asl_numbered.specs.Expansion.{shape_at, shapes_at, Keeps}
-use Rattle.asl_numbered.specs.Joins.{joint, Shows, AreEachJoins, AreJoins, place_joins, Step, JoinStep, NothingStep, WithStep, FinishStep, step_of, steps_of, joined_last, done, all_done, IsFed, AreEachFed, places_cost, each_cost, rest_cost, cost_within, cost_of, last_of, step_cost, work_left, place_joinings, joinings_with}
+use Rattle.asl_numbered.specs.Joins.{joint, Shows, AreEachJoins, AreJoins, place_joins, Step, JoinStep, NothingStep, WithStep, FinishStep, step_of, steps_of, joined_last, done, all_done, IsFed, AreEachFed, places_cost, each_cost, rest_cost, cost_within, cost_of, last_of, step_cost, work_left, place_joinings, joinings_with, field_joinings, field_joining}
 use Rattle.asl_numbered.proofs.Comparisons.{same, same-is, within_kept}
 use Rattle.asl_numbered.proofs.Expansions.{keeps_longer, kept_shape}
 
@@ -112,3 +116,42 @@ with_each_work table (n ∷ ns) t found =
     ap (work_left steps) (joined_behind s t found) ∙ with_each_work table ns (join t s) found in
     let last : cost_of (last_of (found ++ t ∷ [])) s ≡ cost_of t s = ap (λ x. cost_of x s) (last_behind t found) in
     omega (arith, split, front, last)
+
+-- ---- what is there at once
+
+pub second_shown : (table : List Shape) (p : Pair) (flag : Bool) → IsWithin table p → flag ≡ inhabited (shape_at table p.first) → flag ≡ false → Shows table (joint table p) p.second
+second_shown table p flag within is none =
+    record { within = within.second; same = sym (join-first_uninhabited (shape_at table p.first) (shape_at table p.second) (sym is ∙ none)) }
+
+pub first_shown : (table : List Shape) (p : Pair) (some flag : Bool) → IsWithin table p → some ≡ inhabited (shape_at table p.first) → some ≡ true → flag ≡ inhabited (shape_at table p.second) → flag ≡ false → Shows table (joint table p) p.first
+first_shown table p some flag within own there is none =
+    record { within = within.first; same = sym (join-second_uninhabited (shape_at table p.first) (shape_at table p.second) (sym own ∙ there) (sym is ∙ none)) }
+
+-- ---- tasks that are put down
+
+none-beside : (ps : List ℕ) → place_joinings ps [] ≡ []
+none-beside [] = refl
+none-beside (p ∷ ps) = refl
+
+no-places : (k : ℕ) (ps os : List ℕ) → (length ps ≤ k) ⊎ (length os ≤ k) → place_joinings (drop k ps) (drop k os) ≡ []
+no-places zero [] os h = refl
+no-places zero (p ∷ ps) [] h = refl
+no-places zero (p ∷ ps) (o ∷ os) (inl h) = absurd (omega (arith, h))
+no-places zero (p ∷ ps) (o ∷ os) (inr h) = absurd (omega (arith, h))
+no-places (suc k) [] os h = refl
+no-places (suc k) (p ∷ ps) [] h = none-beside (drop k ps)
+no-places (suc k) (p ∷ ps) (o ∷ os) (inl h) = no-places k ps os (inl (omega (arith, h)))
+no-places (suc k) (p ∷ ps) (o ∷ os) (inr h) = no-places k ps os (inr (omega (arith, h)))
+
+-- none is put down so far, where one of the two has no further place
+pub none_put : (tasks : List JoinTask) (ps os : List ℕ) (k : ℕ) → k ≡ min (length ps) (length os) → tasks ≡ tasks ++ place_joinings (drop k ps) (drop k os)
+none_put tasks ps os k is = sym (ap (λ more. tasks ++ more) (no-places k ps os (past (cases_lt (length ps) (length os)))) ∙ append-nil tasks)
+  where
+    past : (length ps < length os) ⊎ (length os ≤ length ps) → (length ps ≤ k) ⊎ (length os ≤ k)
+    past (inl h) = inl (omega (arith, is, h))
+    past (inr h) = inr (omega (arith, is, h))
+
+-- a field that the other object doesn't mention
+pub field_skipped : (tasks base : List JoinTask) (e : String Global × NodeField) (fields others : List (String Global × NodeField)) → tasks ≡ base ++ field_joinings fields others → lookup (is_at (string_cmp e.0)) others ≡ None → tasks ≡ base ++ field_joinings (e ∷ fields) others
+field_skipped tasks base e fields others so_far none =
+    so_far ∙ ap (λ more. base ++ more) (sym (ap (λ o. field_joinings fields others ++ field_joining e.1 o) none ∙ append-nil (field_joinings fields others)))
