@@ -1,5 +1,5 @@
 -- The joins of shapes of a table, by their numbers: what is remembered, and what tasks do.
-use Rattle.std.proofs.Common.{◌≡◌, ◌<◌, ◌≤◌, ◌+◌, ℕ, zero, suc, max, List, [], ◌∷◌, ◌++◌, length, map, take, drop, Bool, true, false, cond, Option, Some, None, refl, sym, ap, ◌∙◌, subst, arith, ◌⊎◌, inl, inr, min, String, Global}
+use Rattle.std.proofs.Common.{◌≡◌, ◌<◌, ◌≤◌, ◌+◌, ℕ, zero, suc, max, List, [], ◌∷◌, ◌++◌, length, map, take, drop, Bool, true, false, cond, Option, Some, None, refl, sym, ap, ◌∙◌, subst, arith, ◌⊎◌, inl, inr, min, String, Global, append_assoc}
 use Rattle.std.proofs.lemmas.Bool.{cases_lt}
 use Rattle.std.proofs.lemmas.List.{append-nil, map-append}
 use Rattle.std.specs.BTreeMap.{is_at}
@@ -9,7 +9,7 @@ use Rattle.indexmap.specs.IndexMap.{insert_entry}
 use Rattle.asl_model.specs.Shape as model
 use Rattle.asl_model.specs.Shape.{Shape, Shapes, NoShapes, AndShape, FieldShapes, NoFieldShapes, AndFieldShape, inhabited}
 use Rattle.asl_model.specs.ShapeOrder.{depth, depth_of_elements, depth_of_fields, mention_of, further_places, joined_with_each, join}
-use Rattle.asl_model.proofs.JoinFuel.{join-first_uninhabited, join-second_uninhabited}
+use Rattle.asl_model.proofs.JoinFuel.{one_deep, join-low, join_each-low, join-first_uninhabited, join-second_uninhabited}
 use Rattle.asl_numbered.specs.declared.node.NodeField.{NodeField}
 use Rattle.asl_numbered.specs.declared.pair.Pair.{Pair}
 use Rattle.asl_numbered.specs.declared.joining.JoinTask.{JoinTask}
@@ -155,3 +155,63 @@ none_put tasks ps os k is = sym (ap (λ more. tasks ++ more) (no-places k ps os 
 pub field_skipped : (tasks base : List JoinTask) (e : String Global × NodeField) (fields others : List (String Global × NodeField)) → tasks ≡ base ++ field_joinings fields others → lookup (is_at (string_cmp e.0)) others ≡ None → tasks ≡ base ++ field_joinings (e ∷ fields) others
 field_skipped tasks base e fields others so_far none =
     so_far ∙ ap (λ more. base ++ more) (sym (ap (λ o. field_joinings fields others ++ field_joining e.1 o) none ∙ append-nil (field_joinings fields others)))
+
+-- ---- joins place by place
+
+places-last : (table : List Shape) (p o : ℕ) (ps os : List ℕ) → steps_of table (place_joinings (p ∷ ps) (o ∷ os)) ≡ steps_of table (place_joinings ps os) ++ JoinStep (shape_at table p) (shape_at table o) ∷ []
+places-last table p o ps os = map-append (step_of table) (place_joinings ps os) (Join (record { first = p; second = o }) ∷ [])
+
+pub places_each : (table : List Shape) (ps os : List ℕ) (found : List Shape) → all_done (steps_of table (place_joinings ps os)) found ≡ found ++ place_joins (shapes_at table ps) (shapes_at table os)
+places_each table [] os found = sym (append-nil found)
+places_each table (p ∷ ps) [] found = sym (append-nil found)
+places_each table (p ∷ ps) (o ∷ os) found =
+    let a = shape_at table p in
+    let b = shape_at table o in
+    let steps = steps_of table (place_joinings ps os) in
+    ap (λ all. all_done all found) (places-last table p o ps os)
+    ∙ done_append steps (JoinStep a b ∷ []) found
+    ∙ places_each table ps os (found ++ join a b ∷ [])
+    ∙ append_assoc found (join a b ∷ []) (place_joins (shapes_at table ps) (shapes_at table os))
+
+pub places_each_work : (table : List Shape) (ps os : List ℕ) (found : List Shape) → work_left (steps_of table (place_joinings ps os)) found ≡ places_cost cost_of (shapes_at table ps) (shapes_at table os)
+places_each_work table [] os found = refl
+places_each_work table (p ∷ ps) [] found = refl
+places_each_work table (p ∷ ps) (o ∷ os) found =
+    let a = shape_at table p in
+    let b = shape_at table o in
+    let steps = steps_of table (place_joinings ps os) in
+    let split : work_left (steps_of table (place_joinings (p ∷ ps) (o ∷ os))) found ≡ work_left steps (found ++ join a b ∷ []) + (cost_of a b + 0) =
+    ap (λ all. work_left all found) (places-last table p o ps os) ∙ work_append steps (JoinStep a b ∷ []) found in
+    omega (arith, split, places_each_work table ps os (found ++ join a b ∷ []))
+
+-- ---- how much is left to do
+
+-- where a join of shapes that are at most so deep takes no more steps by the one count than by the other
+record AtMost (k : ℕ) (f g : Shape → Shape → ℕ) : Type 0 where
+  pub most : (a b : Shape) → depth a ≤ k → depth b ≤ k → f a b ≤ g a b
+
+module _ (f g : Shape → Shape → ℕ) (k : ℕ) (less : AtMost k f g) where
+  places-less : (first others : Shapes) → depth_of_elements first ≤ k → depth_of_elements others ≤ k → places_cost f first others ≤ places_cost g first others
+  places-less NoShapes others h i = omega arith
+  places-less (AndShape s first) NoShapes h i = omega arith
+  places-less (AndShape s first) (AndShape other others) h i =
+      let here = less.most s other (omega (arith, h)) (omega (arith, i)) in
+      let behind = places-less first others (omega (arith, h)) (omega (arith, i)) in
+      omega (arith, here, behind)
+
+  each-less : (s : Shape) (others : Shapes) → depth s ≤ k → depth_of_elements others ≤ k → each_cost f s others ≤ each_cost g s others
+  each-less s NoShapes h i = omega arith
+  each-less s (AndShape other others) h i =
+      let fits : depth other ≤ k = omega (arith, i) in
+      let here = less.most s other h fits in
+      let behind = each-less (join s other) others (join-low.keeps k s other h fits) (omega (arith, i)) in
+      omega (arith, here, behind)
+
+  rest-less : (behind : Shapes) (rest further : Shape) → depth_of_elements behind ≤ k → depth rest ≤ k → depth further ≤ k → rest_cost f behind rest further ≤ rest_cost g behind rest further
+  rest-less behind rest further h i j =
+      let one : 1 ≤ k = omega (arith, one_deep rest, i) in
+      let whole : depth (joined_with_each join model.Never behind) ≤ k = join_each-low k model.Never behind one h in
+      let front = each-less model.Never behind one h in
+      let middle = less.most (joined_with_each join model.Never behind) rest whole i in
+      let last = less.most (join (joined_with_each join model.Never behind) rest) further (join-low.keeps k (joined_with_each join model.Never behind) rest whole i) j in
+      omega (arith, front, middle, last)
