@@ -1,22 +1,23 @@
 -- The joins of shapes of a table, by their numbers: what is remembered, and what tasks do.
-use Rattle.std.proofs.Common.{◌≡◌, ◌<◌, ◌≤◌, ◌+◌, ℕ, zero, suc, max, List, [], ◌∷◌, ◌++◌, length, map, take, drop, Bool, true, false, cond, Option, Some, None, refl, sym, ap, ◌∙◌, subst, arith, ◌⊎◌, inl, inr, min, String, Global, append_assoc}
+use Rattle.std.proofs.Common.{◌≡◌, ◌<◌, ◌≤◌, ◌+◌, ℕ, zero, suc, max, List, [], ◌∷◌, ◌++◌, length, map, take, drop, Bool, true, false, cond, Option, Some, None, refl, sym, ap, ◌∙◌, subst, arith, ◌⊎◌, inl, inr, min, String, Global, append_assoc, bytes_eq}
 use Rattle.std.proofs.lemmas.Bool.{cases_lt}
 use Rattle.std.proofs.lemmas.List.{append-nil, map-append}
 use Rattle.std.specs.BTreeMap.{is_at}
 use Rattle.std.specs.String.{string_cmp}
 use Rattle.std.specs.Map.{lookup}
+use Rattle.std.specs.Prelude.{if◌then◌else◌}
 use Rattle.indexmap.specs.IndexMap.{insert_entry}
 use Rattle.asl_model.specs.Shape as model
-use Rattle.asl_model.specs.Shape.{Shape, Shapes, NoShapes, AndShape, FieldShapes, NoFieldShapes, AndFieldShape, inhabited}
+use Rattle.asl_model.specs.Shape.{Shape, Shapes, NoShapes, AndShape, FieldShapes, NoFieldShapes, AndFieldShape, ArrayShape, ObjectShape, inhabited}
 use Rattle.asl_model.specs.ShapeOrder.{depth, depth_of_elements, depth_of_fields, mention_of, further_places, joined_with_each, join}
-use Rattle.asl_model.proofs.JoinFuel.{one_deep, join-low, join_each-low, join-first_uninhabited, join-second_uninhabited}
+use Rattle.asl_model.proofs.JoinFuel.{one_deep, further-low, join-low, join_each-low, join-first_uninhabited, join-second_uninhabited}
 use Rattle.asl_numbered.specs.declared.node.NodeField.{NodeField}
 use Rattle.asl_numbered.specs.declared.pair.Pair.{Pair}
 use Rattle.asl_numbered.specs.declared.joining.JoinTask.{JoinTask}
 use Rattle.asl_numbered.specs.declared.joining.JoinTask.TheVariants.{Join, Nothing, With, Finish}
 use Rattle.asl_numbered.specs.Comparison.{IsWithin}
 use Rattle.asl_numbered.specs.Expansion.{shape_at, shapes_at, Keeps}
-use Rattle.asl_numbered.specs.Joins.{joint, Shows, AreEachJoins, AreJoins, place_joins, Step, JoinStep, NothingStep, WithStep, FinishStep, step_of, steps_of, joined_last, done, all_done, IsFed, AreEachFed, places_cost, each_cost, rest_cost, cost_within, cost_of, last_of, step_cost, work_left, place_joinings, joinings_with, field_joinings, field_joining}
+use Rattle.asl_numbered.specs.Joins.{joint, Shows, AreEachJoins, AreJoins, place_joins, Step, JoinStep, NothingStep, WithStep, FinishStep, step_of, steps_of, joined_last, done, all_done, IsFed, AreEachFed, places_cost, each_cost, rest_cost, with_field_cost, fields_cost, parts_cost, cost_within, cost_of, last_of, step_cost, work_left, place_joinings, joinings_with, field_joinings, field_joining}
 use Rattle.asl_numbered.proofs.Comparisons.{same, same-is, within_kept}
 use Rattle.asl_numbered.proofs.Expansions.{keeps_longer, kept_shape}
 
@@ -190,6 +191,19 @@ places_each_work table (p ∷ ps) (o ∷ os) found =
 record AtMost (k : ℕ) (f g : Shape → Shape → ℕ) : Type 0 where
   pub most : (a b : Shape) → depth a ≤ k → depth b ≤ k → f a b ≤ g a b
 
+-- the mention of a field, if there is one, is no deeper
+abbrev MentionLow : ℕ → Option (Bool × Shape) → Type 0
+MentionLow k None = Unit {0}
+MentionLow k (Some m) = depth m.1 ≤ k
+
+mention-low : (k : ℕ) (n : List ℕ) (shapes : FieldShapes) → depth_of_fields shapes ≤ k → MentionLow k (mention_of n shapes)
+mention-low k n NoFieldShapes h = tt
+mention-low k n (AndFieldShape m needed s shapes) h = go (bytes_eq m n) (mention-low k n shapes (omega (arith, h)))
+  where
+    go : (here : Bool) → MentionLow k (mention_of n shapes) → MentionLow k (if here then Some (needed, s) else mention_of n shapes)
+    go true below = omega (arith, h)
+    go false below = below
+
 module _ (f g : Shape → Shape → ℕ) (k : ℕ) (less : AtMost k f g) where
   places-less : (first others : Shapes) → depth_of_elements first ≤ k → depth_of_elements others ≤ k → places_cost f first others ≤ places_cost g first others
   places-less NoShapes others h i = omega arith
@@ -215,3 +229,62 @@ module _ (f g : Shape → Shape → ℕ) (k : ℕ) (less : AtMost k f g) where
       let middle = less.most (joined_with_each join model.Never behind) rest whole i in
       let last = less.most (join (joined_with_each join model.Never behind) rest) further (join-low.keeps k (joined_with_each join model.Never behind) rest whole i) j in
       omega (arith, front, middle, last)
+
+  fields-less : (shapes others : FieldShapes) → depth_of_fields shapes ≤ k → depth_of_fields others ≤ k → fields_cost f shapes others ≤ fields_cost g shapes others
+  fields-less NoFieldShapes others h i = omega arith
+  fields-less (AndFieldShape n needed s shapes) others h i = go (mention_of n others) (mention-low k n others i) (fields-less shapes others (omega (arith, h)) i)
+    where
+      go : (o : Option (Bool × Shape)) → MentionLow k o → fields_cost f shapes others ≤ fields_cost g shapes others → with_field_cost f s o (fields_cost f shapes others) ≤ with_field_cost g s o (fields_cost g shapes others)
+      go None low behind = behind
+      go (Some m) low behind =
+          let here = less.most s m.1 (omega (arith, h)) low in
+          omega (arith, here, behind)
+
+  parts-less : (a b : Shape) → depth a ≤ suc k → depth b ≤ suc k → parts_cost f a b ≤ parts_cost g a b
+  parts-less model.Any b h i = omega arith
+  parts-less model.Never b h i = omega arith
+  parts-less model.NullShape b h i = omega arith
+  parts-less model.BooleanShape b h i = omega arith
+  parts-less model.IntegerShape b h i = omega arith
+  parts-less model.StringShape b h i = omega arith
+  parts-less (ArrayShape first rest) model.Any h i = omega arith
+  parts-less (ArrayShape first rest) model.Never h i = omega arith
+  parts-less (ArrayShape first rest) model.NullShape h i = omega arith
+  parts-less (ArrayShape first rest) model.BooleanShape h i = omega arith
+  parts-less (ArrayShape first rest) model.IntegerShape h i = omega arith
+  parts-less (ArrayShape first rest) model.StringShape h i = omega arith
+  parts-less (ArrayShape first rest) (ArrayShape others further) h i =
+      let own : depth_of_elements first ≤ k = omega (arith, h) in
+      let other : depth_of_elements others ≤ k = omega (arith, i) in
+      let front = places-less first others own other in
+      let behind = rest-less (further_places first others) rest further (further-low k first others own other) (omega (arith, h)) (omega (arith, i)) in
+      omega (arith, front, behind)
+  parts-less (ArrayShape first rest) (ObjectShape shapes extra) h i = omega arith
+  parts-less (ObjectShape shapes extra) model.Any h i = omega arith
+  parts-less (ObjectShape shapes extra) model.Never h i = omega arith
+  parts-less (ObjectShape shapes extra) model.NullShape h i = omega arith
+  parts-less (ObjectShape shapes extra) model.BooleanShape h i = omega arith
+  parts-less (ObjectShape shapes extra) model.IntegerShape h i = omega arith
+  parts-less (ObjectShape shapes extra) model.StringShape h i = omega arith
+  parts-less (ObjectShape shapes extra) (ArrayShape first rest) h i = omega arith
+  parts-less (ObjectShape shapes extra) (ObjectShape others more) h i = fields-less shapes others (omega (arith, h)) (omega (arith, i))
+
+-- a greater depth gives no smaller count
+cost-deeper : (n m : ℕ) (a b : Shape) → n ≤ m → depth a ≤ n → depth b ≤ n → cost_within n a b ≤ cost_within m a b
+cost-deeper zero m a b h i j = absurd (omega (arith, one_deep a, i))
+cost-deeper (suc n) zero a b h i j = absurd (omega (arith, h))
+cost-deeper (suc n) (suc m) a b h i j =
+    let less : AtMost n (cost_within n) (cost_within m) = record { most = λ x y p q. cost-deeper n m x y (omega (arith, h)) p q } in
+    let parts = parts-less (cost_within n) (cost_within m) n less a b i j in
+    omega (arith, parts)
+
+-- the joins of the parts, and two steps more, are less work than the join of the two
+pub parts_cheaper : (a b : Shape) → 2 + parts_cost cost_of a b < cost_of a b
+parts_cheaper a b = go (max (depth a) (depth b)) refl
+  where
+    go : (n : ℕ) → max (depth a) (depth b) ≡ n → 2 + parts_cost cost_of a b < cost_within n a b
+    go zero at = absurd (omega (arith, one_deep a, at))
+    go (suc n) at =
+        let less : AtMost n cost_of (cost_within n) = record { most = λ x y p q. cost-deeper (max (depth x) (depth y)) n x y (omega (arith, p, q)) (omega arith) (omega arith) } in
+        let parts = parts-less cost_of (cost_within n) n less a b (omega (arith, at)) (omega (arith, at)) in
+        omega (arith, parts)
