@@ -9,12 +9,13 @@ use Rattle.std.specs.Prelude.{if◌then◌else◌}
 use Rattle.indexmap.specs.IndexMap.{insert_entry}
 use Rattle.asl_model.specs.Shape as model
 use Rattle.asl_model.specs.Shape.{Shape, Shapes, NoShapes, AndShape, FieldShapes, NoFieldShapes, AndFieldShape, ArrayShape, ObjectShape, inhabited}
-use Rattle.asl_model.specs.ShapeOrder.{depth, depth_of_elements, depth_of_fields, mention_of, further_places, joined_with_each, join}
-use Rattle.asl_model.proofs.JoinFuel.{one_deep, further-low, join-low, join_each-low, join-first_uninhabited, join-second_uninhabited}
+use Rattle.asl_model.specs.ShapeOrder.{depth, depth_of_elements, depth_of_fields, mention_of, further_places, common_joins, joined_with_each, join}
+use Rattle.asl_model.proofs.JoinFuel.{one_deep, join-inhabited, further-low, join-low, join_each-low, join-first_uninhabited, join-second_uninhabited}
 use Rattle.asl_numbered.specs.declared.node.NodeField.{NodeField}
 use Rattle.asl_numbered.specs.declared.pair.Pair.{Pair}
 use Rattle.asl_numbered.specs.declared.joining.JoinTask.{JoinTask}
 use Rattle.asl_numbered.specs.declared.joining.JoinTask.TheVariants.{Join, Nothing, With, Finish}
+use Rattle.asl_shape.specs.View.{shapes_of}
 use Rattle.asl_numbered.specs.Comparison.{IsWithin}
 use Rattle.asl_numbered.specs.Expansion.{shape_at, shapes_at, Keeps}
 use Rattle.asl_numbered.specs.Joins.{joint, Shows, AreEachJoins, AreJoins, place_joins, Step, JoinStep, NothingStep, WithStep, FinishStep, step_of, steps_of, joined_last, done, all_done, IsFed, AreEachFed, places_cost, each_cost, rest_cost, with_field_cost, fields_cost, parts_cost, cost_within, cost_of, last_of, step_cost, work_left, place_joinings, joinings_with, field_joinings, field_joining}
@@ -288,3 +289,39 @@ parts_cheaper a b = go (max (depth a) (depth b)) refl
         let less : AtMost n cost_of (cost_within n) = record { most = λ x y p q. cost-deeper (max (depth x) (depth y)) n x y (omega (arith, p, q)) (omega arith) (omega arith) } in
         let parts = parts-less cost_of (cost_within n) n less a b (omega (arith, at)) (omega (arith, at)) in
         omega (arith, parts)
+
+-- ---- the places that one list alone has
+
+-- one of the two has none, and those of the other are the further places
+pub behind_one : (table : List Shape) (ps os : List ℕ) → ((drop (length os) ps ≡ []) × (shapes_at table (drop (length ps) os) ≡ further_places (shapes_at table ps) (shapes_at table os))) ⊎ ((drop (length ps) os ≡ []) × (shapes_at table (drop (length os) ps) ≡ further_places (shapes_at table ps) (shapes_at table os)))
+behind_one table [] [] = inl (refl, refl)
+behind_one table [] (o ∷ os) = inl (refl, refl)
+behind_one table (p ∷ ps) [] = inr (refl, refl)
+behind_one table (p ∷ ps) (o ∷ os) = behind_one table ps os
+
+-- one after the other they are all joined
+pub behind_each : (table : List Shape) (ps os : List ℕ) (found : List Shape) → all_done (steps_of table (joinings_with (drop (length os) ps)) ++ steps_of table (joinings_with (drop (length ps) os))) (found ++ model.Never ∷ []) ≡ found ++ joined_with_each join model.Never (further_places (shapes_at table ps) (shapes_at table os)) ∷ []
+behind_each table ps os found =
+    done_append (steps_of table (joinings_with (drop (length os) ps))) (steps_of table (joinings_with (drop (length ps) os))) (found ++ model.Never ∷ [])
+    ∙ ap (all_done (steps_of table (joinings_with (drop (length os) ps)))) (with_each table (drop (length ps) os) model.Never found)
+    ∙ with_each table (drop (length os) ps) (joined_with_each join model.Never (shapes_at table (drop (length ps) os))) found
+    ∙ ap (λ s. found ++ s ∷ []) (go (behind_one table ps os))
+  where
+    all : Shapes
+    all = further_places (shapes_at table ps) (shapes_at table os)
+
+    go : ((drop (length os) ps ≡ []) × (shapes_at table (drop (length ps) os) ≡ all)) ⊎ ((drop (length ps) os ≡ []) × (shapes_at table (drop (length os) ps) ≡ all)) → joined_with_each join (joined_with_each join model.Never (shapes_at table (drop (length ps) os))) (shapes_at table (drop (length os) ps)) ≡ joined_with_each join model.Never all
+    go (inl h) = ap (λ ns. joined_with_each join (joined_with_each join model.Never (shapes_at table (drop (length ps) os))) (shapes_at table ns)) h.0 ∙ ap (joined_with_each join model.Never) h.1
+    go (inr h) = ap (λ ns. joined_with_each join (joined_with_each join model.Never (shapes_at table ns)) (shapes_at table (drop (length os) ps))) h.0 ∙ ap (joined_with_each join model.Never) h.1
+
+-- ---- the join made of the joins of its parts
+
+pub common_places : (first others : Shapes) → shapes_of (place_joins first others) ≡ common_joins join first others
+common_places NoShapes others = refl
+common_places (AndShape s first) NoShapes = refl
+common_places (AndShape s first) (AndShape other others) = ap (AndShape (join s other)) (common_places first others)
+
+pub array_made : (first others : Shapes) (rest further : Shape) → inhabited (ArrayShape first rest) ≡ true → inhabited (ArrayShape others further) ≡ true → join (ArrayShape first rest) (ArrayShape others further) ≡ ArrayShape (shapes_of (place_joins first others)) (join (join (joined_with_each join model.Never (further_places first others)) rest) further)
+array_made first others rest further some also =
+    join-inhabited (ArrayShape first rest) (ArrayShape others further) some also
+    ∙ ap (λ ss. ArrayShape ss (join (join (joined_with_each join model.Never (further_places first others)) rest) further)) (sym (common_places first others))

@@ -13,7 +13,7 @@ use Rattle.asl_numbered.specs.declared.pair.Pair.{Pair}
 use Rattle.asl_numbered.specs.declared.joining.JoinTask.{JoinTask}
 use Rattle.asl_numbered.specs.declared.joining.JoinTask.TheVariants.{Join, Nothing, With, Finish}
 use Rattle.asl_numbered.specs.Comparison.{IsWithin}
-use Rattle.asl_numbered.specs.Expansion.{shape_at}
+use Rattle.asl_numbered.specs.Expansion.{shape_at, AreBelow}
 
 -- the join of the shapes of a pair
 abbrev pub joint : List Shape → Pair → Shape
@@ -187,3 +187,38 @@ field_joinings (f ∷ fields) others = field_joinings fields others ++ field_joi
 pub record AreInhabited (table : List Shape) (p : Pair) : Type 0 where
   pub first : inhabited (shape_at table p.first) ≡ true
   pub second : inhabited (shape_at table p.second) ≡ true
+
+-- ---- all that is left to do
+
+-- the shapes of the numbers that were found
+abbrev pub found_in : List Shape → List ℕ → List Shape
+found_in table numbers = map (shape_at table) numbers
+
+-- the numbers in a task are in the table
+abbrev pub IsTaskWithin : List Shape → JoinTask → Type 0
+IsTaskWithin table (Join p) = IsWithin table p
+IsTaskWithin table Nothing = Unit {0}
+IsTaskWithin table (With n) = n < length table
+IsTaskWithin table (Finish p start) = IsWithin table p
+
+abbrev pub AreEachTasksWithin : List Shape → List JoinTask → Type 0
+AreEachTasksWithin table [] = Unit {0}
+AreEachTasksWithin table (task ∷ tasks) = IsTaskWithin table task × AreEachTasksWithin table tasks
+
+-- what is left to do leads to that shape alone
+pub record AreLeft (table : List Shape) (whole : Shape) (tasks : List JoinTask) (numbers : List ℕ) : Type 0 where
+  pub within : AreEachTasksWithin table tasks
+  pub below : AreBelow (length table) numbers
+  pub fed : AreEachFed (steps_of table tasks) (found_in table numbers)
+  pub same : all_done (steps_of table tasks) (found_in table numbers) ≡ whole ∷ []
+
+-- One task was done, in a table that may have grown: others were put behind those that are left, which find the same
+-- shapes and are less work.
+pub record Moves (old new : List Shape) (task : JoinTask) (tasks left : List JoinTask) (numbers next : List ℕ) : Type 0 where
+  pub added : List JoinTask
+  pub whole : left ≡ tasks ++ added
+  pub within : AreEachTasksWithin new added
+  pub below : AreBelow (length new) next
+  pub fed : AreEachFed (steps_of new added) (found_in new next)
+  pub same : all_done (steps_of new added) (found_in new next) ≡ done (step_of old task) (found_in old numbers)
+  pub less : work_left (steps_of new added) (found_in new next) < step_cost (step_of old task) (found_in old numbers)
