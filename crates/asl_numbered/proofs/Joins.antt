@@ -18,7 +18,7 @@ use Rattle.asl_numbered.specs.declared.joining.JoinTask.TheVariants.{Join, Nothi
 use Rattle.asl_shape.specs.View.{shapes_of}
 use Rattle.asl_numbered.specs.Comparison.{IsWithin}
 use Rattle.asl_numbered.specs.Expansion.{shape_at, shapes_at, Keeps}
-use Rattle.asl_numbered.specs.Joins.{joint, Shows, AreEachJoins, AreJoins, place_joins, Step, JoinStep, NothingStep, WithStep, FinishStep, step_of, steps_of, joined_last, done, all_done, IsFed, AreEachFed, places_cost, each_cost, rest_cost, with_field_cost, fields_cost, parts_cost, cost_within, cost_of, last_of, step_cost, work_left, place_joinings, joinings_with, field_joinings, field_joining}
+use Rattle.asl_numbered.specs.Joins.{joint, Shows, AreEachJoins, AreJoins, place_joins, Step, JoinStep, NothingStep, WithStep, FinishStep, step_of, steps_of, joined_last, done, all_done, IsFed, AreEachFed, places_cost, each_cost, rest_cost, with_field_cost, fields_cost, parts_cost, cost_within, cost_of, last_of, step_cost, work_left, place_joinings, joinings_with, field_joinings, field_joining, found_in, AreEachTasksWithin, AreLeft, Moves}
 use Rattle.asl_numbered.proofs.Comparisons.{same, same-is, within_kept}
 use Rattle.asl_numbered.proofs.Expansions.{keeps_longer, kept_shape}
 
@@ -325,3 +325,69 @@ pub array_made : (first others : Shapes) (rest further : Shape) → inhabited (A
 array_made first others rest further some also =
     join-inhabited (ArrayShape first rest) (ArrayShape others further) some also
     ∙ ap (λ ss. ArrayShape ss (join (join (joined_with_each join model.Never (further_places first others)) rest) further)) (sym (common_places first others))
+
+-- ---- the loop
+
+pub steps_kept : (old new : List Shape) (tasks : List JoinTask) → Keeps old new → AreEachTasksWithin old tasks → steps_of new tasks ≡ steps_of old tasks
+steps_kept old new [] keeps h = refl
+steps_kept old new (Join p ∷ tasks) keeps h =
+    rw (kept_shape old new p.first keeps h.0.first, kept_shape old new p.second keeps h.0.second, steps_kept old new tasks keeps h.1) refl
+steps_kept old new (Nothing ∷ tasks) keeps h = ap (λ steps. NothingStep ∷ steps) (steps_kept old new tasks keeps h.1)
+steps_kept old new (With n ∷ tasks) keeps h = rw (kept_shape old new n keeps h.0, steps_kept old new tasks keeps h.1) refl
+steps_kept old new (Finish p start ∷ tasks) keeps h =
+    rw (kept_shape old new p.first keeps h.0.first, kept_shape old new p.second keeps h.0.second, steps_kept old new tasks keeps h.1) refl
+
+pub tasks_kept : (old new : List Shape) (tasks added : List JoinTask) → Keeps old new → AreEachTasksWithin old tasks → AreEachTasksWithin new added → AreEachTasksWithin new (tasks ++ added)
+tasks_kept old new [] added keeps h further = further
+tasks_kept old new (Join p ∷ tasks) added keeps h further = (within_kept old new p keeps h.0, tasks_kept old new tasks added keeps h.1 further)
+tasks_kept old new (Nothing ∷ tasks) added keeps h further = (tt, tasks_kept old new tasks added keeps h.1 further)
+tasks_kept old new (With n ∷ tasks) added keeps h further = (omega (arith, h.0, keeps_longer old new keeps), tasks_kept old new tasks added keeps h.1 further)
+tasks_kept old new (Finish p start ∷ tasks) added keeps h further = (within_kept old new p keeps h.0, tasks_kept old new tasks added keeps h.1 further)
+
+within-front : (table : List Shape) (tasks more : List JoinTask) → AreEachTasksWithin table (tasks ++ more) → AreEachTasksWithin table tasks
+within-front table [] more h = tt
+within-front table (task ∷ tasks) more h = (h.0, within-front table tasks more h.1)
+
+fed-front : (front more : List Step) (found : List Shape) → AreEachFed (front ++ more) found → AreEachFed front (all_done more found)
+fed-front [] more found h = tt
+fed-front (step ∷ front) more found h = (subst (IsFed step) (done_append front more found) h.0, fed-front front more found h.1)
+
+module _ (old new : List Shape) (task : JoinTask) (front left : List JoinTask) (numbers next : List ℕ) (keeps : Keeps old new) (moves : Moves old new task front left numbers next) where
+  abbrev now : List Step
+  now = steps_of old front
+
+  split : steps_of old (front ++ task ∷ []) ≡ now ++ step_of old task ∷ []
+  split = map-append (step_of old) front (task ∷ [])
+
+  then_ : AreEachTasksWithin old front → steps_of new left ≡ now ++ steps_of new moves.added
+  then_ within = ap (steps_of new) moves.whole ∙ map-append (step_of new) front moves.added ∙ ap (λ steps. steps ++ steps_of new moves.added) (steps_kept old new front keeps within)
+
+  -- what is left leads to the same shape
+  pub moved : (whole : Shape) → AreLeft old whole (front ++ task ∷ []) numbers → AreLeft new whole left next
+  moved whole h =
+      let within = within-front old front (task ∷ []) h.within in
+      let fed : AreEachFed (now ++ step_of old task ∷ []) (found_in old numbers) = subst (λ steps. AreEachFed steps (found_in old numbers)) split h.fed in
+      let front_fed = subst (AreEachFed now) (sym moves.same) (fed-front now (step_of old task ∷ []) (found_in old numbers) fed) in
+      record {
+        within = subst (AreEachTasksWithin new) (sym moves.whole) (tasks_kept old new front moves.added keeps within moves.within);
+        below = moves.below;
+        fed = subst (λ steps. AreEachFed steps (found_in new next)) (sym (then_ within)) (fed_append now (steps_of new moves.added) (found_in new next) front_fed moves.fed);
+        same =
+          ap (λ steps. all_done steps (found_in new next)) (then_ within)
+          ∙ done_append now (steps_of new moves.added) (found_in new next)
+          ∙ ap (all_done now) moves.same
+          ∙ sym (done_append now (step_of old task ∷ []) (found_in old numbers))
+          ∙ sym (ap (λ steps. all_done steps (found_in old numbers)) split)
+          ∙ h.same;
+      }
+
+  -- and is less work
+  pub less_work : (whole : Shape) → AreLeft old whole (front ++ task ∷ []) numbers → work_left (steps_of new left) (found_in new next) < work_left (steps_of old (front ++ task ∷ [])) (found_in old numbers)
+  less_work whole h =
+      let within = within-front old front (task ∷ []) h.within in
+      let new_work : work_left (steps_of new left) (found_in new next) ≡ work_left now (all_done (steps_of new moves.added) (found_in new next)) + work_left (steps_of new moves.added) (found_in new next) =
+      ap (λ steps. work_left steps (found_in new next)) (then_ within) ∙ work_append now (steps_of new moves.added) (found_in new next) in
+      let old_work : work_left (steps_of old (front ++ task ∷ [])) (found_in old numbers) ≡ work_left now (done (step_of old task) (found_in old numbers)) + (step_cost (step_of old task) (found_in old numbers) + 0) =
+      ap (λ steps. work_left steps (found_in old numbers)) split ∙ work_append now (step_of old task ∷ []) (found_in old numbers) in
+      let front_work = ap (work_left now) moves.same in
+      omega (arith, new_work, old_work, front_work, moves.less)
