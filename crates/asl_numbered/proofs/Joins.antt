@@ -373,12 +373,12 @@ module _ (old new : List Shape) (task : JoinTask) (front left : List JoinTask) (
         below = moves.below;
         fed = subst (λ steps. AreEachFed steps (found_in new next)) (sym (then_ within)) (fed_append now (steps_of new moves.added) (found_in new next) front_fed moves.fed);
         same =
-          ap (λ steps. all_done steps (found_in new next)) (then_ within)
-          ∙ done_append now (steps_of new moves.added) (found_in new next)
-          ∙ ap (all_done now) moves.same
-          ∙ sym (done_append now (step_of old task ∷ []) (found_in old numbers))
-          ∙ sym (ap (λ steps. all_done steps (found_in old numbers)) split)
-          ∙ h.same;
+            ap (λ steps. all_done steps (found_in new next)) (then_ within)
+            ∙ done_append now (steps_of new moves.added) (found_in new next)
+            ∙ ap (all_done now) moves.same
+            ∙ sym (done_append now (step_of old task ∷ []) (found_in old numbers))
+            ∙ sym (ap (λ steps. all_done steps (found_in old numbers)) split)
+            ∙ h.same;
       }
 
   -- and is less work

@@ -5,9 +5,9 @@
 // its parts.
 ghost use Rattle.asl_model.specs.Shape as shape;
 ghost use Rattle.asl_numbered.specs.Comparison.{IsWithin};
-ghost use Rattle.asl_numbered.specs.Expansion.{expansions};
-ghost use Rattle.asl_numbered.specs.Joins.{joint, Shows, AreJoins, AreInhabited, place_joinings, joinings_with, field_joinings};
-ghost use Rattle.std.specs.Prelude.{◌≡◌, ◌++◌, List, None, IfSome, IfOk, drop, false};
+ghost use Rattle.asl_numbered.specs.Expansion.{expansions, AreBelow, Keeps};
+ghost use Rattle.asl_numbered.specs.Joins.{joint, Shows, AreJoins, AreInhabited, IsTaskWithin, IsFed, Moves, step_of, found_in, place_joinings, joinings_with, field_joinings};
+ghost use Rattle.std.specs.Prelude.{◌≡◌, ◌++◌, List, None, IfSome, IfOk, drop, false, length};
 
 use crate::node::{Node, NodeField};
 use crate::pair::Pair;
@@ -49,7 +49,13 @@ pub(crate) fn join(
     joined: &mut Joined,
     alloc: Global,
     pair: Pair,
-) -> Result<usize, OutOfMemory> {
+) -> Result<usize, OutOfMemory>
+    requires right { AreJoins (expansions table.old) joined.old.entries }
+    requires within { IsWithin (expansions table.old) pair }
+    ensures number { IfOk result (Shows (expansions table.new) (joint (expansions table.old) pair)) }
+    ensures keeps { Keeps (expansions table.old) (expansions table.new) }
+    ensures right { AreJoins (expansions table.new) joined.new.entries }
+{
     let mut work = Work {
         alloc,
         tasks: Vec::new(alloc),
@@ -68,7 +74,17 @@ fn perform(
     joined: &mut Joined,
     work: &mut Work,
     task: JoinTask,
-) -> Result<(), OutOfMemory> {
+) -> Result<(), OutOfMemory>
+    requires right { AreJoins (expansions table.old) joined.old.entries }
+    requires within { IsTaskWithin (expansions table.old) task }
+    requires below { AreBelow (length (expansions table.old)) work.old.numbers.items }
+    requires fed { IsFed (step_of (expansions table.old) task) (found_in (expansions table.old) work.old.numbers.items) }
+    ensures moves { IfOk result
+        (λ _. Moves (expansions table.old) (expansions table.new) task
+        work.old.tasks.items work.new.tasks.items work.old.numbers.items work.new.numbers.items) }
+    ensures keeps { Keeps (expansions table.old) (expansions table.new) }
+    ensures right { AreJoins (expansions table.new) joined.new.entries }
+{
     match task {
         JoinTask::Join(pair) => look(table, joined, work, pair),
         JoinTask::Nothing => {
@@ -208,11 +224,7 @@ fn put_places(
 }
 
 // Puts down the joins with the places from that index on, so that the first comes first.
-fn put_behind(
-    tasks: &mut Vec<JoinTask>,
-    places: &[usize],
-    start: usize,
-) -> Result<(), OutOfMemory>
+fn put_behind(tasks: &mut Vec<JoinTask>, places: &[usize], start: usize) -> Result<(), OutOfMemory>
     ensures put { IfOk result (λ _. tasks.new.items ≡ tasks.old.items ++ joinings_with (drop start places.now)) }
 {
     let mut index = places.len();
