@@ -247,7 +247,7 @@ mention_of_number table k (f ∷ fs) =
 
 -- ---- fields
 
-found-below : (bound : ℕ) (test : String Global → Bool) (fs : List (String Global × NodeField)) (f : NodeField) → AreBelow bound (numbers_in fs) → lookup test fs ≡ Some f → f.shape < bound
+pub found-below : (bound : ℕ) (test : String Global → Bool) (fs : List (String Global × NodeField)) (f : NodeField) → AreBelow bound (numbers_in fs) → lookup test fs ≡ Some f → f.shape < bound
 found-below bound test [] f h found = absurd (cc)
 found-below bound test (e ∷ fs) f h found = go (test e.0) refl (λ below. found-below bound test fs f h.1 below)
   where

@@ -8,12 +8,14 @@ use Rattle.std.specs.String.{string_cmp}
 use Rattle.asl_model.specs.Shape as model
 use Rattle.asl_model.specs.Shape.{Shape, Shapes, NoShapes, AndShape, FieldShapes, NoFieldShapes, AndFieldShape, ArrayShape, ObjectShape, inhabited}
 use Rattle.asl_model.specs.ShapeOrder.{depth, mention_of, further_places, joined_with_each, join}
+use Rattle.asl_numbered.specs.declared.node.Node.{Node}
+use Rattle.asl_numbered.specs.declared.node.Node.TheVariants as nodes
 use Rattle.asl_numbered.specs.declared.node.NodeField.{NodeField}
 use Rattle.asl_numbered.specs.declared.pair.Pair.{Pair}
 use Rattle.asl_numbered.specs.declared.joining.JoinTask.{JoinTask}
 use Rattle.asl_numbered.specs.declared.joining.JoinTask.TheVariants.{Join, Nothing, With, Finish}
 use Rattle.asl_numbered.specs.Comparison.{IsWithin}
-use Rattle.asl_numbered.specs.Expansion.{shape_at, AreBelow}
+use Rattle.asl_numbered.specs.Expansion.{shape_at, shape_over, expansions, AreBelow, RefersBelow}
 
 -- the join of the shapes of a pair
 abbrev pub joint : List Shape → Pair → Shape
@@ -222,3 +224,40 @@ pub record Moves (old new : List Shape) (task : JoinTask) (tasks left : List Joi
   pub fed : AreEachFed (steps_of new added) (found_in new next)
   pub same : all_done (steps_of new added) (found_in new next) ≡ done (step_of old task) (found_in old numbers)
   pub less : work_left (steps_of new added) (found_in new next) < step_cost (step_of old task) (found_in old numbers)
+
+-- ---- a look at two nodes
+
+-- The joins of the parts of two lists, where `last` finishes the two: what stands behind the places that both have is
+-- joined one after another, to what `Nothing` puts down.
+abbrev pub list_joinings : JoinTask → List ℕ → ℕ → List ℕ → ℕ → List JoinTask
+list_joinings last places rest others further = last ∷ (place_joinings places others ++ With further ∷ With rest ∷ (joinings_with (drop (length others) places) ++ (joinings_with (drop (length places) others) ++ Nothing ∷ [])))
+
+-- what a look at a node of lists and another gives, and puts down
+abbrev pub ListLooked : List ℕ → ℕ → Node → JoinTask → Option Node → List JoinTask → List JoinTask → Type 0
+ListLooked places rest (nodes.List others further) last answer old new = (answer ≡ None) × (new ≡ old ++ list_joinings last places rest others.items further)
+ListLooked places rest node last answer old new = (answer ≡ Some nodes.Any) × (new ≡ old)
+
+-- the same of a node of objects and another
+abbrev pub ObjectLooked : List (String Global × NodeField) → Node → JoinTask → Option Node → List JoinTask → List JoinTask → Type 0
+ObjectLooked fields (nodes.Object others more) last answer old new = (answer ≡ None) × (new ≡ old ++ last ∷ field_joinings fields others.entries)
+ObjectLooked fields node last answer old new = (answer ≡ Some nodes.Any) × (new ≡ old)
+
+-- the same of any two nodes
+abbrev pub Looked : Node → Node → JoinTask → Option Node → List JoinTask → List JoinTask → Type 0
+Looked (nodes.List first rest) node last answer old new = ListLooked first.items rest node last answer old new
+Looked (nodes.Object fields extra) node last answer old new = ObjectLooked fields.entries node last answer old new
+Looked nodes.Null nodes.Null last answer old new = (answer ≡ Some nodes.Null) × (new ≡ old)
+Looked nodes.Bool nodes.Bool last answer old new = (answer ≡ Some nodes.Bool) × (new ≡ old)
+Looked nodes.Int nodes.Int last answer old new = (answer ≡ Some nodes.Int) × (new ≡ old)
+Looked nodes.Text nodes.Text last answer old new = (answer ≡ Some nodes.Text) × (new ≡ old)
+Looked node other last answer old new = (answer ≡ Some nodes.Any) × (new ≡ old)
+
+-- the node is the first level of the join of the pair's shapes
+pub record IsLevel (ns : List Node) (p : Pair) (node : Node) : Type 0 where
+  pub same : shape_over (expansions ns) node ≡ joint (expansions ns) p
+  pub below : RefersBelow (length ns) node
+
+-- a look at a pair gives the first level of its join, or else puts down what leads to it
+pub record LooksAt (ns : List Node) (p : Pair) (answer : Option Node) (old new : List JoinTask) (numbers : List ℕ) : Type 0 where
+  pub given : (node : Node) → answer ≡ Some node → IsLevel ns p node × (new ≡ old)
+  pub put : answer ≡ None → Moves (expansions ns) (expansions ns) (Join p) old new numbers numbers

@@ -6,7 +6,7 @@
 ghost use Rattle.asl_model.specs.Shape as shape;
 ghost use Rattle.asl_numbered.specs.Comparison.{IsWithin};
 ghost use Rattle.asl_numbered.specs.Expansion.{expansions, AreBelow, Keeps};
-ghost use Rattle.asl_numbered.specs.Joins.{joint, Shows, AreJoins, AreInhabited, IsTaskWithin, IsFed, Moves, step_of, found_in, place_joinings, joinings_with, field_joinings};
+ghost use Rattle.asl_numbered.specs.Joins.{joint, Shows, AreJoins, AreInhabited, IsTaskWithin, IsFed, Moves, LooksAt, Looked, ListLooked, ObjectLooked, step_of, found_in, place_joinings, joinings_with, field_joinings};
 ghost use Rattle.std.specs.Prelude.{◌≡◌, ◌++◌, List, None, IfSome, IfOk, drop, false, length};
 
 use crate::node::{Node, NodeField};
@@ -144,23 +144,36 @@ fn known(table: &Table, joined: &Joined, pair: Pair) -> Option<usize>
 
 // The first level of the join of two shapes that are inhabited, where they aren't both of lists or both of objects; else
 // the joins of the parts are put behind the tasks.
-fn look_inside(table: &Table, work: &mut Work, pair: Pair) -> Result<Option<Node>, OutOfMemory> {
+fn look_inside(table: &Table, work: &mut Work, pair: Pair) -> Result<Option<Node>, OutOfMemory>
+    requires within { IsWithin (expansions table.now) pair }
+    requires inhabited { AreInhabited (expansions table.now) pair }
+    requires below { AreBelow (length (expansions table.now)) work.old.numbers.items }
+    ensures looks { IfOk result
+        (λ r. LooksAt table.now pair r work.old.tasks.items work.new.tasks.items work.old.numbers.items) }
+    ensures same { work.new.numbers ≡ work.old.numbers }
+{
+    let last = JoinTask::Finish {
+        pair,
+        start: work.numbers.len(),
+    };
     match table.node(pair.first) {
         None => Ok(Some(Node::Any)),
         Some(first) => match table.node(pair.second) {
             None => Ok(Some(Node::Any)),
-            Some(second) => look_at(work, pair, first, second),
+            Some(second) => look_at(&mut work.tasks, last, first, second),
         },
     }
 }
 
-// The same for the two nodes.
+// The same for the two nodes, where `last` is the task that finishes their join.
 fn look_at(
-    work: &mut Work,
-    pair: Pair,
+    tasks: &mut Vec<JoinTask>,
+    last: JoinTask,
     first: &Node,
     second: &Node,
-) -> Result<Option<Node>, OutOfMemory> {
+) -> Result<Option<Node>, OutOfMemory>
+    ensures put { IfOk result (λ r. Looked first.now second.now last r tasks.old.items tasks.new.items) }
+{
     match first {
         Node::Null if matches!(second, Node::Null) => Ok(Some(Node::Null)),
         Node::Bool if matches!(second, Node::Bool) => Ok(Some(Node::Bool)),
@@ -172,32 +185,34 @@ fn look_at(
         Node::List {
             first: places,
             rest,
-        } => look_at_list(work, pair, places, *rest, second),
-        Node::Object { fields, .. } => look_at_object(work, pair, fields, second),
+        } => look_at_list(tasks, last, places, *rest, second),
+        Node::Object { fields, .. } => look_at_object(tasks, last, fields, second),
     }
 }
 
 // The same for a node of lists and another node.
 fn look_at_list(
-    work: &mut Work,
-    pair: Pair,
+    tasks: &mut Vec<JoinTask>,
+    last: JoinTask,
     places: &[usize],
     rest: usize,
     second: &Node,
-) -> Result<Option<Node>, OutOfMemory> {
+) -> Result<Option<Node>, OutOfMemory>
+    ensures put { IfOk result
+        (λ r. ListLooked places.now rest second.now last r tasks.old.items tasks.new.items) }
+{
     match second {
         Node::List {
             first: others,
             rest: further,
         } => {
-            let start = work.numbers.len();
-            work.tasks.push(JoinTask::Finish { pair, start })?;
-            put_places(&mut work.tasks, places, others)?;
-            work.tasks.push(JoinTask::With(*further))?;
-            work.tasks.push(JoinTask::With(rest))?;
-            put_behind(&mut work.tasks, places, others.len())?;
-            put_behind(&mut work.tasks, others, places.len())?;
-            work.tasks.push(JoinTask::Nothing)?;
+            tasks.push(last)?;
+            put_places(tasks, places, others)?;
+            tasks.push(JoinTask::With(*further))?;
+            tasks.push(JoinTask::With(rest))?;
+            put_behind(tasks, places, others.len())?;
+            put_behind(tasks, others, places.len())?;
+            tasks.push(JoinTask::Nothing)?;
             Ok(None)
         }
         _ => Ok(Some(Node::Any)),
@@ -237,16 +252,18 @@ fn put_behind(tasks: &mut Vec<JoinTask>, places: &[usize], start: usize) -> Resu
 
 // The same for a node of objects and another node.
 fn look_at_object(
-    work: &mut Work,
-    pair: Pair,
+    tasks: &mut Vec<JoinTask>,
+    last: JoinTask,
     fields: &BTreeMap<String, NodeField>,
     second: &Node,
-) -> Result<Option<Node>, OutOfMemory> {
+) -> Result<Option<Node>, OutOfMemory>
+    ensures put { IfOk result
+        (λ r. ObjectLooked fields.now.entries second.now last r tasks.old.items tasks.new.items) }
+{
     match second {
         Node::Object { fields: others, .. } => {
-            let start = work.numbers.len();
-            work.tasks.push(JoinTask::Finish { pair, start })?;
-            put_fields(&mut work.tasks, fields, others)?;
+            tasks.push(last)?;
+            put_fields(tasks, fields, others)?;
             Ok(None)
         }
         _ => Ok(Some(Node::Any)),
