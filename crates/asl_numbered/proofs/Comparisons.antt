@@ -314,7 +314,7 @@ settled ns p inner outer answer some first second is =
 pub rests_on_kinds : (ns : List Node) (p : Pair) (inner outer : Node) (answer : Bool) (tasks : List Task) → inhabited (shape_at (expansions ns) p.first) ≡ true → IsNodeAt ns p.first inner → IsNodeAt ns p.second outer → sub (shape_over (expansions ns) inner) (shape_over (expansions ns) outer) ≡ (not (inhabited (shape_over (expansions ns) inner)) || answer) → RestsOn ns p answer tasks tasks
 rests_on_kinds ns p inner outer answer tasks some first second is = rests_known ns p answer tasks (settled ns p inner outer answer some first second is)
 
-below-table : (ns : List Node) (n : ℕ) (node : Node) → n < length (expansions ns) → IsNodeAt ns n node → AreBelow (length (expansions ns)) (parts node)
+pub below-table : (ns : List Node) (n : ℕ) (node : Node) → n < length (expansions ns) → IsNodeAt ns n node → AreBelow (length (expansions ns)) (parts node)
 below-table ns n node h is = below-wider n (length (expansions ns)) (parts node) (omega (arith, h)) is.below.each
 
 pub list_rests : (ns : List Node) (p : Pair) (inner : Node) (bounds : Vec ℕ Global) (rest : ℕ) (answer : Bool) (old new : List Task) → IsWithin (expansions ns) p → inhabited (shape_at (expansions ns) p.first) ≡ true → IsNodeAt ns p.first inner → IsNodeAt ns p.second (nodes.List bounds rest) → ListLooked inner bounds.items rest p answer old new → RestsOn ns p answer old new

@@ -1,21 +1,27 @@
 -- What a look at two shapes of a table puts down: the joins of their parts.
-use Rattle.std.proofs.Common.{◌≡◌, ◌<◌, ◌≤◌, ◌+◌, ℕ, zero, suc, List, [], ◌∷◌, ◌++◌, length, map, take, drop, Bool, true, false, Option, Some, None, option_map, refl, sym, ap, ◌∙◌, subst, arith, ◌⊎◌, inl, inr, String, Global, append_assoc}
+use Rattle.std.proofs.Common.{◌≡◌, ◌<◌, ◌≤◌, ◌+◌, ℕ, zero, suc, List, [], ◌∷◌, ◌++◌, length, map, take, drop, Bool, true, false, Option, Some, None, option_map, Result, Ok, Err, Vec, refl, sym, ap, ◌∙◌, subst, arith, ◌⊎◌, inl, inr, String, Global, append_assoc}
 use Rattle.std.proofs.lemmas.List.{append-nil, map-append}
-use Rattle.std.specs.BTreeMap.{is_at}
-use Rattle.std.specs.String.{string_cmp}
+use Rattle.std.specs.BTreeMap.{BTreeMap, is_at}
 use Rattle.std.specs.Map.{lookup}
+use Rattle.std.specs.Prelude.{IfOk}
+use Rattle.std.specs.String.{string_cmp}
 use Rattle.asl_model.specs.Shape as model
 use Rattle.asl_model.specs.Shape.{Shape, Shapes}
-use Rattle.asl_model.specs.ShapeOrder.{further_places, joined_with_each, join}
+use Rattle.asl_model.specs.ShapeOrder.{further_places, joined_with_each, join_kinds, join}
+use Rattle.asl_model.proofs.JoinFuel.{join-inhabited}
+use Rattle.asl_tree.specs.declared.OutOfMemory.{OutOfMemory}
+use Rattle.asl_numbered.specs.declared.node.Node.{Node}
+use Rattle.asl_numbered.specs.declared.node.Node.TheVariants as nodes
 use Rattle.asl_numbered.specs.declared.node.NodeField.{NodeField}
 use Rattle.asl_numbered.specs.declared.pair.Pair.{Pair}
 use Rattle.asl_numbered.specs.declared.joining.JoinTask.{JoinTask}
 use Rattle.asl_numbered.specs.declared.joining.JoinTask.TheVariants.{Join, Nothing, With, Finish}
-use Rattle.asl_numbered.specs.Comparison.{IsWithin}
-use Rattle.asl_numbered.specs.Expansion.{shape_at, shapes_at, fields_at, numbers_in, AreBelow}
-use Rattle.asl_numbered.specs.Joins.{place_joins, with_field_join, field_joins, Step, NothingStep, WithStep, step_of, steps_of, joined_last, all_done, AreEachFed, places_cost, each_cost, rest_cost, with_field_cost, fields_cost, cost_of, last_of, work_left, place_joinings, joinings_with, field_joinings, field_joining, AreEachTasksWithin}
-use Rattle.asl_numbered.proofs.Comparisons.{mention_of_number, found-below}
-use Rattle.asl_numbered.proofs.Joins.{done_append, work_append, joined_behind, last_behind, with_each, with_each_work, places_each, places_each_work, behind_one, behind_each}
+use Rattle.asl_numbered.specs.Comparison.{IsWithin, IsNodeAt}
+use Rattle.asl_numbered.specs.Expansion.{shape_at, shapes_at, fields_at, shape_over, expansions, numbers_in, parts, AreBelow}
+use Rattle.asl_numbered.specs.Joins.{joint, place_joins, with_field_join, field_joins, ArePartsOf, array_parts, object_parts, Step, NothingStep, WithStep, FinishStep, step_of, steps_of, joined_last, done, all_done, IsFed, AreEachFed, places_cost, each_cost, rest_cost, with_field_cost, fields_cost, parts_cost, cost_of, last_of, work_left, place_joinings, joinings_with, field_joinings, field_joining, AreInhabited, found_in, AreEachTasksWithin, Moves, list_joinings, Looked, IsLevel, LooksAt}
+use Rattle.asl_numbered.proofs.Comparisons.{mention_of_number, found-below, below-table}
+use Rattle.asl_numbered.proofs.Expansions.{simple_refers}
+use Rattle.asl_numbered.proofs.Joins.{done_append, work_append, joined_behind, last_behind, with_each, with_each_work, places_each, places_each_work, parts_cheaper, behind_one, behind_each}
 
 -- ---- tasks for parts
 
@@ -208,3 +214,92 @@ fields_each_work table (f ∷ fs) os found =
     go : (o : Option NodeField) → ((more : List Shape) → work_left (steps_of table (field_joinings fs os)) more ≡ fields_cost cost_of (fields_at table fs) (fields_at table os)) → work_left (steps_of table (field_joinings fs os)) (all_done (steps_of table (field_joining f.1 o)) found) + work_left (steps_of table (field_joining f.1 o)) found ≡ with_field_cost cost_of (shape_at table f.1.shape) (option_map (λ (x : NodeField). (x.needed, shape_at table x.shape)) o) (fields_cost cost_of (fields_at table fs) (fields_at table os))
     go None each = omega (arith, each found)
     go (Some other) each = omega (arith, each (found ++ join (shape_at table f.1.shape) (shape_at table other.shape) ∷ []))
+
+-- ---- what the parts lead to
+
+front-found : (table : List Shape) (numbers : List ℕ) (joins : List Shape) → take (length numbers) (found_in table numbers ++ joins) ≡ found_in table numbers
+front-found table [] joins = refl
+front-found table (n ∷ numbers) joins = ap (λ found. shape_at table n ∷ found) (front-found table numbers joins)
+
+behind-found : (table : List Shape) (numbers : List ℕ) (joins : List Shape) → drop (length numbers) (found_in table numbers ++ joins) ≡ joins
+behind-found table [] joins = refl
+behind-found table (n ∷ numbers) joins = behind-found table numbers joins
+
+found-counted : (table : List Shape) (numbers : List ℕ) (joins : List Shape) → length numbers ≤ length (found_in table numbers ++ joins)
+found-counted table [] joins = omega arith
+found-counted table (n ∷ numbers) joins = omega (arith, found-counted table numbers joins)
+
+-- tasks that find the joins of the parts of a pair, and don't cost more than these, lead to its join
+parts-lead : (table : List Shape) (p : Pair) (numbers : List ℕ) (joins : List Shape) (tasks old new : List JoinTask) → IsWithin table p → AreInhabited table p → AreBelow (length table) numbers → AreParts table tasks → ArePartsOf (shape_at table p.first) (shape_at table p.second) joins → all_done (steps_of table tasks) (found_in table numbers) ≡ found_in table numbers ++ joins → work_left (steps_of table tasks) (found_in table numbers) ≤ 1 + parts_cost cost_of (shape_at table p.first) (shape_at table p.second) → new ≡ old ++ Finish p (length numbers) ∷ tasks → Moves table table (Join p) old new numbers numbers
+parts-lead table p numbers joins tasks old new within some below are of finds cost made =
+    let a = shape_at table p.first in
+    let b = shape_at table p.second in
+    let start = length numbers in
+    let found = found_in table numbers in
+    let fed : IsFed (FinishStep a b start) (found ++ joins) = (found-counted table numbers joins, subst (ArePartsOf a b) (sym (behind-found table numbers joins)) of, some.first, some.second) in
+    record {
+      added = Finish p start ∷ tasks;
+      whole = made;
+      within = (within, parts_within table tasks are);
+      below = below;
+      fed = (subst (IsFed (FinishStep a b start)) (sym finds) fed, parts_fed table tasks found are);
+      same = ap (done (FinishStep a b start)) finds ∙ ap (λ front. front ++ join a b ∷ []) (front-found table numbers joins);
+      less = omega (arith, cost, parts_cheaper a b);
+    }
+
+module _ (ns : List Node) (p : Pair) (within : IsWithin (expansions ns) p) (some : AreInhabited (expansions ns) p) (numbers : List ℕ) (below : AreBelow (length (expansions ns)) numbers) (old new : List JoinTask) where
+  abbrev table : List Shape
+  table = expansions ns
+
+  -- the same, where what the two nodes are is known
+  nodes-lead : (a b : Node) (joins : List Shape) (tasks : List JoinTask) → IsNodeAt ns p.first a → IsNodeAt ns p.second b → AreParts table tasks → ArePartsOf (shape_over table a) (shape_over table b) joins → all_done (steps_of table tasks) (found_in table numbers) ≡ found_in table numbers ++ joins → work_left (steps_of table tasks) (found_in table numbers) ≤ 1 + parts_cost cost_of (shape_over table a) (shape_over table b) → new ≡ old ++ Finish p (length numbers) ∷ tasks → Moves table table (Join p) old new numbers numbers
+  nodes-lead a b joins tasks first second are of finds cost made =
+      let parts_of = subst (λ s. ArePartsOf s (shape_at table p.second) joins) first.level (subst (λ s. ArePartsOf (shape_over table a) s joins) second.level of) in
+      let same : parts_cost cost_of (shape_over table a) (shape_over table b) ≡ parts_cost cost_of (shape_at table p.first) (shape_at table p.second) =
+      ap (λ s. parts_cost cost_of s (shape_over table b)) first.level ∙ ap (parts_cost cost_of (shape_at table p.first)) second.level in
+      parts-lead table p numbers joins tasks old new within some below are parts_of finds (omega (arith, cost, same)) made
+
+  list-leads : (ps os : Vec ℕ Global) (rest further : ℕ) → IsNodeAt ns p.first (nodes.List ps rest) → IsNodeAt ns p.second (nodes.List os further) → new ≡ old ++ list_joinings (Finish p (length numbers)) ps.items rest os.items further → Moves table table (Join p) old new numbers numbers
+  list-leads ps os rest further first second made =
+      let own = below-table ns p.first (nodes.List ps rest) within.first first in
+      let other = below-table ns p.second (nodes.List os further) within.second second in
+      let found = found_in table numbers in
+      nodes-lead (nodes.List ps rest) (nodes.List os further) _ _ first second (list_parts table ps.items os.items rest further found own.1 other.1 own.0 other.0) array_parts (list_done table ps.items os.items rest further found) (omega (arith, list_work table ps.items os.items rest further found)) made
+
+  object-leads : (fs os : BTreeMap (String Global) NodeField) (extra more : Bool) → IsNodeAt ns p.first (nodes.Object fs extra) → IsNodeAt ns p.second (nodes.Object os more) → new ≡ old ++ Finish p (length numbers) ∷ field_joinings fs.entries os.entries → Moves table table (Join p) old new numbers numbers
+  object-leads fs os extra more first second made =
+      let own = below-table ns p.first (nodes.Object fs extra) within.first first in
+      let other = below-table ns p.second (nodes.Object os more) within.second second in
+      let found = found_in table numbers in
+      nodes-lead (nodes.Object fs extra) (nodes.Object os more) _ _ first second (field-parts table fs.entries os.entries own other) object_parts (fields_each table fs.entries os.entries found) (omega (arith, fields_each_work table fs.entries os.entries found)) made
+
+  module _ (answer : Option Node) where
+    put-looked : (answer ≡ None) → Moves table table (Join p) old new numbers numbers → LooksAt ns p answer old new numbers
+    put-looked none moves = record { given = λ node e. absurd (let both : Some node ≡ None = sym e ∙ none in cc); put = λ e. moves }
+
+    kind-looked : (a b node : Node) → IsNodeAt ns p.first a → IsNodeAt ns p.second b → parts node ≡ [] → shape_over table node ≡ join_kinds join (shape_over table a) (shape_over table b) → (answer ≡ Some node) × (new ≡ old) → LooksAt ns p answer old new numbers
+    kind-looked a b node first second simple is h =
+        let whole : shape_over table node ≡ joint table p =
+        is ∙ ap (λ s. join_kinds join s (shape_over table b)) first.level ∙ ap (join_kinds join (shape_at table p.first)) second.level ∙ sym (join-inhabited (shape_at table p.first) (shape_at table p.second) some.first some.second) in
+        let level : IsLevel ns p node = record { same = whole; below = simple_refers (length ns) node simple } in
+        record {
+          given = λ other e. (let same : Some node ≡ Some other = sym h.0 ∙ e in let own : node ≡ other = cc in subst (IsLevel ns p) own level, h.1);
+          put = λ none. absurd (let both : Some node ≡ None = sym h.0 ∙ none in cc);
+        }
+
+    pub looked : (a b : Node) → IsNodeAt ns p.first a → IsNodeAt ns p.second b → Looked a b (Finish p (length numbers)) answer old new → LooksAt ns p answer old new numbers
+    looked (nodes.List ps rest) (nodes.List os further) first second h = put-looked h.0 (list-leads ps os rest further first second h.1)
+    looked (nodes.List ps rest) b first second h = kind-looked (nodes.List ps rest) b nodes.Any first second refl refl h
+    looked (nodes.Object fs extra) (nodes.Object os more) first second h = put-looked h.0 (object-leads fs os extra more first second h.1)
+    looked (nodes.Object fs extra) b first second h = kind-looked (nodes.Object fs extra) b nodes.Any first second refl refl h
+    looked nodes.Null nodes.Null first second h = kind-looked nodes.Null nodes.Null nodes.Null first second refl refl h
+    looked nodes.Bool nodes.Bool first second h = kind-looked nodes.Bool nodes.Bool nodes.Bool first second refl refl h
+    looked nodes.Int nodes.Int first second h = kind-looked nodes.Int nodes.Int nodes.Int first second refl refl h
+    looked nodes.Text nodes.Text first second h = kind-looked nodes.Text nodes.Text nodes.Text first second refl refl h
+    looked a b first second h = kind-looked a b nodes.Any first second refl refl h
+
+-- the same where memory may run out
+pub pair_looked : (ns : List Node) (p : Pair) (numbers : List ℕ) (old new : List JoinTask) (last : JoinTask) (a b : Node) (r : Result (Option Node) OutOfMemory) → IsWithin (expansions ns) p → AreInhabited (expansions ns) p → AreBelow (length (expansions ns)) numbers → IsNodeAt ns p.first a → IsNodeAt ns p.second b → last ≡ Finish p (length numbers) → IfOk r (λ o. Looked a b last o old new) → IfOk r (λ o. LooksAt ns p o old new numbers)
+pair_looked ns p numbers old new last a b (Ok answer) within some below first second is h =
+    looked ns p within some numbers below old new answer a b first second (subst (λ task. Looked a b task answer old new) is h)
+pair_looked ns p numbers old new last a b (Err e) within some below first second is h = tt
