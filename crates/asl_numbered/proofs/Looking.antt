@@ -185,7 +185,7 @@ module _ (table : List Shape) (ps os : List ℕ) (rest further : ℕ) (found : L
       let last = with-parts table (drop (length ps) os) (below-drop (length table) (length ps) os i) in
       let first = with-parts table (drop (length os) ps) (below-drop (length table) (length os) ps h) in
       let all = parts-append table (joinings_with (drop (length os) ps)) (joinings_with (drop (length ps) os) ++ Nothing ∷ []) first (parts-append table (joinings_with (drop (length ps) os)) (Nothing ∷ []) last tt) in
-      parts-append table (place_joinings ps os) (With further ∷ With rest ∷ behind) (place-parts table ps os h i) (k, j, all)
+      parts-append table (place_joinings ps os) (With further ∷ With rest ∷ behind) (place-parts table ps os h i) (k, (j, all))
 
 -- ---- the parts of objects
 
