@@ -261,3 +261,12 @@ pub record IsLevel (ns : List Node) (p : Pair) (node : Node) : Type 0 where
 pub record LooksAt (ns : List Node) (p : Pair) (answer : Option Node) (old new : List JoinTask) (numbers : List ℕ) : Type 0 where
   pub given : (node : Node) → answer ≡ Some node → IsLevel ns p node × (new ≡ old)
   pub put : answer ≡ None → Moves (expansions ns) (expansions ns) (Join p) old new numbers numbers
+
+-- ---- the join made of the joins of its parts
+
+-- The numbers are those of the joins of the parts of the pair's two shapes, which are inhabited.
+pub record AreMadeOf (table : List Shape) (p : Pair) (parts : List ℕ) : Type 0 where
+  pub within : IsWithin table p
+  pub below : AreBelow (length table) parts
+  pub all : ArePartsOf (shape_at table p.first) (shape_at table p.second) (found_in table parts)
+  pub inhabited : AreInhabited table p
