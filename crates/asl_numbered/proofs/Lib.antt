@@ -4,5 +4,6 @@ pub mod Expansions
 pub mod Growing
 pub mod Joins
 pub mod Looking
+pub mod Moving
 pub mod Sameness
 pub mod Tables

@@ -4,6 +4,7 @@
 // what is still to be done, and the numbers that are found stand in a second list, so that no call goes from a shape to
 // its parts.
 ghost use Rattle.asl_model.specs.Shape as shape;
+ghost use Rattle.asl_numbered.specs.declared.joining.JoinTask.TheVariants.{Join, Finish};
 ghost use Rattle.asl_numbered.specs.Comparison.{IsWithin};
 ghost use Rattle.asl_numbered.specs.Expansion.{expansions, shape_over, AreBelow, RefersBelow, Keeps};
 ghost use Rattle.asl_numbered.specs.Joins.{joint, Shows, AreJoins, AreInhabited, IsTaskWithin, IsFed, Moves, LooksAt, Looked, ListLooked, ObjectLooked, AreMadeOf, step_of, found_in, place_joinings, joinings_with, field_joinings};
@@ -111,7 +112,15 @@ fn look(
     joined: &Joined,
     work: &mut Work,
     pair: Pair,
-) -> Result<(), OutOfMemory> {
+) -> Result<(), OutOfMemory>
+    requires right { AreJoins (expansions table.old) joined.now.entries }
+    requires within { IsWithin (expansions table.old) pair }
+    requires below { AreBelow (length (expansions table.old)) work.old.numbers.items }
+    ensures moves { IfOk result
+        (λ _. Moves (expansions table.old) (expansions table.new) (Join pair)
+        work.old.tasks.items work.new.tasks.items work.old.numbers.items work.new.numbers.items) }
+    ensures keeps { Keeps (expansions table.old) (expansions table.new) }
+{
     if let Some(number) = known(table, joined, pair) {
         work.numbers.push(number)?;
         return Ok(());
@@ -296,7 +305,18 @@ fn finish(
     work: &mut Work,
     pair: Pair,
     start: usize,
-) -> Result<(), OutOfMemory> {
+) -> Result<(), OutOfMemory>
+    requires right { AreJoins (expansions table.old) joined.old.entries }
+    requires within { IsWithin (expansions table.old) pair }
+    requires below { AreBelow (length (expansions table.old)) work.old.numbers.items }
+    requires fed { IsFed (step_of (expansions table.old) (Finish pair start))
+        (found_in (expansions table.old) work.old.numbers.items) }
+    ensures moves { IfOk result
+        (λ _. Moves (expansions table.old) (expansions table.new) (Finish pair start)
+        work.old.tasks.items work.new.tasks.items work.old.numbers.items work.new.numbers.items) }
+    ensures keeps { Keeps (expansions table.old) (expansions table.new) }
+    ensures right { AreJoins (expansions table.new) joined.new.entries }
+{
     let parts = &work.numbers[start..];
     let node = made(table, work.alloc, pair, parts)?;
     let number = table.put(node)?;
