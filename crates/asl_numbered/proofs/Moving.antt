@@ -1,6 +1,6 @@
 -- One task of a join is done: the numbers that are found, and what is left to do.
-use Rattle.std.proofs.Common.{◌≡◌, ◌<◌, ◌≤◌, ℕ, zero, suc, List, [], ◌∷◌, ◌++◌, length, take, drop, Option, Some, None, refl, sym, ap, ◌∙◌, subst, arith}
-use Rattle.std.proofs.lemmas.List.{append-nil, map-append}
+use Rattle.std.proofs.Common.{◌≡◌, ◌<◌, ◌≤◌, ◌-◌, ℕ, zero, suc, List, [], ◌∷◌, ◌++◌, length, take, drop, Option, Some, None, refl, sym, ap, ◌∙◌, subst, arith}
+use Rattle.std.proofs.lemmas.List.{append-nil, length-drop, map-append, take_all}
 use Rattle.asl_model.specs.Shape as model
 use Rattle.asl_model.specs.Shape.{Shape}
 use Rattle.asl_model.specs.ShapeOrder.{join}
@@ -10,9 +10,11 @@ use Rattle.asl_numbered.specs.declared.joining.JoinTask.{JoinTask}
 use Rattle.asl_numbered.specs.declared.joining.JoinTask.TheVariants.{Join, Nothing, With, Finish}
 use Rattle.asl_numbered.specs.Comparison.{IsWithin}
 use Rattle.asl_numbered.specs.Expansion.{shape_at, shape_over, expansions, AreBelow, IsNumberOf, Keeps}
-use Rattle.asl_numbered.specs.Joins.{joint, Shows, ArePartsOf, step_of, joined_last, done, IsFed, FinishStep, cost_of, last_of, step_cost, AreInhabited, found_in, Moves, IsLevel, LooksAt, AreMadeOf}
+use Rattle.asl_numbered.specs.Joins.{joint, Shows, AreJoins, ArePartsOf, step_of, joined_last, done, IsFed, FinishStep, cost_of, last_of, step_cost, AreInhabited, found_in, Moves, IsLevel, LooksAt, AreMadeOf}
+use Rattle.asl_numbered.proofs.Comparisons.{within_kept}
 use Rattle.asl_numbered.proofs.Expansions.{below-append, below-wider, keeps_longer, kept_shape, keeps_same}
-use Rattle.asl_numbered.proofs.Joins.{parts_cheaper, joined_behind, last_behind}
+use Rattle.asl_numbered.proofs.Joins.{joint_kept, joins_kept, parts_cheaper, joined_behind, last_behind}
+use Rattle.asl_numbered.proofs.Looking.{below-drop}
 
 -- the shapes of the numbers stay
 found-kept : (old new : List Shape) (numbers : List ℕ) → Keeps old new → AreBelow (length old) numbers → found_in new numbers ≡ found_in old numbers
@@ -56,3 +58,58 @@ pub level_put : (ns : List Node) (new : List Shape) (p : Pair) (node : Node) (ta
 level_put ns new p node tasks left numbers next n looks keeps below is made =
     let level = looks.given node refl in
     join-put (expansions ns) new p tasks left numbers next n keeps below (record { within = is.within; same = is.same ∙ level.0.same }) level.1 made
+
+-- ---- a pair that is finished
+
+below-take : (bound k : ℕ) (ns : List ℕ) → AreBelow bound ns → AreBelow bound (take k ns)
+below-take bound zero ns h = tt
+below-take bound (suc k) [] h = tt
+below-take bound (suc k) (n ∷ ns) h = (h.0, below-take bound k ns h.1)
+
+take-found : (table : List Shape) (k : ℕ) (ns : List ℕ) → take k (found_in table ns) ≡ found_in table (take k ns)
+take-found table zero ns = refl
+take-found table (suc k) [] = refl
+take-found table (suc k) (n ∷ ns) = ap (λ found. shape_at table n ∷ found) (take-found table k ns)
+
+drop-found : (table : List Shape) (k : ℕ) (ns : List ℕ) → drop k (found_in table ns) ≡ found_in table (drop k ns)
+drop-found table zero ns = refl
+drop-found table (suc k) [] = refl
+drop-found table (suc k) (n ∷ ns) = drop-found table k ns
+
+found-count : (table : List Shape) (ns : List ℕ) → length (found_in table ns) ≡ length ns
+found-count table [] = refl
+found-count table (n ∷ ns) = ap suc (found-count table ns)
+
+module _ (table : List Shape) (p : Pair) (start : ℕ) (numbers : List ℕ) (within : IsWithin table p) (below : AreBelow (length table) numbers) (fed : IsFed (step_of table (Finish p start)) (found_in table numbers)) where
+  -- the numbers of its parts are the last ones
+  pub start_within : start ≤ length numbers
+  start_within = omega (arith, fed.0, found-count table numbers)
+
+  pub made_of : (parts : List ℕ) → parts ≡ drop start numbers → AreMadeOf table p parts
+  made_of parts is = rw is (record {
+    within = within;
+    below = below-drop (length table) start numbers below;
+    all = subst (ArePartsOf (shape_at table p.first) (shape_at table p.second)) (drop-found table start numbers) fed.1;
+    inhabited = record { first = fed.2; second = fed.3 };
+  })
+
+  -- the number of its join is put in their place
+  module _ (new : List Shape) (n : ℕ) (keeps : Keeps table new) (shape : Shape) (same : shape ≡ joint table p) (is : IsNumberOf new shape n) where
+    shows : Shows new (joint table p) n
+    shows = record { within = is.within; same = is.same ∙ same }
+
+    pub finish_put : (tasks left : List JoinTask) (front next : List ℕ) → left ≡ tasks → front ≡ take start numbers → next ≡ front ++ n ∷ [] → Moves table new (Finish p start) tasks left numbers next
+    finish_put tasks left front next stays cut made =
+        let step : done (step_of table (Finish p start)) (found_in table numbers) ≡ found_in table (take start numbers) ++ joint table p ∷ [] = ap (λ found. found ++ joint table p ∷ []) (take-found table start numbers) in
+        number-put table new (Finish p start) (joint table p) tasks left numbers (take start numbers) next n keeps (below-take (length table) start numbers below) shows stays (made ∙ ap (λ found. found ++ n ∷ []) cut) step (omega arith)
+
+    -- what is remembered of it is right
+    finish_shows : Shows new (joint new p) n
+    finish_shows = subst (λ s. Shows new s n) (sym (joint_kept table new p keeps within)) shows
+
+    pub finish_right : (entries next : List (Pair × ℕ)) → AreJoins table entries → ((t : List Shape) → IsWithin t p → Shows t (joint t p) n → AreJoins t entries → AreJoins t next) → AreJoins new next
+    finish_right entries next right remembered = remembered new (within_kept table new p keeps within) finish_shows (joins_kept table new entries keeps right)
+
+-- the last numbers, as a slice of all
+pub sliced : (now numbers : List ℕ) (start : ℕ) → now ≡ numbers → take (length now - start) (drop start now) ≡ drop start numbers
+sliced now numbers start is = take_all (length now - start) (drop start now) (omega (arith, length-drop start now)) ∙ ap (drop start) is
