@@ -10,9 +10,9 @@ use Rattle.asl_numbered.specs.declared.joining.JoinTask.{JoinTask}
 use Rattle.asl_numbered.specs.declared.joining.JoinTask.TheVariants.{Join, Nothing, With, Finish}
 use Rattle.asl_numbered.specs.Comparison.{IsWithin}
 use Rattle.asl_numbered.specs.Expansion.{shape_at, shape_over, expansions, AreBelow, IsNumberOf, Keeps}
-use Rattle.asl_numbered.specs.Joins.{joint, Shows, AreJoins, ArePartsOf, step_of, joined_last, done, IsFed, FinishStep, cost_of, last_of, step_cost, AreInhabited, found_in, Moves, IsLevel, LooksAt, AreMadeOf}
+use Rattle.asl_numbered.specs.Joins.{joint, Shows, AreJoins, ArePartsOf, step_of, joined_last, done, IsFed, FinishStep, cost_of, last_of, step_cost, AreInhabited, found_in, IsTaskWithin, Moves, IsLevel, LooksAt, AreMadeOf}
 use Rattle.asl_numbered.proofs.Comparisons.{within_kept}
-use Rattle.asl_numbered.proofs.Expansions.{below-append, below-wider, keeps_longer, kept_shape, keeps_same}
+use Rattle.asl_numbered.proofs.Expansions.{below-front, below-behind, below-append, below-wider, keeps_longer, kept_shape, keeps_same}
 use Rattle.asl_numbered.proofs.Joins.{joint_kept, joins_kept, parts_cheaper, joined_behind, last_behind}
 use Rattle.asl_numbered.proofs.Looking.{below-drop}
 
@@ -113,3 +113,31 @@ module _ (table : List Shape) (p : Pair) (start : ℕ) (numbers : List ℕ) (wit
 -- the last numbers, as a slice of all
 pub sliced : (now numbers : List ℕ) (start : ℕ) → now ≡ numbers → take (length now - start) (drop start now) ≡ drop start numbers
 sliced now numbers start is = take_all (length now - start) (drop start now) (omega (arith, length-drop start now)) ∙ ap (drop start) is
+
+-- ---- tasks without a pair
+
+-- the number of Never is put behind the numbers
+pub nothing_put : (old new : List Shape) (task : JoinTask) (tasks left : List JoinTask) (numbers next : List ℕ) (n : ℕ) → task ≡ Nothing → Keeps old new → AreBelow (length old) numbers → IsNumberOf new model.Never n → left ≡ tasks → next ≡ numbers ++ n ∷ [] → Moves old new task tasks left numbers next
+nothing_put old new task tasks left numbers next n is keeps below never stays made =
+    let shows : Shows new model.Never n = record { within = never.within; same = never.same } in
+    subst (λ t. Moves old new t tasks left numbers next) (sym is) (number-put old new Nothing model.Never tasks left numbers numbers next n keeps below shows stays made refl (omega arith))
+
+-- the last number's shape is to be joined with another
+pub with_put : (table : List Shape) (task : JoinTask) (tasks left : List JoinTask) (numbers next : List ℕ) (n last : ℕ) → task ≡ With n → IsTaskWithin table task → AreBelow (length table) numbers → numbers ≡ next ++ last ∷ [] → left ≡ tasks ++ Join (record { first = last; second = n }) ∷ [] → Moves table table task tasks left numbers next
+with_put table task tasks left numbers next n last is within below split made =
+    let own : n < length table = subst (IsTaskWithin table) is within in
+    let all : AreBelow (length table) (next ++ last ∷ []) = subst (AreBelow (length table)) split below in
+    let other = below-behind (length table) next (last ∷ []) all in
+    let s = shape_at table n in
+    let t = shape_at table last in
+    let found : found_in table numbers ≡ found_in table next ++ t ∷ [] = ap (found_in table) split ∙ found-behind table next last in
+    let cost : cost_of (last_of (found_in table numbers)) s ≡ cost_of t s = ap (λ more. cost_of (last_of more) s) found ∙ ap (λ u. cost_of u s) (last_behind t (found_in table next)) in
+    subst (λ task. Moves table table task tasks left numbers next) (sym is) (record {
+      added = Join (record { first = last; second = n }) ∷ [];
+      whole = made;
+      within = (record { first = other.0; second = own }, tt);
+      below = below-front (length table) next (last ∷ []) all;
+      fed = (tt, tt);
+      same = sym (ap (joined_last s) found ∙ joined_behind s t (found_in table next));
+      less = omega (arith, cost);
+    })
