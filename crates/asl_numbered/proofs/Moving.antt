@@ -10,10 +10,10 @@ use Rattle.asl_numbered.specs.declared.joining.JoinTask.{JoinTask}
 use Rattle.asl_numbered.specs.declared.joining.JoinTask.TheVariants.{Join, Nothing, With, Finish}
 use Rattle.asl_numbered.specs.Comparison.{IsWithin}
 use Rattle.asl_numbered.specs.Expansion.{shape_at, shape_over, expansions, AreBelow, IsNumberOf, Keeps}
-use Rattle.asl_numbered.specs.Joins.{joint, Shows, AreJoins, ArePartsOf, step_of, joined_last, done, IsFed, FinishStep, cost_of, last_of, step_cost, AreInhabited, found_in, IsTaskWithin, Moves, IsLevel, LooksAt, AreMadeOf}
+use Rattle.asl_numbered.specs.Joins.{joint, Shows, AreJoins, ArePartsOf, step_of, Step, steps_of, joined_last, done, IsFed, AreEachFed, FinishStep, cost_of, last_of, step_cost, work_left, AreInhabited, found_in, IsTaskWithin, AreEachTasksWithin, AreLeft, Moves, IsLevel, LooksAt, AreMadeOf}
 use Rattle.asl_numbered.proofs.Comparisons.{within_kept}
 use Rattle.asl_numbered.proofs.Expansions.{below-front, below-behind, below-append, below-wider, keeps_longer, kept_shape, keeps_same}
-use Rattle.asl_numbered.proofs.Joins.{joint_kept, joins_kept, parts_cheaper, joined_behind, last_behind}
+use Rattle.asl_numbered.proofs.Joins.{joint_kept, joins_kept, parts_cheaper, joined_behind, last_behind, moved, less_work}
 use Rattle.asl_numbered.proofs.Looking.{below-drop}
 
 -- the shapes of the numbers stay
@@ -141,3 +141,31 @@ with_put table task tasks left numbers next n last is within below split made =
       same = sym (ap (joined_last s) found ∙ joined_behind s t (found_in table next));
       less = omega (arith, cost);
     })
+
+-- ---- the loop
+
+within-last : (table : List Shape) (front : List JoinTask) (task : JoinTask) → AreEachTasksWithin table (front ++ task ∷ []) → IsTaskWithin table task
+within-last table [] task h = h.0
+within-last table (other ∷ front) task h = within-last table front task h.1
+
+fed-last : (front : List Step) (step : Step) (found : List Shape) → AreEachFed (front ++ step ∷ []) found → IsFed step found
+fed-last [] step found h = h.0
+fed-last (other ∷ front) step found h = fed-last front step found h.1
+
+module _ (table : List Shape) (shape : Shape) (tasks front : List JoinTask) (task : JoinTask) (numbers : List ℕ) (split : tasks ≡ front ++ task ∷ []) (left : AreLeft table shape tasks numbers) where
+  now : AreLeft table shape (front ++ task ∷ []) numbers
+  now = subst (λ all. AreLeft table shape all numbers) split left
+
+  pub task_within : IsTaskWithin table task
+  task_within = within-last table front task now.within
+
+  pub task_fed : IsFed (step_of table task) (found_in table numbers)
+  task_fed = fed-last (steps_of table front) (step_of table task) (found_in table numbers) (subst (λ steps. AreEachFed steps (found_in table numbers)) (map-append (step_of table) front (task ∷ [])) now.fed)
+
+  module _ (new : List Shape) (more : List JoinTask) (next : List ℕ) (keeps : Keeps table new) (moves : Moves table new task front more numbers next) where
+    pub left_moved : AreLeft new shape more next
+    left_moved = moved table new task front more numbers next keeps moves shape now
+
+    pub left_less : work_left (steps_of new more) (found_in new next) < work_left (steps_of table tasks) (found_in table numbers)
+    left_less =
+        subst (λ all. work_left (steps_of new more) (found_in new next) < work_left (steps_of table all) (found_in table numbers)) (sym split) (less_work table new task front more numbers next keeps moves shape now)
