@@ -13,7 +13,7 @@ use crate::joining::{Joined, join};
 use crate::node::Node;
 use crate::pair::Pair;
 use crate::table::Table;
-use asl_model::shape_laws::sub_means_inside;
+use asl_model::shape_laws::{join_is_above_both, sub_means_inside};
 use asl_shape::Shape;
 use asl_tree::OutOfMemory;
 use indexmap::IndexMap;
@@ -38,6 +38,7 @@ impl Model for Shapes {
     ghost use Rattle.asl_numbered.specs.declared.node.Node.{Node as Level};
     ghost use Rattle.asl_numbered.specs.Comparison.{AreRight};
     ghost use Rattle.asl_numbered.specs.Expansion.{expansions};
+    ghost use Rattle.asl_numbered.specs.Joins.{AreJoins};
 
     ghost Value = { List Level };
 
@@ -45,7 +46,8 @@ impl Model for Shapes {
 
     ghost view = { λ s. s.table };
 
-    ghost invariant = { λ s. AreRight (expansions s.table) s.compared.entries };
+    ghost invariant = { λ s. AreRight (expansions s.table) s.compared.entries
+        × AreJoins (expansions s.table) s.joined.entries };
 }
 
 impl Shapes {
@@ -141,10 +143,22 @@ impl Shapes {
     /// The number of the join of the two shapes, as `join` of `asl_shape` makes it: every tree of either has it; `None`
     /// where one of the numbers isn't below the length. The answer is remembered, as those for the shapes' parts are that
     /// were joined on the way, so that none is found out twice. Refuses only where an allocation was refused.
-    pub fn join(&mut self, first: usize, second: usize) -> Result<Option<usize>, OutOfMemory> {
+    pub fn join(&mut self, first: usize, second: usize) -> Result<Option<usize>, OutOfMemory>
+        ensures exactly { IfOk result
+            (λ r. IsSome r ↔ (first < length self.old) × (second < length self.old)) }
+        ensures as_defined { IfOk result
+            (λ r. IfSome r (IsNumberOf (expansions self.new)
+            (order.join (shape_at (expansions self.old) first) (shape_at (expansions self.old) second)))) }
+        ensures above { IfOk result
+            (λ r. IfSome r (λ number. model.Inside (shape_at (expansions self.old) first) (shape_at (expansions self.new) number)
+            × model.Inside (shape_at (expansions self.old) second) (shape_at (expansions self.new) number))) }
+        ensures keeps { Keeps (expansions self.old) (expansions self.new) }
+    {
+        join_is_above_both();
         if first < self.table.len() && second < self.table.len() {
             let pair = Pair { first, second };
             let number = join(&mut self.table, &mut self.joined, self.alloc, pair)?;
+            self.table.are_distinct();
             Ok(Some(number))
         } else {
             Ok(None)
