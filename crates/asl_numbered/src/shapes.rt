@@ -148,10 +148,13 @@ impl Shapes {
             (λ r. IsSome r ↔ (first < length self.old) × (second < length self.old)) }
         ensures as_defined { IfOk result
             (λ r. IfSome r (IsNumberOf (expansions self.new)
-            (order.join (shape_at (expansions self.old) first) (shape_at (expansions self.old) second)))) }
+            (order.join (shape_at (expansions self.old) first)
+            (shape_at (expansions self.old) second)))) }
         ensures above { IfOk result
-            (λ r. IfSome r (λ number. model.Inside (shape_at (expansions self.old) first) (shape_at (expansions self.new) number)
-            × model.Inside (shape_at (expansions self.old) second) (shape_at (expansions self.new) number))) }
+            (λ r. IfSome r (λ number.
+            model.Inside (shape_at (expansions self.old) first) (shape_at (expansions self.new) number)
+            × model.Inside (shape_at (expansions self.old) second)
+            (shape_at (expansions self.new) number))) }
         ensures keeps { Keeps (expansions self.old) (expansions self.new) }
     {
         join_is_above_both();
