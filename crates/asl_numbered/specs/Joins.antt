@@ -222,3 +222,12 @@ pub record Moves (old new : List Shape) (task : JoinTask) (tasks left : List Joi
   pub fed : AreEachFed (steps_of new added) (found_in new next)
   pub same : all_done (steps_of new added) (found_in new next) ≡ done (step_of old task) (found_in old numbers)
   pub less : work_left (steps_of new added) (found_in new next) < step_cost (step_of old task) (found_in old numbers)
+
+-- ---- the join made of the joins of its parts
+
+-- The numbers are those of the joins of the parts of the pair's two shapes, which are inhabited.
+pub record AreMadeOf (table : List Shape) (p : Pair) (parts : List ℕ) : Type 0 where
+  pub within : IsWithin table p
+  pub below : AreBelow (length table) parts
+  pub all : ArePartsOf (shape_at table p.first) (shape_at table p.second) (found_in table parts)
+  pub inhabited : AreInhabited table p

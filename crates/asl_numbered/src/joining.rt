@@ -5,8 +5,8 @@
 // its parts.
 ghost use Rattle.asl_model.specs.Shape as shape;
 ghost use Rattle.asl_numbered.specs.Comparison.{IsWithin};
-ghost use Rattle.asl_numbered.specs.Expansion.{expansions, AreBelow, Keeps};
-ghost use Rattle.asl_numbered.specs.Joins.{joint, Shows, AreJoins, AreInhabited, IsTaskWithin, IsFed, Moves, step_of, found_in, place_joinings, joinings_with, field_joinings};
+ghost use Rattle.asl_numbered.specs.Expansion.{expansions, shape_over, AreBelow, RefersBelow, Keeps};
+ghost use Rattle.asl_numbered.specs.Joins.{joint, Shows, AreJoins, AreInhabited, IsTaskWithin, IsFed, Moves, AreMadeOf, step_of, found_in, place_joinings, joinings_with, field_joinings};
 ghost use Rattle.std.specs.Prelude.{◌≡◌, ◌++◌, List, None, IfSome, IfOk, drop, false, length};
 
 use crate::node::{Node, NodeField};
@@ -298,7 +298,12 @@ fn remember(joined: &mut Joined, pair: Pair, number: usize) -> Result<(), OutOfM
 }
 
 // The first level of the join of two shapes that are both of lists or both of objects, made of the joins of the parts.
-fn made(table: &Table, alloc: Global, pair: Pair, parts: &[usize]) -> Result<Node, OutOfMemory> {
+fn made(table: &Table, alloc: Global, pair: Pair, parts: &[usize]) -> Result<Node, OutOfMemory>
+    requires parts { AreMadeOf (expansions table.now) pair parts.now }
+    ensures node { IfOk result
+        (λ node. shape_over (expansions table.now) node ≡ joint (expansions table.now) pair) }
+    ensures below { IfOk result (RefersBelow (length table.now)) }
+{
     match table.node(pair.first) {
         Some(Node::Object { fields, extra }) => match table.node(pair.second) {
             Some(
