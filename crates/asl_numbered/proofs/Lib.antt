@@ -3,5 +3,6 @@ pub mod Comparisons
 pub mod Expansions
 pub mod Growing
 pub mod Joins
+pub mod Made
 pub mod Sameness
 pub mod Tables

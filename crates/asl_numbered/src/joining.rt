@@ -6,7 +6,7 @@
 ghost use Rattle.asl_model.specs.Shape as shape;
 ghost use Rattle.asl_numbered.specs.Comparison.{IsWithin};
 ghost use Rattle.asl_numbered.specs.Expansion.{expansions, shape_over, AreBelow, RefersBelow, Keeps};
-ghost use Rattle.asl_numbered.specs.Joins.{joint, Shows, AreJoins, AreInhabited, IsTaskWithin, IsFed, Moves, AreMadeOf, step_of, found_in, place_joinings, joinings_with, field_joinings};
+ghost use Rattle.asl_numbered.specs.Joins.{joint, Shows, AreJoins, AreInhabited, IsTaskWithin, IsFed, Moves, AreMadeOf, AreJoinedFields, AreWithOthers, IsListOf, step_of, found_in, place_joinings, joinings_with, field_joinings};
 ghost use Rattle.std.specs.Prelude.{◌≡◌, ◌++◌, List, None, IfSome, IfOk, drop, false, length};
 
 use crate::node::{Node, NodeField};
@@ -326,7 +326,9 @@ fn made(table: &Table, alloc: Global, pair: Pair, parts: &[usize]) -> Result<Nod
 }
 
 // The first level of a shape of lists: first the shape of its further elements, and then its places.
-fn made_list(alloc: Global, parts: &[usize]) -> Result<Node, OutOfMemory> {
+fn made_list(alloc: Global, parts: &[usize]) -> Result<Node, OutOfMemory>
+    ensures list { IfOk result (IsListOf parts.now) }
+{
     match parts.split_first() {
         None => Ok(Node::Any),
         Some((rest, places)) => {
@@ -345,7 +347,10 @@ fn join_fields(
     others: &BTreeMap<String, NodeField>,
     more: bool,
     parts: &[usize],
-) -> Result<BTreeMap<String, NodeField>, OutOfMemory> {
+) -> Result<BTreeMap<String, NodeField>, OutOfMemory>
+    ensures joined { IfOk result
+        (λ map. AreJoinedFields fields.now.entries others.now.entries more parts.now map.entries) }
+{
     let mut joined = BTreeMap::new(alloc);
     let mut left = parts.iter();
     for (name, field) in fields.iter() {
@@ -375,7 +380,11 @@ fn add_others(
     extra: bool,
     others: &BTreeMap<String, NodeField>,
     joined: &mut BTreeMap<String, NodeField>,
-) -> Result<(), OutOfMemory> {
+) -> Result<(), OutOfMemory>
+    ensures added { IfOk result
+        (λ _. AreWithOthers fields.now.entries extra others.now.entries joined.old.entries
+        joined.new.entries) }
+{
     for (name, other) in others.iter().rev() {
         if !extra && !fields.contains_key(name) {
             let key = name.clone()?;
