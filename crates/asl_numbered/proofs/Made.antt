@@ -1,14 +1,17 @@
 -- The join of two shapes of a table, made of the joins of their parts.
-use Rattle.std.proofs.Common.{◌≡◌, ◌<◌, ℕ, List, [], ◌∷◌, ◌++◌, Bool, true, false, ◌&&◌, ◌||◌, Option, Some, None, Ordering, Less, Equal, Greater, String, Global, string_bytes, string_cmp, nat_cmp, bytes_eq, option_map, is_some, refl, sym, ap, ◌∙◌, subst}
+use Rattle.std.proofs.Common.{◌≡◌, ◌<◌, ℕ, List, [], ◌∷◌, ◌++◌, Bool, true, false, ◌&&◌, ◌||◌, Option, Some, None, Ordering, Less, Equal, Greater, String, Global, string_bytes, string_cmp, nat_cmp, bytes_eq, option_map, unwrap_or, is_some, Bor, append_assoc, refl, sym, ap, ◌∙◌, subst}
 use Rattle.std.proofs.lemmas.Cmp.{nat_list_cmp_total}
 use Rattle.std.proofs.lemmas.Map.Text.{is_eq-slice_cmp}
 use Rattle.std.proofs.lemmas.Slice.Eq.{bytes_eq-Decides}
+use Rattle.std.proofs.lemmas.List.{append-nil, map-append, nil_from_length}
 use Rattle.std.specs.BTreeMap.{is_at, insert_entry}
 use Rattle.std.specs.Cmp.Lexicographic.{slice_cmp}
 use Rattle.std.specs.List.{AllByRecursion}
 use Rattle.std.specs.List.Sorted.{IsStrictlySortedBy}
 use Rattle.std.specs.Map.{keys_of, lookup}
 use Rattle.std.specs.Ordering.{is_eq, match_ordering}
+use Rattle.std.specs.Slice.Iter.{iter_rest, iter_steps}
+use Rattle.std.specs.declared.slice.Iter.{Iter}
 use Rattle.asl_model.specs.Shape as model
 use Rattle.asl_model.specs.Shape.{Shape, FieldShapes, NoFieldShapes, AndFieldShape, insert_mention, mentions}
 use Rattle.asl_model.specs.ShapeOrder.{mention_of, set_mention, without_mention, keep_joined, joined_fields, with_optional_unless, with_other_fields, join}
@@ -17,8 +20,9 @@ use Rattle.asl_shape.proofs.Lookups.{same_name}
 use Rattle.asl_shape.proofs.Spellings.{put}
 use Rattle.asl_numbered.specs.declared.node.NodeField.{NodeField}
 use Rattle.asl_numbered.specs.Expansion.{shape_at, fields_at, numbers_in, AreBelow}
-use Rattle.asl_numbered.specs.Joins.{field_joins, found_in}
+use Rattle.asl_numbered.specs.Joins.{with_field_join, field_joins, found_in, AreJoinedFields, AreWithOthers}
 use Rattle.asl_numbered.proofs.Comparisons.{mentions_number, mention_of_number}
+use Rattle.asl_numbered.proofs.Expansions.{below-behind}
 
 -- a name, and what a node says of its field
 abbrev pub Entry : Type 0
@@ -126,3 +130,148 @@ module _ (table : List Shape) (os : FieldShapes) (more : Bool) where
   dropped-last : (done : List Entry) (e : Entry) (joined : FieldShapes) → joined ≡ joined_fields join (fields_at table done) os more → NoFieldShapes ≡ joined_fields join (fields_at table (e ∷ [])) os more → joined ≡ joined_fields join (fields_at table (done ++ e ∷ [])) os more
   dropped-last done e joined so_far nothing =
       so_far ∙ front-alone done ∙ ap (joined-front done) nothing ∙ sym (front-all done (e ∷ []))
+
+-- ---- the loop over them
+
+-- the parts are the joins of the fields that both mention
+abbrev AreFieldJoins : List Shape → List Entry → List Entry → List ℕ → Type 0
+AreFieldJoins table fields others parts = found_in table parts ≡ field_joins (fields_at table fields) (fields_at table others)
+
+-- The fields up to those that are left are joined, by the parts up to those that are left.
+pub record AreJoinedSoFar (fields others : List Entry) (more : Bool) (parts : List ℕ) (left : List Entry) (behind : List ℕ) (joined : List Entry) : Type 0 where
+  pub done : List Entry
+  pub whole : fields ≡ done ++ left
+  pub rest : (table : List Shape) → AreFieldJoins table fields others parts → AreFieldJoins table left others behind
+  pub shapes : (table : List Shape) → AreFieldJoins table fields others parts → fields_at table joined ≡ joined_fields join (fields_at table done) (fields_at table others) more
+  pub below : (bound : ℕ) → AreBelow bound (numbers_in fields) → AreBelow bound parts → AreBelow bound behind × AreBelow bound (numbers_in joined)
+
+pub none_joined : (fields others : List Entry) (more : Bool) (parts behind : List ℕ) (joined : List Entry) → joined ≡ [] → behind ≡ parts → AreJoinedSoFar fields others more parts fields behind joined
+none_joined fields others more parts behind joined none all =
+    rw (none, all) (record { done = []; whole = refl; rest = λ table are. are; shapes = λ table are. refl; below = λ bound own below. (below, tt) })
+
+pub all_joined : (fields others : List Entry) (more : Bool) (parts : List ℕ) (left : List Entry) (behind : List ℕ) (joined : List Entry) → left ≡ [] → AreJoinedSoFar fields others more parts left behind joined → AreJoinedFields fields others more parts joined
+all_joined fields others more parts left behind joined none h =
+    let whole : fields ≡ h.done = h.whole ∙ ap (λ es. h.done ++ es) none ∙ append-nil h.done in
+    record { shapes = λ table are. h.shapes table are ∙ ap (λ es. joined_fields join (fields_at table es) (fields_at table others) more) (sym whole); below = λ bound own below. (h.below bound own below).1 }
+
+-- the mention of a name in the second object
+mention-there : (table : List Shape) (k : String Global) (others : List Entry) (o : Option NodeField) → lookup (is_at (string_cmp k)) others ≡ o → mention_of (string_bytes k) (fields_at table others) ≡ option_map (λ f. (f.needed, shape_at table f.shape)) o
+mention-there table k others o found = mention_of_number table k others ∙ ap (option_map (λ (f : NodeField). (f.needed, shape_at table f.shape))) found
+
+-- the first of the parts; the field's own number where there is none
+pub data IsNextPart : List ℕ → List ℕ → ℕ → ℕ → Type 0 where
+  next_part : {n own : ℕ} {next : List ℕ} → IsNextPart (n ∷ next) next own n
+  no_part : {own : ℕ} → IsNextPart [] [] own own
+
+-- an iterator's next one, or else the field's own
+pub taken_next : (s t : Iter ℕ) (r : Option (Bor ℕ)) (own n : Bor ℕ) → iter_steps s r t → n ≡ unwrap_or r own → IsNextPart (iter_rest s) (iter_rest t) own.now n.now
+taken_next s t None own n steps is = rw (is, steps.1, nil_from_length (iter_rest s) steps.0) no_part
+taken_next s t (Some x) own n steps is = rw (is, steps) next_part
+
+part-below : (bound : ℕ) (behind next : List ℕ) (own n : ℕ) → IsNextPart behind next own n → own < bound → AreBelow bound behind → (n < bound) × AreBelow bound next
+part-below bound behind next own n next_part h below = below
+part-below bound behind next own n no_part h below = (h, tt)
+
+part-shown : (table : List Shape) (behind next : List ℕ) (own n : ℕ) → IsNextPart behind next own n → (s : Shape) (ss : List Shape) → found_in table behind ≡ s ∷ ss → (shape_at table n ≡ s) × (found_in table next ≡ ss)
+part-shown table behind next own n next_part s ss e = (cc, cc)
+part-shown table behind next own n no_part s ss e = absurd (cc)
+
+module _ (fields others : List Entry) (more : Bool) (parts : List ℕ) (now left : List Entry) (e : Entry) (behind : List ℕ) (joined : List Entry) (split : now ≡ e ∷ left) (h : AreJoinedSoFar fields others more parts now behind joined) where
+  abbrev done : List Entry
+  done = h.done
+
+  all : fields ≡ done ++ e ∷ left
+  all = h.whole ∙ ap (λ es. done ++ es) split
+
+  further : fields ≡ (done ++ e ∷ []) ++ left
+  further = all ∙ sym (append_assoc done (e ∷ []) left)
+
+  sorted : IsStrictlySortedBy string_cmp (keys_of fields) → IsStrictlySortedBy string_cmp (keys_of (done ++ e ∷ left))
+  sorted ordered = subst (λ es. IsStrictlySortedBy string_cmp (keys_of es)) all ordered
+
+  own-below : (bound : ℕ) → AreBelow bound (numbers_in fields) → e.1.shape < bound
+  own-below bound own = (below-behind bound (numbers_in done) (numbers_in (e ∷ left)) (subst (AreBelow bound) (map-append (λ f. f.1.shape) done (e ∷ left)) (subst (λ es. AreBelow bound (numbers_in es)) all own))).0
+
+  -- what is left of the parts, by whether the second object mentions the field
+  parts-left : (table : List Shape) (o : Option NodeField) → lookup (is_at (string_cmp e.0)) others ≡ o → AreFieldJoins table fields others parts → found_in table behind ≡ with_field_join (shape_at table e.1.shape) (option_map (λ f. (f.needed, shape_at table f.shape)) o) (field_joins (fields_at table left) (fields_at table others))
+  parts-left table o found are =
+      h.rest table are
+      ∙ ap (λ es. field_joins (fields_at table es) (fields_at table others)) split
+      ∙ ap (λ m. with_field_join (shape_at table e.1.shape) m (field_joins (fields_at table left) (fields_at table others))) (mention-there table e.0 others o found)
+
+  -- one that both mention: the next part is the number of its join
+  pub both_joined : (o f : NodeField) (k : String Global) (new : List Entry) (next : List ℕ) → IsStrictlySortedBy string_cmp (keys_of fields) → lookup (is_at (string_cmp e.0)) others ≡ Some o → string_bytes k ≡ string_bytes e.0 → f.needed ≡ (e.1.needed && o.needed) → IsNextPart behind next e.1.shape f.shape → new ≡ insert_entry string_cmp joined k f → AreJoinedSoFar fields others more parts left next new
+  both_joined o f k new next ordered found named needed part inserted = rw inserted (record {
+    done = done ++ e ∷ [];
+    whole = further;
+    rest = λ table are. (parts_next table are).1;
+    shapes = λ table are. kept-last table (fields_at table others) more done e left joined k f (sorted ordered) (h.shapes table are) named (rw (mention-there table e.0 others (Some o) found, needed, (parts_next table are).0) refl);
+    below = λ bound own below.
+        let so_far = h.below bound own below in
+        let here = part-below bound behind next e.1.shape f.shape part (own-below bound own) so_far.0 in
+        (here.1, put-below bound joined k f here.0 so_far.1);
+  })
+    where
+      parts_next : (table : List Shape) → AreFieldJoins table fields others parts → (shape_at table f.shape ≡ join (shape_at table e.1.shape) (shape_at table o.shape)) × AreFieldJoins table left others next
+      parts_next table are = part-shown table behind next e.1.shape f.shape part _ _ (parts-left table (Some o) found are)
+
+  -- one that the first alone mentions, where the second has no other fields
+  pub one_joined : (f : NodeField) (k : String Global) (new : List Entry) → IsStrictlySortedBy string_cmp (keys_of fields) → lookup (is_at (string_cmp e.0)) others ≡ None → string_bytes k ≡ string_bytes e.0 → more ≡ false → f.needed ≡ false → f.shape ≡ e.1.shape → new ≡ insert_entry string_cmp joined k f → AreJoinedSoFar fields others more parts left behind new
+  one_joined f k new ordered none named closed optional shape inserted = rw inserted (record {
+    done = done ++ e ∷ [];
+    whole = further;
+    rest = λ table are. parts-left table None none are;
+    shapes = λ table are. kept-last table (fields_at table others) more done e left joined k f (sorted ordered) (h.shapes table are) named (rw (mention-there table e.0 others None none, closed, optional, shape) refl);
+    below = λ bound own below. let so_far = h.below bound own below in (so_far.0, put-below bound joined k f (rw shape (own-below bound own)) so_far.1);
+  })
+
+  -- one that is dropped
+  pub one_dropped : lookup (is_at (string_cmp e.0)) others ≡ None → more ≡ true → AreJoinedSoFar fields others more parts left behind joined
+  one_dropped none open_ = record {
+    done = done ++ e ∷ [];
+    whole = further;
+    rest = λ table are. parts-left table None none are;
+    shapes = λ table are. dropped-last table (fields_at table others) more done e (fields_at table joined) (h.shapes table are) (rw (mention-there table e.0 others None none, open_) refl);
+    below = h.below;
+  }
+
+-- ---- the second object's fields
+
+-- The fields of the second object behind those that are left were added.
+pub record AreAddedSoFar (fields : List Entry) (extra : Bool) (others left old new : List Entry) : Type 0 where
+  pub done : List Entry
+  pub whole : others ≡ left ++ done
+  pub shapes : (table : List Shape) → fields_at table new ≡ with_other_fields (fields_at table fields) extra (fields_at table done) (fields_at table old)
+  pub below : (bound : ℕ) → AreBelow bound (numbers_in others) → AreBelow bound (numbers_in old) → AreBelow bound (numbers_in new)
+
+pub none_added : (fields : List Entry) (extra : Bool) (others left old : List Entry) → left ≡ others → AreAddedSoFar fields extra others left old old
+none_added fields extra others left old all = record { done = []; whole = sym (append-nil left ∙ all); shapes = λ table. refl; below = λ bound more below. below }
+
+pub all_added : (fields : List Entry) (extra : Bool) (others left old new : List Entry) → left ≡ [] → AreAddedSoFar fields extra others left old new → AreWithOthers fields extra others old new
+all_added fields extra others left old new none h =
+    let whole : others ≡ h.done = h.whole ∙ ap (λ es. es ++ h.done) none in
+    record { shapes = λ table. h.shapes table ∙ ap (λ es. with_other_fields (fields_at table fields) extra (fields_at table es) (fields_at table old)) (sym whole); below = h.below }
+
+module _ (fields : List Entry) (extra : Bool) (others now left : List Entry) (e : Entry) (old joined : List Entry) (split : now ≡ left ++ e ∷ []) (h : AreAddedSoFar fields extra others now old joined) where
+  before : others ≡ left ++ e ∷ h.done
+  before = h.whole ∙ ap (λ es. es ++ h.done) split ∙ append_assoc left (e ∷ []) h.done
+
+  -- one field more, where it is known whether it is dropped
+  next : (table : List Shape) (dropped : Bool) → (extra || is_some (lookup (is_at (string_cmp e.0)) fields)) ≡ dropped → with_other_fields (fields_at table fields) extra (fields_at table (e ∷ h.done)) (fields_at table old) ≡ with_optional_unless dropped (string_bytes e.0) (shape_at table e.1.shape) (fields_at table joined)
+  next table dropped is =
+      ap (λ b. with_optional_unless b (string_bytes e.0) (shape_at table e.1.shape) (with_other_fields (fields_at table fields) extra (fields_at table h.done) (fields_at table old))) (ap (λ b. extra || b) (mentions_number table e.0 fields) ∙ is)
+      ∙ ap (with_optional_unless dropped (string_bytes e.0) (shape_at table e.1.shape)) (sym (h.shapes table))
+
+  other-below : (bound : ℕ) → AreBelow bound (numbers_in others) → e.1.shape < bound
+  other-below bound own = (below-behind bound (numbers_in left) (numbers_in (e ∷ h.done)) (subst (AreBelow bound) (map-append (λ f. f.1.shape) left (e ∷ h.done)) (subst (λ es. AreBelow bound (numbers_in es)) before own))).0
+
+  pub other_dropped : (extra || is_some (lookup (is_at (string_cmp e.0)) fields)) ≡ true → AreAddedSoFar fields extra others left old joined
+  other_dropped there = record { done = e ∷ h.done; whole = before; shapes = λ table. sym (next table true there); below = h.below }
+
+  pub other_added : (k : String Global) (f : NodeField) (new : List Entry) → extra ≡ false → is_some (lookup (is_at (string_cmp e.0)) fields) ≡ false → string_bytes k ≡ string_bytes e.0 → f.needed ≡ false → f.shape ≡ e.1.shape → IsStrictlySortedBy string_cmp (keys_of joined) → new ≡ insert_entry string_cmp joined k f → AreAddedSoFar fields extra others left old new
+  other_added k f new closed absent named optional shape ordered inserted = rw inserted (record {
+    done = e ∷ h.done;
+    whole = before;
+    shapes = λ table. put-shown table joined k f ∙ rw (named, optional, shape) (put-is-set table (string_bytes e.0) false (shape_at table e.1.shape) joined ordered) ∙ sym (next table false (rw (closed, absent) refl));
+    below = λ bound more below. put-below bound joined k f (rw shape (other-below bound more)) (h.below bound more below);
+  })
