@@ -1,10 +1,11 @@
 -- The join of two shapes of a table, made of the joins of their parts.
-use Rattle.std.proofs.Common.{◌≡◌, ◌<◌, ℕ, List, [], ◌∷◌, ◌++◌, Bool, true, false, ◌&&◌, ◌||◌, Option, Some, None, Ordering, Less, Equal, Greater, String, Global, string_bytes, string_cmp, nat_cmp, bytes_eq, option_map, unwrap_or, is_some, Bor, append_assoc, refl, sym, ap, ◌∙◌, subst}
+use Rattle.std.proofs.Common.{◌≡◌, ◌<◌, ◌≤◌, ℕ, List, Vec, Result, Ok, Err, length, arith, [], ◌∷◌, ◌++◌, Bool, true, false, ◌&&◌, ◌||◌, Option, Some, None, Ordering, Less, Equal, Greater, String, Global, string_bytes, string_cmp, nat_cmp, bytes_eq, option_map, unwrap_or, is_some, Bor, append_assoc, refl, sym, ap, ◌∙◌, subst}
 use Rattle.std.proofs.lemmas.Cmp.{nat_list_cmp_total}
 use Rattle.std.proofs.lemmas.Map.Text.{is_eq-slice_cmp}
 use Rattle.std.proofs.lemmas.Slice.Eq.{bytes_eq-Decides}
 use Rattle.std.proofs.lemmas.List.{append-nil, map-append, nil_from_length}
-use Rattle.std.specs.BTreeMap.{is_at, insert_entry}
+use Rattle.std.specs.BTreeMap.{BTreeMap, is_at, insert_entry}
+use Rattle.std.specs.Prelude.{IfOk}
 use Rattle.std.specs.Cmp.Lexicographic.{slice_cmp}
 use Rattle.std.specs.List.{AllByRecursion}
 use Rattle.std.specs.List.Sorted.{IsStrictlySortedBy}
@@ -13,16 +14,22 @@ use Rattle.std.specs.Ordering.{is_eq, match_ordering}
 use Rattle.std.specs.Slice.Iter.{iter_rest, iter_steps}
 use Rattle.std.specs.declared.slice.Iter.{Iter}
 use Rattle.asl_model.specs.Shape as model
-use Rattle.asl_model.specs.Shape.{Shape, FieldShapes, NoFieldShapes, AndFieldShape, insert_mention, mentions}
-use Rattle.asl_model.specs.ShapeOrder.{mention_of, set_mention, without_mention, keep_joined, joined_fields, with_optional_unless, with_other_fields, join}
+use Rattle.asl_model.specs.Shape.{Shape, FieldShapes, NoFieldShapes, AndFieldShape, ArrayShape, ObjectShape, insert_mention}
+use Rattle.asl_model.specs.ShapeOrder.{mention_of, set_mention, without_mention, further_places, common_joins, joined_with_each, keep_joined, joined_fields, with_optional_unless, with_other_fields, join_kinds, join}
+use Rattle.asl_model.proofs.JoinFuel.{join-inhabited}
 use Rattle.asl_tree.proofs.Texts.{after_first}
+use Rattle.asl_tree.specs.declared.OutOfMemory.{OutOfMemory}
 use Rattle.asl_shape.proofs.Lookups.{same_name}
 use Rattle.asl_shape.proofs.Spellings.{put}
+use Rattle.asl_numbered.specs.declared.node.Node.{Node}
+use Rattle.asl_numbered.specs.declared.node.Node.TheVariants.{List as Elements, Object}
 use Rattle.asl_numbered.specs.declared.node.NodeField.{NodeField}
-use Rattle.asl_numbered.specs.Expansion.{shape_at, fields_at, numbers_in, AreBelow}
-use Rattle.asl_numbered.specs.Joins.{with_field_join, field_joins, found_in, AreJoinedFields, AreWithOthers}
+use Rattle.asl_numbered.specs.declared.pair.Pair.{Pair}
+use Rattle.asl_numbered.specs.Expansion.{shape_at, shapes_at, fields_at, shape_over, expansions, numbers_in, parts, AreBelow, RefersBelow}
+use Rattle.asl_numbered.specs.Joins.{joint, place_joins, with_field_join, field_joins, ArePartsOf, array_parts, object_parts, found_in, AreMadeOf, AreJoinedFields, AreWithOthers, IsListOf}
 use Rattle.asl_numbered.proofs.Comparisons.{mentions_number, mention_of_number}
-use Rattle.asl_numbered.proofs.Expansions.{below-behind}
+use Rattle.asl_numbered.proofs.Expansions.{below-behind, below-wider, as_many}
+use Rattle.asl_numbered.proofs.Joins.{common_places}
 
 -- a name, and what a node says of its field
 abbrev pub Entry : Type 0
@@ -275,3 +282,81 @@ module _ (fields : List Entry) (extra : Bool) (others now left : List Entry) (e 
     shapes = λ table. put-shown table joined k f ∙ rw (named, optional, shape) (put-is-set table (string_bytes e.0) false (shape_at table e.1.shape) joined ordered) ∙ sym (next table false (rw (closed, absent) refl));
     below = λ bound more below. put-below bound joined k f (rw shape (other-below bound more)) (h.below bound more below);
   })
+
+-- ---- the node
+
+-- the parts of two shapes of one kind are the joins by that kind
+abbrev PartsAre : Shape → Shape → List Shape → Type 0
+PartsAre (ArrayShape first rest) (ArrayShape others further) found = found ≡ join (join (joined_with_each join model.Never (further_places first others)) rest) further ∷ place_joins first others
+PartsAre (ObjectShape shapes extra) (ObjectShape others more) found = found ≡ field_joins shapes others
+PartsAre a b found = ⊥
+
+parts-are : {a b : Shape} {found : List Shape} → ArePartsOf a b found → PartsAre a b found
+parts-are array_parts = refl
+parts-are object_parts = refl
+
+module _ (ns : List Node) (p : Pair) (numbers : List ℕ) (h : AreMadeOf (expansions ns) p numbers) where
+  abbrev table : List Shape
+  table = expansions ns
+
+  counted : AreBelow (length ns) numbers
+  counted = subst (λ n. AreBelow n numbers) (as_many ns) h.below
+
+  -- those of the nodes of the two
+  node-parts : (first second : Node) → shape_over table first ≡ shape_at table p.first → shape_over table second ≡ shape_at table p.second → PartsAre (shape_over table first) (shape_over table second) (found_in table numbers)
+  node-parts first second own other =
+      subst (λ s. PartsAre s (shape_over table second) (found_in table numbers)) (sym own) (subst (λ s. PartsAre (shape_at table p.first) s (found_in table numbers)) (sym other) (parts-are h.all))
+
+  -- the join of the two
+  by-nodes : (first second : Node) → shape_over table first ≡ shape_at table p.first → shape_over table second ≡ shape_at table p.second → join_kinds join (shape_over table first) (shape_over table second) ≡ joint table p
+  by-nodes first second own other =
+      ap (λ s. join_kinds join s (shape_over table second)) own
+      ∙ ap (join_kinds join (shape_at table p.first)) other
+      ∙ sym (join-inhabited (shape_at table p.first) (shape_at table p.second) h.inhabited.first h.inhabited.second)
+
+  list-shape : (first second : Node) (places : Vec ℕ Global) (rest : ℕ) (made : Node) → first ≡ Elements places rest → PartsAre (shape_over table first) (shape_over table second) (found_in table numbers) → IsListOf numbers made → shape_over table made ≡ join_kinds join (shape_over table first) (shape_over table second)
+  list-shape first (Elements others further) places rest made is are listed = rw is (go numbers (subst (λ node. PartsAre (shape_over table node) (shape_over table (Elements others further)) (found_in table numbers)) is are) listed)
+    where
+      front : List Shape
+      front = place_joins (shapes_at table places.items) (shapes_at table others.items)
+
+      last : Shape
+      last = join (join (joined_with_each join model.Never (further_places (shapes_at table places.items) (shapes_at table others.items))) (shape_at table rest)) (shape_at table further)
+
+      go : (ms : List ℕ) → found_in table ms ≡ last ∷ front → IsListOf ms made → shape_over table made ≡ ArrayShape (common_joins join (shapes_at table places.items) (shapes_at table others.items)) last
+      go [] e l = absurd (cc)
+      go (m ∷ ms) e l =
+          let behind : shape_at table m ≡ last = cc in
+          let places_joined : found_in table ms ≡ front = cc in
+          l.shape table m ms refl ∙ rw (behind, places_joined, common_places (shapes_at table places.items) (shapes_at table others.items)) refl
+  list-shape first second places rest made is are listed = absurd (subst (λ node. PartsAre (shape_over table node) (shape_over table second) (found_in table numbers)) is are)
+
+  pub list_made : (first second : Node) (places : Vec ℕ Global) (rest : ℕ) (r : Result Node OutOfMemory) → shape_over table first ≡ shape_at table p.first → shape_over table second ≡ shape_at table p.second → first ≡ Elements places rest → IfOk r (IsListOf numbers) → IfOk r (λ node. shape_over table node ≡ joint table p)
+  list_made first second places rest (Ok made) own other is listed =
+      list-shape first second places rest made is (node-parts first second own other) listed ∙ by-nodes first second own other
+  list_made first second places rest (Err e) own other is listed = tt
+
+  pub list_below : (r : Result Node OutOfMemory) → IfOk r (IsListOf numbers) → IfOk r (RefersBelow (length ns))
+  list_below (Ok made) listed = record { each = subst (AreBelow (length ns)) (sym listed.each) counted }
+  list_below (Err e) listed = tt
+
+  module _ (first second : Node) (fields others new : BTreeMap (String Global) NodeField) (extra more : Bool) (joined : List Entry) (is : first ≡ Object fields extra) (other_is : second ≡ Object others more) (joins : AreJoinedFields fields.entries others.entries more numbers joined) (adds : AreWithOthers fields.entries extra others.entries joined new.entries) where
+    pub object_made : (any : Bool) → any ≡ (extra || more) → shape_over table first ≡ shape_at table p.first → shape_over table second ≡ shape_at table p.second → ObjectShape (fields_at table new.entries) any ≡ joint table p
+    object_made any either own other =
+        let are : found_in table numbers ≡ field_joins (fields_at table fields.entries) (fields_at table others.entries) =
+        subst (λ node. PartsAre (shape_over table (Object fields extra)) (shape_over table node) (found_in table numbers)) other_is (subst (λ node. PartsAre (shape_over table node) (shape_over table second) (found_in table numbers)) is (node-parts first second own other)) in
+        ap (λ fs. ObjectShape fs any) (adds.shapes table ∙ ap (with_other_fields (fields_at table fields.entries) extra (fields_at table others.entries)) (joins.shapes table are))
+        ∙ ap (ObjectShape (with_other_fields (fields_at table fields.entries) extra (fields_at table others.entries) (joined_fields join (fields_at table fields.entries) (fields_at table others.entries) more))) either
+        ∙ sym (ap (λ node. join_kinds join (shape_over table node) (shape_over table (Object others more))) is)
+        ∙ sym (ap (λ node. join_kinds join (shape_over table first) (shape_over table node)) other_is)
+        ∙ by-nodes first second own other
+
+    pub object_below : (any : Bool) → RefersBelow p.first first → RefersBelow p.second second → RefersBelow (length ns) (Object new any)
+    object_below any own other =
+        let shorter : p.first ≤ length ns = omega (arith, h.within.first, as_many ns) in
+        let short : p.second ≤ length ns = omega (arith, h.within.second, as_many ns) in
+        let mine = below-wider p.first (length ns) (parts first) shorter own.each in
+        let its = below-wider p.second (length ns) (parts second) short other.each in
+        let front : AreBelow (length ns) (numbers_in fields.entries) = subst (λ node. AreBelow (length ns) (parts node)) is mine in
+        let behind : AreBelow (length ns) (numbers_in others.entries) = subst (λ node. AreBelow (length ns) (parts node)) other_is its in
+        record { each = adds.below (length ns) behind (joins.below (length ns) front counted) }

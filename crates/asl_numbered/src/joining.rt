@@ -304,14 +304,18 @@ fn made(table: &Table, alloc: Global, pair: Pair, parts: &[usize]) -> Result<Nod
         (λ node. shape_over (expansions table.now) node ≡ joint (expansions table.now) pair) }
     ensures below { IfOk result (RefersBelow (length table.now)) }
 {
-    match table.node(pair.first) {
-        Some(Node::Object { fields, extra }) => match table.node(pair.second) {
-            Some(
-                Node::Object {
-                    fields: others,
-                    extra: more,
-                },
-            ) => {
+    let Some(first) = table.node(pair.first) else {
+        return Ok(Node::Any);
+    };
+    let Some(second) = table.node(pair.second) else {
+        return Ok(Node::Any);
+    };
+    match first {
+        Node::Object { fields, extra } => match second {
+            Node::Object {
+                fields: others,
+                extra: more,
+            } => {
                 let mut joined = join_fields(alloc, fields, others, *more, parts)?;
                 add_others(fields, *extra, others, &mut joined)?;
                 Ok(Node::Object {
@@ -319,9 +323,16 @@ fn made(table: &Table, alloc: Global, pair: Pair, parts: &[usize]) -> Result<Nod
                     extra: *extra || *more,
                 })
             }
-            _ => Ok(Node::Any),
+            Node::Any
+            | Node::Never
+            | Node::Null
+            | Node::Bool
+            | Node::Int
+            | Node::Text
+            | Node::List { .. } => Ok(Node::Any),
         },
-        _ => made_list(alloc, parts),
+        Node::List { .. } => made_list(alloc, parts),
+        Node::Any | Node::Never | Node::Null | Node::Bool | Node::Int | Node::Text => Ok(Node::Any),
     }
 }
 
