@@ -4,6 +4,7 @@ pub mod Expansions
 pub mod Growing
 pub mod Joins
 pub mod Looking
+pub mod Made
 pub mod Moving
 pub mod Sameness
 pub mod Tables

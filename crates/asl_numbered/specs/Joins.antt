@@ -7,7 +7,7 @@ use Rattle.std.specs.Map.{lookup}
 use Rattle.std.specs.String.{string_cmp}
 use Rattle.asl_model.specs.Shape as model
 use Rattle.asl_model.specs.Shape.{Shape, Shapes, NoShapes, AndShape, FieldShapes, NoFieldShapes, AndFieldShape, ArrayShape, ObjectShape, inhabited}
-use Rattle.asl_model.specs.ShapeOrder.{depth, mention_of, further_places, joined_with_each, join}
+use Rattle.asl_model.specs.ShapeOrder.{depth, mention_of, further_places, joined_with_each, joined_fields, with_other_fields, join}
 use Rattle.asl_numbered.specs.declared.node.Node.{Node}
 use Rattle.asl_numbered.specs.declared.node.Node.TheVariants as nodes
 use Rattle.asl_numbered.specs.declared.node.NodeField.{NodeField}
@@ -15,7 +15,7 @@ use Rattle.asl_numbered.specs.declared.pair.Pair.{Pair}
 use Rattle.asl_numbered.specs.declared.joining.JoinTask.{JoinTask}
 use Rattle.asl_numbered.specs.declared.joining.JoinTask.TheVariants.{Join, Nothing, With, Finish}
 use Rattle.asl_numbered.specs.Comparison.{IsWithin}
-use Rattle.asl_numbered.specs.Expansion.{shape_at, shape_over, expansions, AreBelow, RefersBelow}
+use Rattle.asl_numbered.specs.Expansion.{shape_at, shapes_at, fields_at, shape_over, expansions, numbers_in, parts, AreBelow, RefersBelow}
 
 -- the join of the shapes of a pair
 abbrev pub joint : List Shape → Pair → Shape
@@ -270,3 +270,19 @@ pub record AreMadeOf (table : List Shape) (p : Pair) (parts : List ℕ) : Type 0
   pub below : AreBelow (length table) parts
   pub all : ArePartsOf (shape_at table p.first) (shape_at table p.second) (found_in table parts)
   pub inhabited : AreInhabited table p
+
+-- The joined fields are the first object's, joined with the second's, over each table in which the parts are the joins of
+-- the fields that both mention.
+pub record AreJoinedFields (fields others : List (String Global × NodeField)) (more : Bool) (parts : List ℕ) (joined : List (String Global × NodeField)) : Type 0 where
+  pub shapes : (table : List Shape) → found_in table parts ≡ field_joins (fields_at table fields) (fields_at table others) → fields_at table joined ≡ joined_fields join (fields_at table fields) (fields_at table others) more
+  pub below : (bound : ℕ) → AreBelow bound (numbers_in fields) → AreBelow bound parts → AreBelow bound (numbers_in joined)
+
+-- The new fields are the old ones with those of the second object that the first doesn't mention.
+pub record AreWithOthers (fields : List (String Global × NodeField)) (extra : Bool) (others old new : List (String Global × NodeField)) : Type 0 where
+  pub shapes : (table : List Shape) → fields_at table new ≡ with_other_fields (fields_at table fields) extra (fields_at table others) (fields_at table old)
+  pub below : (bound : ℕ) → AreBelow bound (numbers_in others) → AreBelow bound (numbers_in old) → AreBelow bound (numbers_in new)
+
+-- the node is that of the lists with these parts, those of the further elements first
+pub record IsListOf (numbers : List ℕ) (node : Node) : Type 0 where
+  pub each : parts node ≡ numbers
+  pub shape : (table : List Shape) (rest : ℕ) (places : List ℕ) → numbers ≡ rest ∷ places → shape_over table node ≡ ArrayShape (shapes_at table places) (shape_at table rest)

@@ -7,7 +7,7 @@ ghost use Rattle.asl_model.specs.Shape as shape;
 ghost use Rattle.asl_numbered.specs.declared.joining.JoinTask.TheVariants.{Join, Finish};
 ghost use Rattle.asl_numbered.specs.Comparison.{IsWithin};
 ghost use Rattle.asl_numbered.specs.Expansion.{expansions, shape_over, AreBelow, RefersBelow, Keeps};
-ghost use Rattle.asl_numbered.specs.Joins.{joint, Shows, AreJoins, AreInhabited, IsTaskWithin, IsFed, Moves, LooksAt, Looked, ListLooked, ObjectLooked, AreMadeOf, step_of, found_in, place_joinings, joinings_with, field_joinings};
+ghost use Rattle.asl_numbered.specs.Joins.{joint, Shows, AreJoins, AreInhabited, IsTaskWithin, IsFed, Moves, LooksAt, Looked, ListLooked, ObjectLooked, AreMadeOf, AreJoinedFields, AreWithOthers, IsListOf, step_of, found_in, place_joinings, joinings_with, field_joinings};
 ghost use Rattle.std.specs.Prelude.{◌≡◌, ◌++◌, List, None, IfSome, IfOk, drop, false, length};
 
 use crate::node::{Node, NodeField};
@@ -341,14 +341,18 @@ fn made(table: &Table, alloc: Global, pair: Pair, parts: &[usize]) -> Result<Nod
         (λ node. shape_over (expansions table.now) node ≡ joint (expansions table.now) pair) }
     ensures below { IfOk result (RefersBelow (length table.now)) }
 {
-    match table.node(pair.first) {
-        Some(Node::Object { fields, extra }) => match table.node(pair.second) {
-            Some(
-                Node::Object {
-                    fields: others,
-                    extra: more,
-                },
-            ) => {
+    let Some(first) = table.node(pair.first) else {
+        return Ok(Node::Any);
+    };
+    let Some(second) = table.node(pair.second) else {
+        return Ok(Node::Any);
+    };
+    match first {
+        Node::Object { fields, extra } => match second {
+            Node::Object {
+                fields: others,
+                extra: more,
+            } => {
                 let mut joined = join_fields(alloc, fields, others, *more, parts)?;
                 add_others(fields, *extra, others, &mut joined)?;
                 Ok(Node::Object {
@@ -356,14 +360,23 @@ fn made(table: &Table, alloc: Global, pair: Pair, parts: &[usize]) -> Result<Nod
                     extra: *extra || *more,
                 })
             }
-            _ => Ok(Node::Any),
+            Node::Any
+            | Node::Never
+            | Node::Null
+            | Node::Bool
+            | Node::Int
+            | Node::Text
+            | Node::List { .. } => Ok(Node::Any),
         },
-        _ => made_list(alloc, parts),
+        Node::List { .. } => made_list(alloc, parts),
+        Node::Any | Node::Never | Node::Null | Node::Bool | Node::Int | Node::Text => Ok(Node::Any),
     }
 }
 
 // The first level of a shape of lists: first the shape of its further elements, and then its places.
-fn made_list(alloc: Global, parts: &[usize]) -> Result<Node, OutOfMemory> {
+fn made_list(alloc: Global, parts: &[usize]) -> Result<Node, OutOfMemory>
+    ensures list { IfOk result (IsListOf parts.now) }
+{
     match parts.split_first() {
         None => Ok(Node::Any),
         Some((rest, places)) => {
@@ -382,7 +395,10 @@ fn join_fields(
     others: &BTreeMap<String, NodeField>,
     more: bool,
     parts: &[usize],
-) -> Result<BTreeMap<String, NodeField>, OutOfMemory> {
+) -> Result<BTreeMap<String, NodeField>, OutOfMemory>
+    ensures joined { IfOk result
+        (λ map. AreJoinedFields fields.now.entries others.now.entries more parts.now map.entries) }
+{
     let mut joined = BTreeMap::new(alloc);
     let mut left = parts.iter();
     for (name, field) in fields.iter() {
@@ -412,7 +428,11 @@ fn add_others(
     extra: bool,
     others: &BTreeMap<String, NodeField>,
     joined: &mut BTreeMap<String, NodeField>,
-) -> Result<(), OutOfMemory> {
+) -> Result<(), OutOfMemory>
+    ensures added { IfOk result
+        (λ _. AreWithOthers fields.now.entries extra others.now.entries joined.old.entries
+        joined.new.entries) }
+{
     for (name, other) in others.iter().rev() {
         if !extra && !fields.contains_key(name) {
             let key = name.clone()?;
