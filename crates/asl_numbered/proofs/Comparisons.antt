@@ -1,10 +1,10 @@
 -- One shape of a table inside another, by their numbers: what is remembered, tasks, places and fields.
-use Rattle.std.proofs.Common.{◌≡◌, ◌<◌, ◌≤◌, ◌+◌, ◌*◌, ℕ, zero, suc, List, [], ◌∷◌, ◌++◌, length, drop, get_or, Bool, true, false, ◌&&◌, ◌||◌, not, cond, Option, Some, None, option_map, is_some, slice_get, String, Global, Vec, Bor, ◌↔◌, Result, Ok, Err, string_bytes, refl, sym, ap, ◌∙◌, subst, ◌⊎◌, inl, inr, append_assoc, arith}
+use Rattle.std.proofs.Common.{◌≡◌, ◌<◌, ◌≤◌, ◌+◌, ◌*◌, ℕ, zero, suc, List, [], ◌∷◌, ◌++◌, length, drop, get_or, Bool, true, false, ◌&&◌, ◌||◌, not, cond, Option, Some, None, option_map, is_some, slice_get, String, Global, Vec, Bor, ◌↔◌, Result, Ok, Err, string_bytes, refl, sym, ap, ◌∙◌, subst, ◌⊎◌, inl, inr, arith}
 use Rattle.std.proofs.Math.Bool.{and_assoc}
 use Rattle.std.proofs.Math.Nat.{mul-le-mul_left}
 use Rattle.std.proofs.Math.Seq.{drop-cons}
 use Rattle.std.proofs.lemmas.Bool.{and_parts, cases_lt, eqb-true}
-use Rattle.std.proofs.lemmas.List.{append-nil, length-append, get_or_past}
+use Rattle.std.proofs.lemmas.List.{append-nil, length-append}
 use Rattle.std.specs.BTreeMap.{BTreeMap, is_at}
 use Rattle.std.specs.Map.{lookup}
 use Rattle.std.specs.Prelude.{IsSome, IfOk}
@@ -22,8 +22,8 @@ use Rattle.asl_numbered.specs.declared.node.NodeField.{NodeField}
 use Rattle.asl_numbered.specs.declared.pair.Pair.{Pair}
 use Rattle.asl_numbered.specs.declared.comparing.Task.{Task}
 use Rattle.asl_numbered.specs.declared.comparing.Task.TheVariants.{Compare, Conclude}
-use Rattle.asl_numbered.specs.Comparison.{inside, IsSimple, IsWithin, IsNodeAt, AreEachRight, AreRight, all_inside, AreEachStanding, AreStanding, AreEachOutside, AreOutside, widest, cost, work, RestsOn, place_tasks, ListLooked, ObjectLooked, AreGoing, with_field_task, field_tasks, mention_fits_in, mentions_fit_in}
-use Rattle.asl_numbered.specs.Expansion.{shape_at, shapes_at, fields_at, shape_over, expansions, parts, numbers_in, AreBelow, RefersBelow, Keeps}
+use Rattle.asl_numbered.specs.Comparison.{inside, IsSimple, IsWithin, IsNodeAt, AreEachRight, AreRight, all_inside, AreEachStanding, AreEachOutside, AreOutside, widest, cost, work, RestsOn, place_tasks, ListLooked, ObjectLooked, AreGoing, with_field_task, field_tasks, mention_fits_in, mentions_fit_in}
+use Rattle.asl_numbered.specs.Expansion.{shape_at, shapes_at, fields_at, shape_over, expansions, parts, numbers_in, AreBelow, Keeps}
 use Rattle.asl_numbered.proofs.Expansions.{as_many, below-wider, keeps_longer, kept_shape}
 
 -- ---- what is remembered

@@ -1,5 +1,5 @@
 -- The joins of shapes of a table, by their numbers: what is remembered, and what tasks do.
-use Rattle.std.proofs.Common.{◌≡◌, ◌<◌, ◌≤◌, ◌+◌, ℕ, zero, suc, max, List, [], ◌∷◌, ◌++◌, length, map, take, drop, Bool, true, false, cond, Option, Some, None, refl, sym, ap, ◌∙◌, subst, arith, ◌⊎◌, inl, inr, min, String, Global, append_assoc, bytes_eq}
+use Rattle.std.proofs.Common.{◌≡◌, ◌<◌, ◌≤◌, ◌+◌, ℕ, zero, suc, max, List, [], ◌∷◌, ◌++◌, length, drop, Bool, true, false, cond, Option, Some, None, refl, sym, ap, ◌∙◌, subst, arith, ◌⊎◌, inl, inr, min, String, Global, append_assoc, bytes_eq}
 use Rattle.std.proofs.lemmas.Bool.{cases_lt}
 use Rattle.std.proofs.lemmas.List.{append-nil, map-append}
 use Rattle.std.specs.BTreeMap.{is_at}
@@ -18,7 +18,7 @@ use Rattle.asl_numbered.specs.declared.joining.JoinTask.TheVariants.{Join, Nothi
 use Rattle.asl_shape.specs.View.{shapes_of}
 use Rattle.asl_numbered.specs.Comparison.{IsWithin}
 use Rattle.asl_numbered.specs.Expansion.{shape_at, shapes_at, Keeps}
-use Rattle.asl_numbered.specs.Joins.{joint, Shows, AreEachJoins, AreJoins, place_joins, Step, JoinStep, NothingStep, WithStep, FinishStep, step_of, steps_of, joined_last, done, all_done, IsFed, AreEachFed, places_cost, each_cost, rest_cost, with_field_cost, fields_cost, parts_cost, cost_within, cost_of, last_of, step_cost, work_left, place_joinings, joinings_with, field_joinings, field_joining, found_in, AreEachTasksWithin, AreLeft, Moves}
+use Rattle.asl_numbered.specs.Joins.{joint, Shows, AreEachJoins, AreJoins, place_joins, Step, JoinStep, NothingStep, WithStep, step_of, steps_of, joined_last, done, all_done, IsFed, AreEachFed, places_cost, each_cost, rest_cost, with_field_cost, fields_cost, parts_cost, cost_within, cost_of, last_of, step_cost, work_left, place_joinings, joinings_with, field_joinings, field_joining, found_in, AreEachTasksWithin, AreLeft, Moves}
 use Rattle.asl_numbered.proofs.Comparisons.{same, same-is, within_kept}
 use Rattle.asl_numbered.proofs.Expansions.{keeps_longer, kept_shape}
 

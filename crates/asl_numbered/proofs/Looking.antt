@@ -1,5 +1,5 @@
 -- What a look at two shapes of a table puts down: the joins of their parts.
-use Rattle.std.proofs.Common.{◌≡◌, ◌<◌, ◌≤◌, ◌+◌, ℕ, zero, suc, List, [], ◌∷◌, ◌++◌, length, map, take, drop, Bool, true, false, Option, Some, None, option_map, Result, Ok, Err, Vec, refl, sym, ap, ◌∙◌, subst, arith, ◌⊎◌, inl, inr, String, Global, append_assoc}
+use Rattle.std.proofs.Common.{◌≡◌, ◌<◌, ◌≤◌, ◌+◌, ℕ, zero, suc, List, [], ◌∷◌, ◌++◌, length, take, drop, Bool, Option, Some, None, option_map, Result, Ok, Err, Vec, refl, sym, ap, ◌∙◌, subst, arith, ◌⊎◌, inl, inr, String, Global, append_assoc}
 use Rattle.std.proofs.lemmas.List.{append-nil, map-append}
 use Rattle.std.specs.BTreeMap.{BTreeMap, is_at}
 use Rattle.std.specs.Map.{lookup}

@@ -1,16 +1,15 @@
 -- One task of a join is done: the numbers that are found, and what is left to do.
-use Rattle.std.proofs.Common.{◌≡◌, ◌<◌, ◌≤◌, ◌-◌, ℕ, zero, suc, List, [], ◌∷◌, ◌++◌, length, take, drop, Option, Some, None, refl, sym, ap, ◌∙◌, subst, arith}
+use Rattle.std.proofs.Common.{◌≡◌, ◌<◌, ◌≤◌, ◌-◌, ℕ, zero, suc, List, [], ◌∷◌, ◌++◌, length, take, drop, Some, refl, sym, ap, ◌∙◌, subst, arith}
 use Rattle.std.proofs.lemmas.List.{append-nil, length-drop, map-append, take_all}
 use Rattle.asl_model.specs.Shape as model
 use Rattle.asl_model.specs.Shape.{Shape}
-use Rattle.asl_model.specs.ShapeOrder.{join}
 use Rattle.asl_numbered.specs.declared.node.Node.{Node}
 use Rattle.asl_numbered.specs.declared.pair.Pair.{Pair}
 use Rattle.asl_numbered.specs.declared.joining.JoinTask.{JoinTask}
 use Rattle.asl_numbered.specs.declared.joining.JoinTask.TheVariants.{Join, Nothing, With, Finish}
 use Rattle.asl_numbered.specs.Comparison.{IsWithin}
 use Rattle.asl_numbered.specs.Expansion.{shape_at, shape_over, expansions, AreBelow, IsNumberOf, Keeps}
-use Rattle.asl_numbered.specs.Joins.{joint, Shows, AreJoins, ArePartsOf, step_of, Step, steps_of, joined_last, done, IsFed, AreEachFed, FinishStep, cost_of, last_of, step_cost, work_left, AreInhabited, found_in, IsTaskWithin, AreEachTasksWithin, AreLeft, Moves, IsLevel, LooksAt, AreMadeOf}
+use Rattle.asl_numbered.specs.Joins.{joint, Shows, AreJoins, ArePartsOf, step_of, Step, steps_of, joined_last, done, IsFed, AreEachFed, cost_of, last_of, step_cost, work_left, found_in, IsTaskWithin, AreEachTasksWithin, AreLeft, Moves, LooksAt, AreMadeOf}
 use Rattle.asl_numbered.proofs.Comparisons.{within_kept}
 use Rattle.asl_numbered.proofs.Expansions.{below-front, below-behind, below-append, below-wider, keeps_longer, kept_shape, keeps_same}
 use Rattle.asl_numbered.proofs.Joins.{joint_kept, joins_kept, parts_cheaper, joined_behind, last_behind, moved, less_work}

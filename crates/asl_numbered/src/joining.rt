@@ -107,12 +107,7 @@ fn perform(
 }
 
 // Looks at one pair, and puts the number of its join behind the numbers, or the joins of its parts behind the tasks.
-fn look(
-    table: &mut Table,
-    joined: &Joined,
-    work: &mut Work,
-    pair: Pair,
-) -> Result<(), OutOfMemory>
+fn look(table: &mut Table, joined: &Joined, work: &mut Work, pair: Pair) -> Result<(), OutOfMemory>
     requires right { AreJoins (expansions table.old) joined.now.entries }
     requires within { IsWithin (expansions table.old) pair }
     requires below { AreBelow (length (expansions table.old)) work.old.numbers.items }

@@ -1,4 +1,4 @@
-use Rattle.std.proofs.Common.{◌≡◌, ◌∷◌, [], ◌++◌, String, Global, sym, ap, ◌∙◌, append_assoc}
+use Rattle.std.proofs.Common.{◌∷◌, [], ◌++◌, String, Global, sym, ap, ◌∙◌, append_assoc}
 use Rattle.std.specs.Iterator.Adapters.{rev_source}
 use Rattle.asl_numbered.specs.declared.node.NodeField.{NodeField}
 use Rattle.asl_numbered.proofs.Joins.{field_skipped}
