@@ -53,7 +53,8 @@ pub(crate) fn join(
 ) -> Result<usize, OutOfMemory>
     requires right { AreJoins (expansions table.old) joined.old.entries }
     requires within { IsWithin (expansions table.old) pair }
-    ensures number { IfOk result (Shows (expansions table.new) (joint (expansions table.old) pair)) }
+    ensures number { IfOk result
+        (Shows (expansions table.new) (joint (expansions table.old) pair)) }
     ensures keeps { Keeps (expansions table.old) (expansions table.new) }
     ensures right { AreJoins (expansions table.new) joined.new.entries }
 {
@@ -79,7 +80,8 @@ fn perform(
     requires right { AreJoins (expansions table.old) joined.old.entries }
     requires within { IsTaskWithin (expansions table.old) task }
     requires below { AreBelow (length (expansions table.old)) work.old.numbers.items }
-    requires fed { IsFed (step_of (expansions table.old) task) (found_in (expansions table.old) work.old.numbers.items) }
+    requires fed { IsFed (step_of (expansions table.old) task)
+        (found_in (expansions table.old) work.old.numbers.items) }
     ensures moves { IfOk result
         (λ _. Moves (expansions table.old) (expansions table.new) task
         work.old.tasks.items work.new.tasks.items work.old.numbers.items work.new.numbers.items) }
@@ -131,7 +133,8 @@ fn look(table: &mut Table, joined: &Joined, work: &mut Work, pair: Pair) -> Resu
 fn known(table: &Table, joined: &Joined, pair: Pair) -> Option<usize>
     requires right { AreJoins (expansions table.now) joined.now.entries }
     requires within { IsWithin (expansions table.now) pair }
-    ensures number { IfSome result (Shows (expansions table.now) (joint (expansions table.now) pair)) }
+    ensures number { IfSome result
+        (Shows (expansions table.now) (joint (expansions table.now) pair)) }
     ensures inhabited { result ≡ None → AreInhabited (expansions table.now) pair }
 {
     if !table.is_inhabited(pair.first) {
@@ -153,7 +156,8 @@ fn look_inside(table: &Table, work: &mut Work, pair: Pair) -> Result<Option<Node
     requires inhabited { AreInhabited (expansions table.now) pair }
     requires below { AreBelow (length (expansions table.now)) work.old.numbers.items }
     ensures looks { IfOk result
-        (λ r. LooksAt table.now pair r work.old.tasks.items work.new.tasks.items work.old.numbers.items) }
+        (λ r. LooksAt table.now pair r
+        work.old.tasks.items work.new.tasks.items work.old.numbers.items) }
     ensures same { work.new.numbers ≡ work.old.numbers }
 {
     let last = JoinTask::Finish {
@@ -176,7 +180,8 @@ fn look_at(
     first: &Node,
     second: &Node,
 ) -> Result<Option<Node>, OutOfMemory>
-    ensures put { IfOk result (λ r. Looked first.now second.now last r tasks.old.items tasks.new.items) }
+    ensures put { IfOk result
+        (λ r. Looked first.now second.now last r tasks.old.items tasks.new.items) }
 {
     match first {
         Node::Null if matches!(second, Node::Null) => Ok(Some(Node::Null)),
@@ -229,7 +234,8 @@ fn put_places(
     places: &[usize],
     others: &[usize],
 ) -> Result<(), OutOfMemory>
-    ensures put { IfOk result (λ _. tasks.new.items ≡ tasks.old.items ++ place_joinings places.now others.now) }
+    ensures put { IfOk result
+        (λ _. tasks.new.items ≡ tasks.old.items ++ place_joinings places.now others.now) }
 {
     let mut index = places.len().min(others.len());
     while index > 0 {
@@ -244,7 +250,8 @@ fn put_places(
 
 // Puts down the joins with the places from that index on, so that the first comes first.
 fn put_behind(tasks: &mut Vec<JoinTask>, places: &[usize], start: usize) -> Result<(), OutOfMemory>
-    ensures put { IfOk result (λ _. tasks.new.items ≡ tasks.old.items ++ joinings_with (drop start places.now)) }
+    ensures put { IfOk result
+        (λ _. tasks.new.items ≡ tasks.old.items ++ joinings_with (drop start places.now)) }
 {
     let mut index = places.len();
     while index > start {
@@ -280,7 +287,9 @@ fn put_fields(
     fields: &BTreeMap<String, NodeField>,
     others: &BTreeMap<String, NodeField>,
 ) -> Result<(), OutOfMemory>
-    ensures put { IfOk result (λ _. tasks.new.items ≡ tasks.old.items ++ field_joinings fields.now.entries others.now.entries) }
+    ensures put { IfOk result
+        (λ _. tasks.new.items
+        ≡ tasks.old.items ++ field_joinings fields.now.entries others.now.entries) }
 {
     for (name, field) in fields.iter().rev() {
         if let Some(other) = others.get(name) {
@@ -323,7 +332,11 @@ fn finish(
 
 // Remembers the number for the pair.
 fn remember(joined: &mut Joined, pair: Pair, number: usize) -> Result<(), OutOfMemory>
-    ensures right { (table : List shape.Shape) → IsWithin table pair → Shows table (joint table pair) number → AreJoins table joined.old.entries → AreJoins table joined.new.entries }
+    ensures right { (table : List shape.Shape)
+        → IsWithin table pair
+        → Shows table (joint table pair) number
+        → AreJoins table joined.old.entries
+        → AreJoins table joined.new.entries }
 {
     drop(joined.insert(pair, number)?);
     Ok(())

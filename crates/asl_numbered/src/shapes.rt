@@ -152,7 +152,8 @@ impl Shapes {
             (shape_at (expansions self.old) second)))) }
         ensures above { IfOk result
             (λ r. IfSome r (λ number.
-            model.Inside (shape_at (expansions self.old) first) (shape_at (expansions self.new) number)
+            model.Inside (shape_at (expansions self.old) first)
+            (shape_at (expansions self.new) number)
             × model.Inside (shape_at (expansions self.old) second)
             (shape_at (expansions self.new) number))) }
         ensures keeps { Keeps (expansions self.old) (expansions self.new) }
