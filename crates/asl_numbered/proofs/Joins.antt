@@ -1,5 +1,5 @@
 -- The joins of shapes of a table, by their numbers: what is remembered, and what tasks do.
-use Rattle.std.proofs.Common.{◌≡◌, ◌<◌, ◌≤◌, ◌+◌, ℕ, zero, suc, max, List, [], ◌∷◌, ◌++◌, length, drop, Bool, true, false, cond, Option, Some, None, refl, sym, ap, ◌∙◌, subst, arith, ◌⊎◌, inl, inr, min, String, Global, append_assoc, bytes_eq}
+use Rattle.std.proofs.Common.{◌≡◌, ◌<◌, ◌≤◌, ◌+◌, ℕ, zero, suc, max, List, [], ◌∷◌, ◌++◌, length, drop, Bool, true, false, Option, Some, None, refl, sym, ap, ◌∙◌, subst, arith, ◌⊎◌, inl, inr, min, String, Global, append_assoc, bytes_eq}
 use Rattle.std.proofs.lemmas.Bool.{cases_lt}
 use Rattle.std.proofs.lemmas.List.{append-nil, map-append}
 use Rattle.std.specs.BTreeMap.{is_at}
@@ -10,7 +10,7 @@ use Rattle.indexmap.specs.IndexMap.{insert_entry}
 use Rattle.asl_model.specs.Shape as model
 use Rattle.asl_model.specs.Shape.{Shape, Shapes, NoShapes, AndShape, FieldShapes, NoFieldShapes, AndFieldShape, ArrayShape, ObjectShape, inhabited}
 use Rattle.asl_model.specs.ShapeOrder.{depth, depth_of_elements, depth_of_fields, mention_of, further_places, common_joins, joined_with_each, join}
-use Rattle.asl_model.proofs.JoinFuel.{one_deep, join-inhabited, further-low, join-low, join_each-low, join-first_uninhabited, join-second_uninhabited}
+use Rattle.asl_model.proofs.JoinFuel.{one_deep, further-low, join-low, join_each-low, join-first_uninhabited, join-second_uninhabited}
 use Rattle.asl_numbered.specs.declared.node.NodeField.{NodeField}
 use Rattle.asl_numbered.specs.declared.pair.Pair.{Pair}
 use Rattle.asl_numbered.specs.declared.joining.JoinTask.{JoinTask}
@@ -18,13 +18,14 @@ use Rattle.asl_numbered.specs.declared.joining.JoinTask.TheVariants.{Join, Nothi
 use Rattle.asl_shape.specs.View.{shapes_of}
 use Rattle.asl_numbered.specs.Comparison.{IsWithin}
 use Rattle.asl_numbered.specs.Expansion.{shape_at, shapes_at, Keeps}
-use Rattle.asl_numbered.specs.Joins.{joint, Shows, AreEachJoins, AreJoins, place_joins, Step, JoinStep, NothingStep, WithStep, step_of, steps_of, joined_last, done, all_done, IsFed, AreEachFed, places_cost, each_cost, rest_cost, with_field_cost, fields_cost, parts_cost, cost_within, cost_of, last_of, step_cost, work_left, place_joinings, joinings_with, field_joinings, field_joining, found_in, AreEachTasksWithin, AreLeft, Moves}
-use Rattle.asl_numbered.proofs.Comparisons.{same, same-is, within_kept}
+use Rattle.asl_numbered.specs.Joins.{joint, Shows, IsJoin, AreJoins, place_joins, Step, JoinStep, NothingStep, WithStep, step_of, steps_of, joined_last, done, all_done, IsFed, AreEachFed, places_cost, each_cost, rest_cost, with_field_cost, fields_cost, parts_cost, cost_within, cost_of, last_of, step_cost, work_left, place_joinings, joinings_with, field_joinings, field_joining, found_in, AreEachTasksWithin, AreLeft, Moves}
+use Rattle.asl_numbered.proofs.Comparisons.{within_kept}
 use Rattle.asl_numbered.proofs.Expansions.{keeps_longer, kept_shape}
+use Rattle.asl_numbered.proofs.Remembered.{same, each_kept, each_put, each_found}
 
 -- ---- what is remembered
 
-pub shows_kept : (old new : List Shape) (s : Shape) (n : ℕ) → Keeps old new → Shows old s n → Shows new s n
+shows_kept : (old new : List Shape) (s : Shape) (n : ℕ) → Keeps old new → Shows old s n → Shows new s n
 shows_kept old new s n keeps h =
     let longer = keeps_longer old new keeps in
     record { within = omega (arith, h.within); same = kept_shape old new n keeps h.within ∙ h.same }
@@ -32,42 +33,21 @@ shows_kept old new s n keeps h =
 pub joint_kept : (old new : List Shape) (p : Pair) → Keeps old new → IsWithin old p → joint new p ≡ joint old p
 joint_kept old new p keeps h = rw (kept_shape old new p.first keeps h.first, kept_shape old new p.second keeps h.second) refl
 
-each-kept : (old new : List Shape) (entries : List (Pair × ℕ)) → Keeps old new → AreEachJoins old entries → AreEachJoins new entries
-each-kept old new [] keeps h = tt
-each-kept old new (e ∷ entries) keeps h =
-    let shown = subst (λ s. Shows new s e.1) (sym (joint_kept old new e.0 keeps h.0)) (shows_kept old new (joint old e.0) e.1 keeps h.1) in
-    (within_kept old new e.0 keeps h.0, shown, each-kept old new entries keeps h.2)
-
 -- in a table that has grown it stays right
 pub joins_kept : (old new : List Shape) (entries : List (Pair × ℕ)) → Keeps old new → AreJoins old entries → AreJoins new entries
-joins_kept old new entries keeps h = record { each = each-kept old new entries keeps h.each }
-
-each-put : (table : List Shape) (entries : List (Pair × ℕ)) (p : Pair) (n : ℕ) → IsWithin table p → Shows table (joint table p) n → AreEachJoins table entries → AreEachJoins table (insert_entry same entries p n)
-each-put table [] p n within is h = (within, is, tt)
-each-put table (e ∷ entries) p n within is h = go (same p e.0) refl (each-put table entries p n within is h.2)
+joins_kept old new entries keeps h = record { each = each_kept (IsJoin old) (IsJoin new) entries kept h.each }
   where
-    go : (here : Bool) → same p e.0 ≡ here → AreEachJoins table (insert_entry same entries p n) → AreEachJoins table (cond here ((e.0, n) ∷ entries) (e ∷ insert_entry same entries p n))
-    go true found behind = (h.0, subst (λ q. Shows table (joint table q) n) (same-is p e.0 found) is, h.2)
-    go false found behind = (h.0, h.1, behind)
+    kept : (e : Pair × ℕ) → IsJoin old e → IsJoin new e
+    kept e is =
+        (within_kept old new e.0 keeps is.0, subst (λ s. Shows new s e.1) (sym (joint_kept old new e.0 keeps is.0)) (shows_kept old new (joint old e.0) e.1 keeps is.1))
 
 -- one more, or another number for its pair
 pub joins_put : (table : List Shape) (entries new : List (Pair × ℕ)) (p : Pair) (n : ℕ) → IsWithin table p → Shows table (joint table p) n → AreJoins table entries → new ≡ insert_entry same entries p n → AreJoins table new
-joins_put table entries new p n within is h made = rw made (record { each = each-put table entries p n within is h.each })
-
-each-found : (table : List Shape) (entries : List (Pair × ℕ)) (p : Pair) (n : ℕ) → AreEachJoins table entries → lookup (same p) entries ≡ Some n → Shows table (joint table p) n
-each-found table [] p n h found = absurd (cc)
-each-found table (e ∷ entries) p n h found = go (same p e.0) refl (λ below. each-found table entries p n h.2 below)
-  where
-    go : (here : Bool) → same p e.0 ≡ here → (lookup (same p) entries ≡ Some n → Shows table (joint table p) n) → Shows table (joint table p) n
-    go true is later =
-        let there : Some e.1 ≡ Some n = rw is at found in
-        let own : e.1 ≡ n = cc in
-        subst (Shows table (joint table p)) own (subst (λ q. Shows table (joint table q) e.1) (sym (same-is p e.0 is)) h.1)
-    go false is later = later (rw is at found)
+joins_put table entries new p n within is h made = rw made (record { each = each_put (IsJoin table) entries p n (within, is) h.each })
 
 -- a number that is found is right
 pub joins_found : (table : List Shape) (entries : List (Pair × ℕ)) (p : Pair) (n : ℕ) → AreJoins table entries → lookup (same p) entries ≡ Some n → Shows table (joint table p) n
-joins_found table entries p n h found = each-found table entries p n h.each found
+joins_found table entries p n h found = (each_found (IsJoin table) entries p n h.each found).1
 
 -- ---- steps behind others
 
@@ -79,7 +59,7 @@ pub work_append : (front more : List Step) (found : List Shape) → work_left (f
 work_append [] more found = omega arith
 work_append (step ∷ front) more found = rw (work_append front more found, done_append front more found) (omega arith)
 
-pub fed_append : (front more : List Step) (found : List Shape) → AreEachFed front (all_done more found) → AreEachFed more found → AreEachFed (front ++ more) found
+fed_append : (front more : List Step) (found : List Shape) → AreEachFed front (all_done more found) → AreEachFed more found → AreEachFed (front ++ more) found
 fed_append [] more found h further = further
 fed_append (step ∷ front) more found h further = (subst (IsFed step) (sym (done_append front more found)) h.0, fed_append front more found h.1 further)
 
@@ -321,14 +301,9 @@ common_places NoShapes others = refl
 common_places (AndShape s first) NoShapes = refl
 common_places (AndShape s first) (AndShape other others) = ap (AndShape (join s other)) (common_places first others)
 
-pub array_made : (first others : Shapes) (rest further : Shape) → inhabited (ArrayShape first rest) ≡ true → inhabited (ArrayShape others further) ≡ true → join (ArrayShape first rest) (ArrayShape others further) ≡ ArrayShape (shapes_of (place_joins first others)) (join (join (joined_with_each join model.Never (further_places first others)) rest) further)
-array_made first others rest further some also =
-    join-inhabited (ArrayShape first rest) (ArrayShape others further) some also
-    ∙ ap (λ ss. ArrayShape ss (join (join (joined_with_each join model.Never (further_places first others)) rest) further)) (sym (common_places first others))
-
 -- ---- the loop
 
-pub steps_kept : (old new : List Shape) (tasks : List JoinTask) → Keeps old new → AreEachTasksWithin old tasks → steps_of new tasks ≡ steps_of old tasks
+steps_kept : (old new : List Shape) (tasks : List JoinTask) → Keeps old new → AreEachTasksWithin old tasks → steps_of new tasks ≡ steps_of old tasks
 steps_kept old new [] keeps h = refl
 steps_kept old new (Join p ∷ tasks) keeps h =
     rw (kept_shape old new p.first keeps h.0.first, kept_shape old new p.second keeps h.0.second, steps_kept old new tasks keeps h.1) refl
@@ -337,7 +312,7 @@ steps_kept old new (With n ∷ tasks) keeps h = rw (kept_shape old new n keeps h
 steps_kept old new (Finish p start ∷ tasks) keeps h =
     rw (kept_shape old new p.first keeps h.0.first, kept_shape old new p.second keeps h.0.second, steps_kept old new tasks keeps h.1) refl
 
-pub tasks_kept : (old new : List Shape) (tasks added : List JoinTask) → Keeps old new → AreEachTasksWithin old tasks → AreEachTasksWithin new added → AreEachTasksWithin new (tasks ++ added)
+tasks_kept : (old new : List Shape) (tasks added : List JoinTask) → Keeps old new → AreEachTasksWithin old tasks → AreEachTasksWithin new added → AreEachTasksWithin new (tasks ++ added)
 tasks_kept old new [] added keeps h further = further
 tasks_kept old new (Join p ∷ tasks) added keeps h further = (within_kept old new p keeps h.0, tasks_kept old new tasks added keeps h.1 further)
 tasks_kept old new (Nothing ∷ tasks) added keeps h further = (tt, tasks_kept old new tasks added keeps h.1 further)

@@ -4,7 +4,8 @@ pub mod Expansions
 pub mod Growing
 pub mod Joins
 pub mod Looking
-pub mod Made
 pub mod Moving
+pub mod Parts
+pub mod Remembered
 pub mod Sameness
 pub mod Tables

@@ -1,6 +1,7 @@
 -- What a look at two shapes of a table puts down: the joins of their parts.
-use Rattle.std.proofs.Common.{◌≡◌, ◌<◌, ◌≤◌, ◌+◌, ℕ, zero, suc, List, [], ◌∷◌, ◌++◌, length, take, drop, Bool, Option, Some, None, option_map, Result, Ok, Err, Vec, refl, sym, ap, ◌∙◌, subst, arith, ◌⊎◌, inl, inr, String, Global, append_assoc}
-use Rattle.std.proofs.lemmas.List.{append-nil, map-append}
+use Rattle.std.proofs.Common.{◌≡◌, ◌<◌, ◌≤◌, ◌+◌, ℕ, List, [], ◌∷◌, ◌++◌, length, take, drop, Bool, Option, Some, None, option_map, Result, Ok, Err, Vec, refl, sym, ap, ◌∙◌, subst, arith, ◌⊎◌, inl, inr, String, Global, append_assoc}
+use Rattle.std.proofs.Math.Seq.{drop-append_seam, take-append_seam}
+use Rattle.std.proofs.lemmas.List.{append-nil, length-append, length-map, map-append}
 use Rattle.std.specs.BTreeMap.{BTreeMap, is_at}
 use Rattle.std.specs.Map.{lookup}
 use Rattle.std.specs.Prelude.{IfOk}
@@ -20,56 +21,51 @@ use Rattle.asl_numbered.specs.Comparison.{IsWithin, IsNodeAt}
 use Rattle.asl_numbered.specs.Expansion.{shape_at, shapes_at, fields_at, shape_over, expansions, numbers_in, parts, AreBelow}
 use Rattle.asl_numbered.specs.Joins.{joint, place_joins, with_field_join, field_joins, ArePartsOf, array_parts, object_parts, Step, NothingStep, WithStep, FinishStep, step_of, steps_of, joined_last, done, all_done, IsFed, AreEachFed, places_cost, each_cost, rest_cost, with_field_cost, fields_cost, parts_cost, cost_of, last_of, work_left, place_joinings, joinings_with, field_joinings, field_joining, AreInhabited, found_in, AreEachTasksWithin, Moves, list_joinings, Looked, IsLevel, LooksAt}
 use Rattle.asl_numbered.proofs.Comparisons.{mention_of_number, found-below, below-table}
-use Rattle.asl_numbered.proofs.Expansions.{simple_refers}
+use Rattle.asl_numbered.proofs.Expansions.{simple_refers, below-drop}
 use Rattle.asl_numbered.proofs.Joins.{done_append, work_append, joined_behind, last_behind, with_each, with_each_work, places_each, places_each_work, parts_cheaper, behind_one, behind_each}
 
 -- ---- tasks for parts
 
 -- the numbers in the tasks are in the table, and none of them finishes a pair
-abbrev pub AreParts : List Shape → List JoinTask → Type 0
+abbrev AreParts : List Shape → List JoinTask → Type 0
 AreParts table [] = Unit {0}
 AreParts table (Join p ∷ tasks) = IsWithin table p × AreParts table tasks
 AreParts table (Nothing ∷ tasks) = AreParts table tasks
 AreParts table (With n ∷ tasks) = (n < length table) × AreParts table tasks
 AreParts table (Finish p start ∷ tasks) = ⊥
 
-pub parts-append : (table : List Shape) (tasks more : List JoinTask) → AreParts table tasks → AreParts table more → AreParts table (tasks ++ more)
+parts-append : (table : List Shape) (tasks more : List JoinTask) → AreParts table tasks → AreParts table more → AreParts table (tasks ++ more)
 parts-append table [] more h further = further
 parts-append table (Join p ∷ tasks) more h further = (h.0, parts-append table tasks more h.1 further)
 parts-append table (Nothing ∷ tasks) more h further = parts-append table tasks more h further
 parts-append table (With n ∷ tasks) more h further = (h.0, parts-append table tasks more h.1 further)
 parts-append table (Finish p start ∷ tasks) more h further = absurd h
 
-pub parts_within : (table : List Shape) (tasks : List JoinTask) → AreParts table tasks → AreEachTasksWithin table tasks
+parts_within : (table : List Shape) (tasks : List JoinTask) → AreParts table tasks → AreEachTasksWithin table tasks
 parts_within table [] h = tt
 parts_within table (Join p ∷ tasks) h = (h.0, parts_within table tasks h.1)
 parts_within table (Nothing ∷ tasks) h = (tt, parts_within table tasks h)
 parts_within table (With n ∷ tasks) h = (h.0, parts_within table tasks h.1)
 parts_within table (Finish p start ∷ tasks) h = absurd h
 
-pub parts_fed : (table : List Shape) (tasks : List JoinTask) (found : List Shape) → AreParts table tasks → AreEachFed (steps_of table tasks) found
+parts_fed : (table : List Shape) (tasks : List JoinTask) (found : List Shape) → AreParts table tasks → AreEachFed (steps_of table tasks) found
 parts_fed table [] found h = tt
 parts_fed table (Join p ∷ tasks) found h = (tt, parts_fed table tasks found h.1)
 parts_fed table (Nothing ∷ tasks) found h = (tt, parts_fed table tasks found h)
 parts_fed table (With n ∷ tasks) found h = (tt, parts_fed table tasks found h.1)
 parts_fed table (Finish p start ∷ tasks) found h = absurd h
 
-pub place-parts : (table : List Shape) (ps os : List ℕ) → AreBelow (length table) ps → AreBelow (length table) os → AreParts table (place_joinings ps os)
+place-parts : (table : List Shape) (ps os : List ℕ) → AreBelow (length table) ps → AreBelow (length table) os → AreParts table (place_joinings ps os)
 place-parts table [] os h i = tt
 place-parts table (p ∷ ps) [] h i = tt
 place-parts table (p ∷ ps) (o ∷ os) h i =
     parts-append table (place_joinings ps os) (Join (record { first = p; second = o }) ∷ []) (place-parts table ps os h.1 i.1) (record { first = h.0; second = i.0 }, tt)
 
-pub with-parts : (table : List Shape) (ns : List ℕ) → AreBelow (length table) ns → AreParts table (joinings_with ns)
+with-parts : (table : List Shape) (ns : List ℕ) → AreBelow (length table) ns → AreParts table (joinings_with ns)
 with-parts table [] h = tt
 with-parts table (n ∷ ns) h = parts-append table (joinings_with ns) (With n ∷ []) (with-parts table ns h.1) (h.0, tt)
 
-pub below-drop : (bound k : ℕ) (ns : List ℕ) → AreBelow bound ns → AreBelow bound (drop k ns)
-below-drop bound zero ns h = h
-below-drop bound (suc k) [] h = tt
-below-drop bound (suc k) (n ∷ ns) h = below-drop bound k ns h.1
-
-pub field-parts : (table : List Shape) (fs os : List (String Global × NodeField)) → AreBelow (length table) (numbers_in fs) → AreBelow (length table) (numbers_in os) → AreParts table (field_joinings fs os)
+field-parts : (table : List Shape) (fs os : List (String Global × NodeField)) → AreBelow (length table) (numbers_in fs) → AreBelow (length table) (numbers_in os) → AreParts table (field_joinings fs os)
 field-parts table [] os h i = tt
 field-parts table (f ∷ fs) os h i =
     parts-append table (field_joinings fs os) (field_joining f.1 (lookup (is_at (string_cmp f.0)) os)) (field-parts table fs os h.1 i) (go (lookup (is_at (string_cmp f.0)) os) refl)
@@ -81,7 +77,7 @@ field-parts table (f ∷ fs) os h i =
 -- ---- the parts of lists
 
 -- what stands behind the places that both have takes so many steps
-pub behind_each_work : (table : List Shape) (ps os : List ℕ) (found : List Shape) → work_left (steps_of table (joinings_with (drop (length os) ps)) ++ steps_of table (joinings_with (drop (length ps) os))) (found ++ model.Never ∷ []) ≡ each_cost cost_of model.Never (further_places (shapes_at table ps) (shapes_at table os))
+behind_each_work : (table : List Shape) (ps os : List ℕ) (found : List Shape) → work_left (steps_of table (joinings_with (drop (length os) ps)) ++ steps_of table (joinings_with (drop (length ps) os))) (found ++ model.Never ∷ []) ≡ each_cost cost_of model.Never (further_places (shapes_at table ps) (shapes_at table os))
 behind_each_work table ps os found =
     work_append own other (found ++ model.Never ∷ [])
     ∙ ap (λ n. work_left own (all_done other (found ++ model.Never ∷ [])) + n) (with_each_work table (drop (length ps) os) model.Never found)
@@ -155,7 +151,7 @@ module _ (table : List Shape) (ps os : List ℕ) (rest further : ℕ) (found : L
       ∙ ap (joined_last (shape_at table further)) (joined_behind (shape_at table rest) whole found)
       ∙ joined_behind (shape_at table further) (join whole (shape_at table rest)) found
 
-  pub list_done : all_done (steps_of table tasks) found ≡ found ++ join (join whole (shape_at table rest)) (shape_at table further) ∷ place_joins (shapes_at table ps) (shapes_at table os)
+  list_done : all_done (steps_of table tasks) found ≡ found ++ join (join whole (shape_at table rest)) (shape_at table further) ∷ place_joins (shapes_at table ps) (shapes_at table os)
   list_done =
       ap (λ steps. all_done steps found) tasks-split
       ∙ done_append (steps_of table (place_joinings ps os)) (WithStep (shape_at table further) ∷ WithStep (shape_at table rest) ∷ steps_of table behind) found
@@ -173,14 +169,14 @@ module _ (table : List Shape) (ps os : List ℕ) (rest further : ℕ) (found : L
       ap (λ more. cost_of (last_of more) (shape_at table further)) middle ∙ ap (λ s. cost_of s (shape_at table further)) (last_behind (join whole (shape_at table rest)) found) in
       omega (arith, front, end, behind-work)
 
-  pub list_work : work_left (steps_of table tasks) found ≡ 1 + (places_cost cost_of (shapes_at table ps) (shapes_at table os) + rest_cost cost_of (further_places (shapes_at table ps) (shapes_at table os)) (shape_at table rest) (shape_at table further))
+  list_work : work_left (steps_of table tasks) found ≡ 1 + (places_cost cost_of (shapes_at table ps) (shapes_at table os) + rest_cost cost_of (further_places (shapes_at table ps) (shapes_at table os)) (shape_at table rest) (shape_at table further))
   list_work =
       let steps = WithStep (shape_at table further) ∷ WithStep (shape_at table rest) ∷ steps_of table behind in
       let split : work_left (steps_of table tasks) found ≡ work_left (steps_of table (place_joinings ps os)) (all_done steps found) + work_left steps found =
       ap (λ all. work_left all found) tasks-split ∙ work_append (steps_of table (place_joinings ps os)) steps found in
       omega (arith, split, places_each_work table ps os (all_done steps found), rest-work)
 
-  pub list_parts : AreBelow (length table) ps → AreBelow (length table) os → rest < length table → further < length table → AreParts table tasks
+  list_parts : AreBelow (length table) ps → AreBelow (length table) os → rest < length table → further < length table → AreParts table tasks
   list_parts h i j k =
       let last = with-parts table (drop (length ps) os) (below-drop (length table) (length ps) os i) in
       let first = with-parts table (drop (length os) ps) (below-drop (length table) (length os) ps h) in
@@ -189,7 +185,7 @@ module _ (table : List Shape) (ps os : List ℕ) (rest further : ℕ) (found : L
 
 -- ---- the parts of objects
 
-pub fields_each : (table : List Shape) (fs os : List (String Global × NodeField)) (found : List Shape) → all_done (steps_of table (field_joinings fs os)) found ≡ found ++ field_joins (fields_at table fs) (fields_at table os)
+fields_each : (table : List Shape) (fs os : List (String Global × NodeField)) (found : List Shape) → all_done (steps_of table (field_joinings fs os)) found ≡ found ++ field_joins (fields_at table fs) (fields_at table os)
 fields_each table [] os found = sym (append-nil found)
 fields_each table (f ∷ fs) os found =
     ap (λ all. all_done all found) (map-append (step_of table) (field_joinings fs os) (field_joining f.1 (lookup (is_at (string_cmp f.0)) os)))
@@ -203,7 +199,7 @@ fields_each table (f ∷ fs) os found =
         let s = join (shape_at table f.1.shape) (shape_at table other.shape) in
         each (found ++ s ∷ []) ∙ append_assoc found (s ∷ []) (field_joins (fields_at table fs) (fields_at table os))
 
-pub fields_each_work : (table : List Shape) (fs os : List (String Global × NodeField)) (found : List Shape) → work_left (steps_of table (field_joinings fs os)) found ≡ fields_cost cost_of (fields_at table fs) (fields_at table os)
+fields_each_work : (table : List Shape) (fs os : List (String Global × NodeField)) (found : List Shape) → work_left (steps_of table (field_joinings fs os)) found ≡ fields_cost cost_of (fields_at table fs) (fields_at table os)
 fields_each_work table [] os found = refl
 fields_each_work table (f ∷ fs) os found =
     ap (λ all. work_left all found) (map-append (step_of table) (field_joinings fs os) (field_joining f.1 (lookup (is_at (string_cmp f.0)) os)))
@@ -217,18 +213,6 @@ fields_each_work table (f ∷ fs) os found =
 
 -- ---- what the parts lead to
 
-front-found : (table : List Shape) (numbers : List ℕ) (joins : List Shape) → take (length numbers) (found_in table numbers ++ joins) ≡ found_in table numbers
-front-found table [] joins = refl
-front-found table (n ∷ numbers) joins = ap (λ found. shape_at table n ∷ found) (front-found table numbers joins)
-
-behind-found : (table : List Shape) (numbers : List ℕ) (joins : List Shape) → drop (length numbers) (found_in table numbers ++ joins) ≡ joins
-behind-found table [] joins = refl
-behind-found table (n ∷ numbers) joins = behind-found table numbers joins
-
-found-counted : (table : List Shape) (numbers : List ℕ) (joins : List Shape) → length numbers ≤ length (found_in table numbers ++ joins)
-found-counted table [] joins = omega arith
-found-counted table (n ∷ numbers) joins = omega (arith, found-counted table numbers joins)
-
 -- tasks that find the joins of the parts of a pair, and don't cost more than these, lead to its join
 parts-lead : (table : List Shape) (p : Pair) (numbers : List ℕ) (joins : List Shape) (tasks old new : List JoinTask) → IsWithin table p → AreInhabited table p → AreBelow (length table) numbers → AreParts table tasks → ArePartsOf (shape_at table p.first) (shape_at table p.second) joins → all_done (steps_of table tasks) (found_in table numbers) ≡ found_in table numbers ++ joins → work_left (steps_of table tasks) (found_in table numbers) ≤ 1 + parts_cost cost_of (shape_at table p.first) (shape_at table p.second) → new ≡ old ++ Finish p (length numbers) ∷ tasks → Moves table table (Join p) old new numbers numbers
 parts-lead table p numbers joins tasks old new within some below are of finds cost made =
@@ -236,14 +220,18 @@ parts-lead table p numbers joins tasks old new within some below are of finds co
     let b = shape_at table p.second in
     let start = length numbers in
     let found = found_in table numbers in
-    let fed : IsFed (FinishStep a b start) (found ++ joins) = (found-counted table numbers joins, subst (ArePartsOf a b) (sym (behind-found table numbers joins)) of, some.first, some.second) in
+    let many : length found ≡ start = length-map numbers (shape_at table) in
+    let front : take start (found ++ joins) ≡ found = subst (λ n. take n (found ++ joins) ≡ found) many (take-append_seam found joins) in
+    let behind : drop start (found ++ joins) ≡ joins = subst (λ n. drop n (found ++ joins) ≡ joins) many (drop-append_seam found joins) in
+    let counted : start ≤ length (found ++ joins) = omega (arith, many, length-append found joins) in
+    let fed : IsFed (FinishStep a b start) (found ++ joins) = (counted, subst (ArePartsOf a b) (sym behind) of, some.first, some.second) in
     record {
       added = Finish p start ∷ tasks;
       whole = made;
       within = (within, parts_within table tasks are);
       below = below;
       fed = (subst (IsFed (FinishStep a b start)) (sym finds) fed, parts_fed table tasks found are);
-      same = ap (done (FinishStep a b start)) finds ∙ ap (λ front. front ++ join a b ∷ []) (front-found table numbers joins);
+      same = ap (done (FinishStep a b start)) finds ∙ ap (λ shapes. shapes ++ join a b ∷ []) front;
       less = omega (arith, cost, parts_cheaper a b);
     }
 

@@ -1,6 +1,6 @@
 -- One task of a join is done: the numbers that are found, and what is left to do.
-use Rattle.std.proofs.Common.{◌≡◌, ◌<◌, ◌≤◌, ◌-◌, ℕ, zero, suc, List, [], ◌∷◌, ◌++◌, length, take, drop, Some, refl, sym, ap, ◌∙◌, subst, arith}
-use Rattle.std.proofs.lemmas.List.{append-nil, length-drop, map-append, take_all}
+use Rattle.std.proofs.Common.{◌≡◌, ◌<◌, ◌-◌, ℕ, List, [], ◌∷◌, ◌++◌, length, take, drop, Some, refl, sym, ap, ◌∙◌, subst, arith}
+use Rattle.std.proofs.lemmas.List.{append-nil, drop-map, length-drop, map-append, take-map, take_all}
 use Rattle.asl_model.specs.Shape as model
 use Rattle.asl_model.specs.Shape.{Shape}
 use Rattle.asl_numbered.specs.declared.node.Node.{Node}
@@ -11,9 +11,8 @@ use Rattle.asl_numbered.specs.Comparison.{IsWithin}
 use Rattle.asl_numbered.specs.Expansion.{shape_at, shape_over, expansions, AreBelow, IsNumberOf, Keeps}
 use Rattle.asl_numbered.specs.Joins.{joint, Shows, AreJoins, ArePartsOf, step_of, Step, steps_of, joined_last, done, IsFed, AreEachFed, cost_of, last_of, step_cost, work_left, found_in, IsTaskWithin, AreEachTasksWithin, AreLeft, Moves, LooksAt, AreMadeOf}
 use Rattle.asl_numbered.proofs.Comparisons.{within_kept}
-use Rattle.asl_numbered.proofs.Expansions.{below-front, below-behind, below-append, below-wider, keeps_longer, kept_shape, keeps_same}
+use Rattle.asl_numbered.proofs.Expansions.{below-front, below-behind, below-append, below-take, below-drop, below-wider, keeps_longer, kept_shape, keeps_same}
 use Rattle.asl_numbered.proofs.Joins.{joint_kept, joins_kept, parts_cheaper, joined_behind, last_behind, moved, less_work}
-use Rattle.asl_numbered.proofs.Looking.{below-drop}
 
 -- the shapes of the numbers stay
 found-kept : (old new : List Shape) (numbers : List ℕ) → Keeps old new → AreBelow (length old) numbers → found_in new numbers ≡ found_in old numbers
@@ -60,35 +59,13 @@ level_put ns new p node tasks left numbers next n looks keeps below is made =
 
 -- ---- a pair that is finished
 
-below-take : (bound k : ℕ) (ns : List ℕ) → AreBelow bound ns → AreBelow bound (take k ns)
-below-take bound zero ns h = tt
-below-take bound (suc k) [] h = tt
-below-take bound (suc k) (n ∷ ns) h = (h.0, below-take bound k ns h.1)
-
-take-found : (table : List Shape) (k : ℕ) (ns : List ℕ) → take k (found_in table ns) ≡ found_in table (take k ns)
-take-found table zero ns = refl
-take-found table (suc k) [] = refl
-take-found table (suc k) (n ∷ ns) = ap (λ found. shape_at table n ∷ found) (take-found table k ns)
-
-drop-found : (table : List Shape) (k : ℕ) (ns : List ℕ) → drop k (found_in table ns) ≡ found_in table (drop k ns)
-drop-found table zero ns = refl
-drop-found table (suc k) [] = refl
-drop-found table (suc k) (n ∷ ns) = drop-found table k ns
-
-found-count : (table : List Shape) (ns : List ℕ) → length (found_in table ns) ≡ length ns
-found-count table [] = refl
-found-count table (n ∷ ns) = ap suc (found-count table ns)
-
 module _ (table : List Shape) (p : Pair) (start : ℕ) (numbers : List ℕ) (within : IsWithin table p) (below : AreBelow (length table) numbers) (fed : IsFed (step_of table (Finish p start)) (found_in table numbers)) where
   -- the numbers of its parts are the last ones
-  pub start_within : start ≤ length numbers
-  start_within = omega (arith, fed.0, found-count table numbers)
-
   pub made_of : (parts : List ℕ) → parts ≡ drop start numbers → AreMadeOf table p parts
   made_of parts is = rw is (record {
     within = within;
     below = below-drop (length table) start numbers below;
-    all = subst (ArePartsOf (shape_at table p.first) (shape_at table p.second)) (drop-found table start numbers) fed.1;
+    all = subst (ArePartsOf (shape_at table p.first) (shape_at table p.second)) (drop-map (shape_at table) start numbers) fed.1;
     inhabited = record { first = fed.2; second = fed.3 };
   })
 
@@ -99,7 +76,7 @@ module _ (table : List Shape) (p : Pair) (start : ℕ) (numbers : List ℕ) (wit
 
     pub finish_put : (tasks left : List JoinTask) (front next : List ℕ) → left ≡ tasks → front ≡ take start numbers → next ≡ front ++ n ∷ [] → Moves table new (Finish p start) tasks left numbers next
     finish_put tasks left front next stays cut made =
-        let step : done (step_of table (Finish p start)) (found_in table numbers) ≡ found_in table (take start numbers) ++ joint table p ∷ [] = ap (λ found. found ++ joint table p ∷ []) (take-found table start numbers) in
+        let step : done (step_of table (Finish p start)) (found_in table numbers) ≡ found_in table (take start numbers) ++ joint table p ∷ [] = ap (λ found. found ++ joint table p ∷ []) (take-map (shape_at table) start numbers) in
         number-put table new (Finish p start) (joint table p) tasks left numbers (take start numbers) next n keeps (below-take (length table) start numbers below) shows stays (made ∙ ap (λ found. found ++ n ∷ []) cut) step (omega arith)
 
     -- what is remembered of it is right

@@ -3,6 +3,7 @@
 use Rattle.std.specs.Prelude.{◌≡◌, ◌<◌, ◌≤◌, ◌+◌, ℕ, zero, suc, max, List, [], ◌∷◌, ◌++◌, length, map, take, drop, Bool, true, Option, Some, None, String}
 use Rattle.std.specs.declared.alloc.Global.{Global}
 use Rattle.std.specs.BTreeMap.{is_at}
+use Rattle.std.specs.List.{AllByRecursion}
 use Rattle.std.specs.Map.{lookup}
 use Rattle.std.specs.String.{string_cmp}
 use Rattle.asl_model.specs.Shape as model
@@ -28,13 +29,13 @@ pub record Shows (table : List Shape) (s : Shape) (n : ℕ) : Type 0 where
 
 -- ---- what is remembered
 
--- each number is that of the join of its pair
-abbrev pub AreEachJoins : List Shape → List (Pair × ℕ) → Type 0
-AreEachJoins table [] = Unit {0}
-AreEachJoins table (e ∷ entries) = IsWithin table e.0 × Shows table (joint table e.0) e.1 × AreEachJoins table entries
+-- the number is that of the join of its pair
+abbrev pub IsJoin : List Shape → Pair × ℕ → Type 0
+IsJoin table e = IsWithin table e.0 × Shows table (joint table e.0) e.1
 
+-- each of them is
 pub record AreJoins (table : List Shape) (entries : List (Pair × ℕ)) : Type 0 where
-  pub each : AreEachJoins table entries
+  pub each : AllByRecursion (IsJoin table) entries
 
 -- ---- the joins of parts
 

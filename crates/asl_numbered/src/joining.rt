@@ -28,19 +28,19 @@ pub(crate) enum JoinTask {
     Join(Pair),
     /// To put the number of `Never` there.
     Nothing,
-    /// To put in place of the last number that of the join of its shape with this one.
+    /// To replace the last number by that of the join of its shape with this one.
     With(usize),
-    /// To put in place of all numbers from that index on, which are those of the joins of parts, the number of the join
+    /// To replace all numbers from that index on, which are those of the joins of the parts, by the number of the join
     /// of the two shapes.
     Finish { pair: Pair, start: usize },
 }
 
-/// What is left to do, the next one last, and the numbers that were found.
+// What is left to do, the next task last, and the numbers that were found.
 #[derive(Drop)]
-pub(crate) struct Work {
-    pub(crate) alloc: Global,
-    pub(crate) tasks: Vec<JoinTask>,
-    pub(crate) numbers: Vec<usize>,
+struct Work {
+    alloc: Global,
+    tasks: Vec<JoinTask>,
+    numbers: Vec<usize>,
 }
 
 /// The number of the join of the two shapes of the pair: as before, where that is remembered; else it is found out and
@@ -322,7 +322,7 @@ fn finish(
     ensures right { AreJoins (expansions table.new) joined.new.entries }
 {
     let parts = &work.numbers[start..];
-    let node = made(table, work.alloc, pair, parts)?;
+    let node = assemble(table, work.alloc, pair, parts)?;
     let number = table.put(node)?;
     remember(joined, pair, number)?;
     work.numbers.truncate(start);
@@ -343,7 +343,7 @@ fn remember(joined: &mut Joined, pair: Pair, number: usize) -> Result<(), OutOfM
 }
 
 // The first level of the join of two shapes that are both of lists or both of objects, made of the joins of the parts.
-fn made(table: &Table, alloc: Global, pair: Pair, parts: &[usize]) -> Result<Node, OutOfMemory>
+fn assemble(table: &Table, alloc: Global, pair: Pair, parts: &[usize]) -> Result<Node, OutOfMemory>
     requires parts { AreMadeOf (expansions table.now) pair parts.now }
     ensures node { IfOk result
         (λ node. shape_over (expansions table.now) node ≡ joint (expansions table.now) pair) }
@@ -376,13 +376,13 @@ fn made(table: &Table, alloc: Global, pair: Pair, parts: &[usize]) -> Result<Nod
             | Node::Text
             | Node::List { .. } => Ok(Node::Any),
         },
-        Node::List { .. } => made_list(alloc, parts),
+        Node::List { .. } => assemble_list(alloc, parts),
         Node::Any | Node::Never | Node::Null | Node::Bool | Node::Int | Node::Text => Ok(Node::Any),
     }
 }
 
 // The first level of a shape of lists: first the shape of its further elements, and then its places.
-fn made_list(alloc: Global, parts: &[usize]) -> Result<Node, OutOfMemory>
+fn assemble_list(alloc: Global, parts: &[usize]) -> Result<Node, OutOfMemory>
     ensures list { IfOk result (IsListOf parts.now) }
 {
     match parts.split_first() {

@@ -57,6 +57,7 @@ impl Table {
     pub(crate) fn are_distinct(&self)
         ensures distinct { AreDistinct (expansions self.now) }
     {
+        // The field is named for what is always true of it; nothing is read.
         let _ = &self.nodes;
     }
 

@@ -3,7 +3,7 @@ use Rattle.std.specs.BTreeMap.{is_at}
 use Rattle.std.specs.Iterator.Adapters.{rev_source}
 use Rattle.std.specs.Map.{lookup}
 use Rattle.std.specs.String.{string_cmp}
-use Rattle.asl_numbered.proofs.Made.{Entry, other_added, other_dropped, all_added}
+use Rattle.asl_numbered.proofs.Parts.{Entry, other_added, other_dropped, all_added}
 use Rattle.asl_numbered.proofs.joining.add_others.Goals as goal
 use Rattle.asl_numbered.proofs.joining.add_others.Goals.{else-not-extra-via-then-not-extra+else-not-contains_key, else-not-extra-via-else-not-extra}
 

@@ -1,5 +1,5 @@
 use Rattle.std.specs.Iterator.Adapters.{rev_source}
-use Rattle.asl_numbered.proofs.Made.{AreAddedSoFar}
+use Rattle.asl_numbered.proofs.Parts.{AreAddedSoFar}
 use Rattle.asl_numbered.proofs.joining.add_others.Given as goal
 
 abbrev pub invariant-loop-name : goal.invariant-loop-name

@@ -4,8 +4,8 @@ use Rattle.asl_numbered.proofs.Joins.{joins_kept}
 use Rattle.asl_numbered.proofs.Moving.{made_of, sliced, finish_put, finish_right}
 use Rattle.asl_numbered.proofs.joining.finish.Goals as goal
 
-pub made-requires : goal.made-requires
-made-requires c = record {
+pub assemble-requires : goal.assemble-requires
+assemble-requires c = record {
   parts = made_of (expansions c.args.table.now) c.args.pair c.args.start c.args.work.now.numbers.items c.requires.within c.requires.below c.requires.fed _ (sliced _ c.args.work.now.numbers.items c.args.start c.deref.ensures.value);
 }
 

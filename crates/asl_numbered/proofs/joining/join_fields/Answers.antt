@@ -1,7 +1,7 @@
 use Rattle.std.proofs.Common.{◌≡◌, ◌&&◌, ◌∙◌, sym, refl}
 use Rattle.std.specs.Slice.Iter.{iter_rest}
 use Rattle.asl_numbered.specs.declared.node.NodeField.{NodeField}
-use Rattle.asl_numbered.proofs.Made.{Entry, taken_next, both_joined, one_joined, one_dropped, all_joined}
+use Rattle.asl_numbered.proofs.Parts.{Entry, taken_next, both_joined, one_joined, one_dropped, all_joined}
 use Rattle.asl_numbered.proofs.joining.join_fields.Goals as goal
 use Rattle.asl_numbered.proofs.joining.join_fields.Goals.{then-field, else-field}
 

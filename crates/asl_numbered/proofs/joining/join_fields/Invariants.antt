@@ -1,5 +1,5 @@
 use Rattle.std.specs.Slice.Iter.{iter_rest}
-use Rattle.asl_numbered.proofs.Made.{AreJoinedSoFar}
+use Rattle.asl_numbered.proofs.Parts.{AreJoinedSoFar}
 use Rattle.asl_numbered.proofs.joining.join_fields.Given as goal
 
 abbrev pub invariant-loop-name : goal.invariant-loop-name

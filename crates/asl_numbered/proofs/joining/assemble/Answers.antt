@@ -1,8 +1,8 @@
 use Rattle.std.proofs.Common.{◌≡◌, ◌||◌, ◌∙◌, refl}
 use Rattle.asl_numbered.proofs.Comparisons.{node_there}
-use Rattle.asl_numbered.proofs.Made.{list_made, list_below, object_made, object_below}
-use Rattle.asl_numbered.proofs.joining.made.Goals as goal
-use Rattle.asl_numbered.proofs.joining.made.Goals.{then-extra, else-extra}
+use Rattle.asl_numbered.proofs.Parts.{list_made, list_below, object_made, object_below}
+use Rattle.asl_numbered.proofs.joining.assemble.Goals as goal
+use Rattle.asl_numbered.proofs.joining.assemble.Goals.{then-extra, else-extra}
 
 pub returns-in_default-clause-node : goal.returns-in_default-clause-node
 returns-in_default-clause-node c = absurd (node_there c.args.table.now c.args.pair.first c.node.result c.requires.parts.within.first c.in_default.is c.node.ensures.there)
@@ -21,7 +21,7 @@ returns-after-extra-clause-below c =
 
 pub returns-in-List-clause-node : goal.returns-in-List-clause-node
 returns-in-List-clause-node c =
-    list_made c.args.table.now c.args.pair c.args.parts.now c.requires.parts c.in-Some.first.now c.in-Some-node.second.now c.in-List.first c.in-List.rest c.made_list.result c.in-Some.ensures.level c.in-Some-node.ensures.level c.in-List.is c.made_list.ensures.list
+    list_made c.args.table.now c.args.pair c.args.parts.now c.requires.parts c.in-Some.first.now c.in-Some-node.second.now c.in-List.first c.in-List.rest c.assemble_list.result c.in-Some.ensures.level c.in-Some-node.ensures.level c.in-List.is c.assemble_list.ensures.list
 
 pub returns-in-List-clause-below : goal.returns-in-List-clause-below
-returns-in-List-clause-below c = list_below c.args.table.now c.args.pair c.args.parts.now c.requires.parts c.made_list.result c.made_list.ensures.list
+returns-in-List-clause-below c = list_below c.args.table.now c.args.pair c.args.parts.now c.requires.parts c.assemble_list.result c.assemble_list.ensures.list

@@ -152,10 +152,6 @@ pub record AreJoinedSoFar (fields others : List Entry) (more : Bool) (parts : Li
   pub shapes : (table : List Shape) → AreFieldJoins table fields others parts → fields_at table joined ≡ joined_fields join (fields_at table done) (fields_at table others) more
   pub below : (bound : ℕ) → AreBelow bound (numbers_in fields) → AreBelow bound parts → AreBelow bound behind × AreBelow bound (numbers_in joined)
 
-pub none_joined : (fields others : List Entry) (more : Bool) (parts behind : List ℕ) (joined : List Entry) → joined ≡ [] → behind ≡ parts → AreJoinedSoFar fields others more parts fields behind joined
-none_joined fields others more parts behind joined none all =
-    rw (none, all) (record { done = []; whole = refl; rest = λ table are. are; shapes = λ table are. refl; below = λ bound own below. (below, tt) })
-
 pub all_joined : (fields others : List Entry) (more : Bool) (parts : List ℕ) (left : List Entry) (behind : List ℕ) (joined : List Entry) → left ≡ [] → AreJoinedSoFar fields others more parts left behind joined → AreJoinedFields fields others more parts joined
 all_joined fields others more parts left behind joined none h =
     let whole : fields ≡ h.done = h.whole ∙ ap (λ es. h.done ++ es) none ∙ append-nil h.done in
@@ -250,9 +246,6 @@ pub record AreAddedSoFar (fields : List Entry) (extra : Bool) (others left old n
   pub whole : others ≡ left ++ done
   pub shapes : (table : List Shape) → fields_at table new ≡ with_other_fields (fields_at table fields) extra (fields_at table done) (fields_at table old)
   pub below : (bound : ℕ) → AreBelow bound (numbers_in others) → AreBelow bound (numbers_in old) → AreBelow bound (numbers_in new)
-
-pub none_added : (fields : List Entry) (extra : Bool) (others left old : List Entry) → left ≡ others → AreAddedSoFar fields extra others left old old
-none_added fields extra others left old all = record { done = []; whole = sym (append-nil left ∙ all); shapes = λ table. refl; below = λ bound more below. below }
 
 pub all_added : (fields : List Entry) (extra : Bool) (others left old new : List Entry) → left ≡ [] → AreAddedSoFar fields extra others left old new → AreWithOthers fields extra others old new
 all_added fields extra others left old new none h =
