@@ -1,10 +1,10 @@
 -- One shape of a table inside another, by their numbers: what is remembered, tasks, places and fields.
-use Rattle.std.proofs.Common.{◌≡◌, ◌<◌, ◌≤◌, ◌+◌, ◌*◌, ℕ, zero, suc, List, [], ◌∷◌, ◌++◌, length, drop, get_or, Bool, true, false, ◌&&◌, ◌||◌, not, cond, Option, Some, None, option_map, is_some, slice_get, String, Global, Vec, Bor, ◌↔◌, Result, Ok, Err, string_bytes, refl, sym, ap, ◌∙◌, subst, ◌⊎◌, inl, inr, append_assoc, arith}
+use Rattle.std.proofs.Common.{◌≡◌, ◌<◌, ◌≤◌, ◌+◌, ◌*◌, ℕ, zero, suc, List, [], ◌∷◌, ◌++◌, length, drop, get_or, Bool, true, false, ◌&&◌, ◌||◌, not, cond, Option, Some, None, option_map, is_some, slice_get, String, Global, Vec, Bor, ◌↔◌, Result, Ok, Err, string_bytes, refl, sym, ap, ◌∙◌, subst, ◌⊎◌, inl, inr, arith}
 use Rattle.std.proofs.Math.Bool.{and_assoc}
 use Rattle.std.proofs.Math.Nat.{mul-le-mul_left}
 use Rattle.std.proofs.Math.Seq.{drop-cons}
-use Rattle.std.proofs.lemmas.Bool.{and_parts, cases_lt, eqb-true}
-use Rattle.std.proofs.lemmas.List.{append-nil, length-append, get_or_past}
+use Rattle.std.proofs.lemmas.Bool.{cases_lt}
+use Rattle.std.proofs.lemmas.List.{append-nil, length-append}
 use Rattle.std.specs.BTreeMap.{BTreeMap, is_at}
 use Rattle.std.specs.Map.{lookup}
 use Rattle.std.specs.Prelude.{IsSome, IfOk}
@@ -15,16 +15,16 @@ use Rattle.asl_model.specs.Shape.{inhabited, all_inhabited, needed_inhabited, me
 use Rattle.asl_model.specs.ShapeOrder.{sub, elements_sub, fields_sub, each_shape, others_never_there, mention_of, mention_fits, is_any_shape}
 use Rattle.asl_tree.specs.declared.OutOfMemory.{OutOfMemory}
 use Rattle.asl_shape.proofs.Lookups.{same_name, picked}
-use Rattle.asl_numbered.specs.contracts.pair.PairPartialEq.TheImpl as pair_eq
 use Rattle.asl_numbered.specs.declared.node.Node.{Node}
 use Rattle.asl_numbered.specs.declared.node.Node.TheVariants as nodes
 use Rattle.asl_numbered.specs.declared.node.NodeField.{NodeField}
 use Rattle.asl_numbered.specs.declared.pair.Pair.{Pair}
 use Rattle.asl_numbered.specs.declared.comparing.Task.{Task}
 use Rattle.asl_numbered.specs.declared.comparing.Task.TheVariants.{Compare, Conclude}
-use Rattle.asl_numbered.specs.Comparison.{inside, IsSimple, IsWithin, IsNodeAt, AreEachRight, AreRight, all_inside, AreEachStanding, AreStanding, AreEachOutside, AreOutside, widest, cost, work, RestsOn, place_tasks, ListLooked, ObjectLooked, AreGoing, with_field_task, field_tasks, mention_fits_in, mentions_fit_in}
-use Rattle.asl_numbered.specs.Expansion.{shape_at, shapes_at, fields_at, shape_over, expansions, parts, numbers_in, AreBelow, RefersBelow, Keeps}
+use Rattle.asl_numbered.specs.Comparison.{inside, IsSimple, IsWithin, IsNodeAt, IsRight, AreRight, all_inside, AreEachStanding, AreEachOutside, AreOutside, widest, cost, work, RestsOn, place_tasks, ListLooked, ObjectLooked, AreGoing, with_field_task, field_tasks, mention_fits_in, mentions_fit_in}
+use Rattle.asl_numbered.specs.Expansion.{shape_at, shapes_at, fields_at, shape_over, expansions, parts, numbers_in, AreBelow, Keeps}
 use Rattle.asl_numbered.proofs.Expansions.{as_many, below-wider, keeps_longer, kept_shape}
+use Rattle.asl_numbered.proofs.Remembered.{same, each_kept, each_put, each_found}
 
 -- ---- what is remembered
 
@@ -33,55 +33,23 @@ within_kept old new p keeps h =
     let longer = keeps_longer old new keeps in
     record { first = omega (arith, h.first); second = omega (arith, h.second) }
 
-each-kept : (old new : List model.Shape) (entries : List (Pair × Bool)) → Keeps old new → AreEachRight old entries → AreEachRight new entries
-each-kept old new [] keeps h = tt
-each-kept old new (e ∷ entries) keeps h =
-    let first = kept_shape old new e.0.first keeps h.0.first in
-    let second = kept_shape old new e.0.second keeps h.0.second in
-    (within_kept old new e.0 keeps h.0, h.1 ∙ rw (first, second) refl, each-kept old new entries keeps h.2)
-
 -- in a table that has grown it stays right
 pub right_kept : (old new : List model.Shape) (entries : List (Pair × Bool)) → Keeps old new → AreRight old entries → AreRight new entries
-right_kept old new entries keeps h = record { each = each-kept old new entries keeps h.each }
-
--- equal pairs
-abbrev same : Pair → Pair → Bool
-same = pair_eq.ghosts.eq
-
-same-is : (p q : Pair) → same p q ≡ true → p ≡ q
-same-is p q e =
-    let both = and_parts _ _ e in
-    let first : p.first ≡ q.first = eqb-true p.first q.first both.0 in
-    let second : p.second ≡ q.second = eqb-true p.second q.second both.1 in
-    let front : p ≡ record { first = q.first; second = p.second } = ap (λ n. record { first = n; second = p.second }) first in
-    front ∙ ap (λ n. record { first = q.first; second = n }) second
-
-each-put : (table : List model.Shape) (entries : List (Pair × Bool)) (p : Pair) (answer : Bool) → IsWithin table p → answer ≡ inside table p → AreEachRight table entries → AreEachRight table (insert_entry same entries p answer)
-each-put table [] p answer within is h = (within, is, tt)
-each-put table (e ∷ entries) p answer within is h = go (same p e.0) refl (each-put table entries p answer within is h.2)
+right_kept old new entries keeps h = record { each = each_kept (IsRight old) (IsRight new) entries kept h.each }
   where
-    go : (here : Bool) → same p e.0 ≡ here → AreEachRight table (insert_entry same entries p answer) → AreEachRight table (cond here ((e.0, answer) ∷ entries) (e ∷ insert_entry same entries p answer))
-    go true found behind = (h.0, is ∙ ap (inside table) (same-is p e.0 found), h.2)
-    go false found behind = (h.0, h.1, behind)
+    kept : (e : Pair × Bool) → IsRight old e → IsRight new e
+    kept e is =
+        let first = kept_shape old new e.0.first keeps is.0.first in
+        let second = kept_shape old new e.0.second keeps is.0.second in
+        (within_kept old new e.0 keeps is.0, is.1 ∙ rw (first, second) refl)
 
 -- one more answer, or another for its pair
 pub right_put : (table : List model.Shape) (entries new : List (Pair × Bool)) (p : Pair) (answer : Bool) → IsWithin table p → answer ≡ inside table p → AreRight table entries → new ≡ insert_entry same entries p answer → AreRight table new
-right_put table entries new p answer within is h made = rw made (record { each = each-put table entries p answer within is h.each })
-
-each-found : (table : List model.Shape) (entries : List (Pair × Bool)) (p : Pair) (answer : Bool) → AreEachRight table entries → lookup (same p) entries ≡ Some answer → answer ≡ inside table p
-each-found table [] p answer h found = absurd (cc)
-each-found table (e ∷ entries) p answer h found = go (same p e.0) refl (λ below. each-found table entries p answer h.2 below)
-  where
-    go : (here : Bool) → same p e.0 ≡ here → (lookup (same p) entries ≡ Some answer → answer ≡ inside table p) → answer ≡ inside table p
-    go true is later =
-        let there : Some e.1 ≡ Some answer = rw is at found in
-        let own : e.1 ≡ answer = cc in
-        sym own ∙ h.1 ∙ ap (inside table) (sym (same-is p e.0 is))
-    go false is later = later (rw is at found)
+right_put table entries new p answer within is h made = rw made (record { each = each_put (IsRight table) entries p answer (within, is) h.each })
 
 -- an answer that is found is right
 pub right_found : (table : List model.Shape) (entries : List (Pair × Bool)) (p : Pair) (answer : Bool) → AreRight table entries → lookup (same p) entries ≡ Some answer → answer ≡ inside table p
-right_found table entries p answer h found = each-found table entries p answer h.each found
+right_found table entries p answer h found = (each_found (IsRight table) entries p answer h.each found).1
 
 -- ---- tasks behind others
 
@@ -247,7 +215,7 @@ mention_of_number table k (f ∷ fs) =
 
 -- ---- fields
 
-found-below : (bound : ℕ) (test : String Global → Bool) (fs : List (String Global × NodeField)) (f : NodeField) → AreBelow bound (numbers_in fs) → lookup test fs ≡ Some f → f.shape < bound
+pub found-below : (bound : ℕ) (test : String Global → Bool) (fs : List (String Global × NodeField)) (f : NodeField) → AreBelow bound (numbers_in fs) → lookup test fs ≡ Some f → f.shape < bound
 found-below bound test [] f h found = absurd (cc)
 found-below bound test (e ∷ fs) f h found = go (test e.0) refl (λ below. found-below bound test fs f h.1 below)
   where
@@ -314,7 +282,7 @@ settled ns p inner outer answer some first second is =
 pub rests_on_kinds : (ns : List Node) (p : Pair) (inner outer : Node) (answer : Bool) (tasks : List Task) → inhabited (shape_at (expansions ns) p.first) ≡ true → IsNodeAt ns p.first inner → IsNodeAt ns p.second outer → sub (shape_over (expansions ns) inner) (shape_over (expansions ns) outer) ≡ (not (inhabited (shape_over (expansions ns) inner)) || answer) → RestsOn ns p answer tasks tasks
 rests_on_kinds ns p inner outer answer tasks some first second is = rests_known ns p answer tasks (settled ns p inner outer answer some first second is)
 
-below-table : (ns : List Node) (n : ℕ) (node : Node) → n < length (expansions ns) → IsNodeAt ns n node → AreBelow (length (expansions ns)) (parts node)
+pub below-table : (ns : List Node) (n : ℕ) (node : Node) → n < length (expansions ns) → IsNodeAt ns n node → AreBelow (length (expansions ns)) (parts node)
 below-table ns n node h is = below-wider n (length (expansions ns)) (parts node) (omega (arith, h)) is.below.each
 
 pub list_rests : (ns : List Node) (p : Pair) (inner : Node) (bounds : Vec ℕ Global) (rest : ℕ) (answer : Bool) (old new : List Task) → IsWithin (expansions ns) p → inhabited (shape_at (expansions ns) p.first) ≡ true → IsNodeAt ns p.first inner → IsNodeAt ns p.second (nodes.List bounds rest) → ListLooked inner bounds.items rest p answer old new → RestsOn ns p answer old new

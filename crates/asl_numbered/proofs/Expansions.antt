@@ -1,6 +1,6 @@
 -- The shapes that nodes stand for: what a further node changes, and what stays.
-use Rattle.std.proofs.Common.{◌≡◌, ◌<◌, ◌≤◌, ℕ, zero, suc, ◌+◌, List, [], ◌∷◌, ◌++◌, length, Bool, String, Global, Some, slice_get, Vec, refl, sym, ap, ◌∙◌, subst, append_assoc, arith}
-use Rattle.std.proofs.lemmas.List.{append-nil, length-append, get_or_append_left, get_or_push, length_push}
+use Rattle.std.proofs.Common.{◌≡◌, ◌<◌, ◌≤◌, ℕ, zero, suc, ◌+◌, List, [], ◌∷◌, ◌++◌, length, take, drop, Bool, String, Global, Some, slice_get, Vec, refl, sym, ap, ◌∙◌, subst, append_assoc, arith}
+use Rattle.std.proofs.lemmas.List.{append-nil, length-append, get_or_append_left, get_or_push, length_push, take-append-drop}
 use Rattle.std.specs.BTreeMap.{BTreeMap}
 use Rattle.asl_model.specs.Shape as model
 use Rattle.asl_numbered.specs.declared.node.Node.{Node}
@@ -21,6 +21,12 @@ below-behind bound (n ∷ ns) ms h = below-behind bound ns ms h.1
 pub below-append : (bound : ℕ) (ns ms : List ℕ) → AreBelow bound ns → AreBelow bound ms → AreBelow bound (ns ++ ms)
 below-append bound [] ms h further = further
 below-append bound (n ∷ ns) ms h further = (h.0, below-append bound ns ms h.1 further)
+
+pub below-take : (bound k : ℕ) (ns : List ℕ) → AreBelow bound ns → AreBelow bound (take k ns)
+below-take bound k ns h = below-front bound (take k ns) (drop k ns) (subst (AreBelow bound) (sym (take-append-drop k ns)) h)
+
+pub below-drop : (bound k : ℕ) (ns : List ℕ) → AreBelow bound ns → AreBelow bound (drop k ns)
+below-drop bound k ns h = below-behind bound (take k ns) (drop k ns) (subst (AreBelow bound) (sym (take-append-drop k ns)) h)
 
 pub below-wider : (bound wider : ℕ) (ns : List ℕ) → bound ≤ wider → AreBelow bound ns → AreBelow wider ns
 below-wider bound wider [] h below = tt

@@ -18,7 +18,7 @@ use Rattle.asl_numbered.specs.declared.node.Node.TheVariants.{List as Elements, 
 use Rattle.asl_numbered.specs.declared.node.NodeField.{NodeField}
 use Rattle.asl_numbered.specs.Expansion.{shape_at, shapes_at, fields_at, shape_over, numbers_in, AreBelow, RefersBelow, IsNumberOf, AreNumbersOf, AreFieldsOf, Keeps}
 use Rattle.asl_numbered.proofs.Appending.{names, appended}
-use Rattle.asl_numbered.proofs.Expansions.{below-append, below-wider, keeps_longer, kept_shape, shapes_at_stay, fields_at_stay}
+use Rattle.asl_numbered.proofs.Expansions.{below-append, below-wider, keeps_longer, shapes_at_stay, fields_at_stay}
 
 -- ---- names
 
@@ -77,9 +77,6 @@ numbers_kept old new parts ns keeps are =
 pub fields_kept : (old new : List model.Shape) (shapes : model.FieldShapes) (fs : List (String Global × NodeField)) → Keeps old new → AreFieldsOf old shapes fs → AreFieldsOf new shapes fs
 fields_kept old new shapes fs keeps are =
     record { within = below-wider (length old) (length new) (numbers_in fs) (keeps_longer old new keeps) are.within; same = ap (λ t. fields_at t fs) keeps.whole ∙ fields_at_stay old keeps.added fs are.within ∙ are.same }
-
-pub number_kept : (old new : List model.Shape) (s : model.Shape) (n : ℕ) → Keeps old new → IsNumberOf old s n → shape_at new n ≡ s
-number_kept old new s n keeps is = kept_shape old new n keeps is.within ∙ is.same
 
 -- ---- the steps of adding
 

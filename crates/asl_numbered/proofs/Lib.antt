@@ -2,5 +2,10 @@ pub mod Appending
 pub mod Comparisons
 pub mod Expansions
 pub mod Growing
+pub mod Joins
+pub mod Looking
+pub mod Moving
+pub mod Parts
+pub mod Remembered
 pub mod Sameness
 pub mod Tables

@@ -1,8 +1,9 @@
 -- How the shapes of a table are compared by their numbers: what is remembered, and what is left to do. No public clause
 -- cites this module.
-use Rattle.std.specs.Prelude.{◌≡◌, ◌<◌, ◌≤◌, ◌+◌, ◌*◌, ℕ, zero, suc, max, List, [], ◌∷◌, ◌++◌, length, Bool, true, false, if◌then◌else◌, ◌&&◌, ◌||◌, not, Option, Some, None, slice_get, option_map, String}
+use Rattle.std.specs.Prelude.{◌≡◌, ◌<◌, ◌≤◌, ◌+◌, ◌*◌, ℕ, zero, suc, max, List, [], ◌∷◌, ◌++◌, length, Bool, true, false, if◌then◌else◌, ◌&&◌, ◌||◌, not, Option, Some, None, slice_get, String}
 use Rattle.std.specs.declared.alloc.Global.{Global}
 use Rattle.std.specs.BTreeMap.{is_at}
+use Rattle.std.specs.List.{AllByRecursion}
 use Rattle.std.specs.Map.{lookup}
 use Rattle.std.specs.String.{string_cmp}
 use Rattle.asl_model.specs.Shape as model
@@ -43,13 +44,13 @@ IsSimple (Object fields extra) = ⊥
 
 -- ---- what is remembered
 
--- each answer says whether the first shape of its pair is inside the second
-abbrev pub AreEachRight : List model.Shape → List (Pair × Bool) → Type 0
-AreEachRight table [] = Unit {0}
-AreEachRight table (e ∷ entries) = IsWithin table e.0 × (e.1 ≡ inside table e.0) × AreEachRight table entries
+-- the answer says whether the first shape of its pair is inside the second
+abbrev pub IsRight : List model.Shape → Pair × Bool → Type 0
+IsRight table e = IsWithin table e.0 × (e.1 ≡ inside table e.0)
 
+-- each of them does
 pub record AreRight (table : List model.Shape) (entries : List (Pair × Bool)) : Type 0 where
-  pub each : AreEachRight table entries
+  pub each : AllByRecursion (IsRight table) entries
 
 -- ---- tasks
 

@@ -1,3 +1,4 @@
 pub mod Comparison
 pub mod Expansion
+pub mod Joins
 pub mod Table

@@ -9,10 +9,11 @@ ghost use Rattle.asl_numbered.specs.Expansion.{expansions, shape_at, shape_over,
 use crate::adding::add;
 use crate::comparing::{Compared, compare};
 use crate::expanding::expand;
+use crate::joining::{Joined, join};
 use crate::node::Node;
 use crate::pair::Pair;
 use crate::table::Table;
-use asl_model::shape_laws::sub_means_inside;
+use asl_model::shape_laws::{join_is_above_both, sub_means_inside};
 use asl_shape::Shape;
 use asl_tree::OutOfMemory;
 use indexmap::IndexMap;
@@ -27,6 +28,7 @@ pub struct Shapes {
     alloc: Global,
     table: Table,
     compared: Compared,
+    joined: Joined,
 }
 
 impl Model for Shapes {
@@ -36,6 +38,7 @@ impl Model for Shapes {
     ghost use Rattle.asl_numbered.specs.declared.node.Node.{Node as Level};
     ghost use Rattle.asl_numbered.specs.Comparison.{AreRight};
     ghost use Rattle.asl_numbered.specs.Expansion.{expansions};
+    ghost use Rattle.asl_numbered.specs.Joins.{AreJoins};
 
     ghost Value = { List Level };
 
@@ -43,7 +46,8 @@ impl Model for Shapes {
 
     ghost view = { λ s. s.table };
 
-    ghost invariant = { λ s. AreRight (expansions s.table) s.compared.entries };
+    ghost invariant = { λ s. AreRight (expansions s.table) s.compared.entries
+        × AreJoins (expansions s.table) s.joined.entries };
 }
 
 impl Shapes {
@@ -55,6 +59,7 @@ impl Shapes {
             alloc,
             table: Table::new(alloc),
             compared: IndexMap::new(alloc),
+            joined: IndexMap::new(alloc),
         }
     }
 
@@ -130,6 +135,35 @@ impl Shapes {
             };
             let answer = compare(&self.table, &mut self.compared, self.alloc, pair)?;
             Ok(Some(answer))
+        } else {
+            Ok(None)
+        }
+    }
+
+    /// The number of the join of the two shapes, as `join` of `asl_shape` makes it: every tree of either has it; `None`
+    /// where one of the numbers isn't below the length. The answer is remembered, as those for the shapes' parts are that
+    /// were joined on the way, so that none is found out twice. Refuses only where an allocation was refused.
+    pub fn join(&mut self, first: usize, second: usize) -> Result<Option<usize>, OutOfMemory>
+        ensures exactly { IfOk result
+            (λ r. IsSome r ↔ (first < length self.old) × (second < length self.old)) }
+        ensures as_defined { IfOk result
+            (λ r. IfSome r (IsNumberOf (expansions self.new)
+            (order.join (shape_at (expansions self.old) first)
+            (shape_at (expansions self.old) second)))) }
+        ensures above { IfOk result
+            (λ r. IfSome r (λ number.
+            model.Inside (shape_at (expansions self.old) first)
+            (shape_at (expansions self.new) number)
+            × model.Inside (shape_at (expansions self.old) second)
+            (shape_at (expansions self.new) number))) }
+        ensures keeps { Keeps (expansions self.old) (expansions self.new) }
+    {
+        join_is_above_both();
+        if first < self.table.len() && second < self.table.len() {
+            let pair = Pair { first, second };
+            let number = join(&mut self.table, &mut self.joined, self.alloc, pair)?;
+            self.table.are_distinct();
+            Ok(Some(number))
         } else {
             Ok(None)
         }

@@ -2,7 +2,7 @@
 ghost use Rattle.std.specs.Prelude.{◌≡◌, ◌<◌, ◌↔◌, ℕ, List, [], length, IsTrue, IsSome, IfSome, IfOk, slice_get};
 ghost use Rattle.std.specs.Option.{option_copied};
 ghost use Rattle.asl_model.specs.Shape as model;
-ghost use Rattle.asl_numbered.specs.Expansion.{expansions, shape_at, shapes_at, fields_at, shape_over, numbers_in, AreBelow, RefersBelow, IsNumberOf, Keeps};
+ghost use Rattle.asl_numbered.specs.Expansion.{expansions, shape_at, shapes_at, fields_at, shape_over, numbers_in, AreBelow, RefersBelow, AreDistinct, IsNumberOf, Keeps};
 
 use crate::node::{Node, NodeField};
 use asl_tree::OutOfMemory;
@@ -51,6 +51,14 @@ impl Table {
         ensures { result ≡ length self.now }
     {
         self.nodes.len()
+    }
+
+    /// No shape stands under two numbers.
+    pub(crate) fn are_distinct(&self)
+        ensures distinct { AreDistinct (expansions self.now) }
+    {
+        // The field is named for what is always true of it; nothing is read.
+        let _ = &self.nodes;
     }
 
     /// The first level of the shape of that number.

@@ -1,0 +1,355 @@
+-- The join of two shapes of a table, made of the joins of their parts.
+use Rattle.std.proofs.Common.{◌≡◌, ◌<◌, ◌≤◌, ℕ, List, Vec, Result, Ok, Err, length, arith, [], ◌∷◌, ◌++◌, Bool, true, false, ◌&&◌, ◌||◌, Option, Some, None, Ordering, Less, Equal, Greater, String, Global, string_bytes, string_cmp, nat_cmp, bytes_eq, option_map, unwrap_or, is_some, Bor, append_assoc, refl, sym, ap, ◌∙◌, subst}
+use Rattle.std.proofs.lemmas.Cmp.{nat_list_cmp_total}
+use Rattle.std.proofs.lemmas.Map.Text.{is_eq-slice_cmp}
+use Rattle.std.proofs.lemmas.Slice.Eq.{bytes_eq-Decides}
+use Rattle.std.proofs.lemmas.List.{append-nil, map-append, nil_from_length}
+use Rattle.std.specs.BTreeMap.{BTreeMap, is_at, insert_entry}
+use Rattle.std.specs.Prelude.{IfOk}
+use Rattle.std.specs.Cmp.Lexicographic.{slice_cmp}
+use Rattle.std.specs.List.{AllByRecursion}
+use Rattle.std.specs.List.Sorted.{IsStrictlySortedBy}
+use Rattle.std.specs.Map.{keys_of, lookup}
+use Rattle.std.specs.Ordering.{is_eq, match_ordering}
+use Rattle.std.specs.Slice.Iter.{iter_rest, iter_steps}
+use Rattle.std.specs.declared.slice.Iter.{Iter}
+use Rattle.asl_model.specs.Shape as model
+use Rattle.asl_model.specs.Shape.{Shape, FieldShapes, NoFieldShapes, AndFieldShape, ArrayShape, ObjectShape, insert_mention}
+use Rattle.asl_model.specs.ShapeOrder.{mention_of, set_mention, without_mention, further_places, common_joins, joined_with_each, keep_joined, joined_fields, with_optional_unless, with_other_fields, join_kinds, join}
+use Rattle.asl_model.proofs.JoinFuel.{join-inhabited}
+use Rattle.asl_tree.proofs.Texts.{after_first}
+use Rattle.asl_tree.specs.declared.OutOfMemory.{OutOfMemory}
+use Rattle.asl_shape.proofs.Lookups.{same_name}
+use Rattle.asl_shape.proofs.Spellings.{put}
+use Rattle.asl_numbered.specs.declared.node.Node.{Node}
+use Rattle.asl_numbered.specs.declared.node.Node.TheVariants.{List as Elements, Object}
+use Rattle.asl_numbered.specs.declared.node.NodeField.{NodeField}
+use Rattle.asl_numbered.specs.declared.pair.Pair.{Pair}
+use Rattle.asl_numbered.specs.Expansion.{shape_at, shapes_at, fields_at, shape_over, expansions, numbers_in, parts, AreBelow, RefersBelow}
+use Rattle.asl_numbered.specs.Joins.{joint, place_joins, with_field_join, field_joins, ArePartsOf, array_parts, object_parts, found_in, AreMadeOf, AreJoinedFields, AreWithOthers, IsListOf}
+use Rattle.asl_numbered.proofs.Comparisons.{mentions_number, mention_of_number}
+use Rattle.asl_numbered.proofs.Expansions.{below-behind, below-wider, as_many}
+use Rattle.asl_numbered.proofs.Joins.{common_places}
+
+-- a name, and what a node says of its field
+abbrev pub Entry : Type 0
+Entry = String Global × NodeField
+
+-- ---- the names of fields, in order
+
+-- each name comes behind that one
+abbrev AllAbove : List ℕ → List Entry → Type 0
+AllAbove n es = AllByRecursion (λ (k : String Global). slice_cmp nat_cmp n (string_bytes k) ≡ Less) (keys_of es)
+
+above-trans : (n k : List ℕ) (es : List Entry) → slice_cmp nat_cmp n k ≡ Less → AllAbove k es → AllAbove n es
+above-trans n k [] less h = tt
+above-trans n k (e ∷ es) less h = (nat_list_cmp_total.trans n k (string_bytes e.0) less h.0, above-trans n k es less h.1)
+
+not-equal : (n m : List ℕ) → is_eq (slice_cmp nat_cmp n m) ≡ false → bytes_eq m n ≡ false
+not-equal n m apart = same_name n m ∙ apart
+
+equal-names : (n m : List ℕ) → slice_cmp nat_cmp n m ≡ Equal → n ≡ m
+equal-names n m e = (bytes_eq-Decides n m).0 (sym (is_eq-slice_cmp n m) ∙ ap is_eq e)
+
+-- ---- one more field
+
+module _ (table : List Shape) where
+  above-without : (n : List ℕ) (es : List Entry) → AllAbove n es → without_mention n (fields_at table es) ≡ fields_at table es
+  above-without n [] h = refl
+  above-without n (e ∷ es) h = rw (not-equal n (string_bytes e.0) (ap is_eq h.0), above-without n es h.1) refl
+
+  above-insert : (n : List ℕ) (needed : Bool) (s : Shape) (es : List Entry) → AllAbove n es → insert_mention n needed s (fields_at table es) ≡ AndFieldShape n needed s (fields_at table es)
+  above-insert n needed s [] h = refl
+  above-insert n needed s (e ∷ es) h = rw h.0 refl
+
+  -- where the names are in order, putting a mention is setting it
+  put-is-set : (n : List ℕ) (needed : Bool) (s : Shape) (es : List Entry) → IsStrictlySortedBy string_cmp (keys_of es) → put n needed s (fields_at table es) ≡ set_mention n needed s (fields_at table es)
+  unfolding IsStrictlySortedBy
+  put-is-set n needed s [] h = refl
+  put-is-set n needed s (e ∷ es) h = go (slice_cmp nat_cmp n (string_bytes e.0)) refl (put-is-set n needed s es h.1)
+    where
+      go : (order : Ordering) → slice_cmp nat_cmp n (string_bytes e.0) ≡ order → put n needed s (fields_at table es) ≡ set_mention n needed s (fields_at table es) → put n needed s (fields_at table (e ∷ es)) ≡ set_mention n needed s (fields_at table (e ∷ es))
+      go Less is below =
+          let all : AllAbove n (e ∷ es) = (is, above-trans n (string_bytes e.0) es is h.0) in
+          rw is (sym (ap (insert_mention n needed s) (above-without n (e ∷ es) all) ∙ above-insert n needed s (e ∷ es) all))
+      go Equal is below =
+          let same : n ≡ string_bytes e.0 = equal-names n (string_bytes e.0) is in
+          let all : AllAbove n es = subst (λ k. AllAbove k es) (sym same) h.0 in
+          rw (is, (bytes_eq-Decides (string_bytes e.0) n).1 (sym same)) (sym (ap (insert_mention n needed s) (above-without n es all) ∙ above-insert n needed s es all ∙ ap (λ k. AndFieldShape k needed s (fields_at table es)) same))
+      go Greater is below = rw (is, not-equal n (string_bytes e.0) (ap is_eq is), is) (ap (AndFieldShape (string_bytes e.0) e.1.needed (shape_at table e.1.shape)) below)
+
+  shown-by : (o : Ordering) (a b c : List Entry) → fields_at table (match_ordering o a b c) ≡ match_ordering o (fields_at table a) (fields_at table b) (fields_at table c)
+  shown-by Less a b c = refl
+  shown-by Equal a b c = refl
+  shown-by Greater a b c = refl
+
+  put-shown : (es : List Entry) (k : String Global) (f : NodeField) → fields_at table (insert_entry string_cmp es k f) ≡ put (string_bytes k) f.needed (shape_at table f.shape) (fields_at table es)
+  put-shown [] k f = refl
+  put-shown (e ∷ es) k f = shown-by (string_cmp k e.0) _ _ _ ∙ rw (put-shown es k f)
+
+-- the numbers of fields with one more
+put-below : (bound : ℕ) (es : List Entry) (k : String Global) (f : NodeField) → f.shape < bound → AreBelow bound (numbers_in es) → AreBelow bound (numbers_in (insert_entry string_cmp es k f))
+put-below bound [] k f h below = (h, tt)
+put-below bound (e ∷ es) k f h below = go (string_cmp k e.0) (put-below bound es k f h below.1)
+  where
+    go : (o : Ordering) → AreBelow bound (numbers_in (insert_entry string_cmp es k f)) → AreBelow bound (numbers_in (match_ordering o ((k, f) ∷ e ∷ es) ((e.0, f) ∷ es) (e ∷ insert_entry string_cmp es k f)))
+    go Less behind = (h, below)
+    go Equal behind = (h, below.1)
+    go Greater behind = (below.0, behind)
+
+-- ---- the first object's fields
+
+module _ (table : List Shape) (os : FieldShapes) (more : Bool) where
+  -- the joined fields of the first object, in front of others
+  abbrev joined-front : List Entry → FieldShapes → FieldShapes
+  joined-front [] behind = behind
+  joined-front (e ∷ es) behind = keep_joined join (string_bytes e.0) e.1.needed (shape_at table e.1.shape) more (mention_of (string_bytes e.0) os) (joined-front es behind)
+
+  front-all : (done es : List Entry) → joined_fields join (fields_at table (done ++ es)) os more ≡ joined-front done (joined_fields join (fields_at table es) os more)
+  front-all [] es = refl
+  front-all (e ∷ done) es = ap (keep_joined join (string_bytes e.0) e.1.needed (shape_at table e.1.shape) more (mention_of (string_bytes e.0) os)) (front-all done es)
+
+  front-alone : (done : List Entry) → joined_fields join (fields_at table done) os more ≡ joined-front done NoFieldShapes
+  front-alone [] = refl
+  front-alone (e ∷ done) = ap (keep_joined join (string_bytes e.0) e.1.needed (shape_at table e.1.shape) more (mention_of (string_bytes e.0) os)) (front-alone done)
+
+  -- a name that is above another goes behind its field, where that is kept
+  put-behind : (n m : List ℕ) (needed own : Bool) (s r : Shape) (open_ : Bool) (mention : Option (Bool × Shape)) (kept behind : FieldShapes) → slice_cmp nat_cmp n m ≡ Greater → put n needed s kept ≡ behind → put n needed s (keep_joined join m own r open_ mention kept) ≡ keep_joined join m own r open_ mention behind
+  put-behind n m needed own s r true None kept behind above is = is
+  put-behind n m needed own s r false None kept behind above is = rw above (ap (AndFieldShape m false r) is)
+  put-behind n m needed own s r open_ (Some o) kept behind above is = rw above (ap (AndFieldShape m (own && o.0) (join r o.1)) is)
+
+  put-last : (done : List Entry) (e : Entry) (left : List Entry) (needed : Bool) (s : Shape) → IsStrictlySortedBy string_cmp (keys_of (done ++ e ∷ left)) → put (string_bytes e.0) needed s (joined-front done NoFieldShapes) ≡ joined-front done (AndFieldShape (string_bytes e.0) needed s NoFieldShapes)
+  unfolding IsStrictlySortedBy
+  put-last [] e left needed s h = refl
+  put-last (first ∷ done) e left needed s h =
+      put-behind (string_bytes e.0) (string_bytes first.0) needed first.1.needed s (shape_at table first.1.shape) more (mention_of (string_bytes first.0) os) _ _ (after_first first done e left h.0) (put-last done e left needed s h.1)
+
+  -- a field that is kept goes behind those before it
+  kept-last : (done : List Entry) (e : Entry) (left joined : List Entry) (k : String Global) (f : NodeField) → IsStrictlySortedBy string_cmp (keys_of (done ++ e ∷ left)) → fields_at table joined ≡ joined_fields join (fields_at table done) os more → string_bytes k ≡ string_bytes e.0 → AndFieldShape (string_bytes e.0) f.needed (shape_at table f.shape) NoFieldShapes ≡ joined_fields join (fields_at table (e ∷ [])) os more → fields_at table (insert_entry string_cmp joined k f) ≡ joined_fields join (fields_at table (done ++ e ∷ [])) os more
+  kept-last done e left joined k f sorted so_far named is =
+      put-shown table joined k f
+      ∙ rw (named, so_far, front-alone done) (put-last done e left f.needed (shape_at table f.shape) sorted)
+      ∙ ap (joined-front done) is
+      ∙ sym (front-all done (e ∷ []))
+
+  -- one that is dropped
+  dropped-last : (done : List Entry) (e : Entry) (joined : FieldShapes) → joined ≡ joined_fields join (fields_at table done) os more → NoFieldShapes ≡ joined_fields join (fields_at table (e ∷ [])) os more → joined ≡ joined_fields join (fields_at table (done ++ e ∷ [])) os more
+  dropped-last done e joined so_far nothing =
+      so_far ∙ front-alone done ∙ ap (joined-front done) nothing ∙ sym (front-all done (e ∷ []))
+
+-- ---- the loop over them
+
+-- the parts are the joins of the fields that both mention
+abbrev AreFieldJoins : List Shape → List Entry → List Entry → List ℕ → Type 0
+AreFieldJoins table fields others parts = found_in table parts ≡ field_joins (fields_at table fields) (fields_at table others)
+
+-- The fields up to those that are left are joined, by the parts up to those that are left.
+pub record AreJoinedSoFar (fields others : List Entry) (more : Bool) (parts : List ℕ) (left : List Entry) (behind : List ℕ) (joined : List Entry) : Type 0 where
+  pub done : List Entry
+  pub whole : fields ≡ done ++ left
+  pub rest : (table : List Shape) → AreFieldJoins table fields others parts → AreFieldJoins table left others behind
+  pub shapes : (table : List Shape) → AreFieldJoins table fields others parts → fields_at table joined ≡ joined_fields join (fields_at table done) (fields_at table others) more
+  pub below : (bound : ℕ) → AreBelow bound (numbers_in fields) → AreBelow bound parts → AreBelow bound behind × AreBelow bound (numbers_in joined)
+
+pub all_joined : (fields others : List Entry) (more : Bool) (parts : List ℕ) (left : List Entry) (behind : List ℕ) (joined : List Entry) → left ≡ [] → AreJoinedSoFar fields others more parts left behind joined → AreJoinedFields fields others more parts joined
+all_joined fields others more parts left behind joined none h =
+    let whole : fields ≡ h.done = h.whole ∙ ap (λ es. h.done ++ es) none ∙ append-nil h.done in
+    record { shapes = λ table are. h.shapes table are ∙ ap (λ es. joined_fields join (fields_at table es) (fields_at table others) more) (sym whole); below = λ bound own below. (h.below bound own below).1 }
+
+-- the mention of a name in the second object
+mention-there : (table : List Shape) (k : String Global) (others : List Entry) (o : Option NodeField) → lookup (is_at (string_cmp k)) others ≡ o → mention_of (string_bytes k) (fields_at table others) ≡ option_map (λ f. (f.needed, shape_at table f.shape)) o
+mention-there table k others o found = mention_of_number table k others ∙ ap (option_map (λ (f : NodeField). (f.needed, shape_at table f.shape))) found
+
+-- the first of the parts; the field's own number where there is none
+pub data IsNextPart : List ℕ → List ℕ → ℕ → ℕ → Type 0 where
+  next_part : {n own : ℕ} {next : List ℕ} → IsNextPart (n ∷ next) next own n
+  no_part : {own : ℕ} → IsNextPart [] [] own own
+
+-- an iterator's next one, or else the field's own
+pub taken_next : (s t : Iter ℕ) (r : Option (Bor ℕ)) (own n : Bor ℕ) → iter_steps s r t → n ≡ unwrap_or r own → IsNextPart (iter_rest s) (iter_rest t) own.now n.now
+taken_next s t None own n steps is = rw (is, steps.1, nil_from_length (iter_rest s) steps.0) no_part
+taken_next s t (Some x) own n steps is = rw (is, steps) next_part
+
+part-below : (bound : ℕ) (behind next : List ℕ) (own n : ℕ) → IsNextPart behind next own n → own < bound → AreBelow bound behind → (n < bound) × AreBelow bound next
+part-below bound behind next own n next_part h below = below
+part-below bound behind next own n no_part h below = (h, tt)
+
+part-shown : (table : List Shape) (behind next : List ℕ) (own n : ℕ) → IsNextPart behind next own n → (s : Shape) (ss : List Shape) → found_in table behind ≡ s ∷ ss → (shape_at table n ≡ s) × (found_in table next ≡ ss)
+part-shown table behind next own n next_part s ss e = (cc, cc)
+part-shown table behind next own n no_part s ss e = absurd (cc)
+
+module _ (fields others : List Entry) (more : Bool) (parts : List ℕ) (now left : List Entry) (e : Entry) (behind : List ℕ) (joined : List Entry) (split : now ≡ e ∷ left) (h : AreJoinedSoFar fields others more parts now behind joined) where
+  abbrev done : List Entry
+  done = h.done
+
+  all : fields ≡ done ++ e ∷ left
+  all = h.whole ∙ ap (λ es. done ++ es) split
+
+  further : fields ≡ (done ++ e ∷ []) ++ left
+  further = all ∙ sym (append_assoc done (e ∷ []) left)
+
+  sorted : IsStrictlySortedBy string_cmp (keys_of fields) → IsStrictlySortedBy string_cmp (keys_of (done ++ e ∷ left))
+  sorted ordered = subst (λ es. IsStrictlySortedBy string_cmp (keys_of es)) all ordered
+
+  own-below : (bound : ℕ) → AreBelow bound (numbers_in fields) → e.1.shape < bound
+  own-below bound own = (below-behind bound (numbers_in done) (numbers_in (e ∷ left)) (subst (AreBelow bound) (map-append (λ f. f.1.shape) done (e ∷ left)) (subst (λ es. AreBelow bound (numbers_in es)) all own))).0
+
+  -- what is left of the parts, by whether the second object mentions the field
+  parts-left : (table : List Shape) (o : Option NodeField) → lookup (is_at (string_cmp e.0)) others ≡ o → AreFieldJoins table fields others parts → found_in table behind ≡ with_field_join (shape_at table e.1.shape) (option_map (λ f. (f.needed, shape_at table f.shape)) o) (field_joins (fields_at table left) (fields_at table others))
+  parts-left table o found are =
+      h.rest table are
+      ∙ ap (λ es. field_joins (fields_at table es) (fields_at table others)) split
+      ∙ ap (λ m. with_field_join (shape_at table e.1.shape) m (field_joins (fields_at table left) (fields_at table others))) (mention-there table e.0 others o found)
+
+  -- one that both mention: the next part is the number of its join
+  pub both_joined : (o f : NodeField) (k : String Global) (new : List Entry) (next : List ℕ) → IsStrictlySortedBy string_cmp (keys_of fields) → lookup (is_at (string_cmp e.0)) others ≡ Some o → string_bytes k ≡ string_bytes e.0 → f.needed ≡ (e.1.needed && o.needed) → IsNextPart behind next e.1.shape f.shape → new ≡ insert_entry string_cmp joined k f → AreJoinedSoFar fields others more parts left next new
+  both_joined o f k new next ordered found named needed part inserted = rw inserted (record {
+    done = done ++ e ∷ [];
+    whole = further;
+    rest = λ table are. (parts_next table are).1;
+    shapes = λ table are. kept-last table (fields_at table others) more done e left joined k f (sorted ordered) (h.shapes table are) named (rw (mention-there table e.0 others (Some o) found, needed, (parts_next table are).0) refl);
+    below = λ bound own below.
+        let so_far = h.below bound own below in
+        let here = part-below bound behind next e.1.shape f.shape part (own-below bound own) so_far.0 in
+        (here.1, put-below bound joined k f here.0 so_far.1);
+  })
+    where
+      parts_next : (table : List Shape) → AreFieldJoins table fields others parts → (shape_at table f.shape ≡ join (shape_at table e.1.shape) (shape_at table o.shape)) × AreFieldJoins table left others next
+      parts_next table are = part-shown table behind next e.1.shape f.shape part _ _ (parts-left table (Some o) found are)
+
+  -- one that the first alone mentions, where the second has no other fields
+  pub one_joined : (f : NodeField) (k : String Global) (new : List Entry) → IsStrictlySortedBy string_cmp (keys_of fields) → lookup (is_at (string_cmp e.0)) others ≡ None → string_bytes k ≡ string_bytes e.0 → more ≡ false → f.needed ≡ false → f.shape ≡ e.1.shape → new ≡ insert_entry string_cmp joined k f → AreJoinedSoFar fields others more parts left behind new
+  one_joined f k new ordered none named closed optional shape inserted = rw inserted (record {
+    done = done ++ e ∷ [];
+    whole = further;
+    rest = λ table are. parts-left table None none are;
+    shapes = λ table are. kept-last table (fields_at table others) more done e left joined k f (sorted ordered) (h.shapes table are) named (rw (mention-there table e.0 others None none, closed, optional, shape) refl);
+    below = λ bound own below. let so_far = h.below bound own below in (so_far.0, put-below bound joined k f (rw shape (own-below bound own)) so_far.1);
+  })
+
+  -- one that is dropped
+  pub one_dropped : lookup (is_at (string_cmp e.0)) others ≡ None → more ≡ true → AreJoinedSoFar fields others more parts left behind joined
+  one_dropped none open_ = record {
+    done = done ++ e ∷ [];
+    whole = further;
+    rest = λ table are. parts-left table None none are;
+    shapes = λ table are. dropped-last table (fields_at table others) more done e (fields_at table joined) (h.shapes table are) (rw (mention-there table e.0 others None none, open_) refl);
+    below = h.below;
+  }
+
+-- ---- the second object's fields
+
+-- The fields of the second object behind those that are left were added.
+pub record AreAddedSoFar (fields : List Entry) (extra : Bool) (others left old new : List Entry) : Type 0 where
+  pub done : List Entry
+  pub whole : others ≡ left ++ done
+  pub shapes : (table : List Shape) → fields_at table new ≡ with_other_fields (fields_at table fields) extra (fields_at table done) (fields_at table old)
+  pub below : (bound : ℕ) → AreBelow bound (numbers_in others) → AreBelow bound (numbers_in old) → AreBelow bound (numbers_in new)
+
+pub all_added : (fields : List Entry) (extra : Bool) (others left old new : List Entry) → left ≡ [] → AreAddedSoFar fields extra others left old new → AreWithOthers fields extra others old new
+all_added fields extra others left old new none h =
+    let whole : others ≡ h.done = h.whole ∙ ap (λ es. es ++ h.done) none in
+    record { shapes = λ table. h.shapes table ∙ ap (λ es. with_other_fields (fields_at table fields) extra (fields_at table es) (fields_at table old)) (sym whole); below = h.below }
+
+module _ (fields : List Entry) (extra : Bool) (others now left : List Entry) (e : Entry) (old joined : List Entry) (split : now ≡ left ++ e ∷ []) (h : AreAddedSoFar fields extra others now old joined) where
+  before : others ≡ left ++ e ∷ h.done
+  before = h.whole ∙ ap (λ es. es ++ h.done) split ∙ append_assoc left (e ∷ []) h.done
+
+  -- one field more, where it is known whether it is dropped
+  next : (table : List Shape) (dropped : Bool) → (extra || is_some (lookup (is_at (string_cmp e.0)) fields)) ≡ dropped → with_other_fields (fields_at table fields) extra (fields_at table (e ∷ h.done)) (fields_at table old) ≡ with_optional_unless dropped (string_bytes e.0) (shape_at table e.1.shape) (fields_at table joined)
+  next table dropped is =
+      ap (λ b. with_optional_unless b (string_bytes e.0) (shape_at table e.1.shape) (with_other_fields (fields_at table fields) extra (fields_at table h.done) (fields_at table old))) (ap (λ b. extra || b) (mentions_number table e.0 fields) ∙ is)
+      ∙ ap (with_optional_unless dropped (string_bytes e.0) (shape_at table e.1.shape)) (sym (h.shapes table))
+
+  other-below : (bound : ℕ) → AreBelow bound (numbers_in others) → e.1.shape < bound
+  other-below bound own = (below-behind bound (numbers_in left) (numbers_in (e ∷ h.done)) (subst (AreBelow bound) (map-append (λ f. f.1.shape) left (e ∷ h.done)) (subst (λ es. AreBelow bound (numbers_in es)) before own))).0
+
+  pub other_dropped : (extra || is_some (lookup (is_at (string_cmp e.0)) fields)) ≡ true → AreAddedSoFar fields extra others left old joined
+  other_dropped there = record { done = e ∷ h.done; whole = before; shapes = λ table. sym (next table true there); below = h.below }
+
+  pub other_added : (k : String Global) (f : NodeField) (new : List Entry) → extra ≡ false → is_some (lookup (is_at (string_cmp e.0)) fields) ≡ false → string_bytes k ≡ string_bytes e.0 → f.needed ≡ false → f.shape ≡ e.1.shape → IsStrictlySortedBy string_cmp (keys_of joined) → new ≡ insert_entry string_cmp joined k f → AreAddedSoFar fields extra others left old new
+  other_added k f new closed absent named optional shape ordered inserted = rw inserted (record {
+    done = e ∷ h.done;
+    whole = before;
+    shapes = λ table. put-shown table joined k f ∙ rw (named, optional, shape) (put-is-set table (string_bytes e.0) false (shape_at table e.1.shape) joined ordered) ∙ sym (next table false (rw (closed, absent) refl));
+    below = λ bound more below. put-below bound joined k f (rw shape (other-below bound more)) (h.below bound more below);
+  })
+
+-- ---- the node
+
+-- the parts of two shapes of one kind are the joins by that kind
+abbrev PartsAre : Shape → Shape → List Shape → Type 0
+PartsAre (ArrayShape first rest) (ArrayShape others further) found = found ≡ join (join (joined_with_each join model.Never (further_places first others)) rest) further ∷ place_joins first others
+PartsAre (ObjectShape shapes extra) (ObjectShape others more) found = found ≡ field_joins shapes others
+PartsAre a b found = ⊥
+
+parts-are : {a b : Shape} {found : List Shape} → ArePartsOf a b found → PartsAre a b found
+parts-are array_parts = refl
+parts-are object_parts = refl
+
+module _ (ns : List Node) (p : Pair) (numbers : List ℕ) (h : AreMadeOf (expansions ns) p numbers) where
+  abbrev table : List Shape
+  table = expansions ns
+
+  counted : AreBelow (length ns) numbers
+  counted = subst (λ n. AreBelow n numbers) (as_many ns) h.below
+
+  -- those of the nodes of the two
+  node-parts : (first second : Node) → shape_over table first ≡ shape_at table p.first → shape_over table second ≡ shape_at table p.second → PartsAre (shape_over table first) (shape_over table second) (found_in table numbers)
+  node-parts first second own other =
+      subst (λ s. PartsAre s (shape_over table second) (found_in table numbers)) (sym own) (subst (λ s. PartsAre (shape_at table p.first) s (found_in table numbers)) (sym other) (parts-are h.all))
+
+  -- the join of the two
+  by-nodes : (first second : Node) → shape_over table first ≡ shape_at table p.first → shape_over table second ≡ shape_at table p.second → join_kinds join (shape_over table first) (shape_over table second) ≡ joint table p
+  by-nodes first second own other =
+      ap (λ s. join_kinds join s (shape_over table second)) own
+      ∙ ap (join_kinds join (shape_at table p.first)) other
+      ∙ sym (join-inhabited (shape_at table p.first) (shape_at table p.second) h.inhabited.first h.inhabited.second)
+
+  list-shape : (first second : Node) (places : Vec ℕ Global) (rest : ℕ) (made : Node) → first ≡ Elements places rest → PartsAre (shape_over table first) (shape_over table second) (found_in table numbers) → IsListOf numbers made → shape_over table made ≡ join_kinds join (shape_over table first) (shape_over table second)
+  list-shape first (Elements others further) places rest made is are listed = rw is (go numbers (subst (λ node. PartsAre (shape_over table node) (shape_over table (Elements others further)) (found_in table numbers)) is are) listed)
+    where
+      front : List Shape
+      front = place_joins (shapes_at table places.items) (shapes_at table others.items)
+
+      last : Shape
+      last = join (join (joined_with_each join model.Never (further_places (shapes_at table places.items) (shapes_at table others.items))) (shape_at table rest)) (shape_at table further)
+
+      go : (ms : List ℕ) → found_in table ms ≡ last ∷ front → IsListOf ms made → shape_over table made ≡ ArrayShape (common_joins join (shapes_at table places.items) (shapes_at table others.items)) last
+      go [] e l = absurd (cc)
+      go (m ∷ ms) e l =
+          let behind : shape_at table m ≡ last = cc in
+          let places_joined : found_in table ms ≡ front = cc in
+          l.shape table m ms refl ∙ rw (behind, places_joined, common_places (shapes_at table places.items) (shapes_at table others.items)) refl
+  list-shape first second places rest made is are listed = absurd (subst (λ node. PartsAre (shape_over table node) (shape_over table second) (found_in table numbers)) is are)
+
+  pub list_made : (first second : Node) (places : Vec ℕ Global) (rest : ℕ) (r : Result Node OutOfMemory) → shape_over table first ≡ shape_at table p.first → shape_over table second ≡ shape_at table p.second → first ≡ Elements places rest → IfOk r (IsListOf numbers) → IfOk r (λ node. shape_over table node ≡ joint table p)
+  list_made first second places rest (Ok made) own other is listed =
+      list-shape first second places rest made is (node-parts first second own other) listed ∙ by-nodes first second own other
+  list_made first second places rest (Err e) own other is listed = tt
+
+  pub list_below : (r : Result Node OutOfMemory) → IfOk r (IsListOf numbers) → IfOk r (RefersBelow (length ns))
+  list_below (Ok made) listed = record { each = subst (AreBelow (length ns)) (sym listed.each) counted }
+  list_below (Err e) listed = tt
+
+  module _ (first second : Node) (fields others new : BTreeMap (String Global) NodeField) (extra more : Bool) (joined : List Entry) (is : first ≡ Object fields extra) (other_is : second ≡ Object others more) (joins : AreJoinedFields fields.entries others.entries more numbers joined) (adds : AreWithOthers fields.entries extra others.entries joined new.entries) where
+    pub object_made : (any : Bool) → any ≡ (extra || more) → shape_over table first ≡ shape_at table p.first → shape_over table second ≡ shape_at table p.second → ObjectShape (fields_at table new.entries) any ≡ joint table p
+    object_made any either own other =
+        let are : found_in table numbers ≡ field_joins (fields_at table fields.entries) (fields_at table others.entries) =
+        subst (λ node. PartsAre (shape_over table (Object fields extra)) (shape_over table node) (found_in table numbers)) other_is (subst (λ node. PartsAre (shape_over table node) (shape_over table second) (found_in table numbers)) is (node-parts first second own other)) in
+        ap (λ fs. ObjectShape fs any) (adds.shapes table ∙ ap (with_other_fields (fields_at table fields.entries) extra (fields_at table others.entries)) (joins.shapes table are))
+        ∙ ap (ObjectShape (with_other_fields (fields_at table fields.entries) extra (fields_at table others.entries) (joined_fields join (fields_at table fields.entries) (fields_at table others.entries) more))) either
+        ∙ sym (ap (λ node. join_kinds join (shape_over table node) (shape_over table (Object others more))) is)
+        ∙ sym (ap (λ node. join_kinds join (shape_over table first) (shape_over table node)) other_is)
+        ∙ by-nodes first second own other
+
+    pub object_below : (any : Bool) → RefersBelow p.first first → RefersBelow p.second second → RefersBelow (length ns) (Object new any)
+    object_below any own other =
+        let shorter : p.first ≤ length ns = omega (arith, h.within.first, as_many ns) in
+        let short : p.second ≤ length ns = omega (arith, h.within.second, as_many ns) in
+        let mine = below-wider p.first (length ns) (parts first) shorter own.each in
+        let its = below-wider p.second (length ns) (parts second) short other.each in
+        let front : AreBelow (length ns) (numbers_in fields.entries) = subst (λ node. AreBelow (length ns) (parts node)) is mine in
+        let behind : AreBelow (length ns) (numbers_in others.entries) = subst (λ node. AreBelow (length ns) (parts node)) other_is its in
+        record { each = adds.below (length ns) behind (joins.below (length ns) front counted) }

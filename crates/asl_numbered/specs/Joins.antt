@@ -1,0 +1,289 @@
+-- How the shapes of a table are joined by their numbers: what is remembered, and what is left to do. No public clause
+-- cites this module.
+use Rattle.std.specs.Prelude.{◌≡◌, ◌<◌, ◌≤◌, ◌+◌, ℕ, zero, suc, max, List, [], ◌∷◌, ◌++◌, length, map, take, drop, Bool, true, Option, Some, None, String}
+use Rattle.std.specs.declared.alloc.Global.{Global}
+use Rattle.std.specs.BTreeMap.{is_at}
+use Rattle.std.specs.List.{AllByRecursion}
+use Rattle.std.specs.Map.{lookup}
+use Rattle.std.specs.String.{string_cmp}
+use Rattle.asl_model.specs.Shape as model
+use Rattle.asl_model.specs.Shape.{Shape, Shapes, NoShapes, AndShape, FieldShapes, NoFieldShapes, AndFieldShape, ArrayShape, ObjectShape, inhabited}
+use Rattle.asl_model.specs.ShapeOrder.{depth, mention_of, further_places, joined_with_each, joined_fields, with_other_fields, join}
+use Rattle.asl_numbered.specs.declared.node.Node.{Node}
+use Rattle.asl_numbered.specs.declared.node.Node.TheVariants as nodes
+use Rattle.asl_numbered.specs.declared.node.NodeField.{NodeField}
+use Rattle.asl_numbered.specs.declared.pair.Pair.{Pair}
+use Rattle.asl_numbered.specs.declared.joining.JoinTask.{JoinTask}
+use Rattle.asl_numbered.specs.declared.joining.JoinTask.TheVariants.{Join, Nothing, With, Finish}
+use Rattle.asl_numbered.specs.Comparison.{IsWithin}
+use Rattle.asl_numbered.specs.Expansion.{shape_at, shapes_at, fields_at, shape_over, expansions, numbers_in, parts, AreBelow, RefersBelow}
+
+-- the join of the shapes of a pair
+abbrev pub joint : List Shape → Pair → Shape
+joint table p = join (shape_at table p.first) (shape_at table p.second)
+
+-- the number is in the table, and its shape is that one
+pub record Shows (table : List Shape) (s : Shape) (n : ℕ) : Type 0 where
+  pub within : n < length table
+  pub same : shape_at table n ≡ s
+
+-- ---- what is remembered
+
+-- the number is that of the join of its pair
+abbrev pub IsJoin : List Shape → Pair × ℕ → Type 0
+IsJoin table e = IsWithin table e.0 × Shows table (joint table e.0) e.1
+
+-- each of them is
+pub record AreJoins (table : List Shape) (entries : List (Pair × ℕ)) : Type 0 where
+  pub each : AllByRecursion (IsJoin table) entries
+
+-- ---- the joins of parts
+
+-- the joins place by place, as far as both go
+abbrev pub place_joins : Shapes → Shapes → List Shape
+place_joins NoShapes others = []
+place_joins (AndShape s first) NoShapes = []
+place_joins (AndShape s first) (AndShape other others) = join s other ∷ place_joins first others
+
+-- one that both objects mention is joined
+abbrev pub with_field_join : Shape → Option (Bool × Shape) → List Shape → List Shape
+with_field_join s None joins = joins
+with_field_join s (Some mention) joins = join s mention.1 ∷ joins
+
+-- the joins of the fields that both objects mention
+abbrev pub field_joins : FieldShapes → FieldShapes → List Shape
+field_joins NoFieldShapes others = []
+field_joins (AndFieldShape n needed s shapes) others = with_field_join s (mention_of n others) (field_joins shapes others)
+
+-- The joins of the parts of two shapes that are both of arrays, the further elements first, or both of objects.
+pub data ArePartsOf : Shape → Shape → List Shape → Type 0 where
+  array_parts : {first others : Shapes} {rest further : Shape} → ArePartsOf (ArrayShape first rest) (ArrayShape others further) (join (join (joined_with_each join model.Never (further_places first others)) rest) further ∷ place_joins first others)
+  object_parts : {shapes others : FieldShapes} {extra more : Bool} → ArePartsOf (ObjectShape shapes extra) (ObjectShape others more) (field_joins shapes others)
+
+-- ---- what tasks do to the shapes of the numbers that were found
+
+-- a task, with shapes in place of their numbers
+pub data Step : Type 0 where
+  JoinStep : Shape → Shape → Step
+  NothingStep : Step
+  WithStep : Shape → Step
+  FinishStep : Shape → Shape → ℕ → Step
+
+abbrev pub step_of : List Shape → JoinTask → Step
+step_of table (Join p) = JoinStep (shape_at table p.first) (shape_at table p.second)
+step_of table Nothing = NothingStep
+step_of table (With n) = WithStep (shape_at table n)
+step_of table (Finish p start) = FinishStep (shape_at table p.first) (shape_at table p.second) start
+
+abbrev pub steps_of : List Shape → List JoinTask → List Step
+steps_of table tasks = map (step_of table) tasks
+
+-- the last shape joined with that one
+abbrev pub joined_last : Shape → List Shape → List Shape
+joined_last s [] = []
+joined_last s (t ∷ []) = join t s ∷ []
+joined_last s (t ∷ u ∷ found) = t ∷ joined_last s (u ∷ found)
+
+abbrev pub done : Step → List Shape → List Shape
+done (JoinStep a b) found = found ++ join a b ∷ []
+done NothingStep found = found ++ model.Never ∷ []
+done (WithStep s) found = joined_last s found
+done (FinishStep a b start) found = take start found ++ join a b ∷ []
+
+-- what is found once all steps are done, the last one first
+abbrev pub all_done : List Step → List Shape → List Shape
+all_done [] found = found
+all_done (step ∷ steps) found = done step (all_done steps found)
+
+-- a pair that is to be finished finds the joins of its parts
+abbrev pub IsFed : Step → List Shape → Type 0
+IsFed (JoinStep a b) found = Unit {0}
+IsFed NothingStep found = Unit {0}
+IsFed (WithStep s) found = Unit {0}
+IsFed (FinishStep a b start) found = (start ≤ length found) × ArePartsOf a b (drop start found) × (inhabited a ≡ true) × (inhabited b ≡ true)
+
+abbrev pub AreEachFed : List Step → List Shape → Type 0
+AreEachFed [] found = Unit {0}
+AreEachFed (step ∷ steps) found = IsFed step (all_done steps found) × AreEachFed steps found
+
+-- ---- how much is left to do
+
+-- so many steps join the places, where a join takes so many
+abbrev pub places_cost : (Shape → Shape → ℕ) → Shapes → Shapes → ℕ
+places_cost cost NoShapes others = 0
+places_cost cost (AndShape s first) NoShapes = 0
+places_cost cost (AndShape s first) (AndShape other others) = cost s other + places_cost cost first others
+
+-- so many join a shape with each of the shapes
+abbrev pub each_cost : (Shape → Shape → ℕ) → Shape → Shapes → ℕ
+each_cost cost s NoShapes = 0
+each_cost cost s (AndShape other others) = 1 + cost s other + each_cost cost (join s other) others
+
+-- so many join the further elements
+abbrev pub rest_cost : (Shape → Shape → ℕ) → Shapes → Shape → Shape → ℕ
+rest_cost cost behind rest further = each_cost cost model.Never behind + (1 + cost (joined_with_each join model.Never behind) rest) + (1 + cost (join (joined_with_each join model.Never behind) rest) further)
+
+abbrev pub with_field_cost : (Shape → Shape → ℕ) → Shape → Option (Bool × Shape) → ℕ → ℕ
+with_field_cost cost s None n = n
+with_field_cost cost s (Some mention) n = cost s mention.1 + n
+
+-- so many join the fields
+abbrev pub fields_cost : (Shape → Shape → ℕ) → FieldShapes → FieldShapes → ℕ
+fields_cost cost NoFieldShapes others = 0
+fields_cost cost (AndFieldShape n needed s shapes) others = with_field_cost cost s (mention_of n others) (fields_cost cost shapes others)
+
+-- so many join the parts of two shapes
+abbrev pub parts_cost : (Shape → Shape → ℕ) → Shape → Shape → ℕ
+parts_cost cost (ArrayShape first rest) (ArrayShape others further) = places_cost cost first others + rest_cost cost (further_places first others) rest further
+parts_cost cost (ObjectShape shapes extra) (ObjectShape others more) = fields_cost cost shapes others
+parts_cost cost a b = 0
+
+-- at most so many join two shapes that are at most so deep
+abbrev pub cost_within : ℕ → Shape → Shape → ℕ
+cost_within zero a b = 1
+cost_within (suc n) a b = 3 + parts_cost (cost_within n) a b
+
+abbrev pub cost_of : Shape → Shape → ℕ
+cost_of a b = cost_within (max (depth a) (depth b)) a b
+
+-- the last shape
+abbrev pub last_of : List Shape → Shape
+last_of [] = model.Never
+last_of (s ∷ []) = s
+last_of (s ∷ t ∷ found) = last_of (t ∷ found)
+
+abbrev pub step_cost : Step → List Shape → ℕ
+step_cost (JoinStep a b) found = cost_of a b
+step_cost NothingStep found = 1
+step_cost (WithStep s) found = 1 + cost_of (last_of found) s
+step_cost (FinishStep a b start) found = 1
+
+-- at most so many steps are left
+abbrev pub work_left : List Step → List Shape → ℕ
+work_left [] found = 0
+work_left (step ∷ steps) found = step_cost step (all_done steps found) + work_left steps found
+
+-- ---- tasks that are put down
+
+-- the joins place by place, the first last
+abbrev pub place_joinings : List ℕ → List ℕ → List JoinTask
+place_joinings [] others = []
+place_joinings (place ∷ places) [] = []
+place_joinings (place ∷ places) (other ∷ others) = place_joinings places others ++ Join (record { first = place; second = other }) ∷ []
+
+-- the joins with each of the places, the first last
+abbrev pub joinings_with : List ℕ → List JoinTask
+joinings_with [] = []
+joinings_with (place ∷ places) = joinings_with places ++ With place ∷ []
+
+-- a field is joined with one of its name, where that is there
+abbrev pub field_joining : NodeField → Option NodeField → List JoinTask
+field_joining field None = []
+field_joining field (Some other) = Join (record { first = field.shape; second = other.shape }) ∷ []
+
+-- the joins of the fields that both mention, the first last
+abbrev pub field_joinings : List (String Global × NodeField) → List (String Global × NodeField) → List JoinTask
+field_joinings [] others = []
+field_joinings (f ∷ fields) others = field_joinings fields others ++ field_joining f.1 (lookup (is_at (string_cmp f.0)) others)
+
+-- both shapes of the pair are inhabited
+pub record AreInhabited (table : List Shape) (p : Pair) : Type 0 where
+  pub first : inhabited (shape_at table p.first) ≡ true
+  pub second : inhabited (shape_at table p.second) ≡ true
+
+-- ---- all that is left to do
+
+-- the shapes of the numbers that were found
+abbrev pub found_in : List Shape → List ℕ → List Shape
+found_in table numbers = map (shape_at table) numbers
+
+-- the numbers in a task are in the table
+abbrev pub IsTaskWithin : List Shape → JoinTask → Type 0
+IsTaskWithin table (Join p) = IsWithin table p
+IsTaskWithin table Nothing = Unit {0}
+IsTaskWithin table (With n) = n < length table
+IsTaskWithin table (Finish p start) = IsWithin table p
+
+abbrev pub AreEachTasksWithin : List Shape → List JoinTask → Type 0
+AreEachTasksWithin table [] = Unit {0}
+AreEachTasksWithin table (task ∷ tasks) = IsTaskWithin table task × AreEachTasksWithin table tasks
+
+-- what is left to do leads to that shape alone
+pub record AreLeft (table : List Shape) (whole : Shape) (tasks : List JoinTask) (numbers : List ℕ) : Type 0 where
+  pub within : AreEachTasksWithin table tasks
+  pub below : AreBelow (length table) numbers
+  pub fed : AreEachFed (steps_of table tasks) (found_in table numbers)
+  pub same : all_done (steps_of table tasks) (found_in table numbers) ≡ whole ∷ []
+
+-- One task was done, in a table that may have grown: others were put behind those that are left, which find the same
+-- shapes and are less work.
+pub record Moves (old new : List Shape) (task : JoinTask) (tasks left : List JoinTask) (numbers next : List ℕ) : Type 0 where
+  pub added : List JoinTask
+  pub whole : left ≡ tasks ++ added
+  pub within : AreEachTasksWithin new added
+  pub below : AreBelow (length new) next
+  pub fed : AreEachFed (steps_of new added) (found_in new next)
+  pub same : all_done (steps_of new added) (found_in new next) ≡ done (step_of old task) (found_in old numbers)
+  pub less : work_left (steps_of new added) (found_in new next) < step_cost (step_of old task) (found_in old numbers)
+
+-- ---- a look at two nodes
+
+-- The joins of the parts of two lists, where `last` finishes the two: what stands behind the places that both have is
+-- joined one after another, to what `Nothing` puts down.
+abbrev pub list_joinings : JoinTask → List ℕ → ℕ → List ℕ → ℕ → List JoinTask
+list_joinings last places rest others further = last ∷ (place_joinings places others ++ With further ∷ With rest ∷ (joinings_with (drop (length others) places) ++ (joinings_with (drop (length places) others) ++ Nothing ∷ [])))
+
+-- what a look at a node of lists and another gives, and puts down
+abbrev pub ListLooked : List ℕ → ℕ → Node → JoinTask → Option Node → List JoinTask → List JoinTask → Type 0
+ListLooked places rest (nodes.List others further) last answer old new = (answer ≡ None) × (new ≡ old ++ list_joinings last places rest others.items further)
+ListLooked places rest node last answer old new = (answer ≡ Some nodes.Any) × (new ≡ old)
+
+-- the same of a node of objects and another
+abbrev pub ObjectLooked : List (String Global × NodeField) → Node → JoinTask → Option Node → List JoinTask → List JoinTask → Type 0
+ObjectLooked fields (nodes.Object others more) last answer old new = (answer ≡ None) × (new ≡ old ++ last ∷ field_joinings fields others.entries)
+ObjectLooked fields node last answer old new = (answer ≡ Some nodes.Any) × (new ≡ old)
+
+-- the same of any two nodes
+abbrev pub Looked : Node → Node → JoinTask → Option Node → List JoinTask → List JoinTask → Type 0
+Looked (nodes.List first rest) node last answer old new = ListLooked first.items rest node last answer old new
+Looked (nodes.Object fields extra) node last answer old new = ObjectLooked fields.entries node last answer old new
+Looked nodes.Null nodes.Null last answer old new = (answer ≡ Some nodes.Null) × (new ≡ old)
+Looked nodes.Bool nodes.Bool last answer old new = (answer ≡ Some nodes.Bool) × (new ≡ old)
+Looked nodes.Int nodes.Int last answer old new = (answer ≡ Some nodes.Int) × (new ≡ old)
+Looked nodes.Text nodes.Text last answer old new = (answer ≡ Some nodes.Text) × (new ≡ old)
+Looked node other last answer old new = (answer ≡ Some nodes.Any) × (new ≡ old)
+
+-- the node is the first level of the join of the pair's shapes
+pub record IsLevel (ns : List Node) (p : Pair) (node : Node) : Type 0 where
+  pub same : shape_over (expansions ns) node ≡ joint (expansions ns) p
+  pub below : RefersBelow (length ns) node
+
+-- a look at a pair gives the first level of its join, or else puts down what leads to it
+pub record LooksAt (ns : List Node) (p : Pair) (answer : Option Node) (old new : List JoinTask) (numbers : List ℕ) : Type 0 where
+  pub given : (node : Node) → answer ≡ Some node → IsLevel ns p node × (new ≡ old)
+  pub put : answer ≡ None → Moves (expansions ns) (expansions ns) (Join p) old new numbers numbers
+
+-- ---- the join made of the joins of its parts
+
+-- The numbers are those of the joins of the parts of the pair's two shapes, which are inhabited.
+pub record AreMadeOf (table : List Shape) (p : Pair) (parts : List ℕ) : Type 0 where
+  pub within : IsWithin table p
+  pub below : AreBelow (length table) parts
+  pub all : ArePartsOf (shape_at table p.first) (shape_at table p.second) (found_in table parts)
+  pub inhabited : AreInhabited table p
+
+-- The joined fields are the first object's, joined with the second's, over each table in which the parts are the joins of
+-- the fields that both mention.
+pub record AreJoinedFields (fields others : List (String Global × NodeField)) (more : Bool) (parts : List ℕ) (joined : List (String Global × NodeField)) : Type 0 where
+  pub shapes : (table : List Shape) → found_in table parts ≡ field_joins (fields_at table fields) (fields_at table others) → fields_at table joined ≡ joined_fields join (fields_at table fields) (fields_at table others) more
+  pub below : (bound : ℕ) → AreBelow bound (numbers_in fields) → AreBelow bound parts → AreBelow bound (numbers_in joined)
+
+-- The new fields are the old ones with those of the second object that the first doesn't mention.
+pub record AreWithOthers (fields : List (String Global × NodeField)) (extra : Bool) (others old new : List (String Global × NodeField)) : Type 0 where
+  pub shapes : (table : List Shape) → fields_at table new ≡ with_other_fields (fields_at table fields) extra (fields_at table others) (fields_at table old)
+  pub below : (bound : ℕ) → AreBelow bound (numbers_in others) → AreBelow bound (numbers_in old) → AreBelow bound (numbers_in new)
+
+-- the node is that of the lists with these parts, those of the further elements first
+pub record IsListOf (numbers : List ℕ) (node : Node) : Type 0 where
+  pub each : parts node ≡ numbers
+  pub shape : (table : List Shape) (rest : ℕ) (places : List ℕ) → numbers ≡ rest ∷ places → shape_over table node ≡ ArrayShape (shapes_at table places) (shape_at table rest)
