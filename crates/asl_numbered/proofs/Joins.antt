@@ -222,33 +222,14 @@ module _ (f g : Shape → Shape → ℕ) (k : ℕ) (less : AtMost k f g) where
           omega (arith, here, behind)
 
   parts-less : (a b : Shape) → depth a ≤ suc k → depth b ≤ suc k → parts_cost f a b ≤ parts_cost g a b
-  parts-less model.Any b h i = omega arith
-  parts-less model.Never b h i = omega arith
-  parts-less model.NullShape b h i = omega arith
-  parts-less model.BooleanShape b h i = omega arith
-  parts-less model.IntegerShape b h i = omega arith
-  parts-less model.StringShape b h i = omega arith
-  parts-less (ArrayShape first rest) model.Any h i = omega arith
-  parts-less (ArrayShape first rest) model.Never h i = omega arith
-  parts-less (ArrayShape first rest) model.NullShape h i = omega arith
-  parts-less (ArrayShape first rest) model.BooleanShape h i = omega arith
-  parts-less (ArrayShape first rest) model.IntegerShape h i = omega arith
-  parts-less (ArrayShape first rest) model.StringShape h i = omega arith
   parts-less (ArrayShape first rest) (ArrayShape others further) h i =
       let own : depth_of_elements first ≤ k = omega (arith, h) in
       let other : depth_of_elements others ≤ k = omega (arith, i) in
       let front = places-less first others own other in
       let behind = rest-less (further_places first others) rest further (further-low k first others own other) (omega (arith, h)) (omega (arith, i)) in
       omega (arith, front, behind)
-  parts-less (ArrayShape first rest) (ObjectShape shapes extra) h i = omega arith
-  parts-less (ObjectShape shapes extra) model.Any h i = omega arith
-  parts-less (ObjectShape shapes extra) model.Never h i = omega arith
-  parts-less (ObjectShape shapes extra) model.NullShape h i = omega arith
-  parts-less (ObjectShape shapes extra) model.BooleanShape h i = omega arith
-  parts-less (ObjectShape shapes extra) model.IntegerShape h i = omega arith
-  parts-less (ObjectShape shapes extra) model.StringShape h i = omega arith
-  parts-less (ObjectShape shapes extra) (ArrayShape first rest) h i = omega arith
   parts-less (ObjectShape shapes extra) (ObjectShape others more) h i = fields-less shapes others (omega (arith, h)) (omega (arith, i))
+  parts-less a b h i = omega arith
 
 -- a greater depth gives no smaller count
 cost-deeper : (n m : ℕ) (a b : Shape) → n ≤ m → depth a ≤ n → depth b ≤ n → cost_within n a b ≤ cost_within m a b

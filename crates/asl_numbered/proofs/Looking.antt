@@ -76,53 +76,55 @@ field-parts table (f ∷ fs) os h i =
 
 -- ---- the parts of lists
 
--- what stands behind the places that both have takes so many steps
-behind_each_work : (table : List Shape) (ps os : List ℕ) (found : List Shape) → work_left (steps_of table (joinings_with (drop (length os) ps)) ++ steps_of table (joinings_with (drop (length ps) os))) (found ++ model.Never ∷ []) ≡ each_cost cost_of model.Never (further_places (shapes_at table ps) (shapes_at table os))
-behind_each_work table ps os found =
-    work_append own other (found ++ model.Never ∷ [])
-    ∙ ap (λ n. work_left own (all_done other (found ++ model.Never ∷ [])) + n) (with_each_work table (drop (length ps) os) model.Never found)
-    ∙ ap (λ more. work_left own more + each_cost cost_of model.Never (shapes_at table (drop (length ps) os))) (with_each table (drop (length ps) os) model.Never found)
-    ∙ ap (λ n. n + each_cost cost_of model.Never (shapes_at table (drop (length ps) os))) (with_each_work table (drop (length os) ps) (joined_with_each join model.Never (shapes_at table (drop (length ps) os))) found)
-    ∙ go (behind_one table ps os)
-  where
-    own : List Step
-    own = steps_of table (joinings_with (drop (length os) ps))
-
-    other : List Step
-    other = steps_of table (joinings_with (drop (length ps) os))
-
-    all : Shapes
-    all = further_places (shapes_at table ps) (shapes_at table os)
-
-    go : ((drop (length os) ps ≡ []) × (shapes_at table (drop (length ps) os) ≡ all)) ⊎ ((drop (length ps) os ≡ []) × (shapes_at table (drop (length os) ps) ≡ all)) → each_cost cost_of (joined_with_each join model.Never (shapes_at table (drop (length ps) os))) (shapes_at table (drop (length os) ps)) + each_cost cost_of model.Never (shapes_at table (drop (length ps) os)) ≡ each_cost cost_of model.Never all
-    go (inl h) =
-        let none : each_cost cost_of (joined_with_each join model.Never (shapes_at table (drop (length ps) os))) (shapes_at table (drop (length os) ps)) ≡ 0 = ap (λ ns. each_cost cost_of (joined_with_each join model.Never (shapes_at table (drop (length ps) os))) (shapes_at table ns)) h.0 in
-        omega (arith, none, ap (each_cost cost_of model.Never) h.1)
-    go (inr h) =
-        let none : each_cost cost_of model.Never (shapes_at table (drop (length ps) os)) ≡ 0 = ap (λ ns. each_cost cost_of model.Never (shapes_at table ns)) h.0 in
-        let never : joined_with_each join model.Never (shapes_at table (drop (length ps) os)) ≡ model.Never = ap (λ ns. joined_with_each join model.Never (shapes_at table ns)) h.0 in
-        let same : each_cost cost_of (joined_with_each join model.Never (shapes_at table (drop (length ps) os))) (shapes_at table (drop (length os) ps)) ≡ each_cost cost_of model.Never all = ap (λ s. each_cost cost_of s (shapes_at table (drop (length os) ps))) never ∙ ap (each_cost cost_of model.Never) h.1 in
-        omega (arith, none, same)
-
 module _ (table : List Shape) (ps os : List ℕ) (rest further : ℕ) (found : List Shape) where
-  -- the steps behind the two joins with further elements
-  abbrev behind : List JoinTask
-  behind = joinings_with (drop (length os) ps) ++ (joinings_with (drop (length ps) os) ++ Nothing ∷ [])
+  -- the places that the first list alone has, and the second
+  abbrev mine : List ℕ
+  mine = drop (length os) ps
 
+  abbrev its : List ℕ
+  its = drop (length ps) os
+
+  -- the steps of the joins with them
   abbrev own : List Step
-  own = steps_of table (joinings_with (drop (length os) ps))
+  own = steps_of table (joinings_with mine)
 
   abbrev other : List Step
-  other = steps_of table (joinings_with (drop (length ps) os))
+  other = steps_of table (joinings_with its)
 
-  -- what stands behind the places that both have
+  -- what stands behind the places that both have, and its join
+  abbrev all : Shapes
+  all = further_places (shapes_at table ps) (shapes_at table os)
+
   abbrev whole : Shape
-  whole = joined_with_each join model.Never (further_places (shapes_at table ps) (shapes_at table os))
+  whole = joined_with_each join model.Never all
+
+  -- it takes so many steps
+  each-work : work_left (own ++ other) (found ++ model.Never ∷ []) ≡ each_cost cost_of model.Never all
+  each-work =
+      work_append own other (found ++ model.Never ∷ [])
+      ∙ ap (λ n. work_left own (all_done other (found ++ model.Never ∷ [])) + n) (with_each_work table its model.Never found)
+      ∙ ap (λ more. work_left own more + each_cost cost_of model.Never (shapes_at table its)) (with_each table its model.Never found)
+      ∙ ap (λ n. n + each_cost cost_of model.Never (shapes_at table its)) (with_each_work table mine (joined_with_each join model.Never (shapes_at table its)) found)
+      ∙ go (behind_one table ps os)
+    where
+      go : ((mine ≡ []) × (shapes_at table its ≡ all)) ⊎ ((its ≡ []) × (shapes_at table mine ≡ all)) → each_cost cost_of (joined_with_each join model.Never (shapes_at table its)) (shapes_at table mine) + each_cost cost_of model.Never (shapes_at table its) ≡ each_cost cost_of model.Never all
+      go (inl h) =
+          let none : each_cost cost_of (joined_with_each join model.Never (shapes_at table its)) (shapes_at table mine) ≡ 0 = ap (λ ns. each_cost cost_of (joined_with_each join model.Never (shapes_at table its)) (shapes_at table ns)) h.0 in
+          omega (arith, none, ap (each_cost cost_of model.Never) h.1)
+      go (inr h) =
+          let none : each_cost cost_of model.Never (shapes_at table its) ≡ 0 = ap (λ ns. each_cost cost_of model.Never (shapes_at table ns)) h.0 in
+          let never : joined_with_each join model.Never (shapes_at table its) ≡ model.Never = ap (λ ns. joined_with_each join model.Never (shapes_at table ns)) h.0 in
+          let same : each_cost cost_of (joined_with_each join model.Never (shapes_at table its)) (shapes_at table mine) ≡ each_cost cost_of model.Never all = ap (λ s. each_cost cost_of s (shapes_at table mine)) never ∙ ap (each_cost cost_of model.Never) h.1 in
+          omega (arith, none, same)
+
+  -- the tasks behind the two joins with further elements
+  abbrev behind : List JoinTask
+  behind = joinings_with mine ++ (joinings_with its ++ Nothing ∷ [])
 
   behind-split : steps_of table behind ≡ (own ++ other) ++ NothingStep ∷ []
   behind-split =
-      map-append (step_of table) (joinings_with (drop (length os) ps)) (joinings_with (drop (length ps) os) ++ Nothing ∷ [])
-      ∙ ap (λ steps. own ++ steps) (map-append (step_of table) (joinings_with (drop (length ps) os)) (Nothing ∷ []))
+      map-append (step_of table) (joinings_with mine) (joinings_with its ++ Nothing ∷ [])
+      ∙ ap (λ steps. own ++ steps) (map-append (step_of table) (joinings_with its) (Nothing ∷ []))
       ∙ sym (append_assoc own other (NothingStep ∷ []))
 
   behind-done : all_done (steps_of table behind) found ≡ found ++ whole ∷ []
@@ -131,11 +133,11 @@ module _ (table : List Shape) (ps os : List ℕ) (rest further : ℕ) (found : L
       ∙ done_append (own ++ other) (NothingStep ∷ []) found
       ∙ behind_each table ps os found
 
-  behind-work : work_left (steps_of table behind) found ≡ each_cost cost_of model.Never (further_places (shapes_at table ps) (shapes_at table os)) + 1
+  behind-work : work_left (steps_of table behind) found ≡ each_cost cost_of model.Never all + 1
   behind-work =
       let split : work_left (steps_of table behind) found ≡ work_left (own ++ other) (found ++ model.Never ∷ []) + (1 + 0) =
       ap (λ steps. work_left steps found) behind-split ∙ work_append (own ++ other) (NothingStep ∷ []) found in
-      omega (arith, split, behind_each_work table ps os found)
+      omega (arith, split, each-work)
 
   -- the tasks of the parts of two lists
   abbrev tasks : List JoinTask
@@ -159,7 +161,7 @@ module _ (table : List Shape) (ps os : List ℕ) (rest further : ℕ) (found : L
       ∙ places_each table ps os (found ++ join (join whole (shape_at table rest)) (shape_at table further) ∷ [])
       ∙ append_assoc found (join (join whole (shape_at table rest)) (shape_at table further) ∷ []) (place_joins (shapes_at table ps) (shapes_at table os))
 
-  rest-work : work_left (WithStep (shape_at table further) ∷ WithStep (shape_at table rest) ∷ steps_of table behind) found ≡ rest_cost cost_of (further_places (shapes_at table ps) (shapes_at table os)) (shape_at table rest) (shape_at table further) + 1
+  rest-work : work_left (WithStep (shape_at table further) ∷ WithStep (shape_at table rest) ∷ steps_of table behind) found ≡ rest_cost cost_of all (shape_at table rest) (shape_at table further) + 1
   rest-work =
       let front : cost_of (last_of (all_done (steps_of table behind) found)) (shape_at table rest) ≡ cost_of whole (shape_at table rest) =
       ap (λ more. cost_of (last_of more) (shape_at table rest)) behind-done ∙ ap (λ s. cost_of s (shape_at table rest)) (last_behind whole found) in
@@ -169,7 +171,7 @@ module _ (table : List Shape) (ps os : List ℕ) (rest further : ℕ) (found : L
       ap (λ more. cost_of (last_of more) (shape_at table further)) middle ∙ ap (λ s. cost_of s (shape_at table further)) (last_behind (join whole (shape_at table rest)) found) in
       omega (arith, front, end, behind-work)
 
-  list_work : work_left (steps_of table tasks) found ≡ 1 + (places_cost cost_of (shapes_at table ps) (shapes_at table os) + rest_cost cost_of (further_places (shapes_at table ps) (shapes_at table os)) (shape_at table rest) (shape_at table further))
+  list_work : work_left (steps_of table tasks) found ≡ 1 + (places_cost cost_of (shapes_at table ps) (shapes_at table os) + rest_cost cost_of all (shape_at table rest) (shape_at table further))
   list_work =
       let steps = WithStep (shape_at table further) ∷ WithStep (shape_at table rest) ∷ steps_of table behind in
       let split : work_left (steps_of table tasks) found ≡ work_left (steps_of table (place_joinings ps os)) (all_done steps found) + work_left steps found =
@@ -178,10 +180,10 @@ module _ (table : List Shape) (ps os : List ℕ) (rest further : ℕ) (found : L
 
   list_parts : AreBelow (length table) ps → AreBelow (length table) os → rest < length table → further < length table → AreParts table tasks
   list_parts h i j k =
-      let last = with-parts table (drop (length ps) os) (below-drop (length table) (length ps) os i) in
-      let first = with-parts table (drop (length os) ps) (below-drop (length table) (length os) ps h) in
-      let all = parts-append table (joinings_with (drop (length os) ps)) (joinings_with (drop (length ps) os) ++ Nothing ∷ []) first (parts-append table (joinings_with (drop (length ps) os)) (Nothing ∷ []) last tt) in
-      parts-append table (place_joinings ps os) (With further ∷ With rest ∷ behind) (place-parts table ps os h i) (k, (j, all))
+      let last = with-parts table its (below-drop (length table) (length ps) os i) in
+      let first = with-parts table mine (below-drop (length table) (length os) ps h) in
+      let both = parts-append table (joinings_with mine) (joinings_with its ++ Nothing ∷ []) first (parts-append table (joinings_with its) (Nothing ∷ []) last tt) in
+      parts-append table (place_joinings ps os) (With further ∷ With rest ∷ behind) (place-parts table ps os h i) (k, (j, both))
 
 -- ---- the parts of objects
 

@@ -74,7 +74,9 @@ impl Shapes {
     pub fn node(&self, number: usize) -> Option<&Node>
         ensures exactly { option_copied result ≡ slice_get self.now number }
         ensures there { IsSome result ↔ number < length self.now }
-        ensures level { IfSome result (λ node. shape_over (expansions self.now) node.now ≡ shape_at (expansions self.now) number) }
+        ensures level { IfSome result
+            (λ node. shape_over (expansions self.now) node.now
+            ≡ shape_at (expansions self.now) number) }
         ensures earlier { IfSome result (λ node. RefersBelow number node.now) }
     {
         self.table.node(number)
@@ -83,7 +85,8 @@ impl Shapes {
     /// Whether some tree has the shape of that number; `None` where there is none. Takes no memory.
     pub fn inhabited(&self, number: usize) -> Option<bool>
         ensures there { IsSome result ↔ number < length self.now }
-        ensures as_defined { IfSome result (λ b. b ≡ model.inhabited (shape_at (expansions self.now) number)) }
+        ensures as_defined { IfSome result
+            (λ b. b ≡ model.inhabited (shape_at (expansions self.now) number)) }
     {
         self.table.inhabited(number)
     }
@@ -92,7 +95,9 @@ impl Shapes {
     /// `None` where one of these isn't below the length. Refuses only where an allocation was refused.
     pub fn add_node(&mut self, node: Node) -> Result<Option<usize>, OutOfMemory>
         ensures exactly { IfOk result (λ r. IsSome r ↔ RefersBelow (length self.old) node) }
-        ensures number { IfOk result (λ r. IfSome r (IsNumberOf (expansions self.new) (shape_over (expansions self.old) node))) }
+        ensures number { IfOk result
+            (λ r. IfSome r (IsNumberOf (expansions self.new)
+            (shape_over (expansions self.old) node))) }
         ensures keeps { Keeps (expansions self.old) (expansions self.new) }
     {
         self.table.add_node(node)
@@ -109,7 +114,8 @@ impl Shapes {
     /// The shape of that number; `None` where there is none. Refuses only where an allocation was refused.
     pub fn expand(&self, number: usize) -> Result<Option<Shape>, OutOfMemory>
         ensures exactly { IfOk result (λ r. IsSome r ↔ number < length self.now) }
-        ensures shape { IfOk result (λ r. IfSome r (λ s. view s ≡ shape_at (expansions self.now) number)) }
+        ensures shape { IfOk result
+            (λ r. IfSome r (λ s. view s ≡ shape_at (expansions self.now) number)) }
     {
         if number < self.table.len() {
             Ok(Some(expand(&self.table, self.alloc, number)?))
@@ -122,9 +128,16 @@ impl Shapes {
     /// `None` where one of the numbers isn't below the length. The answer is remembered, as those for the shapes' parts
     /// are that were looked at on the way, so that none is found out twice. Refuses only where an allocation was refused.
     pub fn sub(&mut self, inner: usize, outer: usize) -> Result<Option<bool>, OutOfMemory>
-        ensures exactly { IfOk result (λ r. IsSome r ↔ (inner < length self.old) × (outer < length self.old)) }
-        ensures as_defined { IfOk result (λ r. IfSome r (λ b. b ≡ order.sub (shape_at (expansions self.old) inner) (shape_at (expansions self.old) outer))) }
-        ensures inside { IfOk result (λ r. IfSome r (λ b. IsTrue b → model.Inside (shape_at (expansions self.old) inner) (shape_at (expansions self.old) outer))) }
+        ensures exactly { IfOk result
+            (λ r. IsSome r ↔ (inner < length self.old) × (outer < length self.old)) }
+        ensures as_defined { IfOk result
+            (λ r. IfSome r (λ b. b
+            ≡ order.sub (shape_at (expansions self.old) inner)
+            (shape_at (expansions self.old) outer))) }
+        ensures inside { IfOk result
+            (λ r. IfSome r (λ b. IsTrue b
+            → model.Inside (shape_at (expansions self.old) inner)
+            (shape_at (expansions self.old) outer))) }
         ensures unchanged { self.new ≡ self.old }
     {
         sub_means_inside();

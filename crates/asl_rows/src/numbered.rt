@@ -1,4 +1,5 @@
-//! Shapes in a table: their numbers, their nodes and the shapes again, each call once with ample memory.
+//! Shapes in a table: their numbers, their nodes, the shapes again, and how they compare and join, each call once with
+//! ample memory.
 use asl_numbered::{Node, NodeField, Shapes};
 use asl_shape::{Shape, read, write};
 use asl_tree::to_text;
@@ -50,8 +51,11 @@ fn one_shape(rt: HostRuntime) {
     assert_eq!(rt; shapes.add_node(Node::Int).expect(&rt, "a number"), Some(0));
     assert_eq!(rt; added_list(&rt, alloc, &mut shapes, 1), None);
     assert_eq!(rt; shapes.sub(0, 0).expect(&rt, "an answer"), Some(true));
-    assert_eq!(rt; shapes.sub(0, 1).expect(&rt, "an answer"), None);
-    assert_eq!(rt; shapes.sub(1, 0).expect(&rt, "an answer"), None);
+    assert_eq!(rt; shapes.join(0, 0).expect(&rt, "a number"), Some(0));
+    for (first, second) in [(0, 1), (1, 0)] {
+        assert_eq!(rt; shapes.sub(first, second).expect(&rt, "an answer"), None);
+        assert_eq!(rt; shapes.join(first, second).expect(&rt, "a number"), None);
+    }
     for (number, wanted) in [
         (0, r#"Some(Int) Some(true) {"type":"integer"}"#),
         (1, "None None none"),
@@ -95,6 +99,65 @@ fn shared_parts(rt: HostRuntime) {
         answer.as_str(),
         r#"Some(List { first: [], rest: 3 }) Some(true) {"items":false,"type":"array"}"#
     );
+}
+
+/// Two shapes and what they are joined to.
+const JOINED: [(&str, &str, &str); 7] = [
+    (
+        r#"{"type":"array","prefixItems":[{"type":"null"},{"type":"integer"}],"minItems":2,"items":{"type":"integer"}}"#,
+        r#"{"type":"array","prefixItems":[{"type":"boolean"}],"minItems":1,"items":false}"#,
+        r#"{"items":{"type":"integer"},"minItems":1,"prefixItems":[true],"type":"array"}"#,
+    ),
+    (
+        r#"{"type":"array","items":{"type":"string"}}"#,
+        r#"{"type":"array","prefixItems":[{"type":"string"},{"type":"string"}],"minItems":2,"items":false}"#,
+        r#"{"items":{"type":"string"},"type":"array"}"#,
+    ),
+    (
+        r#"{"type":"object","properties":{"a":{"type":"integer"},"b":{"type":"string"},"c":{"type":"null"}},"required":["a","b"],"additionalProperties":false}"#,
+        r#"{"type":"object","properties":{"a":{"type":"integer"},"b":{"type":"string"},"d":{"type":"boolean"}},"required":["a","d"],"additionalProperties":false}"#,
+        r#"{"additionalProperties":false,"properties":{"a":{"type":"integer"},"b":{"type":"string"},"c":{"type":"null"},"d":{"type":"boolean"}},"required":["a"],"type":"object"}"#,
+    ),
+    (
+        r#"{"type":"object","properties":{"a":{"type":"integer"},"b":{"type":"null"}},"required":["a"],"additionalProperties":false}"#,
+        r#"{"type":"object","properties":{"a":{"type":"string"},"d":{"type":"boolean"}},"required":["a"]}"#,
+        r#"{"properties":{"a":true,"d":{"type":"boolean"}},"required":["a"],"type":"object"}"#,
+    ),
+    (
+        r#"{"type":"object","properties":{"a":{"type":"array","items":{"type":"integer"}},"b":{"type":"array","items":{"type":"string"}}},"required":["a"]}"#,
+        r#"{"type":"object","properties":{"a":{"type":"array","items":{"type":"null"}},"b":{"type":"array","items":{"type":"string"}}},"required":["a"]}"#,
+        r#"{"properties":{"a":{"type":"array"},"b":{"items":{"type":"string"},"type":"array"}},"required":["a"],"type":"object"}"#,
+    ),
+    (
+        r#"{"type":"array","prefixItems":[false],"minItems":1}"#,
+        r#"{"type":"integer"}"#,
+        r#"{"type":"integer"}"#,
+    ),
+    (
+        r#"{"type":"array","items":{"type":"integer"}}"#,
+        r#"{"type":"object"}"#,
+        "true",
+    ),
+];
+
+#[test]
+fn joins_as_worked_out_by_hand(rt: HostRuntime) {
+    let alloc = rt.alloc();
+    let mut shapes = Shapes::new(alloc);
+    for (left, right, wanted) in &JOINED {
+        let first = shapes.add(&shape(&rt, alloc, left)).expect(&rt, "a number");
+        let second = shapes
+            .add(&shape(&rt, alloc, right))
+            .expect(&rt, "a number");
+        for (one, other) in [(first, second), (second, first)] {
+            let joined = shapes
+                .join(one, other)
+                .expect(&rt, "a number")
+                .expect(&rt, "a number");
+            let answer = expanded(&rt, alloc, &shapes, joined);
+            assert_eq!(rt; answer.as_str(), *wanted, "{left} {right}");
+        }
+    }
 }
 
 /// The number of a list of lists of lists and so on, so many of them, over the shape of that number.
@@ -141,6 +204,14 @@ fn compared(
     ]
 }
 
+/// The number of the join of the two shapes, and of the second with the first.
+fn joined(rt: &impl Abort, shapes: &mut Shapes, first: usize, second: usize) -> [Option<usize>; 2] {
+    [
+        shapes.join(first, second).expect(rt, "a number"),
+        shapes.join(second, first).expect(rt, "a number"),
+    ]
+}
+
 #[test]
 fn long_chains(rt: HostRuntime) {
     let alloc = rt.alloc();
@@ -156,6 +227,12 @@ fn long_chains(rt: HostRuntime) {
         );
     }
     assert_eq!(rt; shapes.inhabited(second), Some(true));
+    let text = shapes.add(&Shape::Text).expect(&rt, "a number");
+    let third = chain(&rt, alloc, &mut shapes, text, LONG);
+    assert_eq!(rt;
+        joined(&rt, &mut shapes, first, third),
+        [Some(second), Some(second)]
+    );
 }
 
 #[test]
@@ -164,12 +241,23 @@ fn forty_doublings(rt: HostRuntime) {
     let mut shapes = Shapes::new(alloc);
     let mut first = shapes.add(&Shape::Int).expect(&rt, "a number");
     let mut second = shapes.add(&Shape::Any).expect(&rt, "a number");
+    let mut third = shapes.add(&Shape::Text).expect(&rt, "a number");
     for _ in 0..40 {
         first = doubled(&rt, alloc, &mut shapes, first);
         second = doubled(&rt, alloc, &mut shapes, second);
+        third = doubled(&rt, alloc, &mut shapes, third);
     }
     assert_eq!(rt;
         compared(&rt, &mut shapes, first, second),
         [Some(true), Some(false)]
     );
+    assert_eq!(rt;
+        compared(&rt, &mut shapes, first, third),
+        [Some(false), Some(false)]
+    );
+    assert_eq!(rt;
+        joined(&rt, &mut shapes, first, third),
+        [Some(second), Some(second)]
+    );
+    assert_eq!(rt; shapes.len(), 123);
 }
