@@ -35,6 +35,9 @@ fn told(rt: &impl Abort, alloc: Global, shapes: &Shapes, number: usize) -> Strin
 /// How many lists stand inside each other in a long chain.
 const LONG: usize = 300_000;
 
+/// How many do in one that is joined: no more than a run without proofs joins in its time.
+const JOINED_LONG: usize = 100_000;
+
 /// The number that is given to the list whose further elements have the shape of that number.
 fn added_list(rt: &impl Abort, alloc: Global, shapes: &mut Shapes, rest: usize) -> Option<usize> {
     let first = Vec::new(alloc);
@@ -227,8 +230,18 @@ fn long_chains(rt: HostRuntime) {
         );
     }
     assert_eq!(rt; shapes.inhabited(second), Some(true));
+}
+
+#[test]
+fn joined_chains(rt: HostRuntime) {
+    let alloc = rt.alloc();
+    let mut shapes = Shapes::new(alloc);
+    let int = shapes.add(&Shape::Int).expect(&rt, "a number");
+    let any = shapes.add(&Shape::Any).expect(&rt, "a number");
     let text = shapes.add(&Shape::Text).expect(&rt, "a number");
-    let third = chain(&rt, alloc, &mut shapes, text, LONG);
+    let first = chain(&rt, alloc, &mut shapes, int, JOINED_LONG);
+    let second = chain(&rt, alloc, &mut shapes, any, JOINED_LONG);
+    let third = chain(&rt, alloc, &mut shapes, text, JOINED_LONG);
     assert_eq!(rt;
         joined(&rt, &mut shapes, first, third),
         [Some(second), Some(second)]
