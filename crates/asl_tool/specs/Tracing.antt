@@ -1,26 +1,44 @@
--- The members of what is written for an entry. No public clause cites this module.
-use Rattle.std.specs.Prelude.{◌≡◌, ℕ, List, IfSome, option_map, codes}
-use Rattle.serde_json.specs.Data.{Members, object, string, put}
-use Rattle.asl_model.specs.Json.{value_of}
-use Rattle.asl_model.specs.Run.{Entry as Told, Outcome, Output, FailedWith}
-use Rattle.asl_model.specs.TracePrinted.{entry_tree, entry_line}
-use Rattle.asl_run.specs.Driving.{placed_entry}
-use Rattle.asl_run.specs.Entries.{entry_view}
-use Rattle.asl_run.specs.declared.entries.Entry.{Entry}
+-- What is written for an entry. No public clause cites this module.
+use Rattle.std.specs.Prelude.{◌≡◌, ℕ, pos, List, [], ◌∷◌, ◌++◌, Option, IfSome, map}
+use Rattle.asl_model.specs.Json.{compact_text}
+use Rattle.asl_model.specs.Machine.{Scope}
+use Rattle.asl_model.specs.Printed.{line_break}
+use Rattle.asl_model.specs.Run.{Activity, Action, Entry}
+use Rattle.asl_model.specs.Tree.{Tree, Integer, Text, Array, Fields, NoFields, AndField}
+use Rattle.asl_model.specs.TracePrinted.{numbers, entry_line, trace_text}
+use Rattle.asl_run.specs.Driving.{Stops, placed_entry}
+use Rattle.asl_run.specs.declared.driving.Stop.{Stop}
+use Rattle.asl_tree.specs.View.{view}
+use Rattle.asl_tool.specs.declared.tracing.Shown.{Shown}
+use Rattle.asl_tool.specs.declared.tracing.Shown.TheVariants as shown
+use Rattle.std.specs.Prelude.{Bor}
 
--- an error and its cause beside other members
-abbrev pub with_failure : List ℕ → List ℕ → Members → Members
-with_failure error cause ms = put (codes "cause") (string cause) (put (codes "error") (string error) ms)
+-- a place as the list of its numbers
+abbrev pub place_tree : List ℕ → Tree
+place_tree at = Array (numbers at)
 
--- the end of a scope beside other members
-abbrev pub with_outcome : Outcome → Members → Members
-with_outcome (Output output) ms = put (codes "output") (value_of output) ms
-with_outcome (FailedWith error cause) ms = with_failure error cause ms
+-- what a field of a line shows
+abbrev pub shown_tree : Shown → Tree
+shown_tree (shown.Text text) = Text text.now
+shown_tree (shown.Number n) = Integer (pos n)
+shown_tree (shown.Place at) = place_tree at.now
+shown_tree (shown.Data data) = view data.now
 
--- the members are those of the entry that the code's one stands for, if it stands for one
-pub record ShowsEntry (entry : Entry) (ms : Members) : Type 0 where
-  pub shown : IfSome (option_map (entry_tree (entry_view entry).0) (entry_view entry).1) (λ t. value_of t ≡ object ms)
+-- the fields of a line
+abbrev pub shown_fields : List (Bor (List ℕ) × Shown) → Fields
+shown_fields [] = NoFields
+shown_fields (field ∷ fields) = AndField field.0.now (shown_tree field.1) (shown_fields fields)
 
--- the text is the line of the entry that the code's one stands for, if it stands for one
-pub record IsLineOf (entry : Entry) (line : List ℕ) : Type 0 where
-  pub same : (told : List ℕ × Told) → entry_view entry ≡ placed_entry told → line ≡ entry_line told
+-- the bytes have grown by the line of a tree
+abbrev pub AddsTree : Tree → List ℕ → List ℕ → Type 0
+AddsTree tree before longer = longer ≡ before ++ (compact_text tree ++ line_break)
+
+-- the bytes have grown by the line of an entry at its place, if there is one
+pub record AddsEntry (placed : List ℕ × Option Entry) (before longer : List ℕ) : Type 0 where
+  pub added : IfSome placed.1 (λ entry. longer ≡ before ++ entry_line (placed.0, entry))
+
+-- a run is driven by at most so many events until it stops so, and the text is that of its history
+pub record Traces (MayPick : ℕ → ℕ → Type 0) (MayGive : List ℕ → Tree → Action → Type 0) (MayBeSilent : List ℕ → Tree → Type 0) (machine : Scope) (before : Activity) (most : ℕ) (given : List Action) (stop : Stop) (text : List ℕ) (after : Activity) (left : List Action) : Type 0 where
+  pub told : List (List ℕ × Entry)
+  pub stops : Stops MayPick MayGive MayBeSilent machine before most given stop (map placed_entry told) after left
+  pub traced : text ≡ trace_text told

@@ -18,10 +18,10 @@ use crate::refusals::RunFault;
 use crate::runs::{Pick, RunEnd};
 use crate::sinks::{Sink, write_all};
 use crate::sources::Source;
-use crate::tracing::trace_text;
+use crate::tracing::add_lines;
 use asl_machine::Machine;
 use asl_records::Declared;
-use asl_run::{Entry, Stop, drive, start};
+use asl_run::{Run, Stop, drive, start};
 use asl_shape::has;
 use asl_tree::{OutOfMemory, Tree};
 use std::alloc::Global;
@@ -30,7 +30,7 @@ use std::alloc::Global;
 #[derive(Drop)]
 struct Told {
     end: RunEnd,
-    trace: String,
+    trace: Vec<u8>,
 }
 
 /// Runs the machine of a definition on an input, with the answers that a source has, by at most `max_steps` events, and
@@ -67,7 +67,7 @@ pub fn run_texts<R: Source, W: Sink>(
         Ok(told) => told,
         Err(_) => return Err(RunFault::OutOfMemory),
     };
-    match write_all(out, told.trace.as_bytes()) {
+    match write_all(out, &told.trace) {
         Ok(()) => Ok(told.end),
         Err(_) => Err(RunFault::Write),
     }
@@ -75,7 +75,7 @@ pub fn run_texts<R: Source, W: Sink>(
 
 /// The run of what the texts read as; none where the input isn't of its shape.
 fn run_given(alloc: Global, given: Given, order: Pick, max_steps: u64) -> Result<Told, OutOfMemory>
-    ensures { (m : Scope) → Shows given.machine m → IfOk result (λ told. RunsTo (option_map declared_view given.declared) m (view given.input) (map answer_view given.answers.items) order max_steps (run_end_view told.end) (string_bytes told.trace)) }
+    ensures { (m : Scope) → Shows given.machine m → IfOk result (λ told. RunsTo (option_map declared_view given.declared) m (view given.input) (map answer_view given.answers.items) order max_steps (run_end_view told.end) told.trace.items) }
 {
     let Given {
         machine,
@@ -86,7 +86,7 @@ fn run_given(alloc: Global, given: Given, order: Pick, max_steps: u64) -> Result
     if !fits_input(declared.as_ref(), &input) {
         return Ok(Told {
             end: RunEnd::InputShape,
-            trace: String::new(alloc),
+            trace: Vec::new(alloc),
         });
     }
     let mut answers = DeclaredAnswers {
@@ -115,33 +115,42 @@ fn run_with(
     mut order: Pick,
     max_steps: u64,
 ) -> Result<Told, OutOfMemory>
-    ensures { let shapes = option_map (λ d. declared_view d.now) answers.old.declared in (m : Scope) → Shows machine.now m → IsTrue (fits_input shapes (view input)) → IfOk result (λ told. IsRun shapes m (view input) (map answer_view answers.old.list.items) order max_steps (run_end_view told.end) (string_bytes told.trace)) }
+    ensures { let shapes = option_map (λ d. declared_view d.now) answers.old.declared in (m : Scope) → Shows machine.now m → IsTrue (fits_input shapes (view input)) → IfOk result (λ told. IsRun shapes m (view input) (map answer_view answers.old.list.items) order max_steps (run_end_view told.end) told.trace.items) }
 {
     let mut run = match start(alloc, machine, input) {
         Ok(run) => run,
         Err(_) => return Err(OutOfMemory),
     };
-    let (stop, trace) = match drive(&mut run, &mut order, answers, max_steps) {
-        Ok(driven) => driven,
-        Err(_) => return Err(OutOfMemory),
-    };
-    tell(alloc, machine, stop, answers.is_spent(), &trace)
+    let (stop, trace) = trace(alloc, &mut run, &mut order, answers, max_steps)?;
+    let end = end_of(alloc, machine, stop, answers.is_spent())?;
+    Ok(Told { end, trace })
 }
 
-/// What is told of a run with those entries that was driven until it stopped so.
-fn tell(
+/// Drives a run that hasn't ended until it stops. The lines of what happens are written after each step, whose entries
+/// aren't kept.
+fn trace(
     alloc: Global,
-    machine: &Machine,
-    stop: Stop,
-    spent: bool,
-    entries: &[Entry],
-) -> Result<Told, OutOfMemory>
-    ensures end { IfOk result (λ told. run_end_view told.end ≡ end_at (table_view machine.now).names spent stop) }
-    ensures trace { IfOk result (λ told. (placed : List (List ℕ × model.Entry)) → map entry_view entries.now ≡ map placed_entry placed → string_bytes told.trace ≡ trace_text placed) }
+    run: &mut Run<'_>,
+    order: &mut Pick,
+    answers: &mut DeclaredAnswers<'_>,
+    max_steps: u64,
+) -> Result<(Stop, Vec<u8>), OutOfMemory>
+    requires goes_on { model.outcome_of (run_view run.old) ≡ None }
+    ensures traces { (m : Scope) → IsRunOf m run.old → IfOk result (λ traced. Traces (Pick.may_pick order.old) (DeclaredAnswers.may_give answers.old) (DeclaredAnswers.may_be_silent answers.new) m (run_view run.old) max_steps (map answer_view answers.old.list.items) traced.0 traced.1.items (run_view run.new) (map answer_view answers.new.list.items)) }
+    ensures lasting { (n : List ℕ) (t : Tree) (answer : model.Action) → DeclaredAnswers.may_give answers.new n t answer → DeclaredAnswers.may_give answers.old n t answer }
 {
-    let end = end_of(alloc, machine, stop, spent)?;
-    let trace = trace_text(alloc, entries)?;
-    Ok(Told { end, trace })
+    let mut lines = Vec::new(alloc);
+    'steps: for _taken in 0..max_steps {
+        let (stop, entries) = match drive(run, order, answers, 1) {
+            Ok(driven) => driven,
+            Err(_) => return Err(OutOfMemory),
+        };
+        lines = add_lines(lines, &entries)?;
+        if stop != Stop::StepsSpent {
+            return Ok((stop, lines));
+        }
+    }
+    Ok((Stop::StepsSpent, lines))
 }
 
 /// What a run ends with that was driven until it stopped so. Where a task has no answer though one is left, that one

@@ -1,195 +1,276 @@
 //! The lines of a run's history.
 
-ghost use Rattle.std.specs.Prelude.{◌≡◌, ℕ, List, map, IfOk, codes, string_bytes};
-ghost use Rattle.serde_json.specs.Data.{array, object, string, number, unsigned, no_members, put};
-ghost use Rattle.serde_json.specs.View.{view as json_view, members_view};
-ghost use Rattle.asl_model.specs.Json.{items_of, value_of};
+ghost use Rattle.std.specs.Prelude.{◌≡◌, ◌++◌, ◌∷◌, ℕ, List, Some, map, IfOk, OnOk, codes};
+ghost use Rattle.json.specs.Token.{key};
 ghost use Rattle.asl_model.specs.Run as model;
-ghost use Rattle.asl_model.specs.TracePrinted.{numbers, trace_text};
-ghost use Rattle.asl_tree.specs.View.{view};
+ghost use Rattle.asl_model.specs.Tree.{Text, Object, NoFields, AndField};
+ghost use Rattle.asl_model.specs.TracePrinted.{trace_text};
 ghost use Rattle.asl_run.specs.Driving.{placed_entry};
-ghost use Rattle.asl_run.specs.Entries.{entry_view, outcome_view};
-ghost use Rattle.asl_tool.specs.Tracing.{IsLineOf, ShowsEntry, with_failure, with_outcome};
+ghost use Rattle.asl_run.specs.Entries.{entry_view, error_named, outcome_view, raised_view};
+ghost use Rattle.asl_tree.specs.View.{view};
+ghost use Rattle.asl_tree.specs.Written.{tree_tokens};
+ghost use Rattle.asl_tool.specs.Tracing.{AddsEntry, AddsTree, place_tree, shown_fields, shown_tree};
 
 use asl_run::{Entry, Outcome};
-use asl_tree::{OutOfMemory, Tree, to_value};
-use serde_json::{Map, Value};
-use std::alloc::Global;
+use asl_tree::{OutOfMemory, Tree, write};
+use json::Writer;
 
-/// The lines of a run's history: each entry as an object in one line of compact JSON, ended by a line break (U+000A).
-/// Refuses only where an allocation was refused.
-pub(crate) fn trace_text(alloc: Global, entries: &[Entry]) -> Result<String, OutOfMemory>
-    ensures { IfOk result (λ text. (told : List (List ℕ × model.Entry)) → map entry_view entries.now ≡ map placed_entry told → string_bytes text ≡ trace_text told) }
+/// What a field of a line shows.
+#[derive(Clone, Copy)]
+enum Shown<'e> {
+    Text(&'e str),
+    Number(usize),
+    /// The numbers of the children on the way.
+    Place(&'e [usize]),
+    Data(&'e Tree),
+}
+
+/// The bytes, and behind them the lines of the entries: each an object in one line of compact JSON, its names in byte
+/// order, ended by a line break (U+000A). Refuses only where an allocation was refused.
+pub(crate) fn add_lines(bytes: Vec<u8>, entries: &[Entry]) -> Result<Vec<u8>, OutOfMemory>
+    ensures { IfOk result (λ longer. (told : List (List ℕ × model.Entry))
+        → map entry_view entries.now ≡ map placed_entry told
+        → longer.items ≡ bytes.items ++ trace_text told) }
 {
-    let mut text = String::new(alloc);
+    let mut longer = bytes;
     for entry in entries {
-        let line = entry_text(alloc, entry)?;
-        text.push_str(&line)?;
+        longer = add_entry(longer, entry)?;
     }
-    Ok(text)
+    Ok(longer)
 }
 
-/// The line of an entry, with its break.
-fn entry_text(alloc: Global, entry: &Entry) -> Result<String, OutOfMemory>
-    ensures { IfOk result (λ text. IsLineOf entry.now (string_bytes text)) }
-{
-    let line = entry_line(alloc, entry)?;
-    let mut text = Value::Object(line.members).to_string(alloc)?;
-    text.push_str("\n")?;
-    Ok(text)
-}
-
-/// What is written for an entry.
-fn entry_line(alloc: Global, entry: &Entry) -> Result<Line, OutOfMemory>
-    ensures { IfOk result (λ line. ShowsEntry entry.now (members_view line.members.entries)) }
+/// The bytes, and behind them the line of the entry.
+fn add_entry(bytes: Vec<u8>, entry: &Entry) -> Result<Vec<u8>, OutOfMemory>
+    ensures { IfOk result (λ longer. AddsEntry (entry_view entry.now) bytes.items longer.items) }
 {
     match entry {
-        Entry::Enter { at, state, input } => {
-            Line::of_state(alloc, "Enter", at, state)?.tree("input", input)
-        }
-        Entry::Task { at, state, payload } => {
-            Line::of_state(alloc, "Task", at, state)?.tree("payload", payload)
-        }
-        Entry::Leave { at, state, output } => {
-            Line::of_state(alloc, "Leave", at, state)?.tree("output", output)
-        }
+        Entry::Enter { at, state, input } => add_data(bytes, at, "Enter", "input", input, state),
+        Entry::Task { at, state, payload } => add_data(bytes, at, "Task", "payload", payload, state),
+        Entry::Leave { at, state, output } => add_data(bytes, at, "Leave", "output", output, state),
         Entry::Raise {
             at,
             state,
             error,
             field,
-        } => Line::of_state(alloc, "Raise", at, state)?.fault(error, field),
+        } => add_fault(bytes, at, error, field, state),
         Entry::TaskFailed {
             at,
             state,
             error,
             cause,
-        } => Line::of_state(alloc, "TaskFailed", at, state)?.failure(error, cause),
+        } => add_failure(bytes, at, cause, error, state),
         Entry::BranchFailed {
             at,
             state,
             child,
             error,
             cause,
-        } => Line::of_state(alloc, "BranchFailed", at, state)?.child(*child, error, cause),
-        Entry::Retried { at, state, retrier } => {
-            Line::of_state(alloc, "Retried", at, state)?.number("retrier", *retrier)
-        }
+        } => add_child(bytes, at, cause, *child, error, state),
+        Entry::Retried { at, state, retrier } => add_retry(bytes, at, *retrier, state),
         Entry::Caught {
             at,
             state,
             catcher,
             next,
-        } => Line::of_state(alloc, "Caught", at, state)?.catcher(*catcher, next),
-        Entry::Ended { at, outcome } => Line::new(alloc, "Ended", at)?.outcome(outcome),
+        } => add_catch(bytes, at, *catcher, next, state),
+        Entry::Ended { at, outcome } => add_end(bytes, at, outcome),
     }
 }
 
-/// The object of a line, as far as its members are there.
-#[derive(Drop)]
-struct Line {
-    alloc: Global,
-    members: Map<String, Value>,
+/// The line of what enters a state or leaves it, or is asked there.
+fn add_data(
+    bytes: Vec<u8>,
+    at: &[usize],
+    kind: &str,
+    name: &str,
+    data: &Tree,
+    state: &str,
+) -> Result<Vec<u8>, OutOfMemory>
+    ensures { IfOk result (λ longer. AddsTree (Object
+        (AndField (codes "at") (place_tree at.now)
+        (AndField (codes "entry") (Text kind.now)
+        (AndField name.now (view data.now)
+        (AndField (codes "state") (Text state.now) NoFields))))) bytes.items longer.items) }
+{
+    let fields = [
+        ("at", Shown::Place(at)),
+        ("entry", Shown::Text(kind)),
+        (name, Shown::Data(data)),
+        ("state", Shown::Text(state)),
+    ];
+    add_object(bytes, &fields)
 }
 
-impl Line {
-    /// The line of an entry of that kind at that place.
-    fn new(alloc: Global, kind: &str, at: &[usize]) -> Result<Line, OutOfMemory>
-        ensures { IfOk result (λ line. members_view line.members.entries ≡ put (codes "entry") (string kind.now) (put (codes "at") (array (items_of (numbers at.now))) no_members)) }
-    {
-        let line = Line {
-            alloc,
-            members: Map::new(alloc),
-        };
-        line.member("at", place_value(alloc, at)?)?
-            .text("entry", kind)
-    }
+/// The line of a data-flow fault.
+fn add_fault(
+    bytes: Vec<u8>,
+    at: &[usize],
+    error: &str,
+    field: &str,
+    state: &str,
+) -> Result<Vec<u8>, OutOfMemory>
+    ensures { IfOk result (λ longer. AddsEntry
+        (at.now, raised_view state.now field.now (error_named error.now)) bytes.items longer.items) }
+{
+    let fields = [
+        ("at", Shown::Place(at)),
+        ("entry", Shown::Text("Raise")),
+        ("error", Shown::Text(error)),
+        ("field", Shown::Text(field)),
+        ("state", Shown::Text(state)),
+    ];
+    add_object(bytes, &fields)
+}
 
-    /// The same with the state's name.
-    fn of_state(alloc: Global, kind: &str, at: &[usize], state: &str) -> Result<Line, OutOfMemory>
-        ensures { IfOk result (λ line. members_view line.members.entries ≡ put (codes "state") (string state.now) (put (codes "entry") (string kind.now) (put (codes "at") (array (items_of (numbers at.now))) no_members))) }
-    {
-        Line::new(alloc, kind, at)?.text("state", state)
-    }
+/// The line of a task's failure.
+fn add_failure(
+    bytes: Vec<u8>,
+    at: &[usize],
+    cause: &str,
+    error: &str,
+    state: &str,
+) -> Result<Vec<u8>, OutOfMemory>
+    ensures { IfOk result (λ longer. AddsEntry
+        (at.now, Some (model.TaskFailed state.now error.now cause.now)) bytes.items longer.items) }
+{
+    let fields = [
+        ("at", Shown::Place(at)),
+        ("cause", Shown::Text(cause)),
+        ("entry", Shown::Text("TaskFailed")),
+        ("error", Shown::Text(error)),
+        ("state", Shown::Text(state)),
+    ];
+    add_object(bytes, &fields)
+}
 
-    /// With an error and the field where it was met.
-    fn fault(self, error: &str, field: &str) -> Result<Line, OutOfMemory>
-        ensures { IfOk result (λ line. members_view line.members.entries ≡ put (codes "field") (string field.now) (put (codes "error") (string error.now) (members_view self.members.entries))) }
-    {
-        self.text("error", error)?.text("field", field)
-    }
+/// The line of a child's failure.
+fn add_child(
+    bytes: Vec<u8>,
+    at: &[usize],
+    cause: &str,
+    child: usize,
+    error: &str,
+    state: &str,
+) -> Result<Vec<u8>, OutOfMemory>
+    ensures { IfOk result (λ longer. AddsEntry
+        (at.now, Some (model.BranchFailed state.now child error.now cause.now)) bytes.items longer.items) }
+{
+    let fields = [
+        ("at", Shown::Place(at)),
+        ("cause", Shown::Text(cause)),
+        ("child", Shown::Number(child)),
+        ("entry", Shown::Text("BranchFailed")),
+        ("error", Shown::Text(error)),
+        ("state", Shown::Text(state)),
+    ];
+    add_object(bytes, &fields)
+}
 
-    /// With the number of a child, its error and its cause.
-    fn child(self, child: usize, error: &str, cause: &str) -> Result<Line, OutOfMemory>
-        ensures { IfOk result (λ line. members_view line.members.entries ≡ with_failure error.now cause.now (put (codes "child") (number (unsigned child)) (members_view self.members.entries))) }
-    {
-        self.number("child", child)?.failure(error, cause)
-    }
+/// The line of a retry.
+fn add_retry(
+    bytes: Vec<u8>,
+    at: &[usize],
+    retrier: usize,
+    state: &str,
+) -> Result<Vec<u8>, OutOfMemory>
+    ensures { IfOk result (λ longer. AddsEntry
+        (at.now, Some (model.Retried state.now retrier)) bytes.items longer.items) }
+{
+    let fields = [
+        ("at", Shown::Place(at)),
+        ("entry", Shown::Text("Retried")),
+        ("retrier", Shown::Number(retrier)),
+        ("state", Shown::Text(state)),
+    ];
+    add_object(bytes, &fields)
+}
 
-    /// With the number of a catcher and the state that follows.
-    fn catcher(self, catcher: usize, next: &str) -> Result<Line, OutOfMemory>
-        ensures { IfOk result (λ line. members_view line.members.entries ≡ put (codes "next") (string next.now) (put (codes "catcher") (number (unsigned catcher)) (members_view self.members.entries))) }
-    {
-        self.number("catcher", catcher)?.text("next", next)
-    }
+/// The line of a catcher that hands on.
+fn add_catch(
+    bytes: Vec<u8>,
+    at: &[usize],
+    catcher: usize,
+    next: &str,
+    state: &str,
+) -> Result<Vec<u8>, OutOfMemory>
+    ensures { IfOk result (λ longer. AddsEntry
+        (at.now, Some (model.Caught state.now catcher next.now)) bytes.items longer.items) }
+{
+    let fields = [
+        ("at", Shown::Place(at)),
+        ("catcher", Shown::Number(catcher)),
+        ("entry", Shown::Text("Caught")),
+        ("next", Shown::Text(next)),
+        ("state", Shown::Text(state)),
+    ];
+    add_object(bytes, &fields)
+}
 
-    /// With how a scope has ended.
-    fn outcome(self, outcome: &Outcome) -> Result<Line, OutOfMemory>
-        ensures { IfOk result (λ line. members_view line.members.entries ≡ with_outcome (outcome_view outcome.now) (members_view self.members.entries)) }
-    {
-        match outcome {
-            Outcome::Output(output) => self.tree("output", output),
-            Outcome::Failed { error, cause } => self.failure(error, cause),
+/// The line of a scope's end.
+fn add_end(bytes: Vec<u8>, at: &[usize], outcome: &Outcome) -> Result<Vec<u8>, OutOfMemory>
+    ensures { IfOk result (λ longer. AddsEntry
+        (at.now, Some (model.Ended (outcome_view outcome.now))) bytes.items longer.items) }
+{
+    match outcome {
+        Outcome::Output(output) => {
+            let fields = [
+                ("at", Shown::Place(at)),
+                ("entry", Shown::Text("Ended")),
+                ("output", Shown::Data(output)),
+            ];
+            add_object(bytes, &fields)
+        }
+        Outcome::Failed { error, cause } => {
+            let fields = [
+                ("at", Shown::Place(at)),
+                ("cause", Shown::Text(cause)),
+                ("entry", Shown::Text("Ended")),
+                ("error", Shown::Text(error)),
+            ];
+            add_object(bytes, &fields)
         }
     }
+}
 
-    /// With an error and its cause.
-    fn failure(self, error: &str, cause: &str) -> Result<Line, OutOfMemory>
-        ensures { IfOk result (λ line. members_view line.members.entries ≡ with_failure error.now cause.now (members_view self.members.entries)) }
-    {
-        self.text("error", error)?.text("cause", cause)
+/// The bytes, and behind them an object of these fields and a line break. The names come in the order of their bytes.
+fn add_object(bytes: Vec<u8>, fields: &[(&str, Shown<'_>)]) -> Result<Vec<u8>, OutOfMemory>
+    ensures { IfOk result (λ longer. AddsTree (Object (shown_fields fields.now)) bytes.items longer.items) }
+{
+    let mut writer = Writer::new(bytes);
+    writer.begin_object()?;
+    for field in fields {
+        add_field(&mut writer, field.0, field.1)?;
     }
+    writer.end_object()?;
+    let mut longer = writer.into_inner();
+    longer.push(b'\n')?;
+    Ok(longer)
+}
 
-    /// With a tree under a name.
-    fn tree(self, name: &str, tree: &Tree) -> Result<Line, OutOfMemory>
-        ensures { IfOk result (λ line. members_view line.members.entries ≡ put name.now (value_of (view tree.now)) (members_view self.members.entries)) }
-    {
-        let value = to_value(self.alloc, tree)?;
-        self.member(name, value)
-    }
-
-    /// With a text under a name.
-    fn text(self, name: &str, text: &str) -> Result<Line, OutOfMemory>
-        ensures { IfOk result (λ line. members_view line.members.entries ≡ put name.now (string text.now) (members_view self.members.entries)) }
-    {
-        let value = Value::String(String::from_str(self.alloc, text)?);
-        self.member(name, value)
-    }
-
-    /// With a number under a name.
-    fn number(self, name: &str, value: usize) -> Result<Line, OutOfMemory>
-        ensures { IfOk result (λ line. members_view line.members.entries ≡ put name.now (number (unsigned value)) (members_view self.members.entries)) }
-    {
-        self.member(name, Value::from(value))
-    }
-
-    /// With a value under a name.
-    fn member(mut self, name: &str, value: Value) -> Result<Line, OutOfMemory>
-        ensures { IfOk result (λ line. members_view line.members.entries ≡ put name.now (json_view value) (members_view self.members.entries)) }
-    {
-        let name = String::from_str(self.alloc, name)?;
-        drop(self.members.insert(name, value)?);
-        Ok(self)
+/// Writes a field.
+fn add_field(writer: &mut Writer, name: &str, shown: Shown<'_>) -> Result<(), OutOfMemory>
+    ensures before { writer.new.before ≡ writer.old.before }
+    ensures tokens { OnOk result (writer.new.tokens
+        ≡ writer.old.tokens ++ key name.now ∷ tree_tokens (shown_tree shown)) }
+{
+    writer.key(name)?;
+    match shown {
+        Shown::Text(text) => Ok(writer.string(text)?),
+        Shown::Number(number) => Ok(writer.u64(number as u64)?),
+        Shown::Place(at) => add_place(writer, at),
+        Shown::Data(data) => write(writer, data),
     }
 }
 
-/// The list of the numbers of a place.
-fn place_value(alloc: Global, at: &[usize]) -> Result<Value, OutOfMemory>
-    ensures { IfOk result (λ value. json_view value ≡ array (items_of (numbers at.now))) }
+/// Writes the list of the numbers of a place.
+fn add_place(writer: &mut Writer, at: &[usize]) -> Result<(), OutOfMemory>
+    ensures before { writer.new.before ≡ writer.old.before }
+    ensures tokens { OnOk result (writer.new.tokens
+        ≡ writer.old.tokens ++ tree_tokens (place_tree at.now)) }
 {
-    let mut numbers = Vec::with_capacity(alloc, at.len())?;
+    writer.begin_array()?;
     for number in at {
-        numbers.push(Value::from(*number))?;
+        writer.u64(*number as u64)?;
     }
-    Ok(Value::Array(numbers))
+    Ok(writer.end_array()?)
 }
