@@ -1,7 +1,7 @@
 //! JSON trees with whole numbers, and their texts.
 //!
 //! A [`Tree`] is any JSON value whose numbers are whole and fit an `i64` (RFC 8259; States Language, "Data").
-//! [`read`] makes one of a text, [`to_text`] writes it as compact JSON, [`copy`] and [`same`] copy and compare,
+//! [`read`] makes one of a text, [`to_text`] and [`write`] write it as compact JSON, [`copy`] and [`same`] copy and compare,
 //! [`is_whole`] tests whether a JSON value is one, [`to_value`] makes that value of a tree.
 #![tactic(auto)]
 
@@ -20,7 +20,7 @@ pub use comparing::same;
 pub use copying::copy;
 pub use reading::{from_value, read, read_value};
 pub use wholeness::is_whole;
-pub use writing::{to_text, to_value};
+pub use writing::{to_text, to_value, write};
 
 /// A JSON value whose numbers are whole.
 #[derive(Debug, Drop)]

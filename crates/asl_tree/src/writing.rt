@@ -1,13 +1,15 @@
 //! Writing trees as JSON texts (RFC 8259).
-ghost use Rattle.std.specs.Prelude.{◌≡◌, ◌≤◌, IfOk, Some, string_bytes};
+ghost use Rattle.std.specs.Prelude.{◌≡◌, ◌≤◌, ◌++◌, IfOk, OnOk, Some, string_bytes};
 ghost use Rattle.serde_json.specs.Data.{depth};
 ghost use Rattle.serde_json.specs.Read.{max_depth};
 ghost use Rattle.serde_json.specs.View.{view as json_view, items_view, members_view};
 ghost use Rattle.asl_model.specs.Json.{ReadsAsTree, tree_of, value_of, items_of, members_for, compact_text};
 ghost use Rattle.asl_tree.specs.View.{view, elements_view, entries_view};
 ghost use Rattle.asl_tree.specs.Whole.{AreWhole, HaveWholeValues};
+ghost use Rattle.asl_tree.specs.Written.{tree_tokens};
 
 use crate::{OutOfMemory, Tree};
+use json::Writer;
 use serde_json::{Map, Value};
 use std::alloc::Global;
 use std::collections::BTreeMap;
@@ -20,6 +22,15 @@ pub fn to_text(alloc: Global, tree: &Tree) -> Result<String, OutOfMemory>
 {
     let value = to_value(alloc, tree)?;
     Ok(value.to_string(alloc)?)
+}
+
+/// Writes the tokens of `tree`: those of its compact text, names in the order of their bytes. The writer places the commas.
+/// Refuses only where an allocation was refused; a front of the tokens may then be written.
+pub fn write(writer: &mut Writer, tree: &Tree) -> Result<(), OutOfMemory>
+    ensures before { writer.new.before ≡ writer.old.before }
+    ensures tokens { OnOk result (writer.new.tokens ≡ writer.old.tokens ++ tree_tokens (view tree.now)) }
+{
+    Err(OutOfMemory)
 }
 
 /// The JSON value that `tree` is; it is read as the same tree. Refuses only where an allocation was refused.
