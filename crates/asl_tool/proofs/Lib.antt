@@ -1,6 +1,5 @@
 pub mod Failures
 pub mod LineSteps
-pub mod Places
 pub mod Promises
 pub mod RefusedAnswers
 pub mod RefusedTexts
@@ -8,5 +7,7 @@ pub mod Replies
 pub mod RunEnds
 pub mod RunFaults
 pub mod Slices
+pub mod Stepwise
+pub mod TracedFields
 pub mod Traces
 pub mod WriteSteps

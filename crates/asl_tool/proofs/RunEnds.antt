@@ -18,6 +18,7 @@ use Rattle.asl_run.specs.declared.driving.Stop.{Stop}
 use Rattle.asl_run.specs.declared.driving.Stop.TheVariants as stops
 use Rattle.asl_run.specs.declared.entries.Answer.{Answer}
 use Rattle.asl_run.specs.declared.entries.Answer.TheVariants as answers
+use Rattle.asl_tool.specs.Tracing.{Traces}
 use Rattle.asl_tool.specs.Runs.{AllEnabled, AllPicked, EndsSo, IsRun, MayGive, NextMisfits, ObeysShapes, RunsTo, input_misfits, is_run, Waits, fits_task, fits_input, next_fits, is_spent, end_at, place_picked}
 use Rattle.asl_tool.specs.declared.runs.Pick.{Pick}
 
@@ -96,15 +97,25 @@ ends_so shapes other names most count a left spent stops.StepsSpent keeps e h = 
 abbrev Told : Type 0
 Told = List ℕ × Entry
 
-pub driven_run : (shapes other : Option Declared) (machine : Scope) (input : Tree) (answers : List Action) (order : Pick) (most : ℕ) (stop : Stop) (told : List (List ℕ × Option Entry)) (before after : Activity) (left : List Action) (spent : Bool) (end : RunEnd) (text : List ℕ)
+-- entries with their places are told from each other
+placed_same : (xs ys : List Told) → map placed_entry xs ≡ map placed_entry ys → xs ≡ ys
+placed_same [] [] e = refl
+placed_same [] (y ∷ ys) e = absurd (cc)
+placed_same (x ∷ xs) [] e = absurd (cc)
+placed_same (x ∷ xs) (y ∷ ys) e =
+    let first : x ≡ y = cc in
+    let others : map placed_entry xs ≡ map placed_entry ys = cc in
+    rw (first, placed_same xs ys others) refl
+
+driven_run : (shapes other : Option Declared) (machine : Scope) (input : Tree) (answers : List Action) (order : Pick) (most : ℕ) (stop : Stop) (before after : Activity) (left : List Action) (spent : Bool) (end : RunEnd) (text : List ℕ)
     → Keeps shapes other → before ≡ start machine input → fits_input shapes input ≡ true → spent ≡ is_spent left
-    → Stops (By order) (MayGive shapes) (λ n t. next_fits other n left ≡ false) machine before most answers stop told after left
-    → ((entries : List Told) → told ≡ map placed_entry entries → text ≡ trace_text entries)
+    → Traces (By order) (MayGive shapes) (λ n t. next_fits other n left ≡ false) machine before most answers stop text after left
     → end ≡ end_at (table_of machine).names spent stop
     → IsRun shapes machine input answers order most end text
-driven_run shapes other machine input answers order most stop told before after left spent end text keeps at_start fits none_more stops traced ends =
-    let S : Activity → Type 0 = λ a. Stops (By order) (MayGive shapes) (λ n t. next_fits other n left ≡ false) machine a most answers stop told after left in
-    let s : S (start machine input) = subst S at_start stops in
+driven_run shapes other machine input answers order most stop before after left spent end text keeps at_start fits none_more traces ends =
+    let S : Activity → Type 0 = λ a. Traces (By order) (MayGive shapes) (λ n t. next_fits other n left ≡ false) machine a most answers stop text after left in
+    let written : S (start machine input) = subst S at_start traces in
+    let s = written.stops in
     let turns = run_of machine input s.drives.events in
     let E : ℕ → Activity → RunEnd → Type 0 = λ count a e. EndsSo shapes most count a left e in
     let there : E s.count after (end_at (table_of machine).names spent stop) = ends_so shapes other (table_of machine).names most s.count after left spent stop keeps none_more s.why in
@@ -116,21 +127,20 @@ driven_run shapes other machine input answers order most stop told before after 
       picked = all_picked order (MayGive shapes) machine turns s.drives.taken;
       answered = s.drives.answered;
       obeys = obeys shapes order machine input s.drives.events fits s.drives.taken;
-      told = traced (trace turns) s.drives.traced;
+      told = written.traced ∙ ap trace_text (placed_same written.told (trace turns) s.drives.traced);
       why = subst (λ n. E n (last_activity (start machine input) turns) end) (sym s.drives.counted)
           (subst (λ a. E s.count a end) (sym s.drives.stands) (subst (E s.count after) (sym ends) there));
     }
 
--- the run that is told of, where it is
-pub told_run : {T E : Type 0} (end_of : T → RunEnd) (text_of : T → List ℕ) (r : Result T E) (shapes other : Option Declared) (machine : Scope) (input : Tree) (answers : List Action) (order : Pick) (most : ℕ) (stop : Stop) (told : List (List ℕ × Option Entry)) (before after : Activity) (left : List Action) (spent : Bool)
+-- the run whose history is written, where its end is told
+pub written_run : {E F : Type 0} (end_of : E → RunEnd) (r : Result E F) (shapes other : Option Declared) (machine : Scope) (input : Tree) (answers : List Action) (order : Pick) (most : ℕ) (stop : Stop) (text : List ℕ) (before after : Activity) (left : List Action) (spent : Bool)
     → Keeps shapes other → before ≡ start machine input → fits_input shapes input ≡ true → spent ≡ is_spent left
-    → Stops (By order) (MayGive shapes) (λ n t. next_fits other n left ≡ false) machine before most answers stop told after left
-    → IfOk r (λ t. (entries : List Told) → told ≡ map placed_entry entries → text_of t ≡ trace_text entries)
-    → IfOk r (λ t. end_of t ≡ end_at (table_of machine).names spent stop)
-    → IfOk r (λ t. IsRun shapes machine input answers order most (end_of t) (text_of t))
-told_run end_of text_of (Ok t) shapes other machine input answers order most stop told before after left spent keeps at_start fits none_more stops traced ends =
-    driven_run shapes other machine input answers order most stop told before after left spent (end_of t) (text_of t) keeps at_start fits none_more stops traced ends
-told_run end_of text_of (Err e) shapes other machine input answers order most stop told before after left spent keeps at_start fits none_more stops traced ends = tt
+    → Traces (By order) (MayGive shapes) (λ n t. next_fits other n left ≡ false) machine before most answers stop text after left
+    → IfOk r (λ e. end_of e ≡ end_at (table_of machine).names spent stop)
+    → IfOk r (λ e. IsRun shapes machine input answers order most (end_of e) text)
+written_run end_of (Ok e) shapes other machine input answers order most stop text before after left spent keeps at_start fits none_more traces ends =
+    driven_run shapes other machine input answers order most stop before after left spent (end_of e) text keeps at_start fits none_more traces ends
+written_run end_of (Err e) shapes other machine input answers order most stop text before after left spent keeps at_start fits none_more traces ends = tt
 
 -- ---- what is given
 

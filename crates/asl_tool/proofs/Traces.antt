@@ -1,75 +1,52 @@
 -- The lines of entries, one after another.
-use Rattle.std.proofs.Common.{◌≡◌, ◌<◌, ◌+◌, ℕ, zero, suc, List, [], ◌∷◌, ◌++◌, map, length, drop, get_or, false, Option, IfSome, option_map, refl, sym, ap, subst, ◌∙◌, append_assoc, append-nil, ◌≤◌, arith}
-use Rattle.std.proofs.lemmas.List.{drop_all}
-use Rattle.serde_json.specs.Data.{Data, Members, object}
-use Rattle.serde_json.specs.Written as written
-use Rattle.serde_json.specs.Written.{has_float}
-use Rattle.asl_model.specs.Json.{value_of}
-use Rattle.asl_model.specs.Printed.{line_break}
-use Rattle.asl_model.specs.Run as model
-use Rattle.asl_model.specs.TracePrinted.{entry_tree, entry_line, trace_text}
-use Rattle.asl_tree.proofs.Texts.{has_no_float}
+use Rattle.std.proofs.Common.{◌≡◌, ◌<◌, ◌≤◌, ◌+◌, ℕ, zero, suc, List, [], ◌∷◌, ◌++◌, map, length, take, get_or, Option, IfSome, refl, sym, ap, subst, ◌∙◌, append_assoc, append-nil, arith}
+use Rattle.std.proofs.lemmas.List.{length-map, take_all}
+use Rattle.asl_model.specs.Run.{Entry}
+use Rattle.asl_model.specs.TracePrinted.{entry_line, trace_text}
 use Rattle.asl_run.specs.Driving.{placed_entry}
 use Rattle.asl_run.specs.Entries.{entry_view}
-use Rattle.asl_run.specs.declared.entries.Entry.{Entry}
-use Rattle.asl_tool.specs.Tracing.{IsLineOf, ShowsEntry}
+use Rattle.asl_run.specs.declared.entries.Entry as code
+use Rattle.asl_tool.specs.Tracing.{AddsEntry}
 
 abbrev Told : Type 0
-Told = List ℕ × model.Entry
+Told = List ℕ × Entry
 
--- the text is that of the entries which those of the code stand for
-pub record Traces (entries : List Entry) (text : List ℕ) : Type 0 where
-  pub same : (told : List Told) → map entry_view entries ≡ map placed_entry told → text ≡ trace_text told
+-- the lines of the first so many of them are added
+abbrev pub AddsSoFar : List code.Entry → ℕ → List ℕ → List ℕ → Type 0
+AddsSoFar entries i before longer = (told : List Told) → map entry_view entries ≡ map placed_entry told → longer ≡ before ++ trace_text (take i told)
 
--- the compact text of an entry's members is its line, with a break
-pub line_of : (e : Entry) (ms : Members) (v : Data) (text line : List ℕ) → ShowsEntry e ms → v ≡ object ms → (has_float v ≡ false → text ≡ written.compact_text v) → line ≡ text ++ line_break → IsLineOf e line
-line_of e ms v text line shows is written_so broken = record { same = one }
-  where
-    P : List ℕ × Option model.Entry → Type 0
-    P x = IfSome (option_map (entry_tree x.0) x.1) (λ t. value_of t ≡ object ms)
+-- what an entry of the code stands for, and its line behind those of the entries before it
+record IsNext (e : code.Entry) (told : List Told) (i : ℕ) : Type 0 where
+  entry : Told
+  stands : entry_view e ≡ placed_entry entry
+  lines : trace_text (take (i + 1) told) ≡ trace_text (take i told) ++ entry_line entry
 
-    one : (told : Told) → entry_view e ≡ placed_entry told → line ≡ entry_line told
-    one told at =
-        let tree = entry_tree told.0 told.1 in
-        let shown : value_of tree ≡ object ms = subst P at shows.shown in
-        let same : v ≡ value_of tree = is ∙ sym shown in
-        broken ∙ ap (λ s. s ++ line_break) (written_so (ap has_float same ∙ has_no_float tree) ∙ ap written.compact_text same)
+next_line : (entries : List code.Entry) (told : List Told) (i : ℕ) (e : code.Entry) → i < length entries → e ≡ get_or entries i e → map entry_view entries ≡ map placed_entry told → IsNext e told i
+next_line [] told i e within is same = absurd (omega arith)
+next_line (x ∷ xs) [] i e within is same = absurd (cc)
+next_line (x ∷ xs) (t ∷ ts) zero e within is same =
+    let first : entry_view x ≡ placed_entry t = cc in
+    record { entry = t; stands = ap entry_view is ∙ first; lines = append-nil (entry_line t) }
+next_line (x ∷ xs) (t ∷ ts) (suc i) e within is same =
+    let others : map entry_view xs ≡ map placed_entry ts = cc in
+    let next = next_line xs ts i e (omega arith) is others in
+    let one : suc i + 1 ≡ suc (i + 1) = omega arith in
+    record {
+      entry = next.entry;
+      stands = next.stands;
+      lines = ap (λ k. trace_text (take k (t ∷ ts))) one ∙ ap (λ s. entry_line t ++ s) next.lines ∙ sym (append_assoc (entry_line t) (trace_text (take i ts)) (entry_line next.entry));
+    }
 
--- no entry, no text
-none_traced : Traces [] []
-none_traced = record { same = none }
-  where
-    none : (told : List Told) → map entry_view [] ≡ map placed_entry told → [] ≡ trace_text told
-    none [] h = refl
-    none (t ∷ ts) h = absurd (cc)
-
--- one entry more in front
-one_more : (e : Entry) (rest : List Entry) (line text : List ℕ) → IsLineOf e line → Traces rest text → Traces (e ∷ rest) (line ++ text)
-one_more e rest line text one all = record { same = both }
-  where
-    both : (told : List Told) → map entry_view (e ∷ rest) ≡ map placed_entry told → line ++ text ≡ trace_text told
-    both [] h = absurd (cc)
-    both (t ∷ ts) h =
-        let first : entry_view e ≡ placed_entry t = cc in
-        let others : map entry_view rest ≡ map placed_entry ts = cc in
-        rw (one.same t first, all.same ts others) refl
-
--- whatever the text of the entries left is, it makes with the text so far that of all
-abbrev pub TracesSoFar : List Entry → List Entry → List ℕ → Type 0
-TracesSoFar entries left text = (rest : List ℕ) → Traces left rest → Traces entries (text ++ rest)
-
-split_at : (entries : List Entry) (i : ℕ) (e : Entry) → i < length entries → e ≡ get_or entries i e → drop i entries ≡ e ∷ drop (i + 1) entries
-split_at [] i e within is = absurd (omega arith)
-split_at (x ∷ xs) zero e within is = rw (← is) refl
-split_at (x ∷ xs) (suc i) e within is = split_at xs i e (omega arith) is ∙ (let next : suc (i + 1) ≡ suc i + 1 = omega arith in ap (λ k. e ∷ drop k (x ∷ xs)) next)
-
-pub goes_on : (entries : List Entry) (i : ℕ) (e : Entry) (text line longer : List ℕ) → i < length entries → e ≡ get_or entries i e → TracesSoFar entries (drop i entries) text → IsLineOf e line → longer ≡ text ++ line → TracesSoFar entries (drop (i + 1) entries) longer
-goes_on entries i e text line longer within is so_far one grown = λ rest traced.
-    let front : Traces (drop i entries) (line ++ rest) = subst (λ es. Traces es (line ++ rest)) (sym (split_at entries i e within is)) (one_more e (drop (i + 1) entries) line rest one traced) in
-    subst (Traces entries) (sym (append_assoc text line rest) ∙ ap (λ s. s ++ rest) (sym grown)) (so_far (line ++ rest) front)
+-- one line more
+pub goes_on : (entries : List code.Entry) (i : ℕ) (e : code.Entry) (before text longer : List ℕ) → i < length entries → e ≡ get_or entries i e → AddsSoFar entries i before text → AddsEntry (entry_view e) text longer → AddsSoFar entries (i + 1) before longer
+goes_on entries i e before text longer within is so_far added = λ told same.
+    let next = next_line entries told i e within is same in
+    let P : List ℕ × Option Entry → Type 0 = λ x. IfSome x.1 (λ entry. longer ≡ text ++ entry_line (x.0, entry)) in
+    let one : longer ≡ text ++ entry_line next.entry = subst P next.stands added.added in
+    one ∙ ap (λ s. s ++ entry_line next.entry) (so_far told same) ∙ append_assoc before (trace_text (take i told)) (entry_line next.entry) ∙ ap (λ s. before ++ s) (sym next.lines)
 
 -- no entry is left
-pub all_traced : (entries : List Entry) (i : ℕ) (text : List ℕ) → length entries ≤ i → TracesSoFar entries (drop i entries) text → (told : List Told) → map entry_view entries ≡ map placed_entry told → text ≡ trace_text told
-all_traced entries i text end so_far told same =
-    let none : Traces (drop i entries) [] = subst (λ es. Traces es []) (sym (drop_all i entries end)) none_traced in
-    sym (append-nil text) ∙ (so_far [] none).same told same
+pub all_added : (entries : List code.Entry) (i : ℕ) (before text : List ℕ) → length entries ≤ i → AddsSoFar entries i before text → (told : List Told) → map entry_view entries ≡ map placed_entry told → text ≡ before ++ trace_text told
+all_added entries i before text end so_far told same =
+    let many : length entries ≡ length told = sym (length-map entries entry_view) ∙ ap length same ∙ length-map told placed_entry in
+    so_far told same ∙ ap (λ ts. before ++ trace_text ts) (take_all i told (omega arith))

@@ -11,7 +11,7 @@ use Rattle.asl_run.specs.declared.driving.Stop.{Stop}
 use Rattle.asl_tree.specs.View.{view}
 use Rattle.asl_tool.specs.declared.tracing.Shown.{Shown}
 use Rattle.asl_tool.specs.declared.tracing.Shown.TheVariants as shown
-use Rattle.std.specs.Prelude.{Bor}
+use Rattle.std.specs.Borrow.{Bor}
 
 -- a place as the list of its numbers
 abbrev pub place_tree : List ℕ → Tree
@@ -22,7 +22,7 @@ abbrev pub shown_tree : Shown → Tree
 shown_tree (shown.Text text) = Text text.now
 shown_tree (shown.Number n) = Integer (pos n)
 shown_tree (shown.Place at) = place_tree at.now
-shown_tree (shown.Data data) = view data.now
+shown_tree (shown.Tree tree) = view tree.now
 
 -- the fields of a line
 abbrev pub shown_fields : List (Bor (List ℕ) × Shown) → Fields

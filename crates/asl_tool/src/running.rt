@@ -1,15 +1,16 @@
 //! From the texts of a run to its trace.
 
-ghost use Rattle.std.specs.Prelude.{◌≡◌, ℕ, List, map, option_map, IsTrue, IfOk, IfErr, string_bytes};
+ghost use Rattle.std.specs.Prelude.{◌≡◌, ℕ, List, map, option_map, None, IsTrue, IfOk, IfErr};
 ghost use Rattle.asl_machine.specs.Table.{Shows, table_view};
 ghost use Rattle.asl_model.specs.Machine.{Scope};
 ghost use Rattle.asl_model.specs.Run as model;
-ghost use Rattle.asl_model.specs.TracePrinted.{trace_text};
+ghost use Rattle.asl_model.specs.Tree as trees;
 ghost use Rattle.asl_records.specs.View.{declared_view};
-ghost use Rattle.asl_run.specs.Driving.{placed_entry};
-ghost use Rattle.asl_run.specs.Entries.{answer_view, entry_view};
+ghost use Rattle.asl_run.specs.Entries.{answer_view};
+ghost use Rattle.asl_run.specs.Running.{IsRunOf, run_view};
 ghost use Rattle.asl_tree.specs.View.{view};
 ghost use Rattle.asl_tool.specs.Runs.{IsRun, RunsTo, RunFaultStands, WritesRun, end_at, fits_input};
+ghost use Rattle.asl_tool.specs.Tracing.{Traces};
 ghost use Rattle.asl_tool.specs.View.{run_end_view};
 
 use crate::declared_answers::DeclaredAnswers;
@@ -21,7 +22,7 @@ use crate::sources::Source;
 use crate::tracing::add_lines;
 use asl_machine::Machine;
 use asl_records::Declared;
-use asl_run::{Run, Stop, drive, start};
+use asl_run::{Answers, Order, Run, Stop, drive, start};
 use asl_shape::has;
 use asl_tree::{OutOfMemory, Tree};
 use std::alloc::Global;
@@ -126,18 +127,21 @@ fn run_with(
     Ok(Told { end, trace })
 }
 
-/// Drives a run that hasn't ended until it stops. The lines of what happens are written after each step, whose entries
-/// aren't kept.
-fn trace(
+/// Drives a run that hasn't ended until it stops. What happens is written after each step, whose entries aren't kept.
+fn trace<O: Order, A: Answers>(
     alloc: Global,
-    run: &mut Run<'_>,
-    order: &mut Pick,
-    answers: &mut DeclaredAnswers<'_>,
+    run: &mut Run,
+    order: &mut O,
+    answers: &mut A,
     max_steps: u64,
 ) -> Result<(Stop, Vec<u8>), OutOfMemory>
     requires goes_on { model.outcome_of (run_view run.old) ≡ None }
-    ensures traces { (m : Scope) → IsRunOf m run.old → IfOk result (λ traced. Traces (Pick.may_pick order.old) (DeclaredAnswers.may_give answers.old) (DeclaredAnswers.may_be_silent answers.new) m (run_view run.old) max_steps (map answer_view answers.old.list.items) traced.0 traced.1.items (run_view run.new) (map answer_view answers.new.list.items)) }
-    ensures lasting { (n : List ℕ) (t : Tree) (answer : model.Action) → DeclaredAnswers.may_give answers.new n t answer → DeclaredAnswers.may_give answers.old n t answer }
+    ensures traces { (m : Scope) → IsRunOf m run.old
+        → IfOk result (λ traced. Traces (O.may_pick order.old) (A.may_give answers.old)
+        (A.may_be_silent answers.new) m (run_view run.old) max_steps (A.content answers.old)
+        traced.0 traced.1.items (run_view run.new) (A.content answers.new)) }
+    ensures lasting { (n : List ℕ) (t : trees.Tree) (answer : model.Action)
+        → A.may_give answers.new n t answer → A.may_give answers.old n t answer }
 {
     let mut lines = Vec::new(alloc);
     'steps: for _taken in 0..max_steps {

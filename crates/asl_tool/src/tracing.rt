@@ -22,7 +22,7 @@ enum Shown<'e> {
     Number(usize),
     /// The numbers of the children on the way.
     Place(&'e [usize]),
-    Data(&'e Tree),
+    Tree(&'e Tree),
 }
 
 /// The bytes, and behind them the lines of the entries: each an object in one line of compact JSON, its names in byte
@@ -83,19 +83,19 @@ fn add_data(
     at: &[usize],
     kind: &str,
     name: &str,
-    data: &Tree,
+    tree: &Tree,
     state: &str,
 ) -> Result<Vec<u8>, OutOfMemory>
     ensures { IfOk result (λ longer. AddsTree (Object
         (AndField (codes "at") (place_tree at.now)
         (AndField (codes "entry") (Text kind.now)
-        (AndField name.now (view data.now)
+        (AndField name.now (view tree.now)
         (AndField (codes "state") (Text state.now) NoFields))))) bytes.items longer.items) }
 {
     let fields = [
         ("at", Shown::Place(at)),
         ("entry", Shown::Text(kind)),
-        (name, Shown::Data(data)),
+        (name, Shown::Tree(tree)),
         ("state", Shown::Text(state)),
     ];
     add_object(bytes, &fields)
@@ -216,7 +216,7 @@ fn add_end(bytes: Vec<u8>, at: &[usize], outcome: &Outcome) -> Result<Vec<u8>, O
             let fields = [
                 ("at", Shown::Place(at)),
                 ("entry", Shown::Text("Ended")),
-                ("output", Shown::Data(output)),
+                ("output", Shown::Tree(output)),
             ];
             add_object(bytes, &fields)
         }
@@ -251,14 +251,14 @@ fn add_object(bytes: Vec<u8>, fields: &[(&str, Shown<'_>)]) -> Result<Vec<u8>, O
 fn add_field(writer: &mut Writer, name: &str, shown: Shown<'_>) -> Result<(), OutOfMemory>
     ensures before { writer.new.before ≡ writer.old.before }
     ensures tokens { OnOk result (writer.new.tokens
-        ≡ writer.old.tokens ++ key name.now ∷ tree_tokens (shown_tree shown)) }
+        ≡ writer.old.tokens ++ key name.now ∷ tree_tokens (shown_tree shown.entry)) }
 {
     writer.key(name)?;
     match shown {
         Shown::Text(text) => Ok(writer.string(text)?),
         Shown::Number(number) => Ok(writer.u64(number as u64)?),
         Shown::Place(at) => add_place(writer, at),
-        Shown::Data(data) => write(writer, data),
+        Shown::Tree(tree) => write(writer, tree),
     }
 }
 
