@@ -1,12 +1,13 @@
 //! Writing trees as JSON texts (RFC 8259).
-ghost use Rattle.std.specs.Prelude.{◌≡◌, ◌≤◌, ◌++◌, IfOk, OnOk, Some, string_bytes};
+ghost use Rattle.std.specs.Prelude.{◌≡◌, ◌≤◌, ◌∷◌, ◌++◌, IfOk, OnOk, Some, string_bytes};
+ghost use Rattle.json.specs.Token.{begin_array, begin_object};
 ghost use Rattle.serde_json.specs.Data.{depth};
 ghost use Rattle.serde_json.specs.Read.{max_depth};
 ghost use Rattle.serde_json.specs.View.{view as json_view, items_view, members_view};
 ghost use Rattle.asl_model.specs.Json.{ReadsAsTree, tree_of, value_of, items_of, members_for, compact_text};
 ghost use Rattle.asl_tree.specs.View.{view, elements_view, entries_view};
 ghost use Rattle.asl_tree.specs.Whole.{AreWhole, HaveWholeValues};
-ghost use Rattle.asl_tree.specs.Written.{tree_tokens};
+ghost use Rattle.asl_tree.specs.Written.{tree_tokens, elements_tokens, entries_tokens};
 
 use crate::{OutOfMemory, Tree};
 use json::Writer;
@@ -26,11 +27,47 @@ pub fn to_text(alloc: Global, tree: &Tree) -> Result<String, OutOfMemory>
 
 /// Writes the tokens of `tree`: those of its compact text, names in the order of their bytes. The writer places the commas.
 /// Refuses only where an allocation was refused; a front of the tokens may then be written.
+#[cycle(write)]
 pub fn write(writer: &mut Writer, tree: &Tree) -> Result<(), OutOfMemory>
     ensures before { writer.new.before ≡ writer.old.before }
     ensures tokens { OnOk result (writer.new.tokens ≡ writer.old.tokens ++ tree_tokens (view tree.now)) }
 {
-    Err(OutOfMemory)
+    match tree {
+        Tree::Null => writer.null()?,
+        Tree::Bool(b) => writer.boolean(*b)?,
+        Tree::Int(n) => writer.i64(*n)?,
+        Tree::Text(text) => writer.string(text)?,
+        Tree::List(elements) => write_elements(writer, elements)?,
+        Tree::Object(fields) => write_fields(writer, fields)?,
+    }
+    Ok(())
+}
+
+#[cycle(write)]
+fn write_elements(writer: &mut Writer, elements: &Vec<Tree>) -> Result<(), OutOfMemory>
+    ensures before { writer.new.before ≡ writer.old.before }
+    ensures tokens { OnOk result (writer.new.tokens ≡ writer.old.tokens ++ begin_array ∷ elements_tokens elements.now.items) }
+{
+    writer.begin_array()?;
+    for element in elements {
+        write(writer, element)?;
+    }
+    writer.end_array()?;
+    Ok(())
+}
+
+#[cycle(write)]
+fn write_fields(writer: &mut Writer, fields: &BTreeMap<String, Tree>) -> Result<(), OutOfMemory>
+    ensures before { writer.new.before ≡ writer.old.before }
+    ensures tokens { OnOk result (writer.new.tokens ≡ writer.old.tokens ++ begin_object ∷ entries_tokens fields.now.entries) }
+{
+    writer.begin_object()?;
+    for (name, field) in fields.iter() {
+        writer.key(name)?;
+        write(writer, field)?;
+    }
+    writer.end_object()?;
+    Ok(())
 }
 
 /// The JSON value that `tree` is; it is read as the same tree. Refuses only where an allocation was refused.
