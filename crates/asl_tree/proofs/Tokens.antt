@@ -1,5 +1,5 @@
 -- What is printed for a tree's tokens, and what that reads as.
-use Rattle.std.proofs.Common.{◌≡◌, ℕ, zero, suc, ◌<◌, ◌≤◌, ◌^◌, max, List, [], ◌∷◌, ◌++◌, Some, option_map, option_and_then, IsUtf8, ℤ, pos, negsuc, FitsSigned, w64, String, Vec, BTreeMap, Global, string_bytes, string_cmp, refl, sym, ap, ap₂, ◌∙◌, subst, append_assoc, append-nil, lt-ltb, arith}
+use Rattle.std.proofs.Common.{◌≡◌, ℕ, suc, ◌<◌, ◌≤◌, ◌^◌, max, List, [], ◌∷◌, ◌++◌, Some, option_map, option_and_then, IsUtf8, ℤ, pos, negsuc, FitsSigned, w64, String, Vec, BTreeMap, Global, string_bytes, string_cmp, refl, sym, ap, ap₂, ◌∙◌, subst, append_assoc, append-nil, lt-ltb, arith}
 use Rattle.std.specs.List.Sorted.{IsStrictlySortedBy}
 use Rattle.std.specs.Map.{keys_of}
 use Rattle.json.specs.Lex.{tokens}
@@ -10,7 +10,7 @@ use Rattle.json.proofs.Printed.Trees.{value-json_tokens}
 use Rattle.serde_json.proofs.Numbers.{number_of-decimal, number_of-negative}
 use Rattle.serde_json.proofs.Texts.{print-outline}
 use Rattle.serde_json.specs.Data.{Data, Items, Members, null, boolean, number, string, array, object, no_items, item, no_members, member, put, depth, items_depth, members_depth}
-use Rattle.serde_json.specs.Read.{read, max_depth, of_json, of_items, of_members}
+use Rattle.serde_json.specs.Read.{max_depth, of_json, of_items, of_members}
 use Rattle.serde_json.specs.Written.{outline, items_outline, members_outline}
 use Rattle.asl_model.specs.Json.{ReadsAsTree, value_of, items_of, members_for, compact_text}
 use Rattle.asl_model.specs.Tree as model

@@ -34,11 +34,12 @@ pub fn to_text(alloc: Global, tree: &Tree) -> Result<String, OutOfMemory>
 }
 
 /// Writes the tokens of `tree`: those of its compact text, names in the order of their bytes. The writer places the commas.
-/// Refuses only where an allocation was refused; a front of the tokens may then be written.
+/// Their JSON reads as the same tree. Refuses only where an allocation was refused; a front of the tokens may then be written.
 #[cycle(write)]
 pub fn write(writer: &mut Writer, tree: &Tree) -> Result<(), OutOfMemory>
     ensures before { writer.new.before ≡ writer.old.before }
-    ensures tokens { OnOk result (writer.new.tokens ≡ writer.old.tokens ++ tree_tokens (view tree.now)) }
+    ensures tokens { OnOk result
+        (writer.new.tokens ≡ writer.old.tokens ++ tree_tokens (view tree.now)) }
     ensures reads_back { OnOk result (ReadsBack (view tree.now)) }
 {
     match tree {
@@ -54,7 +55,8 @@ pub fn write(writer: &mut Writer, tree: &Tree) -> Result<(), OutOfMemory>
 
 fn write_integer(writer: &mut Writer, number: i64) -> Result<(), AllocError>
     ensures before { writer.new.before ≡ writer.old.before }
-    ensures tokens { OnOk result (writer.new.tokens ≡ writer.old.tokens ++ tree_tokens (Integer number)) }
+    ensures tokens { OnOk result
+        (writer.new.tokens ≡ writer.old.tokens ++ tree_tokens (Integer number)) }
     ensures reads_back { ReadsBack (Integer number) }
 {
     writer.i64(number)
@@ -63,7 +65,8 @@ fn write_integer(writer: &mut Writer, number: i64) -> Result<(), AllocError>
 #[cycle(write)]
 fn write_elements(writer: &mut Writer, elements: &Vec<Tree>) -> Result<(), OutOfMemory>
     ensures before { writer.new.before ≡ writer.old.before }
-    ensures tokens { OnOk result (writer.new.tokens ≡ writer.old.tokens ++ begin_array ∷ elements_tokens elements.now.items) }
+    ensures tokens { OnOk result (writer.new.tokens
+        ≡ writer.old.tokens ++ begin_array ∷ elements_tokens elements.now.items) }
     ensures read_back { OnOk result (AllReadBack elements.now.items) }
 {
     writer.begin_array()?;
@@ -77,13 +80,14 @@ fn write_elements(writer: &mut Writer, elements: &Vec<Tree>) -> Result<(), OutOf
 #[cycle(write)]
 fn write_fields(writer: &mut Writer, fields: &BTreeMap<String, Tree>) -> Result<(), OutOfMemory>
     ensures before { writer.new.before ≡ writer.old.before }
-    ensures tokens { OnOk result (writer.new.tokens ≡ writer.old.tokens ++ begin_object ∷ entries_tokens fields.now.entries) }
+    ensures tokens { OnOk result (writer.new.tokens
+        ≡ writer.old.tokens ++ begin_object ∷ entries_tokens fields.now.entries) }
     ensures read_back { OnOk result (ValuesReadBack fields.now.entries) }
     ensures in_order { OnOk result (IsStrictlySortedBy string_cmp (keys_of fields.now.entries)) }
 {
     writer.begin_object()?;
-    for (name, field) in fields.iter() {
-        writer.key(name)?;
+    for (key, field) in fields.iter() {
+        writer.key(key)?;
         write(writer, field)?;
     }
     writer.end_object()?;

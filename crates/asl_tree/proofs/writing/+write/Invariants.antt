@@ -10,8 +10,8 @@ invariant-write_elements-loop-element l =
     × (l.writer.tokens ++ elements_tokens (drop l.element-index l.element-items) ≡ l.fn.writer.tokens ++ begin_array ∷ elements_tokens l.element-items)
     × (AllReadBack (drop l.element-index l.element-items) → AllReadBack l.element-items)
 
-abbrev pub invariant-write_fields-loop-name : goal.invariant-write_fields-loop-name
-invariant-write_fields-loop-name l =
+abbrev pub invariant-write_fields-loop-key : goal.invariant-write_fields-loop-key
+invariant-write_fields-loop-key l =
     (l.writer.before ≡ l.fn.writer.before)
-    × (l.writer.tokens ++ entries_tokens l.name-iterator ≡ l.fn.writer.tokens ++ begin_object ∷ entries_tokens l.fields.entries)
-    × (ValuesReadBack l.name-iterator → ValuesReadBack l.fields.entries)
+    × (l.writer.tokens ++ entries_tokens l.key-iterator ≡ l.fn.writer.tokens ++ begin_object ∷ entries_tokens l.fields.entries)
+    × (ValuesReadBack l.key-iterator → ValuesReadBack l.fields.entries)
