@@ -1,3 +1,4 @@
 pub mod Texts
+pub mod Tokens
 pub mod Views
 pub mod Wholes

@@ -35,10 +35,10 @@ members_whole (e ∷ es) h = rw (h.whole.0, members_whole es (record { whole = h
 
 -- ---- what a list and an object show
 
-view_list : (elements : Vec Tree Global) → view (tree.List elements) ≡ model.Array (elements_view elements.items)
+pub view_list : (elements : Vec Tree Global) → view (tree.List elements) ≡ model.Array (elements_view elements.items)
 view_list elements = ap view (sym (TheVariants.rolls-List elements)) ∙ fold-roll-Tree model.Tree view_step (TheOpen.List elements)
 
-view_object : (fields : BTreeMap (String Global) Tree) → view (tree.Object fields) ≡ model.Object (entries_view fields.entries)
+pub view_object : (fields : BTreeMap (String Global) Tree) → view (tree.Object fields) ≡ model.Object (entries_view fields.entries)
 view_object fields = ap view (sym (TheVariants.rolls-Object fields)) ∙ fold-roll-Tree model.Tree view_step (TheOpen.Object fields)
 
 pub list_back : (items : Vec Value Global) (elements : Vec Tree Global) → items_view items.items ≡ items_of (elements_view elements.items) → AreWhole elements.items → tree_of (json_view (value.Array items)) ≡ Some (view (tree.List elements))
