@@ -102,20 +102,23 @@ placed_same : (xs ys : List Told) → map placed_entry xs ≡ map placed_entry y
 placed_same [] [] e = refl
 placed_same [] (y ∷ ys) e = absurd (cc)
 placed_same (x ∷ xs) [] e = absurd (cc)
-placed_same (x ∷ xs) (y ∷ ys) e =
-    let first : x ≡ y = cc in
+placed_same ((p, x) ∷ xs) ((q, y) ∷ ys) e =
+    let first : placed_entry (p, x) ≡ placed_entry (q, y) = cc in
+    let place : p ≡ q = ap (λ told. told.0) first in
+    let some : Some x ≡ Some y = ap (λ told. told.1) first in
+    let entry : x ≡ y = cc in
     let others : map placed_entry xs ≡ map placed_entry ys = cc in
-    rw (first, placed_same xs ys others) refl
+    rw (place, entry, placed_same xs ys others) refl
 
-driven_run : (shapes other : Option Declared) (machine : Scope) (input : Tree) (answers : List Action) (order : Pick) (most : ℕ) (stop : Stop) (before after : Activity) (left : List Action) (spent : Bool) (end : RunEnd) (text : List ℕ)
-    → Keeps shapes other → before ≡ start machine input → fits_input shapes input ≡ true → spent ≡ is_spent left
-    → Traces (By order) (MayGive shapes) (λ n t. next_fits other n left ≡ false) machine before most answers stop text after left
+-- the run whose history is written
+pub written_run : (shapes other : Option Declared) (machine : Scope) (input : Tree) (answers : List Action) (order : Pick) (most : ℕ) (stop : Stop) (left : List Action) (spent : Bool) (end : RunEnd) (text : List ℕ)
+    → Keeps shapes other → fits_input shapes input ≡ true → spent ≡ is_spent left
+    → Traces (By order) (MayGive shapes) (λ n t. next_fits other n left ≡ false) machine input most answers stop text left
     → end ≡ end_at (table_of machine).names spent stop
     → IsRun shapes machine input answers order most end text
-driven_run shapes other machine input answers order most stop before after left spent end text keeps at_start fits none_more traces ends =
-    let S : Activity → Type 0 = λ a. Traces (By order) (MayGive shapes) (λ n t. next_fits other n left ≡ false) machine a most answers stop text after left in
-    let written : S (start machine input) = subst S at_start traces in
+written_run shapes other machine input answers order most stop left spent end text keeps fits none_more written ends =
     let s = written.stops in
+    let after = written.after in
     let turns = run_of machine input s.drives.events in
     let E : ℕ → Activity → RunEnd → Type 0 = λ count a e. EndsSo shapes most count a left e in
     let there : E s.count after (end_at (table_of machine).names spent stop) = ends_so shapes other (table_of machine).names most s.count after left spent stop keeps none_more s.why in
@@ -131,16 +134,6 @@ driven_run shapes other machine input answers order most stop before after left 
       why = subst (λ n. E n (last_activity (start machine input) turns) end) (sym s.drives.counted)
           (subst (λ a. E s.count a end) (sym s.drives.stands) (subst (E s.count after) (sym ends) there));
     }
-
--- the run whose history is written, where its end is told
-pub written_run : {E F : Type 0} (end_of : E → RunEnd) (r : Result E F) (shapes other : Option Declared) (machine : Scope) (input : Tree) (answers : List Action) (order : Pick) (most : ℕ) (stop : Stop) (text : List ℕ) (before after : Activity) (left : List Action) (spent : Bool)
-    → Keeps shapes other → before ≡ start machine input → fits_input shapes input ≡ true → spent ≡ is_spent left
-    → Traces (By order) (MayGive shapes) (λ n t. next_fits other n left ≡ false) machine before most answers stop text after left
-    → IfOk r (λ e. end_of e ≡ end_at (table_of machine).names spent stop)
-    → IfOk r (λ e. IsRun shapes machine input answers order most (end_of e) text)
-written_run end_of (Ok e) shapes other machine input answers order most stop text before after left spent keeps at_start fits none_more traces ends =
-    driven_run shapes other machine input answers order most stop before after left spent (end_of e) text keeps at_start fits none_more traces ends
-written_run end_of (Err e) shapes other machine input answers order most stop text before after left spent keeps at_start fits none_more traces ends = tt
 
 -- ---- what is given
 

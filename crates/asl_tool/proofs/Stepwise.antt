@@ -2,7 +2,7 @@
 use Rattle.std.proofs.Common.{◌≡◌, ◌<◌, ◌≤◌, ◌+◌, ℕ, zero, suc, List, [], ◌∷◌, ◌++◌, map, Option, None, refl, sym, ap, subst, ◌∙◌, append_assoc, arith}
 use Rattle.asl_model.specs.Machine.{Scope}
 use Rattle.asl_model.specs.Numbering.{table_of}
-use Rattle.asl_model.specs.Run.{Activity, Action, Entry, outcome_of, run, trace}
+use Rattle.asl_model.specs.Run.{Activity, Action, Entry, outcome_of, run, start, trace}
 use Rattle.asl_model.specs.Tree.{Tree}
 use Rattle.asl_model.specs.TracePrinted.{entry_line, trace_text}
 use Rattle.asl_run.specs.Driving.{Drives, Stops, StopsSo, placed_entry}
@@ -56,16 +56,17 @@ last_step MayBeSilent names most before here a (stops.NoAnswer state) fewer goin
 last_step MayBeSilent names most before here a stops.StepsSpent fewer going why = absurd (going refl)
 
 -- it stops at that step
-pub stopped_there : {MayPick MayPick' : ℕ → ℕ → Type 0} {MayGive MayGive' : List ℕ → Tree → Action → Type 0} {MayBeSilent : List ℕ → Tree → Type 0} {machine : Scope} {a b c : Activity} {count : ℕ} {given between left : List Action} {text longer : List ℕ} {told : List (List ℕ × Option Entry)} (most : ℕ) (stop : Stop)
+pub stopped_there : {MayPick MayPick' : ℕ → ℕ → Type 0} {MayGive MayGive' : List ℕ → Tree → Action → Type 0} {MayBeSilent : List ℕ → Tree → Type 0} {machine : Scope} {input : Tree} {b c : Activity} {count : ℕ} {given between left : List Action} {text longer : List ℕ} {told : List (List ℕ × Option Entry)} (most : ℕ) (stop : Stop)
     → count < most → (stop ≡ stops.StepsSpent → ⊥) → ((n k : ℕ) → MayPick' n k → MayPick n k) → ((n : List ℕ) (payload : Tree) (answer : Action) → MayGive' n payload answer → MayGive n payload answer)
-    → Written MayPick MayGive machine a count given text b between → Stops MayPick' MayGive' MayBeSilent machine b 1 between stop told c left
+    → Written MayPick MayGive machine (start machine input) count given text b between → Stops MayPick' MayGive' MayBeSilent machine b 1 between stop told c left
     → ((entries : List Told) → told ≡ map placed_entry entries → longer ≡ text ++ trace_text entries)
-    → Traces MayPick MayGive MayBeSilent machine a most given stop longer c left
+    → Traces MayPick MayGive MayBeSilent machine input most given stop longer left
 stopped_there {MayBeSilent = MayBeSilent} {machine = machine} {c = c} {count = count} most stop fewer going may_pick wider so_far last added =
     let all = written_more may_pick wider so_far last.drives added in
     let within : count + last.count ≤ most = let one : last.count ≤ 1 = last.within in omega arith in
     record {
       told = all.told;
+      after = c;
       stops = record { count = count + last.count; within = within; drives = all.drives; why = last_step MayBeSilent (table_of machine).names most count last.count c stop fewer going last.why };
       traced = all.traced;
     }
@@ -81,7 +82,7 @@ goes_on {MayPick = MayPick} {MayGive = MayGive} {MayBeSilent = MayBeSilent} {mac
     (subst (λ n. Written MayPick MayGive machine a (count + n) given longer c left) why.1 (written_more may_pick wider so_far last.drives added), why.0)
 
 -- all steps were taken
-pub all_taken : {MayPick : ℕ → ℕ → Type 0} {MayGive : List ℕ → Tree → Action → Type 0} {machine : Scope} {a b : Activity} {count : ℕ} {given left : List Action} {text : List ℕ} (MayBeSilent : List ℕ → Tree → Type 0) (most : ℕ)
-    → count ≡ most → outcome_of b ≡ None → Written MayPick MayGive machine a count given text b left → Traces MayPick MayGive MayBeSilent machine a most given stops.StepsSpent text b left
-all_taken {count = count} MayBeSilent most same going so_far =
-    record { told = so_far.told; stops = record { count = count; within = omega arith; drives = so_far.drives; why = (going, same) }; traced = so_far.traced }
+pub all_taken : {MayPick : ℕ → ℕ → Type 0} {MayGive : List ℕ → Tree → Action → Type 0} {machine : Scope} {input : Tree} {b : Activity} {count : ℕ} {given left : List Action} {text : List ℕ} (MayBeSilent : List ℕ → Tree → Type 0) (most : ℕ)
+    → count ≡ most → outcome_of b ≡ None → Written MayPick MayGive machine (start machine input) count given text b left → Traces MayPick MayGive MayBeSilent machine input most given stops.StepsSpent text left
+all_taken {b = b} {count = count} MayBeSilent most same going so_far =
+    record { told = so_far.told; after = b; stops = record { count = count; within = omega arith; drives = so_far.drives; why = (going, same) }; traced = so_far.traced }

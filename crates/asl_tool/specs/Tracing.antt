@@ -3,7 +3,7 @@ use Rattle.std.specs.Prelude.{◌≡◌, ℕ, pos, List, [], ◌∷◌, ◌++◌
 use Rattle.asl_model.specs.Json.{compact_text}
 use Rattle.asl_model.specs.Machine.{Scope}
 use Rattle.asl_model.specs.Printed.{line_break}
-use Rattle.asl_model.specs.Run.{Activity, Action, Entry}
+use Rattle.asl_model.specs.Run.{Activity, Action, Entry, start}
 use Rattle.asl_model.specs.Tree.{Tree, Integer, Text, Array, Fields, NoFields, AndField}
 use Rattle.asl_model.specs.TracePrinted.{numbers, entry_line, trace_text}
 use Rattle.asl_run.specs.Driving.{Stops, placed_entry}
@@ -37,8 +37,9 @@ AddsTree tree before longer = longer ≡ before ++ (compact_text tree ++ line_br
 pub record AddsEntry (placed : List ℕ × Option Entry) (before longer : List ℕ) : Type 0 where
   pub added : IfSome placed.1 (λ entry. longer ≡ before ++ entry_line (placed.0, entry))
 
--- a run is driven by at most so many events until it stops so, and the text is that of its history
-pub record Traces (MayPick : ℕ → ℕ → Type 0) (MayGive : List ℕ → Tree → Action → Type 0) (MayBeSilent : List ℕ → Tree → Type 0) (machine : Scope) (before : Activity) (most : ℕ) (given : List Action) (stop : Stop) (text : List ℕ) (after : Activity) (left : List Action) : Type 0 where
+-- a run of a machine on an input is driven by at most so many events until it stops so, and the text is that of its history
+pub record Traces (MayPick : ℕ → ℕ → Type 0) (MayGive : List ℕ → Tree → Action → Type 0) (MayBeSilent : List ℕ → Tree → Type 0) (machine : Scope) (input : Tree) (most : ℕ) (given : List Action) (stop : Stop) (text : List ℕ) (left : List Action) : Type 0 where
   pub told : List (List ℕ × Entry)
-  pub stops : Stops MayPick MayGive MayBeSilent machine before most given stop (map placed_entry told) after left
+  pub after : Activity
+  pub stops : Stops MayPick MayGive MayBeSilent machine (start machine input) most given stop (map placed_entry told) after left
   pub traced : text ≡ trace_text told

@@ -1,13 +1,12 @@
 //! From the texts of a run to its trace.
 
-ghost use Rattle.std.specs.Prelude.{◌≡◌, ℕ, List, map, option_map, None, IsTrue, IfOk, IfErr};
+ghost use Rattle.std.specs.Prelude.{◌≡◌, ℕ, List, map, option_map, IsTrue, IfOk, IfErr};
 ghost use Rattle.asl_machine.specs.Table.{Shows, table_view};
 ghost use Rattle.asl_model.specs.Machine.{Scope};
 ghost use Rattle.asl_model.specs.Run as model;
 ghost use Rattle.asl_model.specs.Tree as trees;
 ghost use Rattle.asl_records.specs.View.{declared_view};
 ghost use Rattle.asl_run.specs.Entries.{answer_view};
-ghost use Rattle.asl_run.specs.Running.{IsRunOf, run_view};
 ghost use Rattle.asl_tree.specs.View.{view};
 ghost use Rattle.asl_tool.specs.Runs.{IsRun, RunsTo, RunFaultStands, WritesRun, end_at, fits_input};
 ghost use Rattle.asl_tool.specs.Tracing.{Traces};
@@ -22,7 +21,7 @@ use crate::sources::Source;
 use crate::tracing::add_lines;
 use asl_machine::Machine;
 use asl_records::Declared;
-use asl_run::{Answers, Order, Run, Stop, drive, start};
+use asl_run::{Answers, Order, Stop, drive, start};
 use asl_shape::has;
 use asl_tree::{OutOfMemory, Tree};
 use std::alloc::Global;
@@ -118,41 +117,42 @@ fn run_with(
 ) -> Result<Told, OutOfMemory>
     ensures { let shapes = option_map (λ d. declared_view d.now) answers.old.declared in (m : Scope) → Shows machine.now m → IsTrue (fits_input shapes (view input)) → IfOk result (λ told. IsRun shapes m (view input) (map answer_view answers.old.list.items) order max_steps (run_end_view told.end) told.trace.items) }
 {
-    let mut run = match start(alloc, machine, input) {
-        Ok(run) => run,
-        Err(_) => return Err(OutOfMemory),
-    };
-    let (stop, trace) = trace(alloc, &mut run, &mut order, answers, max_steps)?;
+    let (stop, trace) = trace(alloc, machine, input, &mut order, answers, max_steps)?;
     let end = end_of(alloc, machine, stop, answers.is_spent())?;
     Ok(Told { end, trace })
 }
 
-/// Drives a run that hasn't ended until it stops. What happens is written after each step, whose entries aren't kept.
+/// Drives a run of a machine on an input until it stops. What happens is written after each step, whose entries aren't
+/// kept.
 fn trace<O: Order, A: Answers>(
     alloc: Global,
-    run: &mut Run,
+    machine: &Machine,
+    input: Tree,
     order: &mut O,
     answers: &mut A,
     max_steps: u64,
 ) -> Result<(Stop, Vec<u8>), OutOfMemory>
-    requires goes_on { model.outcome_of (run_view run.old) ≡ None }
-    ensures traces { (m : Scope) → IsRunOf m run.old
+    ensures traces { (m : Scope) → Shows machine.now m
         → IfOk result (λ traced. Traces (O.may_pick order.old) (A.may_give answers.old)
-        (A.may_be_silent answers.new) m (run_view run.old) max_steps (A.content answers.old)
-        traced.0 traced.1.items (run_view run.new) (A.content answers.new)) }
+        (A.may_be_silent answers.new) m (view input) max_steps (A.content answers.old)
+        traced.0 traced.1.items (A.content answers.new)) }
     ensures lasting { (n : List ℕ) (t : trees.Tree) (answer : model.Action)
         → A.may_give answers.new n t answer → A.may_give answers.old n t answer }
 {
+    let mut run = match start(alloc, machine, input) {
+        Ok(run) => run,
+        Err(_) => return Err(OutOfMemory),
+    };
     let mut lines = Vec::new(alloc);
     'steps: for _taken in 0..max_steps {
-        let (stop, entries) = match drive(run, order, answers, 1) {
+        let (stop, entries) = match drive(&mut run, order, answers, 1) {
             Ok(driven) => driven,
             Err(_) => return Err(OutOfMemory),
         };
         lines = add_lines(lines, &entries)?;
-        if stop != Stop::StepsSpent {
+        let Stop::StepsSpent = stop else {
             return Ok((stop, lines));
-        }
+        };
     }
     Ok((Stop::StepsSpent, lines))
 }

@@ -102,12 +102,12 @@ fn add_data(
 }
 
 /// The line of a data-flow fault.
-fn add_fault(
+fn add_fault<'e>(
     bytes: Vec<u8>,
-    at: &[usize],
-    error: &str,
-    field: &str,
-    state: &str,
+    at: &'e [usize],
+    error: &'e str,
+    field: &'e str,
+    state: &'e str,
 ) -> Result<Vec<u8>, OutOfMemory>
     ensures { IfOk result (λ longer. AddsEntry
         (at.now, raised_view state.now field.now (error_named error.now)) bytes.items longer.items) }
@@ -123,12 +123,12 @@ fn add_fault(
 }
 
 /// The line of a task's failure.
-fn add_failure(
+fn add_failure<'e>(
     bytes: Vec<u8>,
-    at: &[usize],
-    cause: &str,
-    error: &str,
-    state: &str,
+    at: &'e [usize],
+    cause: &'e str,
+    error: &'e str,
+    state: &'e str,
 ) -> Result<Vec<u8>, OutOfMemory>
     ensures { IfOk result (λ longer. AddsEntry
         (at.now, Some (model.TaskFailed state.now error.now cause.now)) bytes.items longer.items) }
@@ -144,13 +144,13 @@ fn add_failure(
 }
 
 /// The line of a child's failure.
-fn add_child(
+fn add_child<'e>(
     bytes: Vec<u8>,
-    at: &[usize],
-    cause: &str,
+    at: &'e [usize],
+    cause: &'e str,
     child: usize,
-    error: &str,
-    state: &str,
+    error: &'e str,
+    state: &'e str,
 ) -> Result<Vec<u8>, OutOfMemory>
     ensures { IfOk result (λ longer. AddsEntry
         (at.now, Some (model.BranchFailed state.now child error.now cause.now)) bytes.items longer.items) }
@@ -167,11 +167,11 @@ fn add_child(
 }
 
 /// The line of a retry.
-fn add_retry(
+fn add_retry<'e>(
     bytes: Vec<u8>,
-    at: &[usize],
+    at: &'e [usize],
     retrier: usize,
-    state: &str,
+    state: &'e str,
 ) -> Result<Vec<u8>, OutOfMemory>
     ensures { IfOk result (λ longer. AddsEntry
         (at.now, Some (model.Retried state.now retrier)) bytes.items longer.items) }
@@ -186,12 +186,12 @@ fn add_retry(
 }
 
 /// The line of a catcher that hands on.
-fn add_catch(
+fn add_catch<'e>(
     bytes: Vec<u8>,
-    at: &[usize],
+    at: &'e [usize],
     catcher: usize,
-    next: &str,
-    state: &str,
+    next: &'e str,
+    state: &'e str,
 ) -> Result<Vec<u8>, OutOfMemory>
     ensures { IfOk result (λ longer. AddsEntry
         (at.now, Some (model.Caught state.now catcher next.now)) bytes.items longer.items) }
@@ -207,7 +207,7 @@ fn add_catch(
 }
 
 /// The line of a scope's end.
-fn add_end(bytes: Vec<u8>, at: &[usize], outcome: &Outcome) -> Result<Vec<u8>, OutOfMemory>
+fn add_end<'e>(bytes: Vec<u8>, at: &'e [usize], outcome: &'e Outcome) -> Result<Vec<u8>, OutOfMemory>
     ensures { IfOk result (λ longer. AddsEntry
         (at.now, Some (model.Ended (outcome_view outcome.now))) bytes.items longer.items) }
 {

@@ -13,8 +13,8 @@ use Rattle.asl_tool.proofs.running.run_given.Goals as goal
 pub returns-then-not-fits_input : goal.returns-then-not-fits_input
 returns-then-not-fits_input c = λ m shown.
     let seen = λ (d : Bor Declared). declared_view d.now in
-    not_run (option_map declared_view c.args.given.declared) (option_map seen c.as_ref.result) m (view c.args.given.input) (map answer_view c.args.given.answers.items) c.args.order c.args.max_steps (string_bytes c.new.result)
-    (shapes_seen c.as_ref.result c.args.given.declared c.as_ref.ensures.value) c.if-not-fits_input.ensures c.new.ensures.bytes
+    not_run (option_map declared_view c.args.given.declared) (option_map seen c.as_ref.result) m (view c.args.given.input) (map answer_view c.args.given.answers.items) c.args.order c.args.max_steps c.new.result.items
+    (shapes_seen c.as_ref.result c.args.given.declared c.as_ref.ensures.value) c.if-not-fits_input.ensures c.new.ensures.items
 
 pub returns : goal.returns
 returns c = λ m shown.
@@ -23,7 +23,7 @@ returns c = λ m shown.
     let input = view c.args.given.input in
     let answers = map answer_view c.args.given.answers.items in
     let end = λ (told : Told). run_end_view told.end in
-    let text = λ (told : Told). string_bytes told.trace in
+    let text = λ (told : Told). told.trace.items in
     let same = shapes_seen c.as_ref.result c.args.given.declared c.as_ref.ensures.value in
     let again = shapes_seen c.as_ref-2.result c.args.given.declared c.as_ref-2.ensures.value in
     let fits : fits_input shapes input ≡ true = sym (c.if-not-fits_input.ensures ∙ ap (λ s. fits_input s input) same) in
