@@ -12,7 +12,7 @@ use Rattle.asl_model.specs.Tree.{Tree}
 use Rattle.asl_model.specs.Printed.{RunEnd, InputShape}
 use Rattle.asl_records.specs.View.{declared_view}
 use Rattle.asl_records.specs.declared.records.Declared as code
-use Rattle.asl_run.specs.Driving.{MayHappen, answer_given, IsTaken, IsUnanswered, StopsSo, Stops, placed_entry}
+use Rattle.asl_run.specs.Driving.{MayHappen, answer_given, IsTaken, IsUnanswered, StopsSo, placed_entry}
 use Rattle.asl_run.specs.Entries.{answer_view}
 use Rattle.asl_run.specs.declared.driving.Stop.{Stop}
 use Rattle.asl_run.specs.declared.driving.Stop.TheVariants as stops

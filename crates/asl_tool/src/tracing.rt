@@ -45,7 +45,9 @@ fn add_entry(bytes: Vec<u8>, entry: &Entry) -> Result<Vec<u8>, OutOfMemory>
 {
     match entry {
         Entry::Enter { at, state, input } => add_data(bytes, at, "Enter", "input", input, state),
-        Entry::Task { at, state, payload } => add_data(bytes, at, "Task", "payload", payload, state),
+        Entry::Task { at, state, payload } => add_data(
+            bytes, at, "Task", "payload", payload, state,
+        ),
         Entry::Leave { at, state, output } => add_data(bytes, at, "Leave", "output", output, state),
         Entry::Raise {
             at,
@@ -110,7 +112,8 @@ fn add_fault<'e>(
     state: &'e str,
 ) -> Result<Vec<u8>, OutOfMemory>
     ensures { IfOk result (λ longer. AddsEntry
-        (at.now, raised_view state.now field.now (error_named error.now)) bytes.items longer.items) }
+        (at.now, raised_view state.now field.now (error_named error.now))
+        bytes.items longer.items) }
 {
     let fields = [
         ("at", Shown::Place(at)),
@@ -153,7 +156,8 @@ fn add_child<'e>(
     state: &'e str,
 ) -> Result<Vec<u8>, OutOfMemory>
     ensures { IfOk result (λ longer. AddsEntry
-        (at.now, Some (model.BranchFailed state.now child error.now cause.now)) bytes.items longer.items) }
+        (at.now, Some (model.BranchFailed state.now child error.now cause.now))
+        bytes.items longer.items) }
 {
     let fields = [
         ("at", Shown::Place(at)),
@@ -207,7 +211,11 @@ fn add_catch<'e>(
 }
 
 /// The line of a scope's end.
-fn add_end<'e>(bytes: Vec<u8>, at: &'e [usize], outcome: &'e Outcome) -> Result<Vec<u8>, OutOfMemory>
+fn add_end<'e>(
+    bytes: Vec<u8>,
+    at: &'e [usize],
+    outcome: &'e Outcome,
+) -> Result<Vec<u8>, OutOfMemory>
     ensures { IfOk result (λ longer. AddsEntry
         (at.now, Some (model.Ended (outcome_view outcome.now))) bytes.items longer.items) }
 {
@@ -234,7 +242,8 @@ fn add_end<'e>(bytes: Vec<u8>, at: &'e [usize], outcome: &'e Outcome) -> Result<
 
 /// The bytes, and behind them an object of these fields and a line break. The names come in the order of their bytes.
 fn add_object(bytes: Vec<u8>, fields: &[(&str, Shown<'_>)]) -> Result<Vec<u8>, OutOfMemory>
-    ensures { IfOk result (λ longer. AddsTree (Object (shown_fields fields.now)) bytes.items longer.items) }
+    ensures { IfOk result (λ longer. AddsTree (Object (shown_fields fields.now))
+        bytes.items longer.items) }
 {
     let mut writer = Writer::new(bytes);
     writer.begin_object()?;

@@ -1,4 +1,4 @@
-use Rattle.std.proofs.Common.{Bor, Option, map, option_map, string_bytes, sym, ap, ◌∙◌, subst, IsTrue, ◌≡◌, true}
+use Rattle.std.proofs.Common.{Bor, Option, map, option_map, sym, ap, ◌∙◌, subst, IsTrue, ◌≡◌, true}
 use Rattle.asl_model.specs.Certificate as model
 use Rattle.asl_records.specs.View.{declared_view}
 use Rattle.asl_records.specs.declared.records.Declared.{Declared}

@@ -1,4 +1,4 @@
-use Rattle.std.proofs.Common.{Bor, List, ◌≡◌, ℕ, map, option_map, ap, subst}
+use Rattle.std.proofs.Common.{Bor, ◌≡◌, map, option_map, ap, subst}
 use Rattle.asl_records.specs.View.{declared_view}
 use Rattle.asl_records.specs.declared.records.Declared.{Declared}
 use Rattle.asl_run.specs.Entries.{answer_view}

@@ -8,7 +8,7 @@ use Rattle.asl_run.specs.Driving.{placed_entry}
 use Rattle.asl_run.specs.Entries.{entry_view}
 use Rattle.asl_run.specs.declared.entries.Entry as code
 use Rattle.asl_tree.specs.View.{view}
-use Rattle.asl_tool.proofs.Stepwise.{Written, all_taken, goes_on, none_written, stopped_there}
+use Rattle.asl_tool.proofs.Stepwise.{Written, goes_on, none_written, stopped_there}
 use Rattle.asl_tool.proofs.running.trace.Goals as goal
 
 pub steps-init : goal.steps-init
@@ -16,13 +16,12 @@ steps-init g c =
     let MayPick = g.O.Order.may_pick c.args.order.now in
     let MayGive = g.A.Answers.may_give c.args.answers.now in
     let given = g.A.Answers.content c.args.answers.now in
-    let run = c.in-Ok.run' in
     record {
       run = λ m shown. c.in-Ok.ensures.of_machine m shown;
       written = λ m shown.
-        let begun = start m (view c.args.input) in
-        let none : Written MayPick MayGive m begun 0 given c.new-lines.result.items begun given = subst (λ text. Written MayPick MayGive m begun 0 given text begun given) (sym c.new-lines.ensures.items) (none_written MayPick MayGive m begun given) in
-        subst (λ a. Written MayPick MayGive m begun 0 given c.new-lines.result.items a given) (sym (c.in-Ok.ensures.starts m shown)) none;
+          let begun = start m (view c.args.input) in
+          let none : Written MayPick MayGive m begun 0 given c.new-lines.result.items begun given = subst (λ text. Written MayPick MayGive m begun 0 given text begun given) (sym c.new-lines.ensures.items) (none_written MayPick MayGive m begun given) in
+          subst (λ a. Written MayPick MayGive m begun 0 given c.new-lines.result.items a given) (sym (c.in-Ok.ensures.starts m shown)) none;
       goes_on = λ m shown. ap outcome_of (c.in-Ok.ensures.starts m shown);
       lasting_order = λ n k e. e;
       lasting = λ n t answer e. e;
