@@ -10,7 +10,10 @@ use Rattle.asl_model.specs.Tree.{field_named}
 use Rattle.asl_model.specs.Shape as shape
 use Rattle.serde_json.specs.declared.value.Value.{Value}
 use Rattle.asl_shape.specs.declared.shape.Shape.TheViews.{roll-Field}
+use Rattle.asl_shape.specs.Level.{SpelledOver}
+use Rattle.asl_shape.specs.LevelView.{level_view}
 use Rattle.asl_shape.specs.View.{view, fields_view}
+use Rattle.asl_shape.proofs.Sizes.{smaller, element_smaller, member_smaller}
 use Rattle.asl_shape.proofs.Spellings.{shapes_read, element_told, member_told, member_read, faults_step}
 use Rattle.asl_model.specs.ShapeSpelling as model
 use Rattle.asl_shape.specs.Spelled as trees
@@ -58,8 +61,26 @@ read_members-loop-name-preserved t c =
 
 -- what is read is smaller
 
+pub read_spelling-read_list-requires : goal.read_spelling-read_list-requires
+read_spelling-read_list-requires t c =
+    let over = subst (λ level. SpelledOver (trees.view c.args.value.now) (level_view level)) c.in-List.is c.in_ok-read_level.ensures.level in
+    (omega (arith, smaller _ _ over), tt)
+
+pub read_spelling-read_object-requires : goal.read_spelling-read_object-requires
+read_spelling-read_object-requires t c =
+    let over = subst (λ level. SpelledOver (trees.view c.args.value.now) (level_view level)) c.in-Object.is c.in_ok-read_level.ensures.level in
+    (omega (arith, smaller _ _ over), tt)
+
 pub read_elements-read_spelling-requires : goal.read_elements-read_spelling-requires
-read_elements-read_spelling-requires t c = ?
+read_elements-read_spelling-requires t c =
+    let i = c.loop-element.element-index in
+    let elements = c.args.elements.now in
+    let item = c.element-item.result in
+    let split : drop i elements ≡ item ∷ drop (i + 1) elements = grind (arith, common_steps) in
+    (omega (arith, element_smaller i elements (drop (i + 1) elements) item split), tt)
 
 pub read_members-read_spelling-requires : goal.read_members-read_spelling-requires
-read_members-read_spelling-requires t c = ?
+read_members-read_spelling-requires t c =
+    let e : String Global × Value = (c.in-Some.name.now, c.in-Some.member.now) in
+    let l = c.loop-name in
+    (omega (arith, member_smaller c.args.members.now.entries l.invariant.1.0 l.name-iterator c.next.new.self e l.invariant.1.1 c.in-Some.ensures.steps), tt)
