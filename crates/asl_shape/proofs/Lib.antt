@@ -11,7 +11,6 @@ pub mod Sizes
 pub mod Spellings
 pub mod Telling
 pub mod Trees
-pub mod Unders
 pub mod Views
 pub mod Wholes
 pub mod Witnesses

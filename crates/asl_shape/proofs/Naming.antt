@@ -1,6 +1,5 @@
 -- Reading the names in `required`, one after another.
-use Rattle.std.proofs.Common.{◌≡◌, ℕ, List, [], ◌∷◌, ◌++◌, Bool, true, false, not, ◌&&◌, ◌||◌, cond, Some, Result, Ok, Err, Vec, String, string_bytes, bytes_eq, refl, sym, ap, ◌∙◌, append-nil, append_assoc}
-use Rattle.std.specs.Prelude.{IfOk, IfErr}
+use Rattle.std.proofs.Common.{◌≡◌, ℕ, List, [], ◌∷◌, ◌++◌, Bool, true, false, not, ◌&&◌, ◌||◌, cond, Vec, String, string_bytes, bytes_eq, refl, sym, ap, ◌∙◌, append_assoc}
 use Rattle.std.specs.Borrow.{Bor}
 use Rattle.std.specs.List.{list_any}
 use Rattle.std.specs.declared.alloc.Global.{Global}
@@ -8,7 +7,7 @@ use Rattle.std.specs.Cmp.Lexicographic.{slice_cmp}
 use Rattle.std.proofs.lemmas.Cmp.{nat_list_eq_equiv}
 use Rattle.std.specs.Ordering.{is_eq, nat_cmp}
 use Rattle.std.proofs.lemmas.List.{map-append}
-use Rattle.asl_model.specs.ShapeSpelling.{texts_among, is_text_value, is_among, are_texts, are_distinct, unless, required_in, required_faults, NotAShape}
+use Rattle.asl_model.specs.ShapeSpelling.{texts_among, is_text_value, is_among, are_texts, are_distinct, unless, NotAShape}
 use Rattle.asl_model.specs.Tree as json
 use Rattle.asl_shape.specs.LevelView.{texts}
 use Rattle.asl_shape.specs.Refusal.{Tells}
@@ -19,7 +18,7 @@ use Rattle.serde_json.proofs.Views.{view-Array}
 use Rattle.serde_json.specs.declared.value.Value.{Value}
 use Rattle.serde_json.specs.declared.value.Value as value
 use Rattle.asl_shape.proofs.Lookups.{same_name}
-use Rattle.asl_shape.proofs.Requiring.{are_new, new_next, new_are_distinct}
+use Rattle.asl_shape.proofs.Requiring.{are_new, new_next}
 use Rattle.asl_shape.proofs.Telling.{told_same, told_first, told_second}
 
 -- one of the texts has these bytes
@@ -84,11 +83,3 @@ repeated_told e all left rest item name keys so_far split is taken told =
     let ns = texts_among (trees.elements_view rest) in
     let twice : are_distinct (texts_among (trees.elements_view all)) ≡ false = so_far ∙ ap (λ ts. are_new (texts_among ts) (has keys)) (shown_split left rest item name split is) ∙ ap (λ b. not b && (not (is_among name ns) && are_new ns (has keys))) taken in
     told_second e (are_texts (trees.elements_view all)) (are_distinct (texts_among (trees.elements_view all))) NotAShape (told_same e _ _ told (ap (λ b. unless b NotAShape) (sym twice)))
-
--- the texts that are gone through are all
-pub listed_end : (all : List (List ℕ)) (names : List (Bor (String Global))) (left : List Value) → left ≡ [] → all ≡ texts names ++ texts_among (trees.elements_view left) → texts names ≡ all
-listed_end all names left none so_far = sym (so_far ∙ ap (λ vs. texts names ++ texts_among (trees.elements_view vs)) none ∙ append-nil (texts names))
-
-pub required_ok : (names : Vec Value Global) (ns : List Value) → ns ≡ names.items → (are_texts (trees.elements_view ns) && are_distinct (texts_among (trees.elements_view ns))) ≡ true → required_faults (Some (trees.view (value.Array names))) ≡ []
-required_ok names ns same right =
-    ap (λ t. required_faults (Some t)) (view_items names ∙ ap (λ ts. json.Array (trees.elements_view ts)) (sym same)) ∙ ap (λ b. unless b NotAShape) right

@@ -1,6 +1,5 @@
 -- Reading the elements of a list and the fields of an object as shapes, one after another.
-use Rattle.std.proofs.Common.{◌≡◌, ℕ, suc, List, [], ◌∷◌, ◌++◌, Bool, true, false, cond, bytes_eq, ◌&&◌, Some, Result, Ok, Err, Vec, map, length, Ordering, Less, Equal, Greater, String, string_bytes, refl, sym, ap, ◌∙◌, not}
-use Rattle.std.specs.Prelude.{IfOk, IfErr}
+use Rattle.std.proofs.Common.{◌≡◌, ℕ, suc, List, [], ◌∷◌, ◌++◌, Bool, false, map, length, Ordering, Less, Equal, Greater, String, string_bytes, refl, sym, ap, ◌∙◌}
 use Rattle.std.specs.declared.alloc.Global.{Global}
 use Rattle.std.specs.BTreeMap.{insert_entry}
 use Rattle.std.specs.Cmp.Lexicographic.{slice_cmp}
@@ -10,21 +9,18 @@ use Rattle.std.specs.Map.{keys_of}
 use Rattle.std.specs.Ordering.{nat_cmp, match_ordering, ordering_reverse}
 use Rattle.std.specs.String.{string_cmp}
 use Rattle.std.proofs.lemmas.Cmp.{nat_list_cmp_total}
-use Rattle.std.proofs.lemmas.List.{length-map}
 use Rattle.asl_model.specs.Shape as model
-use Rattle.asl_model.specs.ShapeSpelling.{shape_of, element_shapes, field_shapes, texts_among, is_text_value, is_among, are_texts, with_needed, with_all_needed, unless, required_faults, shape_faults, field_faults, element_faults, properties_of, properties_under, NotAShape}
+use Rattle.asl_model.specs.ShapeSpelling.{shape_of, element_shapes, field_shapes, shape_faults, field_faults, element_faults}
 use Rattle.asl_model.specs.Tree as json
 use Rattle.asl_shape.specs.Spelled as trees
 use Rattle.asl_shape.specs.Spelled.{spelled}
 use Rattle.serde_json.specs.declared.value.Value.{Value}
-use Rattle.serde_json.specs.declared.value.Value as value
-use Rattle.serde_json.proofs.Views.{view-Array}
 use Rattle.asl_shape.specs.declared.ShapeRefusal.{ShapeRefusal}
 use Rattle.asl_shape.specs.declared.shape.Shape.{Shape}
 use Rattle.asl_shape.specs.declared.shape.Field.{Field}
 use Rattle.asl_shape.specs.Refusal.{Tells}
 use Rattle.asl_shape.specs.View.{view, shapes_of, shapes_view, fields_view}
-use Rattle.asl_shape.proofs.Telling.{told_same, told_left, told_first, told_second}
+use Rattle.asl_shape.proofs.Telling.{told_same, told_left}
 
 -- ---- elements
 

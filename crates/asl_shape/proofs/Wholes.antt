@@ -1,5 +1,5 @@
 -- A spelling and its level: it spells the shape over the level, and what is wrong with the level is wrong with it.
-use Rattle.std.proofs.Common.{◌≡◌, ℕ, length, subst, Result, Ok, Err, String, List, [], ◌∷◌, ◌++◌, Bool, true, false, Option, Some, None, option_map, unwrap_or, refl, sym, ap, ◌∙◌, ◌⊎◌, inl, inr, append-nil, codes}
+use Rattle.std.proofs.Common.{◌≡◌, ℕ, length, subst, Result, Ok, Err, String, List, [], ◌∷◌, ◌++◌, Option, Some, None, option_map, unwrap_or, refl, sym, ap, ◌∙◌, ◌⊎◌, inl, inr, append-nil, codes}
 use Rattle.std.specs.Prelude.{IfSome, IfOk, IfErr}
 use Rattle.std.specs.List.{Contains}
 use Rattle.std.proofs.lemmas.List.Elements.{Contains-append_left, Contains-append_right, Contains-append_cases}
@@ -7,7 +7,7 @@ use Rattle.asl_model.proofs.SpellingLookups.{shape_under-field_named, shapes_und
 use Rattle.asl_model.specs.Shape as model
 use Rattle.asl_model.specs.ShapeSpelling.{ShapeFault, TypeWord, OfObject, OfArray, OfInteger, OfString, OfBoolean, OfNull, OtherType, NotAType, NoType, type_word_of, foreign_faults, object_keywords, array_keywords, Keyword, shapes_of, shapes_under, shape_under, properties_of, properties_under, shapes_faults, shapes_faults_under, shape_faults_under, properties_faults, properties_faults_under, required_in, required_faults, extra_in, extra_faults, with_all_needed, min_items_faults, element_count, typed_shape, typed_faults, shape_of, shape_faults, element_shapes, element_faults, field_shapes, field_faults}
 use Rattle.asl_model.specs.Tree.{Tree, Null, Boolean, Integer, Text, Array, Object, Fields, field_named, count}
-use Rattle.asl_shape.specs.Level.{Level, level_of, level_faults, typed_level, array_level, object_level, array_level_faults, object_level_faults, elements_in, fields_in, list_faults, object_faults, rest_faults, shape_over, inner_faults, SpelledOver}
+use Rattle.asl_shape.specs.Level.{Level, level_of, level_faults, typed_level, array_level, object_level, array_level_faults, object_level_faults, all_array_faults, all_object_faults, elements_in, fields_in, list_faults, object_faults, rest_faults, shape_over, inner_faults, SpelledOver}
 use Rattle.asl_shape.specs.LevelView.{level_view}
 use Rattle.asl_shape.specs.Refusal.{Tells, fault_named}
 use Rattle.asl_shape.specs.Spelled as trees
@@ -80,12 +80,12 @@ object_shape fs =
     let extra = extra_in (field_named (codes "additionalProperties") fs) in
     model.ObjectShape (with_all_needed extra (required_in (field_named (codes "required") fs)) (properties_under (codes "properties") fs)) extra
 
-abbrev array_faults : Fields → List ShapeFault
-array_faults fs =
+abbrev whole_array_faults : Fields → List ShapeFault
+whole_array_faults fs =
     shapes_faults_under (codes "prefixItems") fs ++ (shape_faults_under (codes "items") fs ++ min_items_faults (field_named (codes "minItems") fs) (element_count (field_named (codes "prefixItems") fs)))
 
-abbrev all_object_faults : Fields → List ShapeFault
-all_object_faults fs =
+abbrev whole_object_faults : Fields → List ShapeFault
+whole_object_faults fs =
     properties_faults_under (codes "properties") fs ++ (required_faults (field_named (codes "required") fs) ++ extra_faults (field_named (codes "additionalProperties") fs))
 
 array_shape_over : (fs : Fields) → array_shape fs ≡ shape_over (array_level fs)
@@ -117,25 +117,25 @@ none_right : (xs ys : List ShapeFault) → xs ++ ys ≡ [] → ys ≡ []
 none_right [] ys e = e
 none_right (x ∷ xs) ys e = absurd (cc)
 
-array_faults_over : (fs : Fields) → array_level_faults fs ≡ [] → array_faults fs ≡ inner_faults (array_level fs)
+array_faults_over : (fs : Fields) → array_level_faults fs ≡ [] → whole_array_faults fs ≡ inner_faults (array_level fs)
 array_faults_over fs none =
     let o = field_named (codes "prefixItems") fs in
     let counts = min_items_faults (field_named (codes "minItems") fs) (element_count o) in
     rw (shapes_faults_under-field_named (codes "prefixItems") fs, shape_faults_under-field_named (codes "items") fs, first_faults o, none_left (list_faults o) counts none, none_right (list_faults o) counts none, append-nil (rest_faults (field_named (codes "items") fs))) refl
 
-object_faults_over : (fs : Fields) → object_level_faults fs ≡ [] → all_object_faults fs ≡ inner_faults (object_level fs)
+object_faults_over : (fs : Fields) → object_level_faults fs ≡ [] → whole_object_faults fs ≡ inner_faults (object_level fs)
 object_faults_over fs none =
     let o = field_named (codes "properties") fs in
     let others = required_faults (field_named (codes "required") fs) ++ extra_faults (field_named (codes "additionalProperties") fs) in
     rw (properties_faults_under-field_named (codes "properties") fs, mentioned_faults o, none_left (object_faults o) others none, none_right (object_faults o) others none) (append-nil (field_faults (fields_in o)))
 
-typed_faults_over : (w : TypeWord) (fs : Fields) → typed_faults w fs (array_level_faults fs) (object_level_faults fs) ≡ [] → typed_faults w fs (array_faults fs) (all_object_faults fs) ≡ inner_faults (typed_level w (array_level fs) (object_level fs))
+typed_faults_over : (w : TypeWord) (fs : Fields) → typed_faults w fs (array_level_faults fs) (object_level_faults fs) ≡ [] → typed_faults w fs (whole_array_faults fs) (whole_object_faults fs) ≡ inner_faults (typed_level w (array_level fs) (object_level fs))
 typed_faults_over OfObject fs none =
     let known = foreign_faults Keyword object_keywords fs in
-    ap (λ xs. xs ++ all_object_faults fs) (none_left known (object_level_faults fs) none) ∙ object_faults_over fs (none_right known (object_level_faults fs) none)
+    ap (λ xs. xs ++ whole_object_faults fs) (none_left known (object_level_faults fs) none) ∙ object_faults_over fs (none_right known (object_level_faults fs) none)
 typed_faults_over OfArray fs none =
     let known = foreign_faults Keyword array_keywords fs in
-    ap (λ xs. xs ++ array_faults fs) (none_left known (array_level_faults fs) none) ∙ array_faults_over fs (none_right known (array_level_faults fs) none)
+    ap (λ xs. xs ++ whole_array_faults fs) (none_left known (array_level_faults fs) none) ∙ array_faults_over fs (none_right known (array_level_faults fs) none)
 typed_faults_over OfInteger fs none = none
 typed_faults_over OfString fs none = none
 typed_faults_over OfBoolean fs none = none
@@ -182,14 +182,14 @@ both_within xs ys us vs left right f h = go (Contains-append_cases xs ys f h)
     go (inl a) = Contains-append_left us vs f (left f a)
     go (inr a) = Contains-append_right us vs f (right f a)
 
-typed_within : (w : TypeWord) (fs : Fields) → IsWithin (typed_faults w fs (array_level_faults fs) (object_level_faults fs)) (typed_faults w fs (array_faults fs) (all_object_faults fs))
+typed_within : (w : TypeWord) (fs : Fields) → IsWithin (typed_faults w fs (array_level_faults fs) (object_level_faults fs)) (typed_faults w fs (whole_array_faults fs) (whole_object_faults fs))
 typed_within OfObject fs =
     let o = field_named (codes "properties") fs in
     let others = required_faults (field_named (codes "required") fs) ++ extra_faults (field_named (codes "additionalProperties") fs) in
     let known = foreign_faults Keyword object_keywords fs in
     let inside = properties_faults_under (codes "properties") fs in
     let own : IsWithin (object_faults o) inside = λ f h. rw (properties_faults_under-field_named (codes "properties") fs, mentioned_faults o) (Contains-append_left (object_faults o) (field_faults (fields_in o)) f h) in
-    both_within known (object_level_faults fs) known (all_object_faults fs) (λ f h. h) (both_within (object_faults o) others inside others own (λ f h. h))
+    both_within known (object_level_faults fs) known (whole_object_faults fs) (λ f h. h) (both_within (object_faults o) others inside others own (λ f h. h))
 typed_within OfArray fs =
     let o = field_named (codes "prefixItems") fs in
     let known = foreign_faults Keyword array_keywords fs in
@@ -197,7 +197,7 @@ typed_within OfArray fs =
     let rest = shape_faults_under (codes "items") fs in
     let counts = min_items_faults (field_named (codes "minItems") fs) (element_count o) in
     let own : IsWithin (list_faults o) inside = λ f h. rw (shapes_faults_under-field_named (codes "prefixItems") fs, first_faults o) (Contains-append_left (list_faults o) (element_faults (elements_in o)) f h) in
-    both_within known (array_level_faults fs) known (array_faults fs) (λ f h. h) (both_within (list_faults o) counts inside (rest ++ counts) own (λ f h. Contains-append_right rest counts f h))
+    both_within known (array_level_faults fs) known (whole_array_faults fs) (λ f h. h) (both_within (list_faults o) counts inside (rest ++ counts) own (λ f h. Contains-append_right rest counts f h))
 typed_within OfInteger fs = λ f h. h
 typed_within OfString fs = λ f h. h
 typed_within OfBoolean fs = λ f h. h
@@ -242,27 +242,27 @@ told_by e fs w is told = rw (level_faults_by fs w is) told
 pub as_many : (o : Option Tree) (vs : List Value) → elements_view vs ≡ elements_in o → length vs ≡ element_count o
 as_many o vs is = elements_counted vs ∙ ap count is ∙ sym (counted o)
 
-pub count_told : (e : ShapeRefusal) (fs : Fields) (n : ℕ) → n ≡ element_count (field_named (codes "prefixItems") fs) → Tells e (min_items_faults (field_named (codes "minItems") fs) n) → Tells e (foreign_faults Keyword array_keywords fs ++ array_level_faults fs)
+pub count_told : (e : ShapeRefusal) (fs : Fields) (n : ℕ) → n ≡ element_count (field_named (codes "prefixItems") fs) → Tells e (min_items_faults (field_named (codes "minItems") fs) n) → Tells e (all_array_faults fs)
 count_told e fs n is told =
     let o = field_named (codes "prefixItems") fs in
     told_right e (foreign_faults Keyword array_keywords fs) (array_level_faults fs) (told_right e (list_faults o) _ (subst (λ k. Tells e (min_items_faults (field_named (codes "minItems") fs) k)) is told))
 
-pub list_right : (fs : Fields) (n : ℕ) → n ≡ element_count (field_named (codes "prefixItems") fs) → foreign_faults Keyword array_keywords fs ≡ [] → list_faults (field_named (codes "prefixItems") fs) ≡ [] → min_items_faults (field_named (codes "minItems") fs) n ≡ [] → foreign_faults Keyword array_keywords fs ++ array_level_faults fs ≡ []
+pub list_right : (fs : Fields) (n : ℕ) → n ≡ element_count (field_named (codes "prefixItems") fs) → foreign_faults Keyword array_keywords fs ≡ [] → list_faults (field_named (codes "prefixItems") fs) ≡ [] → min_items_faults (field_named (codes "minItems") fs) n ≡ [] → all_array_faults fs ≡ []
 list_right fs n is known list counts =
     both_none _ _ known (both_none _ _ list (subst (λ k. min_items_faults (field_named (codes "minItems") fs) k ≡ []) is counts))
 
 -- ---- and of objects
 
-pub object_right : (fs : Fields) → foreign_faults Keyword object_keywords fs ≡ [] → object_faults (field_named (codes "properties") fs) ≡ [] → required_faults (field_named (codes "required") fs) ≡ [] → extra_faults (field_named (codes "additionalProperties") fs) ≡ [] → foreign_faults Keyword object_keywords fs ++ object_level_faults fs ≡ []
+pub object_right : (fs : Fields) → foreign_faults Keyword object_keywords fs ≡ [] → object_faults (field_named (codes "properties") fs) ≡ [] → required_faults (field_named (codes "required") fs) ≡ [] → extra_faults (field_named (codes "additionalProperties") fs) ≡ [] → all_object_faults fs ≡ []
 object_right fs known properties required extra = both_none _ _ known (both_none _ _ properties (both_none _ _ required extra))
 
 -- ---- their answers
 
-pub list_over : (fs : Fields) (r : Result code.Level ShapeRefusal) → type_word_of fs ≡ OfArray → IfOk r (λ level. level_view level ≡ array_level fs) → IfOk r (λ _. foreign_faults Keyword array_keywords fs ++ array_level_faults fs ≡ []) → IfOk r (λ level. SpelledOver (Object fs) (level_view level))
+pub list_over : (fs : Fields) (r : Result code.Level ShapeRefusal) → type_word_of fs ≡ OfArray → IfOk r (λ level. level_view level ≡ array_level fs) → IfOk r (λ _. all_array_faults fs ≡ []) → IfOk r (λ level. SpelledOver (Object fs) (level_view level))
 list_over fs (Ok level) is same right = over_by fs OfArray (level_view level) is (sym same) right
 list_over fs (Err e) is same right = tt
 
-pub object_over : (fs : Fields) (r : Result code.Level ShapeRefusal) → type_word_of fs ≡ OfObject → IfOk r (λ level. level_view level ≡ object_level fs) → IfOk r (λ _. foreign_faults Keyword object_keywords fs ++ object_level_faults fs ≡ []) → IfOk r (λ level. SpelledOver (Object fs) (level_view level))
+pub object_over : (fs : Fields) (r : Result code.Level ShapeRefusal) → type_word_of fs ≡ OfObject → IfOk r (λ level. level_view level ≡ object_level fs) → IfOk r (λ _. all_object_faults fs ≡ []) → IfOk r (λ level. SpelledOver (Object fs) (level_view level))
 object_over fs (Ok level) is same right = over_by fs OfObject (level_view level) is (sym same) right
 object_over fs (Err e) is same right = tt
 

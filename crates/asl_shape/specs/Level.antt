@@ -1,8 +1,8 @@
 -- One level of the spelling of a shape: what its keywords say, with the spellings of the shapes inside as they stand.
-use Rattle.std.specs.Prelude.{◌≡◌, ℕ, List, [], ◌∷◌, ◌++◌, Bool, true, false, if◌then◌else◌, Option, Some, None, option_map, map, string_bytes, codes}
+use Rattle.std.specs.Prelude.{◌≡◌, ℕ, List, [], ◌∷◌, ◌++◌, Bool, if◌then◌else◌, Option, Some, None, option_map, codes}
 use Rattle.std.specs.Option.{unwrap_or}
 use Rattle.asl_model.specs.Shape.{Shape, Any, Never, NullShape, BooleanShape, IntegerShape, StringShape, ArrayShape, ObjectShape}
-use Rattle.asl_model.specs.ShapeSpelling.{ShapeFault, NotAShape, TypeWord, OfObject, OfArray, OfInteger, OfString, OfBoolean, OfNull, OtherType, NotAType, NoType, type_word_of, typed_faults, required_in, required_faults, extra_in, extra_faults, with_all_needed, min_items_faults, element_count, shape_of, element_shapes, field_shapes, shape_faults, element_faults, field_faults}
+use Rattle.asl_model.specs.ShapeSpelling.{ShapeFault, NotAShape, Keyword, foreign_faults, array_keywords, object_keywords, TypeWord, OfObject, OfArray, OfInteger, OfString, OfBoolean, OfNull, OtherType, NotAType, NoType, type_word_of, typed_faults, required_in, required_faults, extra_in, extra_faults, with_all_needed, min_items_faults, element_count, shape_of, element_shapes, field_shapes, shape_faults, element_faults, field_faults}
 use Rattle.asl_model.specs.Tree.{Tree, Null, Boolean, Integer, Text, Array, Object, Trees, NoTrees, Fields, NoFields, field_named}
 
 -- what one level says
@@ -92,6 +92,13 @@ array_level_faults fs =
 abbrev pub object_level_faults : Fields → List ShapeFault
 object_level_faults fs =
     object_faults (field_named (codes "properties") fs) ++ (required_faults (field_named (codes "required") fs) ++ extra_faults (field_named (codes "additionalProperties") fs))
+
+-- the same with a fault for each keyword that is foreign to the type
+abbrev pub all_array_faults : Fields → List ShapeFault
+all_array_faults fs = foreign_faults Keyword array_keywords fs ++ array_level_faults fs
+
+abbrev pub all_object_faults : Fields → List ShapeFault
+all_object_faults fs = foreign_faults Keyword object_keywords fs ++ object_level_faults fs
 
 -- what is wrong with a spelling where each spelling inside is right
 abbrev pub level_faults : Tree → List ShapeFault

@@ -13,7 +13,7 @@ ghost use Rattle.serde_json.specs.View.{number_view};
 ghost use Rattle.std.specs.List.{Contains};
 ghost use Rattle.std.specs.Ordering.{int_eq};
 ghost use Rattle.asl_shape.specs.declared.ShapeRefusal.{ShapeRefusal};
-ghost use Rattle.std.specs.Prelude.{◌≡◌, ◌&&◌, ◌++◌, [], IsTrue, not, map, codes, length, string_bytes, IfOk, IfErr, Some, pos, true, false};
+ghost use Rattle.std.specs.Prelude.{◌≡◌, ◌&&◌, [], IsTrue, not, map, codes, length, string_bytes, IfOk, IfErr, Some, pos, true, false};
 
 use crate::ShapeRefusal;
 use serde_json::{Map, Number, Value};
@@ -120,9 +120,9 @@ enum TypeWord {
 
 /// The level that a JSON value says, as the spelling of a shape.
 ///
-/// All that the level says itself is checked: that each keyword belongs to the type, that `minItems` is the number of the
-/// values in `prefixItems`, that `required` is a list of distinct texts, and that the other keywords are of their kinds.
-/// The values that spell the shapes inside aren't looked at.
+/// All that the level says itself is checked: that each keyword belongs to the type, that `minItems` is the number of
+/// the values in `prefixItems`, that `required` is a list of distinct texts, and that the other keywords are of their
+/// kinds. The values that spell the shapes inside aren't looked at.
 ///
 /// Where several refusals stand in a value, the answer is one of them.
 pub fn read_level(alloc: Global, value: &Value) -> Result<Level<'_>, ShapeRefusal>
@@ -142,8 +142,11 @@ pub fn read_level(alloc: Global, value: &Value) -> Result<Level<'_>, ShapeRefusa
 
 // The level that an object of keywords says.
 fn keyword_level(alloc: Global, keywords: &Map<String, Value>) -> Result<Level<'_>, ShapeRefusal>
-    ensures level { IfOk result (λ level. SpelledOver (json.Object (entries_view keywords.now.entries)) (level_view level)) }
-    ensures refused { IfErr result (λ e. Tells e (level_faults (json.Object (entries_view keywords.now.entries)))) }
+    ensures level { IfOk result
+        (λ level. SpelledOver (json.Object
+        (entries_view keywords.now.entries)) (level_view level)) }
+    ensures refused { IfErr result
+        (λ e. Tells e (level_faults (json.Object (entries_view keywords.now.entries)))) }
 {
     match type_word(keywords) {
         TypeWord::Object => object_level(alloc, keywords),
@@ -245,8 +248,12 @@ fn is_among(keyword: &str, known: &[&str]) -> bool
 // That level, if each keyword belongs to a type without keywords of its own.
 fn simple<'v>(keywords: &Map<String, Value>, level: Level<'v>) -> Result<Level<'v>, ShapeRefusal>
     ensures right { IfOk result (λ l. l ≡ level.entry) }
-    ensures known { IfOk result (λ _. model.foreign_faults model.Keyword model.simple_keywords (entries_view keywords.now.entries) ≡ []) }
-    ensures refused { IfErr result (λ e. Tells e (model.foreign_faults model.Keyword model.simple_keywords (entries_view keywords.now.entries))) }
+    ensures known { IfOk result
+        (λ _. model.foreign_faults model.Keyword model.simple_keywords
+        (entries_view keywords.now.entries) ≡ []) }
+    ensures refused { IfErr result
+        (λ e. Tells e (model.foreign_faults model.Keyword model.simple_keywords
+        (entries_view keywords.now.entries))) }
 {
     if all_among(keywords, &SIMPLE_KEYWORDS) {
         Ok(level)
@@ -258,9 +265,12 @@ fn simple<'v>(keywords: &Map<String, Value>, level: Level<'v>) -> Result<Level<'
 // The level of an array's keywords.
 #[tactic(auto, using(crate::proofs::Telling::told_left, crate::proofs::Telling::told_right))]
 fn list_level(keywords: &Map<String, Value>) -> Result<Level<'_>, ShapeRefusal>
-    ensures level { IfOk result (λ level. level_view level ≡ levels.array_level (entries_view keywords.now.entries)) }
-    ensures right { IfOk result (λ _. model.foreign_faults model.Keyword model.array_keywords (entries_view keywords.now.entries) ++ levels.array_level_faults (entries_view keywords.now.entries) ≡ []) }
-    ensures refused { IfErr result (λ e. Tells e (model.foreign_faults model.Keyword model.array_keywords (entries_view keywords.now.entries) ++ levels.array_level_faults (entries_view keywords.now.entries))) }
+    ensures level { IfOk result
+        (λ level. level_view level ≡ levels.array_level (entries_view keywords.now.entries)) }
+    ensures right { IfOk result
+        (λ _. levels.all_array_faults (entries_view keywords.now.entries) ≡ []) }
+    ensures refused { IfErr result
+        (λ e. Tells e (levels.all_array_faults (entries_view keywords.now.entries))) }
 {
     if !all_among(keywords, &ARRAY_KEYWORDS) {
         return Err(ShapeRefusal::Keyword);
@@ -275,9 +285,13 @@ fn list_level(keywords: &Map<String, Value>) -> Result<Level<'_>, ShapeRefusal>
 
 // What stands in `prefixItems`.
 fn prefix_items(keywords: &Map<String, Value>) -> Result<&[Value], ShapeRefusal>
-    ensures right { IfOk result (λ _. list_faults (member_named (codes "prefixItems") keywords.now.entries) ≡ []) }
-    ensures elements { IfOk result (λ es. trees.elements_view es.now ≡ elements_in (member_named (codes "prefixItems") keywords.now.entries)) }
-    ensures refused { IfErr result (λ e. Tells e (list_faults (member_named (codes "prefixItems") keywords.now.entries))) }
+    ensures right { IfOk result
+        (λ _. list_faults (member_named (codes "prefixItems") keywords.now.entries) ≡ []) }
+    ensures elements { IfOk result
+        (λ es. trees.elements_view es.now ≡ elements_in
+        (member_named (codes "prefixItems") keywords.now.entries)) }
+    ensures refused { IfErr result
+        (λ e. Tells e (list_faults (member_named (codes "prefixItems") keywords.now.entries))) }
 {
     match member(keywords, "prefixItems") {
         None => Ok(&[]),
@@ -287,7 +301,8 @@ fn prefix_items(keywords: &Map<String, Value>) -> Result<&[Value], ShapeRefusal>
 
 fn elements(value: &Value) -> Result<&[Value], ShapeRefusal>
     ensures right { IfOk result (λ _. list_faults (Some (trees.view value.now)) ≡ []) }
-    ensures elements { IfOk result (λ es. trees.elements_view es.now ≡ elements_in (Some (trees.view value.now))) }
+    ensures elements { IfOk result
+        (λ es. trees.elements_view es.now ≡ elements_in (Some (trees.view value.now))) }
     ensures refused { IfErr result (λ e. Tells e (list_faults (Some (trees.view value.now)))) }
 {
     match value {
@@ -301,9 +316,11 @@ fn elements(value: &Value) -> Result<&[Value], ShapeRefusal>
 // Refuses a `minItems` other than the number of the shapes in `prefixItems`.
 fn check_min_items(keywords: &Map<String, Value>, count: usize) -> Result<(), ShapeRefusal>
     ensures right { IfOk result
-        (λ _. model.min_items_faults (member_named (codes "minItems") keywords.now.entries) count ≡ []) }
+        (λ _. model.min_items_faults
+        (member_named (codes "minItems") keywords.now.entries) count ≡ []) }
     ensures refused { IfErr result
-        (λ e. Tells e (model.min_items_faults (member_named (codes "minItems") keywords.now.entries) count)) }
+        (λ e. Tells e (model.min_items_faults
+        (member_named (codes "minItems") keywords.now.entries) count)) }
 {
     match member(keywords, "minItems") {
         None => check_count(0, count),
@@ -327,9 +344,11 @@ fn check_stated(value: &Value, count: usize) -> Result<(), ShapeRefusal>
 
 fn check_number(stated: &Number, count: usize) -> Result<(), ShapeRefusal>
     ensures right { IfOk result
-        (λ _. model.min_items_faults (Some (spelled (number (number_view stated.now)))) count ≡ []) }
+        (λ _. model.min_items_faults
+        (Some (spelled (number (number_view stated.now)))) count ≡ []) }
     ensures refused { IfErr result
-        (λ e. Tells e (model.min_items_faults (Some (spelled (number (number_view stated.now)))) count)) }
+        (λ e. Tells e (model.min_items_faults
+        (Some (spelled (number (number_view stated.now)))) count)) }
 {
     match stated.as_i128() {
         Some(stated) => check_count(stated, count),
@@ -352,9 +371,12 @@ fn check_count(stated: i128, count: usize) -> Result<(), ShapeRefusal>
 // The level of an object's keywords.
 #[tactic(auto, using(crate::proofs::Telling::told_left, crate::proofs::Telling::told_right))]
 fn object_level(alloc: Global, keywords: &Map<String, Value>) -> Result<Level<'_>, ShapeRefusal>
-    ensures level { IfOk result (λ level. level_view level ≡ levels.object_level (entries_view keywords.now.entries)) }
-    ensures right { IfOk result (λ _. model.foreign_faults model.Keyword model.object_keywords (entries_view keywords.now.entries) ++ levels.object_level_faults (entries_view keywords.now.entries) ≡ []) }
-    ensures refused { IfErr result (λ e. Tells e (model.foreign_faults model.Keyword model.object_keywords (entries_view keywords.now.entries) ++ levels.object_level_faults (entries_view keywords.now.entries))) }
+    ensures level { IfOk result
+        (λ level. level_view level ≡ levels.object_level (entries_view keywords.now.entries)) }
+    ensures right { IfOk result
+        (λ _. levels.all_object_faults (entries_view keywords.now.entries) ≡ []) }
+    ensures refused { IfErr result
+        (λ e. Tells e (levels.all_object_faults (entries_view keywords.now.entries))) }
 {
     if !all_among(keywords, &OBJECT_KEYWORDS) {
         return Err(ShapeRefusal::Keyword);
@@ -373,9 +395,13 @@ fn object_level(alloc: Global, keywords: &Map<String, Value>) -> Result<Level<'_
 fn read_properties(
     keywords: &Map<String, Value>,
 ) -> Result<Option<&Map<String, Value>>, ShapeRefusal>
-    ensures right { IfOk result (λ _. object_faults (member_named (codes "properties") keywords.now.entries) ≡ []) }
-    ensures fields { IfOk result (λ m. entries_there m ≡ fields_in (member_named (codes "properties") keywords.now.entries)) }
-    ensures refused { IfErr result (λ e. Tells e (object_faults (member_named (codes "properties") keywords.now.entries))) }
+    ensures right { IfOk result
+        (λ _. object_faults (member_named (codes "properties") keywords.now.entries) ≡ []) }
+    ensures fields { IfOk result
+        (λ m. entries_there m ≡ fields_in
+        (member_named (codes "properties") keywords.now.entries)) }
+    ensures refused { IfErr result
+        (λ e. Tells e (object_faults (member_named (codes "properties") keywords.now.entries))) }
 {
     match member(keywords, "properties") {
         None => Ok(None),
@@ -385,7 +411,8 @@ fn read_properties(
 
 fn members(value: &Value) -> Result<&Map<String, Value>, ShapeRefusal>
     ensures right { IfOk result (λ _. object_faults (Some (trees.view value.now)) ≡ []) }
-    ensures fields { IfOk result (λ m. entries_view m.now.entries ≡ fields_in (Some (trees.view value.now))) }
+    ensures fields { IfOk result
+        (λ m. entries_view m.now.entries ≡ fields_in (Some (trees.view value.now))) }
     ensures refused { IfErr result (λ e. Tells e (object_faults (Some (trees.view value.now)))) }
 {
     match value {
@@ -398,9 +425,15 @@ fn members(value: &Value) -> Result<&Map<String, Value>, ShapeRefusal>
 
 // Whether other fields may be there, as `additionalProperties` says.
 fn read_additional(keywords: &Map<String, Value>) -> Result<bool, ShapeRefusal>
-    ensures right { IfOk result (λ _. model.extra_faults (member_named (codes "additionalProperties") keywords.now.entries) ≡ []) }
-    ensures extra { IfOk result (λ extra. extra ≡ model.extra_in (member_named (codes "additionalProperties") keywords.now.entries)) }
-    ensures refused { IfErr result (λ e. Tells e (model.extra_faults (member_named (codes "additionalProperties") keywords.now.entries))) }
+    ensures right { IfOk result
+        (λ _. model.extra_faults
+        (member_named (codes "additionalProperties") keywords.now.entries) ≡ []) }
+    ensures extra { IfOk result
+        (λ extra. extra ≡ model.extra_in
+        (member_named (codes "additionalProperties") keywords.now.entries)) }
+    ensures refused { IfErr result
+        (λ e. Tells e (model.extra_faults
+        (member_named (codes "additionalProperties") keywords.now.entries))) }
 {
     match member(keywords, "additionalProperties") {
         None => Ok(true),
@@ -411,7 +444,8 @@ fn read_additional(keywords: &Map<String, Value>) -> Result<bool, ShapeRefusal>
 fn truth_value(value: &Value) -> Result<bool, ShapeRefusal>
     ensures right { IfOk result (λ _. model.extra_faults (Some (trees.view value.now)) ≡ []) }
     ensures extra { IfOk result (λ extra. extra ≡ model.extra_in (Some (trees.view value.now))) }
-    ensures refused { IfErr result (λ e. Tells e (model.extra_faults (Some (trees.view value.now)))) }
+    ensures refused { IfErr result
+        (λ e. Tells e (model.extra_faults (Some (trees.view value.now)))) }
 {
     match value {
         Value::Bool(extra) => Ok(*extra),
@@ -422,13 +456,15 @@ fn truth_value(value: &Value) -> Result<bool, ShapeRefusal>
 }
 
 // The names in `required`.
-fn read_required(
-    alloc: Global,
-    keywords: &Map<String, Value>,
-) -> Result<Vec<&String>, ShapeRefusal>
-    ensures right { IfOk result (λ _. model.required_faults (member_named (codes "required") keywords.now.entries) ≡ []) }
-    ensures names { IfOk result (λ names. texts names.items ≡ model.required_in (member_named (codes "required") keywords.now.entries)) }
-    ensures refused { IfErr result (λ e. Tells e (model.required_faults (member_named (codes "required") keywords.now.entries))) }
+fn read_required(alloc: Global, keywords: &Map<String, Value>) -> Result<Vec<&String>, ShapeRefusal>
+    ensures right { IfOk result
+        (λ _. model.required_faults (member_named (codes "required") keywords.now.entries) ≡ []) }
+    ensures names { IfOk result
+        (λ names. texts names.items ≡ model.required_in
+        (member_named (codes "required") keywords.now.entries)) }
+    ensures refused { IfErr result
+        (λ e. Tells e (model.required_faults
+        (member_named (codes "required") keywords.now.entries))) }
 {
     match member(keywords, "required") {
         None => Ok(Vec::new(alloc)),
@@ -438,8 +474,10 @@ fn read_required(
 
 fn listed_names(alloc: Global, value: &Value) -> Result<Vec<&String>, ShapeRefusal>
     ensures right { IfOk result (λ _. model.required_faults (Some (trees.view value.now)) ≡ []) }
-    ensures names { IfOk result (λ names. texts names.items ≡ model.required_in (Some (trees.view value.now))) }
-    ensures refused { IfErr result (λ e. Tells e (model.required_faults (Some (trees.view value.now)))) }
+    ensures names { IfOk result
+        (λ names. texts names.items ≡ model.required_in (Some (trees.view value.now))) }
+    ensures refused { IfErr result
+        (λ e. Tells e (model.required_faults (Some (trees.view value.now)))) }
 {
     match value {
         Value::Array(elements) => distinct_names(alloc, elements),
@@ -451,10 +489,13 @@ fn listed_names(alloc: Global, value: &Value) -> Result<Vec<&String>, ShapeRefus
 
 fn distinct_names(alloc: Global, elements: &[Value]) -> Result<Vec<&String>, ShapeRefusal>
     ensures right { IfOk result
-        (λ _. (model.are_texts (trees.elements_view elements.now) && model.are_distinct (model.texts_among (trees.elements_view elements.now))) ≡ true) }
-    ensures names { IfOk result (λ names. texts names.items ≡ model.texts_among (trees.elements_view elements.now)) }
+        (λ _. (model.are_texts (trees.elements_view elements.now)
+        && model.are_distinct (model.texts_among (trees.elements_view elements.now))) ≡ true) }
+    ensures names { IfOk result
+        (λ names. texts names.items ≡ model.texts_among (trees.elements_view elements.now)) }
     ensures refused { IfErr result
-        (λ e. Tells e (model.unless (model.are_texts (trees.elements_view elements.now) && model.are_distinct (model.texts_among (trees.elements_view elements.now))) model.NotAShape)) }
+        (λ e. Tells e (model.unless (model.are_texts (trees.elements_view elements.now)
+        && model.are_distinct (model.texts_among (trees.elements_view elements.now))) model.NotAShape)) }
 {
     let mut names = Vec::with_capacity(alloc, elements.len())?;
     let mut seen = BTreeSet::new(alloc);
@@ -470,8 +511,10 @@ fn distinct_names(alloc: Global, elements: &[Value]) -> Result<Vec<&String>, Sha
 
 // The name that an element of `required` says.
 fn name_in(element: &Value) -> Result<&String, ShapeRefusal>
-    ensures named { IfOk result (λ name. trees.view element.now ≡ json.Text (string_bytes name.now)) }
-    ensures refused { IfErr result (λ e. Tells e (model.unless (model.is_text_value (trees.view element.now)) model.NotAShape)) }
+    ensures named { IfOk result
+        (λ name. trees.view element.now ≡ json.Text (string_bytes name.now)) }
+    ensures refused { IfErr result
+        (λ e. Tells e (model.unless (model.is_text_value (trees.view element.now)) model.NotAShape)) }
 {
     match element {
         Value::String(name) => Ok(name),

@@ -50,8 +50,10 @@ pub fn read(alloc: Global, tree: &Tree) -> Result<Shape, ShapeRefusal>
 ///
 /// Of a value with a number that isn't whole, which is no tree, the answer says nothing.
 pub fn read_value(alloc: Global, value: &Value) -> Result<Shape, ShapeRefusal>
-    ensures spelled { IfOk result (λ s. (t : json.Tree) → tree_of (value_view value.now) ≡ Some t → model.SpellsShape t (view s)) }
-    ensures refused { IfErr result (λ e. (t : json.Tree) → tree_of (value_view value.now) ≡ Some t → Tells e (model.shape_faults t)) }
+    ensures spelled { IfOk result (λ s. (t : json.Tree)
+        → tree_of (value_view value.now) ≡ Some t → model.SpellsShape t (view s)) }
+    ensures refused { IfErr result (λ e. (t : json.Tree)
+        → tree_of (value_view value.now) ≡ Some t → Tells e (model.shape_faults t)) }
 {
     read_spelling(alloc, value)
 }

@@ -1,8 +1,5 @@
-use Rattle.std.proofs.Common.{◌≡◌, ◌∷◌, ◌&&◌, drop, ◌+◌, ◌∙◌, string_bytes, sym, refl, ap, subst, false, true, arith, rules}
+use Rattle.std.proofs.Common.{◌≡◌, ◌∷◌, drop, ◌+◌, ◌∙◌, string_bytes, sym, refl, ap, subst, false, true, arith, rules}
 use Rattle.std.proofs.lemmas.Grind.{common_steps}
-use Rattle.asl_model.specs.ShapeSpelling as model
-use Rattle.asl_shape.specs.Refusal.{Tells}
-use Rattle.asl_shape.specs.Spelled as trees
 use Rattle.asl_shape.specs.declared.ShapeRefusal.TheVariants.{NotAShape}
 use Rattle.asl_shape.proofs.Naming.{has, IsWith, has_next, was_taken, was_new, texts_step, new_step, listed_step, repeated_told}
 use Rattle.asl_shape.proofs.Requiring.{new_are_distinct}

@@ -1,4 +1,4 @@
-use Rattle.std.proofs.Common.{◌≡◌, true, not, ap, ◌∙◌, codes, length, arith}
+use Rattle.std.proofs.Common.{◌≡◌, true, not, codes, length}
 use Rattle.std.proofs.lemmas.Result.{err_from_is_err_and}
 use Rattle.asl_model.specs.ShapeSpelling as model
 use Rattle.asl_shape.specs.Level as levels

@@ -1,4 +1,4 @@
-use Rattle.std.proofs.Common.{◌≡◌, true, false, not, ap, sym, refl, subst, ◌∙◌, ◌+◌, [], ◌∷◌, ◌++◌, append_assoc, length, map, drop, String, None, option_map, unwrap_or, codes, arith}
+use Rattle.std.proofs.Common.{◌≡◌, false, ap, sym, refl, subst, ◌∙◌, ◌+◌, [], ◌∷◌, ◌++◌, append_assoc, map, drop, String, arith}
 use Rattle.std.specs.declared.alloc.Global.{Global}
 use Rattle.std.specs.List.Sorted.{IsStrictlySortedBy}
 use Rattle.std.specs.Map.{keys_of}
@@ -6,20 +6,15 @@ use Rattle.std.specs.String.{string_cmp}
 use Rattle.std.proofs.lemmas.Grind.{common_steps}
 use Rattle.std.proofs.lemmas.List.{take_all}
 use Rattle.std.proofs.lemmas.Result.{err_from_is_err_and}
-use Rattle.asl_model.specs.Tree.{field_named}
-use Rattle.asl_model.specs.Shape as shape
 use Rattle.serde_json.specs.declared.value.Value.{Value}
 use Rattle.asl_shape.specs.declared.shape.Shape.TheViews.{roll-Field}
 use Rattle.asl_shape.specs.Level.{SpelledOver}
 use Rattle.asl_shape.specs.LevelView.{level_view}
-use Rattle.asl_shape.specs.View.{view, fields_view}
+use Rattle.asl_shape.specs.View.{fields_view}
 use Rattle.asl_shape.proofs.Sizes.{smaller, element_smaller, member_smaller}
 use Rattle.asl_shape.proofs.Spellings.{shapes_read, element_told, member_told, member_read, faults_step}
 use Rattle.asl_model.specs.ShapeSpelling as model
 use Rattle.asl_shape.specs.Spelled as trees
-use Rattle.asl_shape.specs.declared.ShapeRefusal.TheVariants.{Keyword, BadType}
-use Rattle.asl_shape.proofs.Telling.{told_left, told_right}
-use Rattle.asl_shape.proofs.Views.{view_any}
 use Rattle.asl_shape.proofs.reading.+read.Goals as goal
 
 pub read_elements-returns-clause-shapes : goal.read_elements-returns-clause-shapes

@@ -2,7 +2,7 @@ use Rattle.std.proofs.Common.{◌≡◌, ◌+◌, ◌*◌, List, ◌++◌, Strin
 use Rattle.std.specs.declared.alloc.Global.{Global}
 use Rattle.asl_model.specs.ShapeSpelling as model
 use Rattle.serde_json.specs.declared.value.Value.{Value}
-use Rattle.asl_shape.specs.LevelView.{list_view, object_view}
+use Rattle.asl_shape.specs.LevelView.{list_view}
 use Rattle.asl_shape.specs.Spelled as trees
 use Rattle.asl_shape.specs.View.{view, fields_view}
 use Rattle.asl_shape.proofs.Sizes.{size, elements_size, fields_size, size_there, level_size}
