@@ -1,8 +1,9 @@
 pub mod Adding
 pub mod Known
+pub mod Level
+pub mod LevelView
 pub mod Proper
 pub mod Refusal
-pub mod Required
 pub mod Spelled
 pub mod View
 pub mod Words

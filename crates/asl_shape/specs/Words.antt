@@ -1,7 +1,7 @@
 -- What the field `type` of a spelling says, as the code has it.
 use Rattle.asl_model.specs.ShapeSpelling as model
-use Rattle.asl_shape.specs.declared.reading.TypeWord.{TypeWord}
-use Rattle.asl_shape.specs.declared.reading.TypeWord.TheVariants.{Object, Array, Integer, String, Boolean, Null, Other, NoWord, Absent}
+use Rattle.asl_shape.specs.declared.levels.TypeWord.{TypeWord}
+use Rattle.asl_shape.specs.declared.levels.TypeWord.TheVariants.{Object, Array, Integer, String, Boolean, Null, Other, NoWord, Absent}
 
 abbrev pub word_view : TypeWord → model.TypeWord
 word_view Object = model.OfObject

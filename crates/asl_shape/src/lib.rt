@@ -1,9 +1,9 @@
 //! Shapes of trees: reading and writing them, membership, comparing, copying and joining them.
 //!
 //! A [`Shape`] says which trees are meant (a subset of JSON Schema 2020-12). [`read`] makes one of the tree that spells
-//! it, [`read_value`] of the JSON value that this tree is, [`has`] tests a tree, [`inhabited`] whether there is one at
-//! all, [`sub`] whether one shape is inside another, [`same`] whether they are equal. [`copy`] makes an equal shape,
-//! [`join`] one that two are inside, [`write`] the tree that spells it.
+//! it, [`read_value`] of the JSON value that this tree is, [`read_level`] tells one [`Level`] of such a value. [`has`]
+//! tests a tree, [`inhabited`] whether there is one at all, [`sub`] whether one shape is inside another, [`same`] whether
+//! they are equal. [`copy`] makes an equal shape, [`join`] one that two are inside, [`write`] the tree that spells it.
 #![tactic(auto)]
 
 ghost use Rattle.std.specs.Prelude.{◌≡◌};
@@ -13,6 +13,7 @@ mod copying;
 mod equality;
 mod inhabiting;
 mod joining;
+mod levels;
 mod membership;
 mod reading;
 mod shape;
@@ -24,6 +25,7 @@ pub use copying::copy;
 pub use equality::same;
 pub use inhabiting::inhabited;
 pub use joining::join;
+pub use levels::{Level, read_level};
 pub use membership::has;
 pub use reading::{read, read_value};
 pub use shape::{Field, Shape};

@@ -1,10 +1,30 @@
-use Rattle.std.proofs.Common.{◌≡◌, List, ◌++◌, String, map, take, drop}
+use Rattle.std.proofs.Common.{◌≡◌, ◌+◌, ◌*◌, List, ◌++◌, String, map, take, drop}
 use Rattle.std.specs.declared.alloc.Global.{Global}
 use Rattle.asl_model.specs.ShapeSpelling as model
 use Rattle.serde_json.specs.declared.value.Value.{Value}
+use Rattle.asl_shape.specs.LevelView.{list_view}
 use Rattle.asl_shape.specs.Spelled as trees
 use Rattle.asl_shape.specs.View.{view, fields_view}
+use Rattle.asl_shape.proofs.Sizes.{size, elements_size, fields_size, size_there, level_size}
 use Rattle.asl_shape.proofs.reading.+read.Given as goal
+
+abbrev pub decreases-read_spelling : goal.decreases-read_spelling
+decreases-read_spelling l = 4 * size (trees.view l.value.now)
+
+abbrev pub decreases-read_list : goal.decreases-read_list
+decreases-read_list l = 4 * level_size (list_view l.first.now l.rest) + 2
+
+abbrev pub decreases-read_rest : goal.decreases-read_rest
+decreases-read_rest l = 4 * size_there (trees.value_there l.rest) + 1
+
+abbrev pub decreases-read_elements : goal.decreases-read_elements
+decreases-read_elements l = 4 * elements_size (trees.elements_view l.elements.now) + 1
+
+abbrev pub decreases-read_object : goal.decreases-read_object
+decreases-read_object l = 4 * fields_size (trees.entries_there l.properties) + 2
+
+abbrev pub decreases-read_members : goal.decreases-read_members
+decreases-read_members l = 4 * fields_size (trees.entries_view l.members.now.entries) + 1
 
 abbrev pub invariant-read_elements-loop-element : goal.invariant-read_elements-loop-element
 invariant-read_elements-loop-element l =

@@ -1,6 +1,6 @@
 use Rattle.std.proofs.Common.{◌≡◌, drop, map}
 use Rattle.asl_model.specs.ShapeSpelling as model
-use Rattle.asl_shape.proofs.reading.is_among.Given as goal
+use Rattle.asl_shape.proofs.levels.is_among.Given as goal
 
 abbrev pub invariant-loop-one : goal.invariant-loop-one
 invariant-loop-one l =

@@ -1,7 +1,7 @@
 use Rattle.std.proofs.Common.{◌≡◌, map}
 use Rattle.asl_model.specs.ShapeSpelling as model
 use Rattle.asl_shape.specs.Spelled as trees
-use Rattle.asl_shape.proofs.reading.all_among.Given as goal
+use Rattle.asl_shape.proofs.levels.all_among.Given as goal
 
 abbrev pub invariant-loop-keyword : goal.invariant-loop-keyword
 invariant-loop-keyword l =

@@ -1,0 +1,109 @@
+-- How large a spelling is: those inside a level are smaller than the whole.
+use Rattle.std.proofs.Common.{◌≡◌, ◌<◌, ◌≤◌, ◌+◌, ℕ, suc, max, List, [], ◌∷◌, ◌++◌, ◌∙◌, ap, String, Global, drop, zero, Bool, true, false, if◌then◌else◌, Option, Some, None, bytes_eq, subst, sym, codes, arith}
+use Rattle.asl_model.specs.Tree.{Tree, Null, Boolean, Integer, Text, Array, Object, Trees, NoTrees, AndTree, Fields, NoFields, AndField, field_named}
+use Rattle.asl_model.specs.ShapeSpelling.{TypeWord, OfObject, OfArray, OfInteger, OfString, OfBoolean, OfNull, OtherType, NotAType, NoType, type_word_of}
+use Rattle.asl_shape.specs.Level.{Level, Plain, ListLevel, ObjectLevel, level_of, typed_level, array_level, object_level, elements_in, fields_in, SpelledOver}
+use Rattle.asl_shape.specs.Spelled as trees
+use Rattle.serde_json.specs.declared.value.Value.{Value}
+
+abbrev mutual
+  -- of a tree
+  pub size : Tree → ℕ
+  size Null = 1
+  size (Boolean b) = 1
+  size (Integer n) = 1
+  size (Text s) = 1
+  size (Array ts) = suc (elements_size ts)
+  size (Object fs) = suc (fields_size fs)
+
+  pub elements_size : Trees → ℕ
+  elements_size NoTrees = 0
+  elements_size (AndTree t ts) = suc (size t + elements_size ts)
+
+  pub fields_size : Fields → ℕ
+  fields_size NoFields = 0
+  fields_size (AndField n t fs) = suc (size t + fields_size fs)
+
+-- of a tree that may be absent
+abbrev pub size_there : Option Tree → ℕ
+size_there None = 0
+size_there (Some t) = size t
+
+-- of the largest spelling inside a level, or of all of them together
+abbrev pub level_size : Level → ℕ
+level_size (Plain s) = 0
+level_size (ListLevel first rest) = max (elements_size first) (size_there rest)
+level_size (ObjectLevel properties names extra) = fields_size properties
+
+found_within : (n : List ℕ) (fs : Fields) → size_there (field_named n fs) ≤ fields_size fs
+found_within n NoFields = omega arith
+found_within n (AndField m t fs) = go (bytes_eq m n) (found_within n fs)
+  where
+    go : (here : Bool) → size_there (field_named n fs) ≤ fields_size fs → size_there (if here then Some t else field_named n fs) ≤ fields_size (AndField m t fs)
+    go true behind = omega arith
+    go false behind = omega (arith, behind)
+
+elements_within : (o : Option Tree) → elements_size (elements_in o) ≤ size_there o
+elements_within None = omega arith
+elements_within (Some Null) = omega arith
+elements_within (Some (Boolean b)) = omega arith
+elements_within (Some (Integer n)) = omega arith
+elements_within (Some (Text s)) = omega arith
+elements_within (Some (Array ts)) = omega arith
+elements_within (Some (Object fs)) = omega arith
+
+fields_within : (o : Option Tree) → fields_size (fields_in o) ≤ size_there o
+fields_within None = omega arith
+fields_within (Some Null) = omega arith
+fields_within (Some (Boolean b)) = omega arith
+fields_within (Some (Integer n)) = omega arith
+fields_within (Some (Text s)) = omega arith
+fields_within (Some (Array ts)) = omega arith
+fields_within (Some (Object fs)) = omega arith
+
+typed_within : (w : TypeWord) (fs : Fields) → level_size (typed_level w (array_level fs) (object_level fs)) ≤ fields_size fs
+typed_within OfObject fs =
+    let o = field_named (codes "properties") fs in
+    omega (arith, found_within (codes "properties") fs, fields_within o)
+typed_within OfArray fs =
+    let o = field_named (codes "prefixItems") fs in
+    omega (arith, found_within (codes "prefixItems") fs, elements_within o, found_within (codes "items") fs)
+typed_within OfInteger fs = omega arith
+typed_within OfString fs = omega arith
+typed_within OfBoolean fs = omega arith
+typed_within OfNull fs = omega arith
+typed_within OtherType fs = omega arith
+typed_within NotAType fs = omega arith
+typed_within NoType fs = omega arith
+
+within : (t : Tree) → level_size (level_of t) < size t
+within Null = omega arith
+within (Boolean b) = omega arith
+within (Integer n) = omega arith
+within (Text s) = omega arith
+within (Array ts) = omega arith
+within (Object fs) = omega (arith, typed_within (type_word_of fs) fs)
+
+-- what stands inside a level is smaller than the whole
+pub smaller : (t : Tree) (level : Level) → SpelledOver t level → level_size level < size t
+smaller t level h = subst (λ l. level_size l < size t) h.same (within t)
+
+drop_within : (i : ℕ) (vs : List Value) → elements_size (trees.elements_view (drop i vs)) ≤ elements_size (trees.elements_view vs)
+drop_within zero vs = omega arith
+drop_within (suc i) [] = omega arith
+drop_within (suc i) (v ∷ vs) = omega (arith, drop_within i vs)
+
+-- an element is smaller than all together
+pub element_smaller : (i : ℕ) (vs left : List Value) (v : Value) → drop i vs ≡ v ∷ left → size (trees.view v) < elements_size (trees.elements_view vs)
+element_smaller i vs left v split =
+    let here : elements_size (trees.elements_view (v ∷ left)) ≤ elements_size (trees.elements_view vs) = subst (λ us. elements_size (trees.elements_view us) ≤ elements_size (trees.elements_view vs)) split (drop_within i vs) in
+    omega (arith, here)
+
+-- a member's value is smaller than all together
+member_within : (done left : List (String Global × Value)) (e : String Global × Value) → size (trees.view e.1) < fields_size (trees.entries_view (done ++ e ∷ left))
+member_within [] left e = omega arith
+member_within (m ∷ done) left e = omega (arith, member_within done left e)
+
+pub member_smaller : (all done now left : List (String Global × Value)) (e : String Global × Value) → all ≡ done ++ now → now ≡ e ∷ left → size (trees.view e.1) < fields_size (trees.entries_view all)
+member_smaller all done now left e split next =
+    subst (λ ms. size (trees.view e.1) < fields_size (trees.entries_view ms)) (sym (split ∙ ap (λ ms. done ++ ms) next)) (member_within done left e)
