@@ -6,8 +6,9 @@ use Rattle.asl_model.specs.Shape as model
 use Rattle.asl_model.specs.Tree.{Tree, Trees, Fields}
 use Rattle.asl_shape.specs.Level.{Level}
 use Rattle.asl_numbered.specs.Expansion.{shape_at, shapes_at, fields_at, numbers_in, AreBelow}
-use Rattle.asl_numbered.specs.References.{SpellsWith, SpellsOver, SpellEach, SpellsRest, SpellFields, TellsOf}
+use Rattle.asl_numbered.specs.References.{SpellsWith, SpellsOver, SpellEach, SpellsRest, SpellFields, SaysOf}
 use Rattle.asl_numbered.specs.declared.NumberedRefusal.{NumberedRefusal}
+use Rattle.asl_numbered.specs.declared.NumberedRefusal.TheVariants as refusal
 use Rattle.asl_numbered.specs.declared.node.NodeField.{NodeField}
 
 -- the numbers that are given are below that bound
@@ -36,8 +37,12 @@ pub record AreFieldsRead (given : Option (List model.Shape)) (fs : Fields) (tabl
   pub within : AreBelow (length table) (numbers_in es)
   pub spelled : SpellFields given fs (fields_at table es)
 
--- the refusal tells what is wrong with one of them
+-- what a refusal says of one of the trees
+abbrev pub SaysOfOne : Option (List model.Shape) → List Tree → NumberedRefusal → Type 0
+SaysOfOne given ts (refusal.Shape e) = (part : Tree) × Contains ts part × SaysOf given part (refusal.Shape e)
+SaysOfOne given ts refusal.BadNumber = (part : Tree) × Contains ts part × SaysOf given part refusal.BadNumber
+SaysOfOne given ts refusal.OutOfMemory = Unit {0}
+
+-- the refusal tells what is wrong with one of the trees
 pub record TellsOneOf (given : Option (List model.Shape)) (ts : List Tree) (e : NumberedRefusal) : Type 0 where
-  pub part : Tree
-  pub one : Contains ts part
-  pub told : TellsOf given part e
+  pub said : SaysOfOne given ts e

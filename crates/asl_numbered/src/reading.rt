@@ -4,7 +4,7 @@ ghost use Rattle.asl_model.specs.Shape as shape;
 ghost use Rattle.asl_model.specs.Tree as json;
 ghost use Rattle.asl_model.specs.ShapeSpelling as model;
 ghost use Rattle.asl_shape.specs.Level as levels;
-ghost use Rattle.asl_shape.specs.LevelView.{list_view, object_view, texts};
+ghost use Rattle.asl_shape.specs.LevelView.{level_view, list_view, object_view, texts};
 ghost use Rattle.asl_shape.specs.Spelled as trees;
 ghost use Rattle.asl_shape.specs.Spelled.{spelled};
 ghost use Rattle.asl_numbered.specs.Expansion.{expansions, shape_over, fields_at, RefersBelow, numbers_in, AreBelow, AreFieldsOf, Keeps};
@@ -126,19 +126,41 @@ fn read_spelling(
         (TellsOf (shapes_given (expansions table.old) given.entry) (trees.view value.now)) }
     ensures keeps { Keeps (expansions table.old) (expansions table.new) }
 {
-    match read_level(alloc, value)? {
+    let level = read_level(alloc, value)?;
+    read_over(table, alloc, &level, given)
+}
+
+// The number of the shape of a level.
+#[tactic(auto, using(crate::proofs::Readings::plain_read, crate::proofs::Expansions::simple_refers))]
+#[cycle(read)]
+fn read_over(
+    table: &mut Table,
+    alloc: Global,
+    level: &Level<'_>,
+    given: Option<&[usize]>,
+) -> Result<usize, NumberedRefusal>
+    requires { AreGiven (length table.old) (numbers_given given) }
+    ensures number { IfOk result
+        (IsReadOver (shapes_given (expansions table.old) given.entry) (level_view level.now)
+        (expansions table.new)) }
+    ensures refused { IfErr result
+        (TellsOneOf (shapes_given (expansions table.old) given.entry)
+        (inside (level_view level.now))) }
+    ensures keeps { Keeps (expansions table.old) (expansions table.new) }
+{
+    match level {
         Level::Any => Ok(table.put(Node::Any)?),
         Level::Never => Ok(table.put(Node::Never)?),
         Level::Null => Ok(table.put(Node::Null)?),
         Level::Bool => Ok(table.put(Node::Bool)?),
         Level::Int => Ok(table.put(Node::Int)?),
         Level::Text => Ok(table.put(Node::Text)?),
-        Level::List { first, rest } => read_list(table, alloc, first, rest, given),
+        Level::List { first, rest } => read_list(table, alloc, first, *rest, given),
         Level::Object {
             properties,
             required,
             extra,
-        } => read_object(table, alloc, properties, &required, extra, given),
+        } => read_object(table, alloc, *properties, required, *extra, given),
     }
 }
 
