@@ -64,7 +64,7 @@ fields_push table (g ∷ fs) k f (other ∷ ms) m e named needed own =
     let behind : fields_at table fs ≡ fields_view ms = cc in
     rw (name, also, here, fields_push table fs k f ms m behind named needed own) refl
 
-numbers_push : (bound : ℕ) (fs : List (String Global × NodeField)) (k : String Global) (f : NodeField) → AreBelow bound (numbers_in fs) → f.shape < bound → AreBelow bound (numbers_in (fs ++ (k, f) ∷ []))
+pub numbers_push : (bound : ℕ) (fs : List (String Global × NodeField)) (k : String Global) (f : NodeField) → AreBelow bound (numbers_in fs) → f.shape < bound → AreBelow bound (numbers_in (fs ++ (k, f) ∷ []))
 numbers_push bound [] k f h last = (last, tt)
 numbers_push bound (g ∷ fs) k f h last = (h.0, numbers_push bound fs k f h.1 last)
 

@@ -4,8 +4,10 @@ pub mod Expansions
 pub mod Growing
 pub mod Joins
 pub mod Looking
+pub mod Marking
 pub mod Moving
 pub mod Parts
+pub mod Readings
 pub mod Remembered
 pub mod Sameness
 pub mod Tables

@@ -1,4 +1,7 @@
 pub mod Comparison
 pub mod Expansion
 pub mod Joins
+pub mod Reading
+pub mod References
+pub mod Refusal
 pub mod Table

@@ -1,0 +1,301 @@
+-- Reading shapes into a table: references, levels, and the parts of levels one after another.
+use Rattle.std.proofs.Common.{◌≡◌, ◌<◌, ◌≤◌, ℕ, Bool, false, take, drop, Vec, zero, suc, pos, negsuc, List, [], ◌∷◌, ◌++◌, length, map, codes, Option, Some, None, Result, Ok, Err, Bor, option_map, slice_get, String, Global, string_bytes, string_cmp, refl, sym, ap, ◌∙◌, subst, arith}
+use Rattle.std.specs.Prelude.{option_to_list, IfOk, IfErr}
+use Rattle.std.specs.BTreeMap.{BTreeMap, is_at, insert_entry}
+use Rattle.std.specs.List.{Contains}
+use Rattle.std.specs.List.Sorted.{IsStrictlySortedBy}
+use Rattle.std.specs.Map.{keys_of, lookup}
+use Rattle.std.specs.Option.{option_copied}
+use Rattle.std.specs.Cmp.Lexicographic.{slice_cmp}
+use Rattle.std.specs.Ordering.{nat_cmp}
+use Rattle.asl_shape.proofs.Lookups.{member_named_lookup}
+use Rattle.std.proofs.lemmas.List.Elements.{Contains-append_left, Contains-append_right}
+use Rattle.std.proofs.lemmas.List.{map-append, take_all}
+use Rattle.std.proofs.lemmas.Option.{slice_get-map}
+use Rattle.asl_model.specs.ShapeSpelling.{with_all_needed}
+use Rattle.asl_model.specs.Shape as model
+use Rattle.asl_model.specs.Tree.{Tree, Null, Boolean, Integer, Text, Array, Object as Fielded, Trees, NoTrees, AndTree, Fields, NoFields, AndField}
+use Rattle.asl_shape.specs.Level.{Level, Plain, ListLevel, ObjectLevel, SpelledOver, level_faults}
+use Rattle.asl_shape.specs.Refusal.{Tells}
+use Rattle.asl_shape.specs.Spelled as trees
+use Rattle.asl_shape.specs.declared.ShapeRefusal.{ShapeRefusal}
+use Rattle.asl_shape.specs.declared.ShapeRefusal.TheVariants.{NotAShape, Keyword, BadType, MinItems, OutOfMemory}
+use Rattle.serde_json.specs.declared.value.Value.{Value}
+use Rattle.asl_numbered.specs.declared.node.Node.{Node}
+use Rattle.asl_numbered.specs.declared.node.Node.TheVariants.{List as Elements, Object}
+use Rattle.asl_numbered.specs.declared.node.NodeField.{NodeField}
+use Rattle.asl_numbered.specs.declared.NumberedRefusal.{NumberedRefusal}
+use Rattle.asl_numbered.specs.declared.NumberedRefusal.TheVariants as refusal
+use Rattle.asl_numbered.specs.Expansion.{shape_at, shapes_at, fields_at, shape_over, expansions, numbers_in, AreBelow, RefersBelow, IsNumberOf, AreNumbersOf, AreFieldsOf, Keeps}
+use Rattle.asl_numbered.specs.Reading.{AreGiven, IsRead, IsReadOver, IsReadRest, AreRead, AreFieldsRead, SaysOfOne, TellsOneOf}
+use Rattle.asl_numbered.specs.Refusal.{numbered}
+use Rattle.asl_numbered.specs.References.{reference_among, reference_in, element_at, meant_by, referred, numbers_given, shapes_given, SpellsWith, by_reference, by_level, SpellsOver, with_none_inside, with_elements, with_properties, SpellEach, no_element, and_element, SpellsRest, no_rest, some_rest, SpellFields, no_field, and_field, inside, each_of, values_of, StandsIn, is_itself, stands_inside, HasFault, HasWrongNumber, SaysOf, TellsOf}
+use Rattle.asl_numbered.proofs.Appending.{names, appended}
+use Rattle.asl_numbered.proofs.Expansions.{as_many, below-append, below-wider, keeps_longer, kept_shape, shapes_at_stay, fields_at_stay}
+use Rattle.asl_numbered.proofs.Growing.{numbers_kept, fields_kept, numbers_push}
+
+-- ---- numbers that are given
+
+pub given_kept : (old new : List Node) (given : Option (List ℕ)) → Keeps (expansions old) (expansions new) → AreGiven (length old) given → AreGiven (length new) given
+given_kept old new None keeps h = record { below = tt }
+given_kept old new (Some ns) keeps h =
+    let longer : length old ≤ length new = omega (arith, as_many old, as_many new, keeps_longer (expansions old) (expansions new) keeps) in
+    record { below = below-wider (length old) (length new) ns longer h.below }
+
+shapes_kept : (old new : List model.Shape) (ns : List ℕ) → Keeps old new → AreBelow (length old) ns → map (shape_at new) ns ≡ map (shape_at old) ns
+shapes_kept old new [] keeps below = refl
+shapes_kept old new (n ∷ ns) keeps below = rw (kept_shape old new n keeps below.0, shapes_kept old new ns keeps below.1) refl
+
+pub given_same : (old new : List Node) (given : Option (Bor (List ℕ))) → Keeps (expansions old) (expansions new) → AreGiven (length old) (numbers_given given) → shapes_given (expansions new) given ≡ shapes_given (expansions old) given
+given_same old new None keeps h = refl
+given_same old new (Some ns) keeps h =
+    ap Some (shapes_kept (expansions old) (expansions new) ns.now keeps (subst (λ n. AreBelow n ns.now) (sym (as_many old)) h.below))
+
+-- ---- references
+
+meant_shape : {X Y : Type 0} (f : X → Y) (xs : List X) (v : Tree) → meant_by (map f xs) v ≡ option_map f (meant_by xs v)
+meant_shape f xs Null = refl
+meant_shape f xs (Boolean b) = refl
+meant_shape f xs (Integer (pos n)) = slice_get-map f xs n
+meant_shape f xs (Integer (negsuc n)) = refl
+meant_shape f xs (Text s) = refl
+meant_shape f xs (Array ts) = refl
+meant_shape f xs (Fielded fs) = refl
+
+named_shape : {X Y : Type 0} (f : X → Y) (xs : List X) (o : Option Tree) → option_map (meant_by (map f xs)) o ≡ option_map (option_map f) (option_map (meant_by xs) o)
+named_shape f xs None = refl
+named_shape f xs (Some v) = ap Some (meant_shape f xs v)
+
+referred_shape : (table : List model.Shape) (given : Option (Bor (List ℕ))) (t : Tree) → referred (shapes_given table given) t ≡ option_map (option_map (shape_at table)) (referred (numbers_given given) t)
+referred_shape table None t = refl
+referred_shape table (Some ns) t = named_shape (shape_at table) ns.now (reference_in t)
+
+got_below : (bound : ℕ) (ns : List ℕ) (i n : ℕ) → AreBelow bound ns → slice_get ns i ≡ Some n → n < bound
+got_below bound [] i n below got = absurd (cc)
+got_below bound (m ∷ ns) zero n below got = let same : m ≡ n = cc in subst (λ k. k < bound) same below.0
+got_below bound (m ∷ ns) (suc i) n below got = got_below bound ns i n below.1 got
+
+meant_below : (bound : ℕ) (ns : List ℕ) (v : Tree) (n : ℕ) → AreBelow bound ns → meant_by ns v ≡ Some n → n < bound
+meant_below bound ns Null n below is = absurd (cc)
+meant_below bound ns (Boolean b) n below is = absurd (cc)
+meant_below bound ns (Integer (pos i)) n below is = got_below bound ns i n below is
+meant_below bound ns (Integer (negsuc i)) n below is = absurd (cc)
+meant_below bound ns (Text s) n below is = absurd (cc)
+meant_below bound ns (Array ts) n below is = absurd (cc)
+meant_below bound ns (Fielded fs) n below is = absurd (cc)
+
+named_below : (bound : ℕ) (ns : List ℕ) (o : Option Tree) (n : ℕ) → AreBelow bound ns → option_map (meant_by ns) o ≡ Some (Some n) → n < bound
+named_below bound ns None n below is = absurd (cc)
+named_below bound ns (Some v) n below is = let this : meant_by ns v ≡ Some n = cc in meant_below bound ns v n below this
+
+referred_below : (bound : ℕ) (given : Option (List ℕ)) (t : Tree) (n : ℕ) → AreGiven bound given → referred given t ≡ Some (Some n) → n < bound
+referred_below bound None t n h is = absurd (cc)
+referred_below bound (Some ns) t n h is = named_below bound ns (reference_in t) n h.below is
+
+pub reference_read : (table : List Node) (given : Option (Bor (List ℕ))) (t : Tree) (n : ℕ) → AreGiven (length table) (numbers_given given) → referred (numbers_given given) t ≡ Some (Some n) → IsRead (shapes_given (expansions table) given) t (expansions table) n
+reference_read table given t n h is =
+    record {
+      within = subst (λ bound. n < bound) (sym (as_many table)) (referred_below (length table) (numbers_given given) t n h is);
+      spelled = by_reference (referred_shape (expansions table) given t ∙ ap (option_map (option_map (shape_at (expansions table)))) is);
+    }
+
+pub reference_told : (table : List model.Shape) (given : Option (Bor (List ℕ))) (t : Tree) → referred (numbers_given given) t ≡ Some None → TellsOf (shapes_given table given) t refusal.BadNumber
+reference_told table given t is =
+    record { said = record { place = t; there = is_itself; wrong = referred_shape table given t ∙ ap (option_map (option_map (shape_at table))) is } }
+
+-- the one field of an object
+pub alone : (es : List (String Global × Value)) (o : Option (Bor Value)) → length es ≡ 1 → option_copied o ≡ lookup (is_at (λ k. slice_cmp nat_cmp (codes "shape") (string_bytes k))) es → trees.value_there o ≡ reference_among (trees.entries_view es)
+alone [] o one is = absurd (omega (arith, one))
+alone (e ∷ []) o one is = member_named_lookup (codes "shape") (e ∷ []) o is
+alone (e ∷ f ∷ es) o one is = absurd (omega (arith, one))
+
+pub not_alone : (es : List (String Global × Value)) → (length es ≡ 1 → ⊥) → None ≡ reference_among (trees.entries_view es)
+not_alone [] more = refl
+not_alone (e ∷ []) more = absurd (more refl)
+not_alone (e ∷ f ∷ es) more = refl
+
+-- ---- levels
+
+fault_told : (given : Option (List model.Shape)) (t : Tree) (e : ShapeRefusal) → referred given t ≡ None → Tells e (level_faults t) → TellsOf given t (numbered e)
+fault_told given t NotAShape is told = record { said = (_, refl, record { place = t; there = is_itself; spelled = is; listed = told.listed }) }
+fault_told given t Keyword is told = record { said = (_, refl, record { place = t; there = is_itself; spelled = is; listed = told.listed }) }
+fault_told given t BadType is told = record { said = (_, refl, record { place = t; there = is_itself; spelled = is; listed = told.listed }) }
+fault_told given t MinItems is told = record { said = (_, refl, record { place = t; there = is_itself; spelled = is; listed = told.listed }) }
+fault_told given t OutOfMemory is told = record { said = tt }
+
+pub level_told : (table : List model.Shape) (given : Option (Bor (List ℕ))) (t : Tree) (e : ShapeRefusal) → referred (numbers_given given) t ≡ None → Tells e (level_faults t) → TellsOf (shapes_given table given) t (numbered e)
+level_told table given t e is told =
+    fault_told (shapes_given table given) t e (referred_shape table given t ∙ ap (option_map (option_map (shape_at table))) is) told
+
+-- a level with none inside
+pub plain_read : (given : Option (List model.Shape)) (s : model.Shape) (table : List model.Shape) (n : ℕ) → IsNumberOf table s n → IsReadOver given (Plain s) table n
+plain_read given s table n is = record { within = is.within; spelled = subst (SpellsOver given (Plain s)) (sym is.same) with_none_inside }
+
+over_read : (given : Option (List model.Shape)) (t : Tree) (level : Level) (table : List model.Shape) (n : ℕ) → SpelledOver t level → IsReadOver given level table n → IsRead given t table n
+over_read given t level table n over read = record { within = read.within; spelled = by_level over read.spelled }
+
+-- what is wrong with a spelling inside
+over_told : (given : Option (List model.Shape)) (t : Tree) (level : Level) (e : NumberedRefusal) → SpelledOver t level → TellsOneOf given (inside level) e → TellsOf given t e
+over_told given t level (refusal.Shape e) over told =
+    let said = told.said in
+    let fault = said.2.2 in
+    record { said = (said.2.0, said.2.1, record { place = fault.place; there = stands_inside over said.1 fault.there; spelled = fault.spelled; listed = fault.listed }) }
+over_told given t level refusal.BadNumber over told =
+    let said = told.said in
+    record { said = record { place = said.2.place; there = stands_inside over said.1 said.2.there; wrong = said.2.wrong } }
+over_told given t level refusal.OutOfMemory over told = record { said = tt }
+
+pub over_answer : (given : Option (List model.Shape)) (t : Tree) (level : Level) (table : List model.Shape) (r : Result ℕ NumberedRefusal) → SpelledOver t level → IfOk r (IsReadOver given level table) → IfOk r (IsRead given t table)
+over_answer given t level table (Ok n) over read = over_read given t level table n over read
+over_answer given t level table (Err e) over read = tt
+
+pub over_refusal : (given : Option (List model.Shape)) (t : Tree) (level : Level) (r : Result ℕ NumberedRefusal) → SpelledOver t level → IfErr r (TellsOneOf given (inside level)) → IfErr r (TellsOf given t)
+over_refusal given t level (Ok n) over told = tt
+over_refusal given t level (Err e) over told = over_told given t level e over told
+
+-- ---- one of several
+
+pub one_told : (given : Option (List model.Shape)) (ts : List Tree) (part : Tree) (e : NumberedRefusal) → Contains ts part → TellsOf given part e → TellsOneOf given ts e
+one_told given ts part (refusal.Shape e) there told = record { said = (part, there, told.said) }
+one_told given ts part refusal.BadNumber there told = record { said = (part, there, told.said) }
+one_told given ts part refusal.OutOfMemory there told = record { said = tt }
+
+pub one_left : (given : Option (List model.Shape)) (ts us : List Tree) (e : NumberedRefusal) → TellsOneOf given ts e → TellsOneOf given (ts ++ us) e
+one_left given ts us (refusal.Shape e) told = record { said = (told.said.0, Contains-append_left ts us told.said.0 told.said.1, told.said.2) }
+one_left given ts us refusal.BadNumber told = record { said = (told.said.0, Contains-append_left ts us told.said.0 told.said.1, told.said.2) }
+one_left given ts us refusal.OutOfMemory told = record { said = tt }
+
+pub one_right : (given : Option (List model.Shape)) (ts us : List Tree) (e : NumberedRefusal) → TellsOneOf given us e → TellsOneOf given (ts ++ us) e
+one_right given ts us (refusal.Shape e) told = record { said = (told.said.0, Contains-append_right ts us told.said.0 told.said.1, told.said.2) }
+one_right given ts us refusal.BadNumber told = record { said = (told.said.0, Contains-append_right ts us told.said.0 told.said.1, told.said.2) }
+one_right given ts us refusal.OutOfMemory told = record { said = tt }
+
+-- ---- the parts of a list
+
+contains_first : (t : Tree) (ts : List Tree) → Contains (t ∷ ts) t
+contains_first t ts = (0, omega arith, refl)
+
+-- the element at a place is one of them
+pub element_there : (i : ℕ) (vs left : List Value) (v : Value) → drop i vs ≡ v ∷ left → Contains (each_of (trees.elements_view vs)) (trees.view v)
+element_there zero vs left v split = subst (λ us. Contains (each_of (trees.elements_view us)) (trees.view v)) (sym split) (contains_first (trees.view v) (each_of (trees.elements_view left)))
+element_there (suc i) [] left v split = absurd (cc)
+element_there (suc i) (u ∷ vs) left v split = Contains-append_right (trees.view u ∷ []) (each_of (trees.elements_view vs)) (trees.view v) (element_there i vs left v split)
+
+push_tree : Trees → Tree → Trees
+push_tree NoTrees t = AndTree t NoTrees
+push_tree (AndTree u ts) t = AndTree u (push_tree ts t)
+
+push_shape : model.Shapes → model.Shape → model.Shapes
+push_shape model.NoShapes s = model.AndShape s model.NoShapes
+push_shape (model.AndShape r ss) s = model.AndShape r (push_shape ss s)
+
+each_push : {given : Option (List model.Shape)} {ts : Trees} {ss : model.Shapes} {t : Tree} {s : model.Shape} → SpellEach given ts ss → SpellsWith given t s → SpellEach given (push_tree ts t) (push_shape ss s)
+unfolding push_tree push_shape
+each_push no_element own = and_element own no_element
+each_push (and_element h others) own = and_element h (each_push others own)
+
+elements_pushed : (vs : List Value) (v : Value) → trees.elements_view (vs ++ v ∷ []) ≡ push_tree (trees.elements_view vs) (trees.view v)
+unfolding push_tree
+elements_pushed [] v = refl
+elements_pushed (u ∷ vs) v = ap (AndTree (trees.view u)) (elements_pushed vs v)
+
+shapes_pushed : (table : List model.Shape) (ns : List ℕ) (n : ℕ) → shapes_at table (ns ++ n ∷ []) ≡ push_shape (shapes_at table ns) (shape_at table n)
+unfolding push_shape
+shapes_pushed table [] n = refl
+shapes_pushed table (m ∷ ns) n = ap (model.AndShape (shape_at table m)) (shapes_pushed table ns n)
+
+pub none_read : (given : Option (List model.Shape)) (table : List model.Shape) → AreRead given NoTrees table []
+none_read given table = record { within = tt; spelled = no_element }
+
+numbers_grown : (given : Option (List model.Shape)) (ts : Trees) (old new : List model.Shape) (ns : List ℕ) → Keeps old new → AreRead given ts old ns → AreRead given ts new ns
+numbers_grown given ts old new ns keeps are =
+    let kept : AreNumbersOf new (shapes_at old ns) ns = numbers_kept old new (shapes_at old ns) ns keeps (record { within = are.within; same = refl }) in
+    record { within = kept.within; spelled = subst (SpellEach given ts) (sym kept.same) are.spelled }
+
+pub number_read : (given : Option (List model.Shape)) (old new : List model.Shape) (before after : List Value) (v : Value) (ns ms : List ℕ) (n : ℕ) → Keeps old new → AreRead given (trees.elements_view before) old ns → IsRead given (trees.view v) new n → after ≡ before ++ v ∷ [] → ms ≡ ns ++ n ∷ [] → AreRead given (trees.elements_view after) new ms
+number_read given old new before after v ns ms n keeps are read more also =
+    let now = numbers_grown given (trees.elements_view before) old new ns keeps are in
+    rw (more, also) (record {
+      within = below-append (length new) ns (n ∷ []) now.within (read.within, tt);
+      spelled = rw (elements_pushed before v, shapes_pushed new ns n) (each_push now.spelled read.spelled);
+    })
+
+pub numbers_end : (given : Option (List model.Shape)) (table : List model.Shape) (i : ℕ) (vs : List Value) (ns : List ℕ) → length vs ≤ i → AreRead given (trees.elements_view (take i vs)) table ns → AreRead given (trees.elements_view vs) table ns
+numbers_end given table i vs ns past are = subst (λ us. AreRead given (trees.elements_view us) table ns) (take_all i vs past) are
+
+pub list_refers : (given : Option (List model.Shape)) (first : Trees) (rest : Option Tree) (middle now : List Node) (ns : Vec ℕ Global) (n : ℕ) → Keeps (expansions middle) (expansions now) → AreRead given first (expansions middle) ns.items → IsReadRest given rest (expansions now) n → RefersBelow (length now) (Elements ns n)
+list_refers given first rest middle now ns n keeps are read =
+    let kept = numbers_grown given first (expansions middle) (expansions now) ns.items keeps are in
+    subst (λ bound. RefersBelow bound (Elements ns n)) (as_many now) (record { each = (read.within, kept.within) })
+
+pub list_read : (given : Option (List model.Shape)) (first : Trees) (rest : Option Tree) (middle now new : List model.Shape) (ns : Vec ℕ Global) (further n : ℕ) → Keeps middle now → AreRead given first middle ns.items → IsReadRest given rest now further → IsNumberOf new (shape_over now (Elements ns further)) n → IsReadOver given (ListLevel first rest) new n
+list_read given first rest middle now new ns further n keeps are read is =
+    let kept = numbers_grown given first middle now ns.items keeps are in
+    record { within = is.within; spelled = subst (SpellsOver given (ListLevel first rest)) (sym is.same) (with_elements kept.spelled read.spelled) }
+
+-- the further elements
+pub no_rest_read : (given : Option (List model.Shape)) (table : List model.Shape) (n : ℕ) → IsNumberOf table model.Any n → IsReadRest given None table n
+no_rest_read given table n is = record { within = is.within; spelled = subst (SpellsRest given None) (sym is.same) no_rest }
+
+pub rest_answer : (given : Option (List model.Shape)) (t : Tree) (table : List model.Shape) (r : Result ℕ NumberedRefusal) → IfOk r (IsRead given t table) → IfOk r (IsReadRest given (Some t) table)
+rest_answer given t table (Ok n) read = record { within = read.within; spelled = some_rest read.spelled }
+rest_answer given t table (Err e) read = tt
+
+-- ---- the parts of an object
+
+pub member_there : (all done now left : List (String Global × Value)) (e : String Global × Value) → all ≡ done ++ now → now ≡ e ∷ left → Contains (values_of (trees.entries_view all)) (trees.view e.1)
+member_there all done now left e split next = subst (λ es. Contains (values_of (trees.entries_view es)) (trees.view e.1)) (sym (split ∙ ap (λ es. done ++ es) next)) (go done)
+  where
+    go : (before : List (String Global × Value)) → Contains (values_of (trees.entries_view (before ++ e ∷ left))) (trees.view e.1)
+    go [] = contains_first (trees.view e.1) (values_of (trees.entries_view left))
+    go (m ∷ before) = Contains-append_right (trees.view m.1 ∷ []) (values_of (trees.entries_view (before ++ e ∷ left))) (trees.view e.1) (go before)
+
+push_field : Fields → List ℕ → Tree → Fields
+push_field NoFields n t = AndField n t NoFields
+push_field (AndField m u fs) n t = AndField m u (push_field fs n t)
+
+push_mention : model.FieldShapes → List ℕ → Bool → model.Shape → model.FieldShapes
+push_mention model.NoFieldShapes n needed s = model.AndFieldShape n needed s model.NoFieldShapes
+push_mention (model.AndFieldShape m other r ss) n needed s = model.AndFieldShape m other r (push_mention ss n needed s)
+
+fields_push : {given : Option (List model.Shape)} {fs : Fields} {ss : model.FieldShapes} (n : List ℕ) {t : Tree} {s : model.Shape} → SpellFields given fs ss → SpellsWith given t s → SpellFields given (push_field fs n t) (push_mention ss n false s)
+unfolding push_field push_mention
+fields_push n no_field own = and_field own no_field
+fields_push n (and_field h others) own = and_field h (fields_push n others own)
+
+entries_pushed : (es : List (String Global × Value)) (e : String Global × Value) → trees.entries_view (es ++ e ∷ []) ≡ push_field (trees.entries_view es) (string_bytes e.0) (trees.view e.1)
+unfolding push_field
+entries_pushed [] e = refl
+entries_pushed (m ∷ es) e = ap (AndField (string_bytes m.0) (trees.view m.1)) (entries_pushed es e)
+
+mentions_pushed : (table : List model.Shape) (es : List (String Global × NodeField)) (k : String Global) (f : NodeField) → fields_at table (es ++ (k, f) ∷ []) ≡ push_mention (fields_at table es) (string_bytes k) f.needed (shape_at table f.shape)
+unfolding push_mention
+mentions_pushed table [] k f = refl
+mentions_pushed table (e ∷ es) k f = ap (model.AndFieldShape (string_bytes e.0) e.1.needed (shape_at table e.1.shape)) (mentions_pushed table es k f)
+
+pub no_fields_read : (given : Option (List model.Shape)) (table : List model.Shape) → AreFieldsRead given NoFields table []
+no_fields_read given table = record { within = tt; spelled = no_field }
+
+fields_grown : (given : Option (List model.Shape)) (fs : Fields) (old new : List model.Shape) (es : List (String Global × NodeField)) → Keeps old new → AreFieldsRead given fs old es → AreFieldsRead given fs new es
+fields_grown given fs old new es keeps are =
+    let kept : AreFieldsOf new (fields_at old es) es = fields_kept old new (fields_at old es) es keeps (record { within = are.within; same = refl }) in
+    record { within = kept.within; spelled = subst (SpellFields given fs) (sym kept.same) are.spelled }
+
+pub field_read : (given : Option (List model.Shape)) (old new : List model.Shape) (done left : List (String Global × Value)) (e : String Global × Value) (es fs : List (String Global × NodeField)) (k : String Global) (f : NodeField) → IsStrictlySortedBy string_cmp (keys_of (done ++ e ∷ left)) → Keeps old new → names es ≡ names done → AreFieldsRead given (trees.entries_view done) old es → string_bytes k ≡ string_bytes e.0 → f.needed ≡ false → IsRead given (trees.view e.1) new f.shape → fs ≡ insert_entry string_cmp es k f → (names fs ≡ names (done ++ e ∷ [])) × AreFieldsRead given (trees.entries_view (done ++ e ∷ [])) new fs
+field_read given old new done left e es fs k f sorted keeps same are named needed read inserted =
+    let now = fields_grown given (trees.entries_view done) old new es keeps are in
+    let last : fs ≡ es ++ (k, f) ∷ [] = inserted ∙ appended done e left es k f sorted same named in (
+      ap names last ∙ map-append (λ x. string_bytes x.0) es ((k, f) ∷ []) ∙ ap (λ ns. ns ++ string_bytes k ∷ []) same ∙ ap (λ n. names done ++ n ∷ []) named ∙ sym (map-append (λ x. string_bytes x.0) done (e ∷ [])),
+      rw last (record {
+        within = numbers_push (length new) es k f now.within read.within;
+        spelled = rw (entries_pushed done e, mentions_pushed new es k f, named, needed) (fields_push (string_bytes e.0) now.spelled read.spelled);
+      }),
+    )
+
+pub object_refers : (shapes : model.FieldShapes) (now : List Node) (fields : BTreeMap (String Global) NodeField) (extra : Bool) → AreFieldsOf (expansions now) shapes fields.entries → RefersBelow (length now) (Object fields extra)
+object_refers shapes now fields extra are = subst (λ bound. RefersBelow bound (Object fields extra)) (as_many now) (record { each = are.within })
+
+pub object_read : (given : Option (List model.Shape)) (properties : Fields) (names : List (List ℕ)) (extra : Bool) (middle now new : List model.Shape) (fields : List (String Global × NodeField)) (marked : BTreeMap (String Global) NodeField) (n : ℕ) → AreFieldsRead given properties middle fields → AreFieldsOf now (with_all_needed extra names (fields_at middle fields)) marked.entries → IsNumberOf new (shape_over now (Object marked extra)) n → IsReadOver given (ObjectLevel properties names extra) new n
+object_read given properties names extra middle now new fields marked n are marks is =
+    let whole = ap (λ ms. model.ObjectShape ms extra) (sym marks.same) ∙ sym is.same in
+    record { within = is.within; spelled = subst (SpellsOver given (ObjectLevel properties names extra)) whole (with_properties are.spelled) }

@@ -1,0 +1,368 @@
+// Reading shapes into a table.
+ghost use Rattle.std.specs.Prelude.{◌≡◌, ℕ, List, length, codes, string_bytes, IfOk, IfErr, Some, option_to_list};
+ghost use Rattle.asl_model.specs.Shape as shape;
+ghost use Rattle.asl_model.specs.Tree as json;
+ghost use Rattle.asl_model.specs.ShapeSpelling as model;
+ghost use Rattle.asl_shape.specs.Level as levels;
+ghost use Rattle.asl_shape.specs.LevelView.{level_view, list_view, object_view, texts};
+ghost use Rattle.asl_shape.specs.Spelled as trees;
+ghost use Rattle.asl_shape.specs.Spelled.{spelled};
+ghost use Rattle.asl_numbered.specs.Expansion.{expansions, shape_over, fields_at, RefersBelow, numbers_in, AreBelow, AreFieldsOf, Keeps};
+ghost use Rattle.asl_numbered.specs.Reading.{AreGiven, IsRead, IsReadOver, IsReadRest, AreRead, AreFieldsRead, TellsOneOf};
+ghost use Rattle.asl_numbered.specs.References.{reference_in, element_at, meant_by, referred as referred_in, numbers_given, shapes_given, inside, each_of, values_of, TellsOf};
+ghost use Rattle.serde_json.specs.Data.{number};
+ghost use Rattle.serde_json.specs.View.{number_view};
+
+use crate::NumberedRefusal;
+use crate::node::{Node, NodeField};
+use crate::table::Table;
+use asl_shape::{Level, read_level};
+use asl_tree::OutOfMemory;
+use serde_json::{Map, Number, Value};
+use std::alloc::Global;
+use std::collections::BTreeMap;
+
+/// The number of the shape that the value spells, where `{"shape": n}` stands for the shape of the number that is given
+/// at `n`, if numbers are given.
+#[cycle(read)]
+pub(crate) fn read(
+    table: &mut Table,
+    alloc: Global,
+    value: &Value,
+    given: Option<&[usize]>,
+) -> Result<usize, NumberedRefusal>
+    requires { AreGiven (length table.old) (numbers_given given) }
+    ensures number { IfOk result
+        (IsRead (shapes_given (expansions table.old) given.entry) (trees.view value.now)
+        (expansions table.new)) }
+    ensures refused { IfErr result
+        (TellsOf (shapes_given (expansions table.old) given.entry) (trees.view value.now)) }
+    ensures keeps { Keeps (expansions table.old) (expansions table.new) }
+{
+    match referred(value, given) {
+        None => read_spelling(table, alloc, value, given),
+        Some(Some(number)) => Ok(number),
+        Some(None) => Err(NumberedRefusal::BadNumber),
+    }
+}
+
+// The number that a reference stands for, where numbers are given and the value is a reference.
+fn referred(value: &Value, given: Option<&[usize]>) -> Option<Option<usize>>
+    ensures { result ≡ referred_in (numbers_given given.entry) (trees.view value.now) }
+{
+    let numbers = given?;
+    let stated = reference(value)?;
+    Some(meant(stated, numbers))
+}
+
+// What stands in a reference.
+fn reference(value: &Value) -> Option<&Value>
+    ensures { trees.value_there result ≡ reference_in (trees.view value.now) }
+{
+    match value {
+        Value::Object(members) => reference_among(members),
+        Value::Null | Value::Bool(_) | Value::Number(_) | Value::String(_) | Value::Array(_) => {
+            None
+        }
+    }
+}
+
+fn reference_among(members: &Map<String, Value>) -> Option<&Value>
+    ensures { trees.value_there result
+        ≡ reference_in (json.Object (trees.entries_view members.now.entries)) }
+{
+    if members.len() == 1 {
+        members.get("shape")
+    } else {
+        None
+    }
+}
+
+// The number that stands where a value says.
+fn meant(stated: &Value, numbers: &[usize]) -> Option<usize>
+    ensures { result ≡ meant_by numbers.now (trees.view stated.now) }
+{
+    match stated {
+        Value::Number(place) => number_at(place, numbers),
+        Value::Null | Value::Bool(_) | Value::String(_) | Value::Array(_) | Value::Object(_) => {
+            None
+        }
+    }
+}
+
+fn number_at(place: &Number, numbers: &[usize]) -> Option<usize>
+    ensures { result ≡ meant_by numbers.now (spelled (number (number_view place.now))) }
+{
+    match place.as_i128() {
+        Some(place) => entry_at(place, numbers),
+        None => None,
+    }
+}
+
+fn entry_at(place: i128, numbers: &[usize]) -> Option<usize>
+    ensures { result ≡ element_at numbers.now place }
+{
+    if place >= 0 && (place as u128) < numbers.len() as u128 {
+        Some(numbers[place as usize])
+    } else {
+        None
+    }
+}
+
+// The number of the shape of a value that is no reference.
+#[cycle(read)]
+fn read_spelling(
+    table: &mut Table,
+    alloc: Global,
+    value: &Value,
+    given: Option<&[usize]>,
+) -> Result<usize, NumberedRefusal>
+    requires given { AreGiven (length table.old) (numbers_given given) }
+    requires spelled { referred_in (numbers_given given) (trees.view value.now) ≡ None }
+    ensures number { IfOk result
+        (IsRead (shapes_given (expansions table.old) given.entry) (trees.view value.now)
+        (expansions table.new)) }
+    ensures refused { IfErr result
+        (TellsOf (shapes_given (expansions table.old) given.entry) (trees.view value.now)) }
+    ensures keeps { Keeps (expansions table.old) (expansions table.new) }
+{
+    let level = read_level(alloc, value)?;
+    read_over(table, alloc, &level, given)
+}
+
+// The number of the shape of a level.
+#[tactic(auto, using(crate::proofs::Readings::plain_read, crate::proofs::Expansions::simple_refers))]
+#[cycle(read)]
+fn read_over(
+    table: &mut Table,
+    alloc: Global,
+    level: &Level<'_>,
+    given: Option<&[usize]>,
+) -> Result<usize, NumberedRefusal>
+    requires { AreGiven (length table.old) (numbers_given given) }
+    ensures number { IfOk result
+        (IsReadOver (shapes_given (expansions table.old) given.entry) (level_view level.now)
+        (expansions table.new)) }
+    ensures refused { IfErr result
+        (TellsOneOf (shapes_given (expansions table.old) given.entry)
+        (inside (level_view level.now))) }
+    ensures keeps { Keeps (expansions table.old) (expansions table.new) }
+{
+    match level {
+        Level::Any => Ok(table.put(Node::Any)?),
+        Level::Never => Ok(table.put(Node::Never)?),
+        Level::Null => Ok(table.put(Node::Null)?),
+        Level::Bool => Ok(table.put(Node::Bool)?),
+        Level::Int => Ok(table.put(Node::Int)?),
+        Level::Text => Ok(table.put(Node::Text)?),
+        Level::List { first, rest } => read_list(table, alloc, first, *rest, given),
+        Level::Object {
+            properties,
+            required,
+            extra,
+        } => read_object(table, alloc, *properties, required, *extra, given),
+    }
+}
+
+// The number of the shape of a level of lists.
+#[cycle(read)]
+fn read_list(
+    table: &mut Table,
+    alloc: Global,
+    first: &[Value],
+    rest: Option<&Value>,
+    given: Option<&[usize]>,
+) -> Result<usize, NumberedRefusal>
+    requires { AreGiven (length table.old) (numbers_given given) }
+    ensures number { IfOk result
+        (IsReadOver (shapes_given (expansions table.old) given.entry)
+        (list_view first.now rest.entry) (expansions table.new)) }
+    ensures refused { IfErr result
+        (TellsOneOf (shapes_given (expansions table.old) given.entry)
+        (inside (list_view first.now rest.entry))) }
+    ensures keeps { Keeps (expansions table.old) (expansions table.new) }
+{
+    let first = read_elements(table, alloc, first, given)?;
+    let rest = read_rest(table, alloc, rest, given)?;
+    Ok(table.put(Node::List { first, rest })?)
+}
+
+// The numbers of the shapes that the elements spell.
+#[cycle(read)]
+fn read_elements(
+    table: &mut Table,
+    alloc: Global,
+    elements: &[Value],
+    given: Option<&[usize]>,
+) -> Result<Vec<usize>, NumberedRefusal>
+    requires { AreGiven (length table.old) (numbers_given given) }
+    ensures numbers { IfOk result
+        (λ v. AreRead (shapes_given (expansions table.old) given.entry)
+        (trees.elements_view elements.now) (expansions table.new) v.items) }
+    ensures refused { IfErr result
+        (TellsOneOf (shapes_given (expansions table.old) given.entry)
+        (each_of (trees.elements_view elements.now))) }
+    ensures keeps { Keeps (expansions table.old) (expansions table.new) }
+{
+    let mut numbers = Vec::with_capacity(alloc, elements.len())?;
+    for element in elements {
+        let number = read(table, alloc, element, given)?;
+        numbers.push(number)?;
+    }
+    Ok(numbers)
+}
+
+// The number of the shape of the further elements: that of `Any` where there is no spelling.
+#[cycle(read)]
+fn read_rest(
+    table: &mut Table,
+    alloc: Global,
+    rest: Option<&Value>,
+    given: Option<&[usize]>,
+) -> Result<usize, NumberedRefusal>
+    requires { AreGiven (length table.old) (numbers_given given) }
+    ensures number { IfOk result
+        (IsReadRest (shapes_given (expansions table.old) given.entry)
+        (trees.value_there rest.entry) (expansions table.new)) }
+    ensures refused { IfErr result
+        (TellsOneOf (shapes_given (expansions table.old) given.entry)
+        (option_to_list (trees.value_there rest.entry))) }
+    ensures keeps { Keeps (expansions table.old) (expansions table.new) }
+{
+    match rest {
+        None => Ok(table.put(Node::Any)?),
+        Some(value) => read(table, alloc, value, given),
+    }
+}
+
+// The number of the shape of a level of objects.
+#[cycle(read)]
+fn read_object(
+    table: &mut Table,
+    alloc: Global,
+    properties: Option<&Map<String, Value>>,
+    required: &[&String],
+    extra: bool,
+    given: Option<&[usize]>,
+) -> Result<usize, NumberedRefusal>
+    requires { AreGiven (length table.old) (numbers_given given) }
+    ensures number { IfOk result
+        (IsReadOver (shapes_given (expansions table.old) given.entry)
+        (object_view properties.entry required.now extra) (expansions table.new)) }
+    ensures refused { IfErr result
+        (TellsOneOf (shapes_given (expansions table.old) given.entry)
+        (inside (object_view properties.entry required.now extra))) }
+    ensures keeps { Keeps (expansions table.old) (expansions table.new) }
+{
+    let mut fields = read_properties(table, alloc, properties, given)?;
+    require_all(table, required, extra, &mut fields)?;
+    Ok(table.put(Node::Object { fields, extra })?)
+}
+
+// The fields that the properties mention, none of them needed.
+#[cycle(read)]
+fn read_properties(
+    table: &mut Table,
+    alloc: Global,
+    properties: Option<&Map<String, Value>>,
+    given: Option<&[usize]>,
+) -> Result<BTreeMap<String, NodeField>, NumberedRefusal>
+    requires { AreGiven (length table.old) (numbers_given given) }
+    ensures fields { IfOk result
+        (λ m. AreFieldsRead (shapes_given (expansions table.old) given.entry)
+        (trees.entries_there properties.entry) (expansions table.new) m.entries) }
+    ensures refused { IfErr result
+        (TellsOneOf (shapes_given (expansions table.old) given.entry)
+        (values_of (trees.entries_there properties.entry))) }
+    ensures keeps { Keeps (expansions table.old) (expansions table.new) }
+{
+    match properties {
+        None => Ok(BTreeMap::new(alloc)),
+        Some(members) => read_members(table, alloc, members, given),
+    }
+}
+
+#[cycle(read)]
+fn read_members(
+    table: &mut Table,
+    alloc: Global,
+    members: &Map<String, Value>,
+    given: Option<&[usize]>,
+) -> Result<BTreeMap<String, NodeField>, NumberedRefusal>
+    requires { AreGiven (length table.old) (numbers_given given) }
+    ensures fields { IfOk result
+        (λ m. AreFieldsRead (shapes_given (expansions table.old) given.entry)
+        (trees.entries_view members.now.entries) (expansions table.new) m.entries) }
+    ensures refused { IfErr result
+        (TellsOneOf (shapes_given (expansions table.old) given.entry)
+        (values_of (trees.entries_view members.now.entries))) }
+    ensures keeps { Keeps (expansions table.old) (expansions table.new) }
+{
+    let mut fields = BTreeMap::new(alloc);
+    for (name, member) in members.iter() {
+        let key = name.clone()?;
+        let shape = read(table, alloc, member, given)?;
+        let field = NodeField {
+            needed: false,
+            shape,
+        };
+        drop(fields.insert(key, field)?);
+    }
+    Ok(fields)
+}
+
+// Makes the fields of these names needed; those that aren't mentioned are added.
+fn require_all(
+    table: &mut Table,
+    names: &[&String],
+    extra: bool,
+    fields: &mut BTreeMap<String, NodeField>,
+) -> Result<(), OutOfMemory>
+    requires { AreBelow (length table.old) (numbers_in fields.old.entries) }
+    ensures needed { IfOk result (λ _. AreFieldsOf (expansions table.new)
+        (model.with_all_needed extra (texts names.now)
+        (fields_at (expansions table.old) fields.old.entries))
+        fields.new.entries) }
+    ensures keeps { Keeps (expansions table.old) (expansions table.new) }
+{
+    for name in names {
+        require(table, name, extra, fields)?;
+    }
+    Ok(())
+}
+
+// Makes the field of that name needed.
+fn require(
+    table: &mut Table,
+    name: &String,
+    extra: bool,
+    fields: &mut BTreeMap<String, NodeField>,
+) -> Result<(), OutOfMemory>
+    requires { AreBelow (length table.old) (numbers_in fields.old.entries) }
+    ensures needed { IfOk result (λ _. AreFieldsOf (expansions table.new)
+        (model.with_needed extra (string_bytes name.now)
+        (fields_at (expansions table.old) fields.old.entries))
+        fields.new.entries) }
+    ensures keeps { Keeps (expansions table.old) (expansions table.new) }
+{
+    if let Some(field) = fields.get_mut(name) {
+        field.needed = true;
+        return Ok(());
+    }
+    let key = name.clone()?;
+    let shape = table.put(unmentioned(extra))?;
+    let field = NodeField {
+        needed: true,
+        shape,
+    };
+    drop(fields.insert(key, field)?);
+    Ok(())
+}
+
+// The level of the shape of a needed field without a property.
+fn unmentioned(extra: bool) -> Node
+    ensures shape { (table : List shape.Shape) → shape_over table result ≡ model.unmentioned extra }
+    ensures refers { (bound : ℕ) → RefersBelow bound result }
+{
+    if extra { Node::Any } else { Node::Never }
+}
