@@ -1,6 +1,6 @@
 //! What a step does to what stands at its place.
 
-ghost use Rattle.std.specs.Prelude.{◌≡◌, ℕ, None, Some, IfOk, IfErr};
+ghost use Rattle.std.specs.Prelude.{◌≡◌, ℕ, None, Some, Ok, IfOk, IfErr};
 ghost use Rattle.asl_run.specs.Changing.{children_in, IsAlike, IsRaised, IsSame, visit_in};
 ghost use Rattle.asl_run.specs.Nodes.{range_of};
 ghost use Rattle.asl_run.specs.Troubles.{CanRise};
@@ -9,11 +9,11 @@ ghost use Rattle.asl_run.specs.declared.nodes.Children as nodes;
 ghost use Rattle.asl_run.specs.declared.nodes.Node.TheVariants as variants;
 
 use crate::activities::Visit;
-use crate::entries::Outcome;
+use crate::entries::{Datum, Outcome};
 use crate::nodes::{Children, Node};
 use crate::troubles::one_higher;
-use asl_tree::{OutOfMemory, Tree};
-use std::mem;
+use asl_tree::OutOfMemory;
+use core::mem::replace_with;
 
 /// What a step does at its place.
 #[derive(Drop)]
@@ -23,7 +23,7 @@ pub(crate) enum Change {
     /// The scope ends so.
     End(Outcome),
     /// A Task waits for the answer to this payload.
-    Ask(Tree),
+    Ask(Datum),
     /// A Parallel or a Map has these children, each about to enter its state.
     SplitInto(Vec<Visit>),
     /// The retrier of that number retries: the state is Ready again, that count one higher.
@@ -44,13 +44,11 @@ impl Change {
 
 impl Node {
     /// Its task waits for the answer to that payload.
-    pub(crate) fn wait(&mut self, payload: Tree)
+    pub(crate) fn wait(&mut self, payload: Datum)
         ensures waits { (visit : Visit) → visit_in self.old ≡ Some visit → self.new ≡ variants.Waiting visit payload }
         ensures alone { range_of self.new ≡ None }
     {
-        if let Some(visit) = self.take_visit() {
-            *self = Node::Waiting { visit, payload };
-        }
+        replace_with(self, payload, Node::waiting);
     }
 
     /// It has these children.
@@ -58,9 +56,7 @@ impl Node {
         ensures splits { (visit : Visit) → visit_in self.old ≡ Some visit → self.new ≡ variants.Split visit children }
         ensures no_others { (others : nodes.Children) → range_of self.new ≡ Some others → others ≡ children }
     {
-        if let Some(visit) = self.take_visit() {
-            *self = Node::Split { visit, children };
-        }
+        replace_with(self, children, Node::split_into);
     }
 
     /// Its state is about to be entered again, the count of the retrier of that number one higher. A refusal leaves what
@@ -72,23 +68,52 @@ impl Node {
         ensures unchanged { IfErr result (λ _. IsAlike self.old self.new) }
     {
         self.raise(retrier)?;
-        if let Some(visit) = self.take_visit() {
-            *self = Node::Ready(visit);
-        }
+        replace_with(self, (), Node::ready);
         Ok(())
     }
 
-    /// Takes the execution of a state out of the node, which isn't to be used before another one is put there; none
-    /// where a scope has ended.
-    fn take_visit(&mut self) -> Option<Visit>
-        ensures visit { result ≡ visit_in self.old }
-        ensures alone { range_of self.new ≡ None }
+    /// The node with its task waiting for the answer to that payload. A scope that has ended stays so.
+    fn waiting(self, payload: Datum) -> (Node, ())
+        ensures waits { (visit : Visit) → visit_in self ≡ Some visit → result.0 ≡ variants.Waiting visit payload }
+        ensures alone { range_of result.0 ≡ None }
     {
-        match mem::replace(self, Node::Ended(Outcome::Output(Tree::Null))) {
-            Node::Ready(visit) => Some(visit),
-            Node::Waiting { visit, payload: _ } => Some(visit),
-            Node::Split { visit, children: _ } => Some(visit),
-            Node::Ended(_) => None,
+        match self.into_visit() {
+            Ok(visit) => (Node::Waiting { visit, payload }, ()),
+            Err(outcome) => (Node::Ended(outcome), ()),
+        }
+    }
+
+    /// The node with these children. A scope that has ended stays so.
+    fn split_into(self, children: Children) -> (Node, ())
+        ensures splits { (visit : Visit) → visit_in self ≡ Some visit → result.0 ≡ variants.Split visit children }
+        ensures no_others { (others : nodes.Children) → range_of result.0 ≡ Some others → others ≡ children }
+    {
+        match self.into_visit() {
+            Ok(visit) => (Node::Split { visit, children }, ()),
+            Err(outcome) => (Node::Ended(outcome), ()),
+        }
+    }
+
+    /// The node with its state about to be entered. A scope that has ended stays so.
+    fn ready(self, _nothing: ()) -> (Node, ())
+        ensures readies { (visit : Visit) → visit_in self ≡ Some visit → result.0 ≡ variants.Ready visit }
+        ensures alone { range_of result.0 ≡ None }
+    {
+        match self.into_visit() {
+            Ok(visit) => (Node::Ready(visit), ()),
+            Err(outcome) => (Node::Ended(outcome), ()),
+        }
+    }
+
+    /// The execution of a state that stands there; else how the scope has ended.
+    fn into_visit(self) -> Result<Visit, Outcome>
+        ensures { (visit : Visit) → visit_in self ≡ Some visit → result ≡ Ok visit }
+    {
+        match self {
+            Node::Ready(visit) => Ok(visit),
+            Node::Waiting { visit, payload: _ } => Ok(visit),
+            Node::Split { visit, children: _ } => Ok(visit),
+            Node::Ended(outcome) => Err(outcome),
         }
     }
 
