@@ -324,36 +324,36 @@ retry_written j before after was node retrier there written alone retries =
     let later = again.0 in
     let raised = again.2 in
     ap (shown_over names below) again.1
-    ∙ ap (λ i. model.Ready (name_in names i) (trees.view later.raw) later.counts.items) raised.state
+    ∙ ap (λ i. model.Ready (name_in names i) (trees.view later.raw.value) later.counts.items) raised.state
     ∙ ap (λ (t : Tree). model.Ready (name_in names visit.state) (trees.view t) later.counts.items) raised.raw
-    ∙ ap (model.Ready (name_in names visit.state) (trees.view visit.raw)) raised.counts)
+    ∙ ap (model.Ready (name_in names visit.state) (trees.view visit.raw.value)) raised.counts)
 
 -- the same execution shows the same
 pub same_ready : (before after : Visit) → IsSame before after → IsAlike (nodes.Ready before) (nodes.Ready after)
 same_ready before after h = record {
   range = refl;
   shows = λ names below.
-      ap (λ i. model.Ready (name_in names i) (trees.view after.raw) after.counts.items) h.state
+      ap (λ i. model.Ready (name_in names i) (trees.view after.raw.value) after.counts.items) h.state
       ∙ ap (λ (t : Tree). model.Ready (name_in names before.state) (trees.view t) after.counts.items) h.raw
-      ∙ ap (model.Ready (name_in names before.state) (trees.view before.raw)) h.counts;
+      ∙ ap (model.Ready (name_in names before.state) (trees.view before.raw.value)) h.counts;
 }
 
 pub same_waiting : (before after : Visit) (payload : Tree) → IsSame before after → IsAlike (nodes.Waiting before payload) (nodes.Waiting after payload)
 same_waiting before after payload h = record {
   range = refl;
   shows = λ names below.
-      ap (λ i. model.Waiting (name_in names i) (trees.view after.raw) after.counts.items (trees.view payload)) h.state
+      ap (λ i. model.Waiting (name_in names i) (trees.view after.raw.value) after.counts.items (trees.view payload)) h.state
       ∙ ap (λ (t : Tree). model.Waiting (name_in names before.state) (trees.view t) after.counts.items (trees.view payload)) h.raw
-      ∙ ap (λ cs. model.Waiting (name_in names before.state) (trees.view before.raw) cs (trees.view payload)) h.counts;
+      ∙ ap (λ cs. model.Waiting (name_in names before.state) (trees.view before.raw.value) cs (trees.view payload)) h.counts;
 }
 
 pub same_split : (before after : Visit) (children : Children) → IsSame before after → IsAlike (nodes.Split before children) (nodes.Split after children)
 same_split before after children h = record {
   range = refl;
   shows = λ names below.
-      ap (λ i. model.Split (name_in names i) (trees.view after.raw) after.counts.items below) h.state
+      ap (λ i. model.Split (name_in names i) (trees.view after.raw.value) after.counts.items below) h.state
       ∙ ap (λ (t : Tree). model.Split (name_in names before.state) (trees.view t) after.counts.items below) h.raw
-      ∙ ap (λ cs. model.Split (name_in names before.state) (trees.view before.raw) cs below) h.counts;
+      ∙ ap (λ cs. model.Split (name_in names before.state) (trees.view before.raw.value) cs below) h.counts;
 }
 
 -- ---- nodes that are added

@@ -1,7 +1,7 @@
 -- The trees of the definitions that data of a run stand for.
 use Rattle.std.specs.Prelude.{List, map}
 use Rattle.std.specs.declared.alloc.Global.{Global}
-use Rattle.std_alloc.specs.declared.rc.counts.Rc.{Rc}
+use Rattle.std.specs.declared.rc.Rc.{Rc}
 use Rattle.asl_model.specs.Tree as model
 use Rattle.asl_tree.specs.View.{view}
 use Rattle.asl_tree.specs.declared.Tree.{Tree}

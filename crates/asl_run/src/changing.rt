@@ -1,6 +1,6 @@
 //! What a step does to what stands at its place.
 
-ghost use Rattle.std.specs.Prelude.{◌≡◌, ℕ, None, Some, Ok, IfOk, IfErr};
+ghost use Rattle.std.specs.Prelude.{◌≡◌, ℕ, None, Some, IfOk, IfErr};
 ghost use Rattle.asl_run.specs.Changing.{children_in, IsAlike, IsRaised, IsSame, visit_in};
 ghost use Rattle.asl_run.specs.Nodes.{range_of};
 ghost use Rattle.asl_run.specs.Troubles.{CanRise};
@@ -13,7 +13,8 @@ use crate::entries::{Datum, Outcome};
 use crate::nodes::{Children, Node};
 use crate::troubles::one_higher;
 use asl_tree::OutOfMemory;
-use core::mem::replace_with;
+use std::alloc::Global;
+use std::mem;
 
 /// What a step does at its place.
 #[derive(Drop)]
@@ -44,76 +45,55 @@ impl Change {
 
 impl Node {
     /// Its task waits for the answer to that payload.
-    pub(crate) fn wait(&mut self, payload: Datum)
+    pub(crate) fn wait(&mut self, alloc: Global, payload: Datum)
         ensures waits { (visit : Visit) → visit_in self.old ≡ Some visit → self.new ≡ variants.Waiting visit payload }
         ensures alone { range_of self.new ≡ None }
     {
-        replace_with(self, payload, Node::waiting);
+        if let Some(visit) = self.take_visit(alloc) {
+            *self = Node::Waiting { visit, payload };
+        }
     }
 
     /// It has these children.
-    pub(crate) fn split(&mut self, children: Children)
+    pub(crate) fn split(&mut self, alloc: Global, children: Children)
         ensures splits { (visit : Visit) → visit_in self.old ≡ Some visit → self.new ≡ variants.Split visit children }
         ensures no_others { (others : nodes.Children) → range_of self.new ≡ Some others → others ≡ children }
     {
-        replace_with(self, children, Node::split_into);
+        if let Some(visit) = self.take_visit(alloc) {
+            *self = Node::Split { visit, children };
+        }
     }
 
     /// Its state is about to be entered again, the count of the retrier of that number one higher. A refusal leaves what
     /// stands there as it is.
-    pub(crate) fn retry(&mut self, retrier: usize) -> Result<(), OutOfMemory>
+    pub(crate) fn retry(&mut self, alloc: Global, retrier: usize) -> Result<(), OutOfMemory>
         requires { (visit : Visit) → visit_in self.old ≡ Some visit → CanRise visit.counts.items retrier }
         ensures retries { IfOk result (λ _. (visit : Visit) → visit_in self.old ≡ Some visit → (after : Visit) × (self.new ≡ variants.Ready after) × IsRaised retrier visit after) }
         ensures alone { IfOk result (λ _. range_of self.new ≡ None) }
         ensures unchanged { IfErr result (λ _. IsAlike self.old self.new) }
     {
         self.raise(retrier)?;
-        replace_with(self, (), Node::ready);
+        if let Some(visit) = self.take_visit(alloc) {
+            *self = Node::Ready(visit);
+        }
         Ok(())
     }
 
-    /// The node with its task waiting for the answer to that payload. A scope that has ended stays so.
-    fn waiting(self, payload: Datum) -> (Node, ())
-        ensures waits { (visit : Visit) → visit_in self ≡ Some visit → result.0 ≡ variants.Waiting visit payload }
-        ensures alone { range_of result.0 ≡ None }
+    /// Takes the execution of a state out of the node, which isn't to be used before another one is put there; none
+    /// where a scope has ended.
+    fn take_visit(&mut self, alloc: Global) -> Option<Visit>
+        ensures visit { result ≡ visit_in self.old }
+        ensures alone { range_of self.new ≡ None }
     {
-        match self.into_visit() {
-            Ok(visit) => (Node::Waiting { visit, payload }, ()),
-            Err(outcome) => (Node::Ended(outcome), ()),
-        }
-    }
-
-    /// The node with these children. A scope that has ended stays so.
-    fn split_into(self, children: Children) -> (Node, ())
-        ensures splits { (visit : Visit) → visit_in self ≡ Some visit → result.0 ≡ variants.Split visit children }
-        ensures no_others { (others : nodes.Children) → range_of result.0 ≡ Some others → others ≡ children }
-    {
-        match self.into_visit() {
-            Ok(visit) => (Node::Split { visit, children }, ()),
-            Err(outcome) => (Node::Ended(outcome), ()),
-        }
-    }
-
-    /// The node with its state about to be entered. A scope that has ended stays so.
-    fn ready(self, _nothing: ()) -> (Node, ())
-        ensures readies { (visit : Visit) → visit_in self ≡ Some visit → result.0 ≡ variants.Ready visit }
-        ensures alone { range_of result.0 ≡ None }
-    {
-        match self.into_visit() {
-            Ok(visit) => (Node::Ready(visit), ()),
-            Err(outcome) => (Node::Ended(outcome), ()),
-        }
-    }
-
-    /// The execution of a state that stands there; else how the scope has ended.
-    fn into_visit(self) -> Result<Visit, Outcome>
-        ensures { (visit : Visit) → visit_in self ≡ Some visit → result ≡ Ok visit }
-    {
-        match self {
-            Node::Ready(visit) => Ok(visit),
-            Node::Waiting { visit, payload: _ } => Ok(visit),
-            Node::Split { visit, children: _ } => Ok(visit),
-            Node::Ended(outcome) => Err(outcome),
+        let nothing = Outcome::Failed {
+            error: String::new(alloc),
+            cause: String::new(alloc),
+        };
+        match mem::replace(self, Node::Ended(nothing)) {
+            Node::Ready(visit) => Some(visit),
+            Node::Waiting { visit, payload: _ } => Some(visit),
+            Node::Split { visit, children: _ } => Some(visit),
+            Node::Ended(_) => None,
         }
     }
 

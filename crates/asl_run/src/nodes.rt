@@ -164,15 +164,16 @@ fn apply(nodes: &mut Vec<Node>, number: usize, change: Change) -> Result<(), Out
     ensures changed { IfOk result (λ _. IsWritten number nodes.old.items change nodes.new.items) }
     ensures unchanged { IfErr result (λ _. AreAlike nodes.old.items nodes.new.items) }
 {
+    let alloc = *nodes.allocator();
     match change {
         Change::Enter(visit) => nodes[number] = Node::Ready(visit),
         Change::End(outcome) => nodes[number] = Node::Ended(outcome),
-        Change::Ask(payload) => nodes[number].wait(payload),
+        Change::Ask(payload) => nodes[number].wait(alloc, payload),
         Change::SplitInto(visits) => {
             let children = add(nodes, visits)?;
-            nodes[number].split(children);
+            nodes[number].split(alloc, children);
         }
-        Change::Retry(retrier) => nodes[number].retry(retrier)?,
+        Change::Retry(retrier) => nodes[number].retry(alloc, retrier)?,
     }
     Ok(())
 }

@@ -1,5 +1,5 @@
 use Rattle.asl_tree.specs.View.{view}
-use Rattle.asl_run.specs.Flowing.{data_view}
+use Rattle.asl_run.specs.Data.{data_view}
 use Rattle.asl_run.proofs.Planned.{asked_so}
 use Rattle.asl_run.proofs.entering.ask.Goals as goal
 

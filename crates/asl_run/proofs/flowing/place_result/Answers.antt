@@ -1,6 +1,6 @@
 use Rattle.std.proofs.Common.{refl}
 use Rattle.asl_tree.specs.View.{view}
-use Rattle.asl_run.specs.Flowing.{data_view}
+use Rattle.asl_run.specs.Data.{data_view}
 use Rattle.asl_run.proofs.Told.{misfit_told}
 use Rattle.asl_run.proofs.flowing.place_result.Goals as goal
 
