@@ -1,5 +1,6 @@
 -- Plans from their parts.
 use Rattle.std.proofs.Common.{◌≡◌, refl, ap, ◌∙◌, ℕ, List, Vec, Global, [], ◌∷◌, map, subst, sym, Option, Some, None, option_map, string_bytes, Result, Ok, Err, IfOk, IsOkAnd, codes}
+use Rattle.std.specs.declared.rc.Rc.{Rc}
 use Rattle.asl_machine.specs.Machine.{kind_view, settings_view}
 use Rattle.asl_model.specs.Faults as faults
 use Rattle.asl_model.specs.Faults.{ResultPathMatchFailure, error_name}
@@ -13,6 +14,7 @@ use Rattle.asl_tree.specs.declared.Tree as code
 use Rattle.asl_run.specs.Acting.{IsAt, Plans, by_settings, by_state, by_trouble_at, names_at, state_at, told_at}
 use Rattle.asl_run.specs.Activities.{ended_view, ready_view}
 use Rattle.asl_run.specs.Changing.{changed}
+use Rattle.asl_run.specs.Data.{datum_view}
 use Rattle.asl_run.specs.Entries.{entry_view}
 use Rattle.asl_run.specs.Faults.{error_view, fault_view}
 use Rattle.asl_run.specs.Flowing.{Flows}
@@ -166,8 +168,8 @@ left_on here (Ok p) before (Err x) visit next output none is first same told see
 left_on here (Err e) before made visit next output none is first same told seen = tt
 
 -- for the end of its scope
-pub left_last : (here : Here) (entries : Vec Entry Global) (output : code.Tree) → map entry_view entries.items ≡ map (told_at here.at.now) (model.Left here.name.now (view output) ∷ model.Ended (model.Output (view output)) ∷ [])
-    → Plans here (record { entries = entries; change = End (outcomes.Output output) }) (model.leaves_for here.name.now None (view output))
+pub left_last : (here : Here) (entries : Vec Entry Global) (output : Rc code.Tree Global) → map entry_view entries.items ≡ map (told_at here.at.now) (model.Left here.name.now (view output.value) ∷ model.Ended (model.Output (view output.value)) ∷ [])
+    → Plans here (record { entries = entries; change = End (outcomes.Output output) }) (model.leaves_for here.name.now None (view output.value))
 left_last here entries output told = record { told = told; left = λ stands. refl; rises = λ i e. absurd (cc) }
 
 -- the two entries then
@@ -181,21 +183,21 @@ left_and_ended place (Ok all) (Err e) left none behind last first empty ends tol
 left_and_ended place (Err e) ended left none behind last first empty ends told_last leaves told_first = tt
 
 -- with an output
-pub left_with : {E : Type 0} (here : Here) (r : Result Plan E) (next : Option (List ℕ)) (t : code.Tree) → IfOk r (λ p. MayFollow (state_at here) next → Plans here p (model.leaves_for here.name.now next (view t)))
-    → IfOk r (λ p. (defined : Result Tree faults.Fault) → Flows view (Ok t) defined → MayFollow (state_at here) next → Plans here p (by_settings model.leaves_with here next defined))
-left_with here (Ok p) next t plans = λ defined flows follows. let is : defined ≡ Ok (view t) = flows.gives in subst (λ d. Plans here p (by_settings model.leaves_with here next d)) (sym is) (plans follows)
+pub left_with : {E : Type 0} (here : Here) (r : Result Plan E) (next : Option (List ℕ)) (t : Rc code.Tree Global) → IfOk r (λ p. MayFollow (state_at here) next → Plans here p (model.leaves_for here.name.now next (view t.value)))
+    → IfOk r (λ p. (defined : Result Tree faults.Fault) → Flows datum_view (Ok t) defined → MayFollow (state_at here) next → Plans here p (by_settings model.leaves_with here next defined))
+left_with here (Ok p) next t plans = λ defined flows follows. let is : defined ≡ Ok (view t.value) = flows.gives in subst (λ d. Plans here p (by_settings model.leaves_with here next d)) (sym is) (plans follows)
 left_with here (Err e) next t plans = tt
 
 -- with a fault in its place
-pub left_raising : {E : Type 0} (here : Here) (r : Result Plan E) (next : Option (List ℕ)) (output : Result code.Tree Stop) (fault : Fault) → output ≡ Err (stops.Fault fault) → IfOk r (λ p. Plans here p (by_settings model.faulted here (fault_view fault)))
-    → IfOk r (λ p. (defined : Result Tree faults.Fault) → Flows view output defined → MayFollow (state_at here) next → Plans here p (by_settings model.leaves_with here next defined))
+pub left_raising : {E : Type 0} (here : Here) (r : Result Plan E) (next : Option (List ℕ)) (output : Result (Rc code.Tree Global) Stop) (fault : Fault) → output ≡ Err (stops.Fault fault) → IfOk r (λ p. Plans here p (by_settings model.faulted here (fault_view fault)))
+    → IfOk r (λ p. (defined : Result Tree faults.Fault) → Flows datum_view output defined → MayFollow (state_at here) next → Plans here p (by_settings model.leaves_with here next defined))
 left_raising here (Ok p) next output fault met plans = λ defined flows follows. let is : defined ≡ Err (fault_view fault) = flows.fails fault met in subst (λ d. Plans here p (by_settings model.leaves_with here next d)) (sym is) plans
 left_raising here (Err e) next output fault met plans = tt
 
 -- with what comes of its result
-pub finished_so : {E : Type 0} (here : Here) (r : Result Plan E) (next : Option (List ℕ)) (output : Result code.Tree Stop) (result : Tree) → next ≡ option_map string_bytes here.state.now.settings.next
-    → Flows view output (output_of (settings_view here.state.now.settings) (view here.visit.now.raw.value) result)
-    → IfOk r (λ p. (defined : Result Tree faults.Fault) → Flows view output defined → MayFollow (state_at here) next → Plans here p (by_settings model.leaves_with here next defined)) → IfOk r (λ p. Plans here p (by_settings model.finishes here result))
+pub finished_so : {E : Type 0} (here : Here) (r : Result Plan E) (next : Option (List ℕ)) (output : Result (Rc code.Tree Global) Stop) (result : Tree) → next ≡ option_map string_bytes here.state.now.settings.next
+    → Flows datum_view output (output_of (settings_view here.state.now.settings) (view here.visit.now.raw.value) result)
+    → IfOk r (λ p. (defined : Result Tree faults.Fault) → Flows datum_view output defined → MayFollow (state_at here) next → Plans here p (by_settings model.leaves_with here next defined)) → IfOk r (λ p. Plans here p (by_settings model.finishes here result))
 finished_so here (Ok p) next output result is flows plans =
     let defined = output_of (settings_view here.state.now.settings) (view here.visit.now.raw.value) result in
     let follows : MayFollow (state_at here) next = subst (MayFollow (state_at here)) (sym is) (next_follows (state_at here)) in
@@ -214,19 +216,19 @@ entered_so here r before made work is plans first same told =
     (subst (λ w. Plans here before (by_state model.by_work here w)) is (plans (sym is)))
 
 -- a first move that leaves
-pub carried_off : {E : Type 0} (here : Here) (r : Result Plan E) (next : Option (List ℕ)) (output : Result code.Tree Stop) (v : Tree) → Flows view output (flow.at_output_path (settings_view here.state.now.settings) v)
-    → IfOk r (λ p. (defined : Result Tree faults.Fault) → Flows view output defined → MayFollow (state_at here) next → Plans here p (by_settings model.leaves_with here next defined))
+pub carried_off : {E : Type 0} (here : Here) (r : Result Plan E) (next : Option (List ℕ)) (output : Result (Rc code.Tree Global) Stop) (v : Tree) → Flows datum_view output (flow.at_output_path (settings_view here.state.now.settings) v)
+    → IfOk r (λ p. (defined : Result Tree faults.Fault) → Flows datum_view output defined → MayFollow (state_at here) next → Plans here p (by_settings model.leaves_with here next defined))
     → IfOk r (λ p. flow.first_move (state_at here) (view here.visit.now.raw.value) ≡ flow.Leaves next v → Plans here p (by_state model.by_work here (flow.Leaves next v)))
 carried_off here (Ok p) next output v flows plans = λ move. plans (flow.at_output_path (settings_view here.state.now.settings) v) flows (leaving_follows (state_at here) (view here.visit.now.raw.value) next v move)
 carried_off here (Err e) next output v flows plans = tt
 
 -- it waits for the answer to its payload
-pub waits_so : {E F : Type 0} (here : Here) (r : Result Plan E) (before : Plan) (made : Result Entry F) (payload : code.Tree) → before.entries.items ≡ [] → before.change ≡ Ask payload
-    → IfOk r (λ p. IsOkAnd made (λ m. p.entries.items ≡ m ∷ before.entries.items)) → IfOk r (λ p. p.change ≡ before.change) → IfOk made (λ m. entry_view m ≡ told_at here.at.now (model.Asked here.name.now (view payload)))
-    → IfOk r (λ p. Plans here p (by_state model.by_work here (flow.Asks (view payload))))
+pub waits_so : {E F : Type 0} (here : Here) (r : Result Plan E) (before : Plan) (made : Result Entry F) (payload : Rc code.Tree Global) → before.entries.items ≡ [] → before.change ≡ Ask payload
+    → IfOk r (λ p. IsOkAnd made (λ m. p.entries.items ≡ m ∷ before.entries.items)) → IfOk r (λ p. p.change ≡ before.change) → IfOk made (λ m. entry_view m ≡ told_at here.at.now (model.Asked here.name.now (view payload.value)))
+    → IfOk r (λ p. Plans here p (by_state model.by_work here (flow.Asks (view payload.value))))
 waits_so here r before made payload none is first same told =
-    told_so here r before made (model.Asked here.name.now (view payload)) (Ask payload) (model.Waiting here.name.now (view here.visit.now.raw.value) here.visit.now.counts.items (view payload)) none is first same told (record {
-      left = λ stands. ap (λ n. model.Waiting n (view here.visit.now.raw.value) here.visit.now.counts.items (view payload)) (sym stands.named);
+    told_so here r before made (model.Asked here.name.now (view payload.value)) (Ask payload) (model.Waiting here.name.now (view here.visit.now.raw.value) here.visit.now.counts.items (view payload.value)) none is first same told (record {
+      left = λ stands. ap (λ n. model.Waiting n (view here.visit.now.raw.value) here.visit.now.counts.items (view payload.value)) (sym stands.named);
       rises = λ i e. absurd (cc);
     })
 
