@@ -36,7 +36,7 @@ impl<'t> Data<'t> {
     {
         match self {
             Data::Lent(tree) => tree,
-            Data::Shared(datum) => datum.as_ref(),
+            Data::Shared(datum) => datum,
             Data::Made(tree) => tree,
         }
     }

@@ -109,14 +109,14 @@ pub(crate) fn by_template(
 pub(crate) fn at_output_path(
     alloc: Global,
     settings: &Settings,
-    data: Data,
+    value: Data,
 ) -> Result<Datum, Stop>
-    ensures { Flows datum_view result (model.at_output_path (settings_view settings.now) (data_view data.entry)) }
+    ensures { Flows datum_view result (model.at_output_path (settings_view settings.now) (data_view value.entry)) }
 {
     if is_whole(&settings.output_path) {
-        return Ok(data.into_datum(alloc)?);
+        return Ok(value.into_datum(alloc)?);
     }
-    let output = at_path(alloc, "OutputPath", &settings.output_path, data.as_tree())?;
+    let output = at_path(alloc, "OutputPath", &settings.output_path, value.as_tree())?;
     Ok(output.into_datum(alloc)?)
 }
 

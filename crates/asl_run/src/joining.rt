@@ -144,7 +144,7 @@ fn output_of(node: &Node) -> Option<&Tree>
     ensures { (names : List (List ℕ)) (below : model.Activities) → option_map (λ t. view t.now) result ≡ output_in (shown_over names below node.now) }
 {
     match node {
-        Node::Ended(Outcome::Output(output)) => Some(output.as_ref()),
+        Node::Ended(Outcome::Output(output)) => Some(output),
         Node::Ready(_)
         | Node::Waiting { .. }
         | Node::Split { .. }

@@ -33,7 +33,7 @@ pub(crate) fn waiting_at<'r>(
         Node::Waiting { visit, payload } => Some(Asked {
             state: visit.state,
             name: machine.name(visit.state)?,
-            payload: payload.as_ref(),
+            payload,
         }),
         Node::Ready(_) | Node::Split { .. } | Node::Ended(_) => None,
     }
