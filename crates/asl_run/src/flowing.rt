@@ -106,11 +106,7 @@ pub(crate) fn by_template(
 }
 
 /// What `OutputPath` leaves of a tree: the empty object where it is null, else what the path names.
-pub(crate) fn at_output_path(
-    alloc: Global,
-    settings: &Settings,
-    value: Data,
-) -> Result<Datum, Stop>
+pub(crate) fn at_output_path(alloc: Global, settings: &Settings, value: Data) -> Result<Datum, Stop>
     ensures { Flows datum_view result (model.at_output_path (settings_view settings.now) (data_view value.entry)) }
 {
     if is_whole(&settings.output_path) {

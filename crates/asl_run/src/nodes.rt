@@ -62,7 +62,7 @@ impl Model for Nodes {
 
 impl Nodes {
     /// A table with the state of that number at the machine's own place, about to be entered with that raw input. A
-    /// refusal, where memory is out, gives the input back.
+    /// refusal, which is out of memory, gives the input back.
     pub(crate) fn new(alloc: Global, state: usize, input: Tree) -> Result<Nodes, Tree>
         ensures node { IfOk result (λ table. IsBegunWith state input table) }
         ensures returned { IfErr result (λ back. back ≡ input) }

@@ -74,8 +74,8 @@ impl Model for Standing {
 }
 
 impl Standing {
-    /// The state of that number at the machine's own place, about to be entered with that raw input. A refusal, where
-    /// memory is out, gives the input back.
+    /// The state of that number at the machine's own place, about to be entered with that raw input. A refusal, which
+    /// is out of memory, gives the input back.
     pub(crate) fn new(alloc: Global, state: usize, input: Tree) -> Result<Standing, Tree>
         ensures node { IfOk result (λ standing. IsBegunWith state input standing) }
         ensures returned { IfErr result (λ back. back ≡ input) }
