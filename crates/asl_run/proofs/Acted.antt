@@ -50,8 +50,8 @@ same_step : (machine : Machine) (place : List ℕ) (below : model.Activities) (n
 same_step machine place below node action here state found stands =
     let shown = shown_over (table_view machine).names below node in
     found.visit.does (table_view machine).names below action state
-    ∙ ap (λ n. moves_as shown action n state (view here.visit.now.raw) here.visit.now.counts.items) (sym (found_name machine place node here state found stands))
-    ∙ ap (λ s. moves_as shown action here.name.now s (view here.visit.now.raw) here.visit.now.counts.items) (sym (found_state machine place node here state found stands))
+    ∙ ap (λ n. moves_as shown action n state (view here.visit.now.raw.value) here.visit.now.counts.items) (sym (found_name machine place node here state found stands))
+    ∙ ap (λ s. moves_as shown action here.name.now s (view here.visit.now.raw.value) here.visit.now.counts.items) (sym (found_state machine place node here state found stands))
     ∙ ap (λ (m : Machine). by_state (moves_as (shown_over (table_view m).names below node) action) here) (sym found.same_machine)
 
 acts_as_planned : (machine : Machine) (place : List ℕ) (below : model.Activities) (node : Node) (action : model.Action) (here : Here) (plan : Option Plan) → IsFoundBy machine place node here → PlansAs here plan (moves_at here below node action) → Acts machine place below node action plan

@@ -2,11 +2,12 @@
 use Rattle.std.proofs.Common.{◌≡◌, ◌<◌, ◌≤◌, refl, sym, ap, ◌∙◌, arith, ℕ, zero, suc, ◌+◌, List, [], ◌∷◌, ◌++◌, map, length, append_assoc, append-nil, slice_index_or, String, string_bytes}
 use Rattle.std.proofs.lemmas.List.{length-append, map-append}
 use Rattle.std.specs.declared.alloc.Global.{Global}
+use Rattle.std.specs.declared.rc.Rc.{Rc}
 use Rattle.asl_machine.specs.Machine.{branches_view}
 use Rattle.asl_model.specs.Machine.{Scope, scope_at, start_of}
 use Rattle.asl_model.specs.Run.{Activity, AndActivity, Ready, started}
 use Rattle.asl_model.specs.Tree.{Tree, trees_of}
-use Rattle.asl_tree.specs.View.{elements_view, view}
+use Rattle.asl_run.specs.Data.{data_of, datum_view}
 use Rattle.asl_tree.specs.declared.Tree as trees
 use Rattle.asl_run.specs.Activities.{ready_view, ready_children}
 use Rattle.asl_run.specs.Standing.{name_in, number_in, children_of, EachIsNamed}
@@ -41,33 +42,33 @@ nothing_left [] h = refl
 nothing_left (x ∷ xs) h = absurd (omega arith)
 
 -- one more child
-pub one_started : (names : List (List ℕ)) (scopes : ℕ → Scope) (made longer : List code.Visit) (visit : code.Visit) (input : trees.Tree) (left inputs : List trees.Tree) (all : List Activity) (start : List ℕ) (k : ℕ)
+pub one_started : (names : List (List ℕ)) (scopes : ℕ → Scope) (made longer : List code.Visit) (visit : code.Visit) (input : Rc trees.Tree Global) (left inputs : List (Rc trees.Tree Global)) (all : List Activity) (start : List ℕ) (k : ℕ)
     → left ≡ input ∷ inputs → longer ≡ made ++ visit ∷ [] → k ≡ length made
-    → ready_view names visit ≡ Ready (name_in names (number_in names start)) (view input) [] → start ≡ start_of (scopes k)
-    → map (ready_view names) made ++ children_from names scopes (length made) (map view left) ≡ all
-    → map (ready_view names) longer ++ children_from names scopes (length longer) (map view inputs) ≡ all
+    → ready_view names visit ≡ Ready (name_in names (number_in names start)) (datum_view input) [] → start ≡ start_of (scopes k)
+    → map (ready_view names) made ++ children_from names scopes (length made) (map datum_view left) ≡ all
+    → map (ready_view names) longer ++ children_from names scopes (length longer) (map datum_view inputs) ≡ all
 one_started names scopes made longer visit input left inputs all start k steps pushed at seen starts before =
     let here : start ≡ start_of (scopes (length made)) = starts ∙ ap (λ i. start_of (scopes i)) at in
-    let child : ready_view names visit ≡ Ready (name_in names (number_in names (start_of (scopes (length made))))) (view input) [] = seen ∙ ap (λ n. Ready (name_in names (number_in names n)) (view input) []) here in
+    let child : ready_view names visit ≡ Ready (name_in names (number_in names (start_of (scopes (length made))))) (datum_view input) [] = seen ∙ ap (λ n. Ready (name_in names (number_in names n)) (datum_view input) []) here in
     let next : length (made ++ visit ∷ []) ≡ suc (length made) = omega (arith, length-append made (visit ∷ [])) in
-    let rest = map view inputs in
+    let rest = map datum_view inputs in
     ap (λ (v : List code.Visit). map (ready_view names) v ++ children_from names scopes (length v) rest) pushed
     ∙ ap (λ xs. xs ++ children_from names scopes (length (made ++ visit ∷ [])) rest) (map-append (ready_view names) made (visit ∷ []))
     ∙ append_assoc (map (ready_view names) made) (ready_view names visit ∷ []) (children_from names scopes (length (made ++ visit ∷ [])) rest)
     ∙ ap (λ i. map (ready_view names) made ++ ready_view names visit ∷ children_from names scopes i rest) next
     ∙ ap (λ c. map (ready_view names) made ++ c ∷ children_from names scopes (suc (length made)) rest) child
-    ∙ ap (λ (ts : List trees.Tree). map (ready_view names) made ++ children_from names scopes (length made) (map view ts)) (sym steps)
+    ∙ ap (λ (ts : List (Rc trees.Tree Global)). map (ready_view names) made ++ children_from names scopes (length made) (map datum_view ts)) (sym steps)
     ∙ before
 
 -- all children
-pub all_there : (names : List (List ℕ)) (scopes : ℕ → Scope) (made : List code.Visit) (left given inputs : List trees.Tree) → left ≡ [] → given ≡ inputs
-    → map (ready_view names) made ++ children_from names scopes (length made) (map view left) ≡ children_from names scopes 0 (map view given)
-    → EachIsNamed names (started scopes (elements_view inputs)) → ready_children names made ≡ started scopes (elements_view inputs)
+pub all_there : (names : List (List ℕ)) (scopes : ℕ → Scope) (made : List code.Visit) (left given inputs : List (Rc trees.Tree Global)) → left ≡ [] → given ≡ inputs
+    → map (ready_view names) made ++ children_from names scopes (length made) (map datum_view left) ≡ children_from names scopes 0 (map datum_view given)
+    → EachIsNamed names (started scopes (data_of inputs)) → ready_children names made ≡ started scopes (data_of inputs)
 all_there names scopes made left given inputs empty same before each =
-    let whole : map (ready_view names) made ≡ children_from names scopes 0 (map view inputs) =
-    sym (append-nil (map (ready_view names) made)) ∙ ap (λ (ts : List trees.Tree). map (ready_view names) made ++ children_from names scopes (length made) (map view ts)) (sym empty)
-    ∙ before ∙ ap (λ (ts : List trees.Tree). children_from names scopes 0 (map view ts)) same in
-    ap children_of whole ∙ all_started names scopes scopes 0 (map view inputs) (from_none scopes) each
+    let whole : map (ready_view names) made ≡ children_from names scopes 0 (map datum_view inputs) =
+    sym (append-nil (map (ready_view names) made)) ∙ ap (λ (ts : List (Rc trees.Tree Global)). map (ready_view names) made ++ children_from names scopes (length made) (map datum_view ts)) (sym empty)
+    ∙ before ∙ ap (λ (ts : List (Rc trees.Tree Global)). children_from names scopes 0 (map datum_view ts)) same in
+    ap children_of whole ∙ all_started names scopes scopes 0 (map datum_view inputs) (from_none scopes) each
 
 -- the start of a branch, and that of none
 within : (starts : List (String Global)) (i : ℕ) (d : String Global) → i < length starts → string_bytes (slice_index_or starts i d) ≡ start_of (scope_at i (branches_view starts))

@@ -49,7 +49,7 @@ split_node_counted nodes table i node visit range children found own there is ar
     let split = Split visit range in
     let here : own ≡ length (own_place (wanted_by (shown_over names (children_of below) split))) =
     own_counted found own e ∙ ap (λ w. length (own_place w)) (wants.is names below heads ∙ ap (λ n. wanted_by (shown_over names (children_of below) n)) is) in
-    let whole = split_counted (name_in names visit.state) (view visit.raw) visit.counts.items (children_of below) in
+    let whole = split_counted (name_in names visit.state) (view visit.raw.value) visit.counts.items (children_of below) in
     let shown = ap open_count (shown_here names nodes table i split (there ∙ ap Some is)) in
     omega (arith, here, whole, shown)
 

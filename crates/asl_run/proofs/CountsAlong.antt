@@ -36,7 +36,7 @@ counted_along names j before after changed c d q above here (k ∷ place) i e =
         let n = name_in names visit.state in
         let children = children_of (in_table (Some child.children) (shown_from names 0 before)) in
         let shown = shown_on_the_way names j before after changed i k x child on_the_way in
-        let whole = split_set n (view visit.raw) visit.counts.items k children (shown_at names before x) (shown_at names after x) (child_shown names before changed.table i k x child) inner.went inner.goes in
+        let whole = split_set n (view visit.raw.value) visit.counts.items k children (shown_at names before x) (shown_at names after x) (child_shown names before changed.table i k x child) inner.went inner.goes in
         let was = ap open_count shown.0 in
         let now = ap open_count shown.1 in
         let same = inner.same in
@@ -62,7 +62,7 @@ counted_at_parent names j before after changed q k child =
     let n = name_in names visit.state in
     let children = children_of (in_table (Some child.children) (shown_from names 0 before)) in
     let shown = shown_on_the_way names j before after changed q k j child (above_itself changed.table.parents j) in
-    let whole = split_changed n (view visit.raw) visit.counts.items k children (shown_at names before j) (shown_at names after j) (child_shown names before changed.table q k j child) in
+    let whole = split_changed n (view visit.raw.value) visit.counts.items k children (shown_at names before j) (shown_at names after j) (child_shown names before changed.table q k j child) in
     let was = ap open_count shown.0 in
     let now = ap open_count shown.1 in
     record { same = omega (arith, whole, was, now); went = ap has_ended shown.0; goes = ap has_ended shown.1 }

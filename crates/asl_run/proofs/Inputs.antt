@@ -1,11 +1,13 @@
 -- The inputs of the children of a Parallel and of a Map, which are gone through in order.
 use Rattle.std.proofs.Common.{◌≡◌, ℕ, suc, ◌+◌, ◌<◌, ◌≤◌, List, [], ◌∷◌, ◌++◌, length, get_or, drop, take, map, Option, Result, Ok, Err, String, Global, refl, sym, ap, ◌∙◌, subst, drop-cons, add-one, arith}
 use Rattle.std.proofs.lemmas.List.{take_all, drop_all, map-append}
+use Rattle.std.specs.declared.rc.Rc.{Rc}
 use Rattle.asl_machine.specs.Machine.{branches_view}
 use Rattle.asl_model.specs.Faults.{Fault, and_then}
 use Rattle.asl_model.specs.Flow.{branch_inputs, item_input, item_inputs}
 use Rattle.asl_model.specs.Template.{Template}
 use Rattle.asl_model.specs.Tree as model
+use Rattle.asl_run.specs.Data.{data_of, datum_view}
 use Rattle.asl_tree.specs.View.{view, elements_view}
 use Rattle.asl_tree.specs.declared.Tree.{Tree}
 
@@ -17,7 +19,7 @@ inputs_shown v [] = refl
 inputs_shown v (branch ∷ branches) = ap (model.AndTree v) (inputs_shown v branches)
 
 -- the inputs of all branches, where those are gone through to the end
-pub branches_gone_through : (v : model.Tree) (branches : List (String Global)) (i : ℕ) (inputs : List Tree) → length branches ≤ i → map view inputs ≡ map (λ _. v) (take i branches) → elements_view inputs ≡ branch_inputs (branches_view branches) v
+pub branches_gone_through : (v : model.Tree) (branches : List (String Global)) (i : ℕ) (inputs : List (Rc Tree Global)) → length branches ≤ i → map datum_view inputs ≡ map (λ _. v) (take i branches) → data_of inputs ≡ branch_inputs (branches_view branches) v
 branches_gone_through v branches i inputs end e = ap model.trees_of (e ∙ ap (map (λ _. v)) (take_all i branches end)) ∙ inputs_shown v branches
 
 -- ---- items
@@ -67,23 +69,23 @@ next_item : (ts : List Tree) (i : ℕ) (t : Tree) → i < length ts → t ≡ ge
 next_item ts i t within is = ap elements_view (drop-cons ts i t within) ∙ rw (← is, add-one) refl
 
 -- one more input is pushed
-pub one_pushed : (selector : Option Template) (v : model.Tree) (ts : List Tree) (i : ℕ) (t u : Tree) (inputs pushed : List Tree) → i < length ts → t ≡ get_or ts i t → item_input selector v i (view t) ≡ Ok (view u) → pushed ≡ inputs ++ u ∷ []
-    → AreDone selector v (elements_view ts) (map view inputs) i (elements_view (drop i ts)) → AreDone selector v (elements_view ts) (map view pushed) (i + 1) (elements_view (drop (i + 1) ts))
+pub one_pushed : (selector : Option Template) (v : model.Tree) (ts : List Tree) (i : ℕ) (t : Tree) (u : Rc Tree Global) (inputs pushed : List (Rc Tree Global)) → i < length ts → t ≡ get_or ts i t → item_input selector v i (view t) ≡ Ok (datum_view u) → pushed ≡ inputs ++ u ∷ []
+    → AreDone selector v (elements_view ts) (map datum_view inputs) i (elements_view (drop i ts)) → AreDone selector v (elements_view ts) (map datum_view pushed) (i + 1) (elements_view (drop (i + 1) ts))
 one_pushed selector v ts i t u inputs pushed within is gives grown h =
     let whole = elements_view ts in
     let left = elements_view (drop (i + 1) ts) in
-    let more : AreDone selector v whole (map view inputs ++ view u ∷ []) (suc i) left = one_done selector v whole (map view inputs) i (view t) (view u) left gives (subst (AreDone selector v whole (map view inputs) i) (next_item ts i t within is) h) in
-    let seen : map view inputs ++ view u ∷ [] ≡ map view pushed = sym (ap (map view) grown ∙ map-append view inputs (u ∷ [])) in
+    let more : AreDone selector v whole (map datum_view inputs ++ datum_view u ∷ []) (suc i) left = one_done selector v whole (map datum_view inputs) i (view t) (datum_view u) left gives (subst (AreDone selector v whole (map datum_view inputs) i) (next_item ts i t within is) h) in
+    let seen : map datum_view inputs ++ datum_view u ∷ [] ≡ map datum_view pushed = sym (ap (map datum_view) grown ∙ map-append datum_view inputs (u ∷ [])) in
     let next : suc i ≡ i + 1 = omega arith in
-    subst (λ j. AreDone selector v whole (map view pushed) j left) next (subst (λ done. AreDone selector v whole done (suc i) left) seen more)
+    subst (λ j. AreDone selector v whole (map datum_view pushed) j left) next (subst (λ done. AreDone selector v whole done (suc i) left) seen more)
 
 -- all are pushed
-pub all_pushed : (selector : Option Template) (v : model.Tree) (ts : List Tree) (i : ℕ) (inputs : List Tree) → length ts ≤ i → AreDone selector v (elements_view ts) (map view inputs) i (elements_view (drop i ts)) → item_inputs selector v 0 (elements_view ts) ≡ Ok (elements_view inputs)
+pub all_pushed : (selector : Option Template) (v : model.Tree) (ts : List Tree) (i : ℕ) (inputs : List (Rc Tree Global)) → length ts ≤ i → AreDone selector v (elements_view ts) (map datum_view inputs) i (elements_view (drop i ts)) → item_inputs selector v 0 (elements_view ts) ≡ Ok (data_of inputs)
 all_pushed selector v ts i inputs end h =
-    all_done selector v (elements_view ts) (map view inputs) i (subst (AreDone selector v (elements_view ts) (map view inputs) i) (ap elements_view (drop_all i ts end)) h)
+    all_done selector v (elements_view ts) (map datum_view inputs) i (subst (AreDone selector v (elements_view ts) (map datum_view inputs) i) (ap elements_view (drop_all i ts end)) h)
 
 -- an item fails
-pub one_refused : (selector : Option Template) (v : model.Tree) (ts : List Tree) (i : ℕ) (t : Tree) (fault : Fault) (inputs : List Tree) → i < length ts → t ≡ get_or ts i t → item_input selector v i (view t) ≡ Err fault
-    → AreDone selector v (elements_view ts) (map view inputs) i (elements_view (drop i ts)) → item_inputs selector v 0 (elements_view ts) ≡ Err fault
+pub one_refused : (selector : Option Template) (v : model.Tree) (ts : List Tree) (i : ℕ) (t : Tree) (fault : Fault) (inputs : List (Rc Tree Global)) → i < length ts → t ≡ get_or ts i t → item_input selector v i (view t) ≡ Err fault
+    → AreDone selector v (elements_view ts) (map datum_view inputs) i (elements_view (drop i ts)) → item_inputs selector v 0 (elements_view ts) ≡ Err fault
 one_refused selector v ts i t fault inputs within is fails h =
-    one_fails selector v (elements_view ts) (map view inputs) i (view t) (elements_view (drop (i + 1) ts)) fault fails (subst (AreDone selector v (elements_view ts) (map view inputs) i) (next_item ts i t within is) h)
+    one_fails selector v (elements_view ts) (map datum_view inputs) i (view t) (elements_view (drop (i + 1) ts)) fault fails (subst (AreDone selector v (elements_view ts) (map datum_view inputs) i) (next_item ts i t within is) h)

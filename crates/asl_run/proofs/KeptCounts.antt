@@ -37,7 +37,7 @@ below_split names all table i k c child =
     let visit = child.visit in
     let children = children_of (in_table (Some child.children) (shown_from names 0 all)) in
     let shown = ap open_count (shown_here names all table i (nodes.Split visit child.children) child.stands) in
-    let whole = split_counted (name_in names visit.state) (view visit.raw) visit.counts.items children in
+    let whole = split_counted (name_in names visit.state) (view visit.raw.value) visit.counts.items children in
     let among = among_at_least k children (shown_at names all c) (child_shown names all table i k c child) in
     omega (arith, shown, whole, among)
 
@@ -80,10 +80,10 @@ own_at_most (AllDone outputs) = omega arith
 own_at_most (OneFailed i error cause) = omega arith
 own_at_most StillRunning = omega arith
 
-split_opens : (names : List (List ℕ)) (visit : Visit) (visits : List Visit) → open_count (Split (name_in names visit.state) (view visit.raw) visit.counts.items (children_of (map (ready_view names) visits))) ≤ 1 + length visits
+split_opens : (names : List (List ℕ)) (visit : Visit) (visits : List Visit) → open_count (Split (name_in names visit.state) (view visit.raw.value) visit.counts.items (children_of (map (ready_view names) visits))) ≤ 1 + length visits
 split_opens names visit visits =
     let children = children_of (map (ready_view names) visits) in
-    let whole = split_counted (name_in names visit.state) (view visit.raw) visit.counts.items children in
+    let whole = split_counted (name_in names visit.state) (view visit.raw.value) visit.counts.items children in
     omega (arith, whole, among_ready names visits, own_at_most (joining 0 children))
 
 pub few_opened : (names : List (List ℕ)) (visit : Visit) (change : Change) → open_count (changed names visit change) + ends (changed names visit change) ≤ 1 + children_in change

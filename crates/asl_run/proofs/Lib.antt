@@ -31,6 +31,7 @@ pub mod Tables
 pub mod Above
 pub mod ChangedTables
 pub mod NumbersAlong
+pub mod Begun
 pub mod WrittenTables
 pub mod StepsAlong
 pub mod PlansAlong

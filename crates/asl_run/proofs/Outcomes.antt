@@ -1,5 +1,6 @@
 -- How a run has ended, by the node at the machine's own place.
-use Rattle.std.proofs.Common.{◌≡◌, refl, sym, ap, ◌∙◌, ℕ, List, slice_get, Some, None}
+use Rattle.std.proofs.Common.{◌≡◌, refl, sym, ap, ◌∙◌, ℕ, Global, List, slice_get, Some, None}
+use Rattle.std.specs.declared.rc.Rc.{Rc}
 use Rattle.asl_model.specs.Run as model
 use Rattle.asl_model.specs.Run.{outcome_of}
 use Rattle.asl_run.specs.Entries.{outcome_view}
@@ -29,7 +30,7 @@ has_ended_so names nodes table i node outcome there e = ended_shown names (child
 pub goes_on_ready : (names : List (List ℕ)) (nodes : List Node) → IsTable nodes → (i : ℕ) (node : Node) (visit : Visit) → slice_get nodes i ≡ Some node → node ≡ Ready visit → None ≡ outcome_of (shown_at names nodes i)
 goes_on_ready names nodes table i node visit there e = shown_so names nodes table i node (Ready visit) there e
 
-pub goes_on_waiting : (names : List (List ℕ)) (nodes : List Node) → IsTable nodes → (i : ℕ) (node : Node) (visit : Visit) (payload : Tree) → slice_get nodes i ≡ Some node → node ≡ Waiting visit payload → None ≡ outcome_of (shown_at names nodes i)
+pub goes_on_waiting : (names : List (List ℕ)) (nodes : List Node) → IsTable nodes → (i : ℕ) (node : Node) (visit : Visit) (payload : Rc Tree Global) → slice_get nodes i ≡ Some node → node ≡ Waiting visit payload → None ≡ outcome_of (shown_at names nodes i)
 goes_on_waiting names nodes table i node visit payload there e = shown_so names nodes table i node (Waiting visit payload) there e
 
 pub goes_on_split : (names : List (List ℕ)) (nodes : List Node) → IsTable nodes → (i : ℕ) (node : Node) (visit : Visit) (children : Children) → slice_get nodes i ≡ Some node → node ≡ Split visit children → None ≡ outcome_of (shown_at names nodes i)

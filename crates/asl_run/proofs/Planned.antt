@@ -1,5 +1,6 @@
 -- Plans from their parts.
 use Rattle.std.proofs.Common.{◌≡◌, refl, ap, ◌∙◌, ℕ, List, Vec, Global, [], ◌∷◌, map, subst, sym, Option, Some, None, option_map, string_bytes, Result, Ok, Err, IfOk, IsOkAnd, codes}
+use Rattle.std.specs.declared.rc.Rc.{Rc}
 use Rattle.asl_machine.specs.Machine.{kind_view, settings_view}
 use Rattle.asl_model.specs.Faults as faults
 use Rattle.asl_model.specs.Faults.{ResultPathMatchFailure, error_name}
@@ -13,6 +14,7 @@ use Rattle.asl_tree.specs.declared.Tree as code
 use Rattle.asl_run.specs.Acting.{IsAt, Plans, by_settings, by_state, by_trouble_at, names_at, state_at, told_at}
 use Rattle.asl_run.specs.Activities.{ended_view, ready_view}
 use Rattle.asl_run.specs.Changing.{changed}
+use Rattle.asl_run.specs.Data.{datum_view}
 use Rattle.asl_run.specs.Entries.{entry_view}
 use Rattle.asl_run.specs.Faults.{error_view, fault_view}
 use Rattle.asl_run.specs.Flowing.{Flows}
@@ -101,9 +103,9 @@ ended_so here r before made outcome told_as after seen none is first same told =
 
 -- what comes of an error is the step in trouble
 pub troubled_so : {E : Type 0} (here : Here) (r : Result Plan E) (error cause counts : List ℕ) (met : Trouble) (trouble : model.Trouble) → trouble_view met ≡ trouble → counts ≡ here.visit.now.counts.items
-    → trouble_view met ≡ model.trouble_of (settings_view here.state.now.settings) (view here.visit.now.raw) counts error cause → IfOk r (λ p. (e k : List ℕ) → Plans here p (by_trouble_at here e k trouble)) → IfOk r (λ p. Plans here p (by_settings model.troubled here error cause))
+    → trouble_view met ≡ model.trouble_of (settings_view here.state.now.settings) (view here.visit.now.raw.value) counts error cause → IfOk r (λ p. (e k : List ℕ) → Plans here p (by_trouble_at here e k trouble)) → IfOk r (λ p. Plans here p (by_settings model.troubled here error cause))
 troubled_so here (Ok p) error cause counts met trouble seen same is plans =
-    subst (λ t. Plans here p (by_trouble_at here error cause t)) (sym seen ∙ is ∙ ap (λ cs. model.trouble_of (settings_view here.state.now.settings) (view here.visit.now.raw) cs error cause) same) (plans error cause)
+    subst (λ t. Plans here p (by_trouble_at here error cause t)) (sym seen ∙ is ∙ ap (λ cs. model.trouble_of (settings_view here.state.now.settings) (view here.visit.now.raw.value) cs error cause) same) (plans error cause)
 troubled_so here (Err e) error cause counts met trouble seen same is plans = tt
 
 -- a retrier retries
@@ -111,8 +113,8 @@ pub retried_so : {E F : Type 0} (here : Here) (r : Result Plan E) (before : Plan
     → IfOk r (λ p. IsOkAnd made (λ m. p.entries.items ≡ m ∷ before.entries.items)) → IfOk r (λ p. p.change ≡ before.change) → IfOk made (λ m. entry_view m ≡ told_at here.at.now (model.Retried here.name.now i))
     → IfOk r (λ p. (e k : List ℕ) → Plans here p (by_trouble_at here e k (model.Retries i)))
 retried_so here (Ok p) before (Ok made) i rises none is first same told = λ e k.
-    told_once here p before made (model.Retried here.name.now i) (Retry i) (model.Ready here.name.now (view here.visit.now.raw) (model.one_higher i here.visit.now.counts.items)) none is first same told (record {
-      left = λ stands. ap (λ n. model.Ready n (view here.visit.now.raw) (model.one_higher i here.visit.now.counts.items)) (sym stands.named);
+    told_once here p before made (model.Retried here.name.now i) (Retry i) (model.Ready here.name.now (view here.visit.now.raw.value) (model.one_higher i here.visit.now.counts.items)) none is first same told (record {
+      left = λ stands. ap (λ n. model.Ready n (view here.visit.now.raw.value) (model.one_higher i here.visit.now.counts.items)) (sym stands.named);
       rises = λ j e. let same_number : i ≡ j = cc in subst (CanRise here.visit.now.counts.items) same_number rises;
     })
 retried_so here (Ok p) before (Err x) i rises none is first same told = absurd first
@@ -129,11 +131,11 @@ handed_on here (Err x) before made visit i next input none is first same told se
 
 -- so it does where it takes the error
 pub caught_so : {E : Type 0} (here : Here) (r : Result Plan E) (error cause counts : List ℕ) (met : Trouble) (i : ℕ) (next : List ℕ) (input : Tree) → trouble_view met ≡ model.Catches i next input → counts ≡ here.visit.now.counts.items
-    → trouble_view met ≡ model.trouble_of (settings_view here.state.now.settings) (view here.visit.now.raw) counts error cause → IfOk r (λ p. MayFollow (state_at here) (Some next) → (e k : List ℕ) → Plans here p (by_trouble_at here e k (model.Catches i next input)))
+    → trouble_view met ≡ model.trouble_of (settings_view here.state.now.settings) (view here.visit.now.raw.value) counts error cause → IfOk r (λ p. MayFollow (state_at here) (Some next) → (e k : List ℕ) → Plans here p (by_trouble_at here e k (model.Catches i next input)))
     → IfOk r (λ p. Plans here p (by_settings model.troubled here error cause))
 caught_so here (Ok p) error cause counts met i next input seen same is plans =
-    let so : model.Catches i next input ≡ model.trouble_of (settings_view here.state.now.settings) (view here.visit.now.raw) here.visit.now.counts.items error cause = sym seen ∙ is ∙ ap (λ cs. model.trouble_of (settings_view here.state.now.settings) (view here.visit.now.raw) cs error cause) same in
-    let follows : MayFollow (state_at here) (Some next) = caught_follows (state_at here) (view here.visit.now.raw) here.visit.now.counts.items error cause i next input (sym so) in
+    let so : model.Catches i next input ≡ model.trouble_of (settings_view here.state.now.settings) (view here.visit.now.raw.value) here.visit.now.counts.items error cause = sym seen ∙ is ∙ ap (λ cs. model.trouble_of (settings_view here.state.now.settings) (view here.visit.now.raw.value) cs error cause) same in
+    let follows : MayFollow (state_at here) (Some next) = caught_follows (state_at here) (view here.visit.now.raw.value) here.visit.now.counts.items error cause i next input (sym so) in
     subst (λ t. Plans here p (by_trouble_at here error cause t)) so (plans follows error cause)
 caught_so here (Err e) error cause counts met i next input seen same is plans = tt
 
@@ -166,8 +168,8 @@ left_on here (Ok p) before (Err x) visit next output none is first same told see
 left_on here (Err e) before made visit next output none is first same told seen = tt
 
 -- for the end of its scope
-pub left_last : (here : Here) (entries : Vec Entry Global) (output : code.Tree) → map entry_view entries.items ≡ map (told_at here.at.now) (model.Left here.name.now (view output) ∷ model.Ended (model.Output (view output)) ∷ [])
-    → Plans here (record { entries = entries; change = End (outcomes.Output output) }) (model.leaves_for here.name.now None (view output))
+pub left_last : (here : Here) (entries : Vec Entry Global) (output : Rc code.Tree Global) → map entry_view entries.items ≡ map (told_at here.at.now) (model.Left here.name.now (view output.value) ∷ model.Ended (model.Output (view output.value)) ∷ [])
+    → Plans here (record { entries = entries; change = End (outcomes.Output output) }) (model.leaves_for here.name.now None (view output.value))
 left_last here entries output told = record { told = told; left = λ stands. refl; rises = λ i e. absurd (cc) }
 
 -- the two entries then
@@ -181,23 +183,23 @@ left_and_ended place (Ok all) (Err e) left none behind last first empty ends tol
 left_and_ended place (Err e) ended left none behind last first empty ends told_last leaves told_first = tt
 
 -- with an output
-pub left_with : {E : Type 0} (here : Here) (r : Result Plan E) (next : Option (List ℕ)) (t : code.Tree) → IfOk r (λ p. MayFollow (state_at here) next → Plans here p (model.leaves_for here.name.now next (view t)))
-    → IfOk r (λ p. (defined : Result Tree faults.Fault) → Flows view (Ok t) defined → MayFollow (state_at here) next → Plans here p (by_settings model.leaves_with here next defined))
-left_with here (Ok p) next t plans = λ defined flows follows. let is : defined ≡ Ok (view t) = flows.gives in subst (λ d. Plans here p (by_settings model.leaves_with here next d)) (sym is) (plans follows)
+pub left_with : {E : Type 0} (here : Here) (r : Result Plan E) (next : Option (List ℕ)) (t : Rc code.Tree Global) → IfOk r (λ p. MayFollow (state_at here) next → Plans here p (model.leaves_for here.name.now next (view t.value)))
+    → IfOk r (λ p. (defined : Result Tree faults.Fault) → Flows datum_view (Ok t) defined → MayFollow (state_at here) next → Plans here p (by_settings model.leaves_with here next defined))
+left_with here (Ok p) next t plans = λ defined flows follows. let is : defined ≡ Ok (view t.value) = flows.gives in subst (λ d. Plans here p (by_settings model.leaves_with here next d)) (sym is) (plans follows)
 left_with here (Err e) next t plans = tt
 
 -- with a fault in its place
-pub left_raising : {E : Type 0} (here : Here) (r : Result Plan E) (next : Option (List ℕ)) (output : Result code.Tree Stop) (fault : Fault) → output ≡ Err (stops.Fault fault) → IfOk r (λ p. Plans here p (by_settings model.faulted here (fault_view fault)))
-    → IfOk r (λ p. (defined : Result Tree faults.Fault) → Flows view output defined → MayFollow (state_at here) next → Plans here p (by_settings model.leaves_with here next defined))
+pub left_raising : {E : Type 0} (here : Here) (r : Result Plan E) (next : Option (List ℕ)) (output : Result (Rc code.Tree Global) Stop) (fault : Fault) → output ≡ Err (stops.Fault fault) → IfOk r (λ p. Plans here p (by_settings model.faulted here (fault_view fault)))
+    → IfOk r (λ p. (defined : Result Tree faults.Fault) → Flows datum_view output defined → MayFollow (state_at here) next → Plans here p (by_settings model.leaves_with here next defined))
 left_raising here (Ok p) next output fault met plans = λ defined flows follows. let is : defined ≡ Err (fault_view fault) = flows.fails fault met in subst (λ d. Plans here p (by_settings model.leaves_with here next d)) (sym is) plans
 left_raising here (Err e) next output fault met plans = tt
 
 -- with what comes of its result
-pub finished_so : {E : Type 0} (here : Here) (r : Result Plan E) (next : Option (List ℕ)) (output : Result code.Tree Stop) (result : Tree) → next ≡ option_map string_bytes here.state.now.settings.next
-    → Flows view output (output_of (settings_view here.state.now.settings) (view here.visit.now.raw) result)
-    → IfOk r (λ p. (defined : Result Tree faults.Fault) → Flows view output defined → MayFollow (state_at here) next → Plans here p (by_settings model.leaves_with here next defined)) → IfOk r (λ p. Plans here p (by_settings model.finishes here result))
+pub finished_so : {E : Type 0} (here : Here) (r : Result Plan E) (next : Option (List ℕ)) (output : Result (Rc code.Tree Global) Stop) (result : Tree) → next ≡ option_map string_bytes here.state.now.settings.next
+    → Flows datum_view output (output_of (settings_view here.state.now.settings) (view here.visit.now.raw.value) result)
+    → IfOk r (λ p. (defined : Result Tree faults.Fault) → Flows datum_view output defined → MayFollow (state_at here) next → Plans here p (by_settings model.leaves_with here next defined)) → IfOk r (λ p. Plans here p (by_settings model.finishes here result))
 finished_so here (Ok p) next output result is flows plans =
-    let defined = output_of (settings_view here.state.now.settings) (view here.visit.now.raw) result in
+    let defined = output_of (settings_view here.state.now.settings) (view here.visit.now.raw.value) result in
     let follows : MayFollow (state_at here) next = subst (MayFollow (state_at here)) (sym is) (next_follows (state_at here)) in
     subst (λ o. Plans here p (by_settings model.leaves_with here o defined)) is (plans defined flows follows)
 finished_so here (Err e) next output result is flows plans = tt
@@ -205,28 +207,28 @@ finished_so here (Err e) next output result is flows plans = tt
 -- ---- entering
 
 -- its first move
-pub entered_so : {E F : Type 0} (here : Here) (r : Result Plan E) (before : Plan) (made : Result Entry F) (work : flow.Work) → work ≡ flow.first_move (state_at here) (view here.visit.now.raw)
-    → (flow.first_move (state_at here) (view here.visit.now.raw) ≡ work → Plans here before (by_state model.by_work here work))
-    → IfOk r (λ p. IsOkAnd made (λ m. p.entries.items ≡ m ∷ before.entries.items)) → IfOk r (λ p. p.change ≡ before.change) → IfOk made (λ m. entry_view m ≡ told_at here.at.now (model.Entered here.name.now (view here.visit.now.raw)))
+pub entered_so : {E F : Type 0} (here : Here) (r : Result Plan E) (before : Plan) (made : Result Entry F) (work : flow.Work) → work ≡ flow.first_move (state_at here) (view here.visit.now.raw.value)
+    → (flow.first_move (state_at here) (view here.visit.now.raw.value) ≡ work → Plans here before (by_state model.by_work here work))
+    → IfOk r (λ p. IsOkAnd made (λ m. p.entries.items ≡ m ∷ before.entries.items)) → IfOk r (λ p. p.change ≡ before.change) → IfOk made (λ m. entry_view m ≡ told_at here.at.now (model.Entered here.name.now (view here.visit.now.raw.value)))
     → IfOk r (λ p. Plans here p (by_state model.enters here))
 entered_so here r before made work is plans first same told =
-    preceded_so here r before made (model.Entered here.name.now (view here.visit.now.raw)) (by_state model.by_work here (flow.first_move (state_at here) (view here.visit.now.raw))) first same told
+    preceded_so here r before made (model.Entered here.name.now (view here.visit.now.raw.value)) (by_state model.by_work here (flow.first_move (state_at here) (view here.visit.now.raw.value))) first same told
     (subst (λ w. Plans here before (by_state model.by_work here w)) is (plans (sym is)))
 
 -- a first move that leaves
-pub carried_off : {E : Type 0} (here : Here) (r : Result Plan E) (next : Option (List ℕ)) (output : Result code.Tree Stop) (v : Tree) → Flows view output (flow.at_output_path (settings_view here.state.now.settings) v)
-    → IfOk r (λ p. (defined : Result Tree faults.Fault) → Flows view output defined → MayFollow (state_at here) next → Plans here p (by_settings model.leaves_with here next defined))
-    → IfOk r (λ p. flow.first_move (state_at here) (view here.visit.now.raw) ≡ flow.Leaves next v → Plans here p (by_state model.by_work here (flow.Leaves next v)))
-carried_off here (Ok p) next output v flows plans = λ move. plans (flow.at_output_path (settings_view here.state.now.settings) v) flows (leaving_follows (state_at here) (view here.visit.now.raw) next v move)
+pub carried_off : {E : Type 0} (here : Here) (r : Result Plan E) (next : Option (List ℕ)) (output : Result (Rc code.Tree Global) Stop) (v : Tree) → Flows datum_view output (flow.at_output_path (settings_view here.state.now.settings) v)
+    → IfOk r (λ p. (defined : Result Tree faults.Fault) → Flows datum_view output defined → MayFollow (state_at here) next → Plans here p (by_settings model.leaves_with here next defined))
+    → IfOk r (λ p. flow.first_move (state_at here) (view here.visit.now.raw.value) ≡ flow.Leaves next v → Plans here p (by_state model.by_work here (flow.Leaves next v)))
+carried_off here (Ok p) next output v flows plans = λ move. plans (flow.at_output_path (settings_view here.state.now.settings) v) flows (leaving_follows (state_at here) (view here.visit.now.raw.value) next v move)
 carried_off here (Err e) next output v flows plans = tt
 
 -- it waits for the answer to its payload
-pub waits_so : {E F : Type 0} (here : Here) (r : Result Plan E) (before : Plan) (made : Result Entry F) (payload : code.Tree) → before.entries.items ≡ [] → before.change ≡ Ask payload
-    → IfOk r (λ p. IsOkAnd made (λ m. p.entries.items ≡ m ∷ before.entries.items)) → IfOk r (λ p. p.change ≡ before.change) → IfOk made (λ m. entry_view m ≡ told_at here.at.now (model.Asked here.name.now (view payload)))
-    → IfOk r (λ p. Plans here p (by_state model.by_work here (flow.Asks (view payload))))
+pub waits_so : {E F : Type 0} (here : Here) (r : Result Plan E) (before : Plan) (made : Result Entry F) (payload : Rc code.Tree Global) → before.entries.items ≡ [] → before.change ≡ Ask payload
+    → IfOk r (λ p. IsOkAnd made (λ m. p.entries.items ≡ m ∷ before.entries.items)) → IfOk r (λ p. p.change ≡ before.change) → IfOk made (λ m. entry_view m ≡ told_at here.at.now (model.Asked here.name.now (view payload.value)))
+    → IfOk r (λ p. Plans here p (by_state model.by_work here (flow.Asks (view payload.value))))
 waits_so here r before made payload none is first same told =
-    told_so here r before made (model.Asked here.name.now (view payload)) (Ask payload) (model.Waiting here.name.now (view here.visit.now.raw) here.visit.now.counts.items (view payload)) none is first same told (record {
-      left = λ stands. ap (λ n. model.Waiting n (view here.visit.now.raw) here.visit.now.counts.items (view payload)) (sym stands.named);
+    told_so here r before made (model.Asked here.name.now (view payload.value)) (Ask payload) (model.Waiting here.name.now (view here.visit.now.raw.value) here.visit.now.counts.items (view payload.value)) none is first same told (record {
+      left = λ stands. ap (λ n. model.Waiting n (view here.visit.now.raw.value) here.visit.now.counts.items (view payload.value)) (sym stands.named);
       rises = λ i e. absurd (cc);
     })
 
@@ -237,12 +239,12 @@ asked_so here (Err e) t v is plans = tt
 
 -- one that splits
 pub split_so : (here : Here) (plan : Plan) (change : Change) (children : model.Activities) (inputs : Trees) → plan.entries.items ≡ [] → plan.change ≡ change
-    → changed (names_at here) here.visit.now change ≡ model.Split (name_in (names_at here) here.visit.now.state) (view here.visit.now.raw) here.visit.now.counts.items children → ((i : ℕ) → change ≡ Retry i → ⊥)
+    → changed (names_at here) here.visit.now change ≡ model.Split (name_in (names_at here) here.visit.now.state) (view here.visit.now.raw.value) here.visit.now.counts.items children → ((i : ℕ) → change ≡ Retry i → ⊥)
     → (EachIsNamed (names_at here) (model.started (child_scope (kind_view here.state.now.kind)) inputs) → children ≡ model.started (child_scope (kind_view here.state.now.kind)) inputs)
-    → flow.first_move (state_at here) (view here.visit.now.raw) ≡ flow.Splits inputs → Plans here plan (by_state model.by_work here (flow.Splits inputs))
+    → flow.first_move (state_at here) (view here.visit.now.raw.value) ≡ flow.Splits inputs → Plans here plan (by_state model.by_work here (flow.Splits inputs))
 split_so here plan change children inputs none is split no_retry alike move =
-    begun here plan change (model.Split here.name.now (view here.visit.now.raw) here.visit.now.counts.items (model.started (child_scope (kind_view here.state.now.kind)) inputs)) none is (record {
-      left = λ stands. split ∙ ap (model.Split (name_in (names_at here) here.visit.now.state) (view here.visit.now.raw) here.visit.now.counts.items) (alike (stands.leads.starts (view here.visit.now.raw) inputs move))
-          ∙ ap (λ n. model.Split n (view here.visit.now.raw) here.visit.now.counts.items (model.started (child_scope (kind_view here.state.now.kind)) inputs)) (sym stands.named);
+    begun here plan change (model.Split here.name.now (view here.visit.now.raw.value) here.visit.now.counts.items (model.started (child_scope (kind_view here.state.now.kind)) inputs)) none is (record {
+      left = λ stands. split ∙ ap (model.Split (name_in (names_at here) here.visit.now.state) (view here.visit.now.raw.value) here.visit.now.counts.items) (alike (stands.leads.starts (view here.visit.now.raw.value) inputs move))
+          ∙ ap (λ n. model.Split n (view here.visit.now.raw.value) here.visit.now.counts.items (model.started (child_scope (kind_view here.state.now.kind)) inputs)) (sym stands.named);
       rises = λ i e. absurd (no_retry i e);
     })

@@ -47,8 +47,8 @@ start_missing {A = A} machine m shown e =
     (λ f. none_some (sym (ap (option_map (λ (q : Placement). q.start)) f) ∙ first_placed m shown.well_named.start)) e
 
 -- the table of one node that is about to enter the start
-pub is_start : (m : Scope) (names : List (List ℕ)) (visit : Visit) (nodes : List Node) → nodes ≡ Ready visit ∷ [] → name_in names visit.state ≡ start_of m → visit.counts.items ≡ [] → shown_at names nodes 0 ≡ model.start m (view visit.raw)
-is_start m names visit nodes is named none = ap (λ (l : List Node). shown_at names l 0) is ∙ ap (λ k. model.Ready k (view visit.raw) visit.counts.items) named ∙ ap (model.Ready (start_of m) (view visit.raw)) none
+pub is_start : (m : Scope) (names : List (List ℕ)) (visit : Visit) (nodes : List Node) → nodes ≡ Ready visit ∷ [] → name_in names visit.state ≡ start_of m → visit.counts.items ≡ [] → shown_at names nodes 0 ≡ model.start m (view visit.raw.value)
+is_start m names visit nodes is named none = ap (λ (l : List Node). shown_at names l 0) is ∙ ap (λ k. model.Ready k (view visit.raw.value) visit.counts.items) named ∙ ap (model.Ready (start_of m) (view visit.raw.value)) none
 
 -- stands in the machine's scope
 pub starts_standing : (machine : Machine) (m : Scope) → Shows machine m → (a : model.Activity) (input : Tree) → a ≡ model.start m input → StandsIn a m

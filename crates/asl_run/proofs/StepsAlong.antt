@@ -38,9 +38,9 @@ along machine at names action r j before after changed here (k ∷ place) i e =
         let n = name_in names visit.state in
         let children = children_of (in_table (Some child.children) (shown_from names 0 before)) in
         let shown = shown_on_the_way names j before after changed i k c child above in
-        let whole = steps_below machine at place k n (view visit.raw) visit.counts.items children (shown_at names before c) (shown_at names after c) action r (child_shown names before changed.table i k c child) inner in
+        let whole = steps_below machine at place k n (view visit.raw.value) visit.counts.items children (shown_at names before c) (shown_at names after c) action r (child_shown names before changed.table i k c child) inner in
         subst (λ b. Steps machine at (k ∷ place) b (shown_at names after i) action r) (sym shown.0)
-        (subst (λ b. Steps machine at (k ∷ place) (model.Split n (view visit.raw) visit.counts.items children) b action r) (sym shown.1) whole)
+        (subst (λ b. Steps machine at (k ∷ place) (model.Split n (view visit.raw.value) visit.counts.items children) b action r) (sym shown.1) whole)
 
     by_child : (o : Option ℕ) → child_number before i k ≡ o → option_and_then (λ c. number_from before c place) o ≡ Some j → ((c : ℕ) → number_from before c place ≡ Some j → Steps machine at place (shown_at names before c) (shown_at names after c) action r)
         → Steps machine at (k ∷ place) (shown_at names before i) (shown_at names after i) action r

@@ -1,5 +1,5 @@
 -- An event of the kind that an enabled place wants has a step.
-use Rattle.std.proofs.Common.{◌≡◌, refl, sym, ap, ◌∙◌, subst, arith, ℕ, zero, suc, ◌+◌, List, [], ◌∷◌, ◌++◌, map, slice_get, Option, Some, None, option_map, option_and_then, ◌⊎◌, inl, inr}
+use Rattle.std.proofs.Common.{◌≡◌, refl, sym, ap, ◌∙◌, subst, arith, ℕ, zero, suc, ◌+◌, List, [], ◌∷◌, ◌++◌, map, slice_get, Option, Some, None, option_map, option_and_then, inl, inr}
 use Rattle.std.specs.Option.{IsSome}
 use Rattle.asl_model.specs.Machine.{Scope}
 use Rattle.asl_model.specs.Run.{Action, Activities, Activity, AllDone, AndActivity, Done, Enables, Event, Failed, FailsTask, Gives, Joining, Move, NoActivities, OneFailed, Ready, Split, StillRunning, Waiting, Want, WantsAnswer, WantsMove, activity_at, child_at, down_from, enabled, joining, step, want_of}

@@ -1,6 +1,7 @@
 -- The tasks that wait in a run, and what stands at other places.
-use Rattle.std.proofs.Common.{◌≡◌, ◌≢◌, ℕ, List, [], ◌∷◌, Option, Some, None, option_map, option_and_then, slice_get, refl, sym, ap, ◌∙◌, subst}
+use Rattle.std.proofs.Common.{◌≡◌, ◌≢◌, ℕ, Global, List, [], ◌∷◌, Option, Some, None, option_map, option_and_then, slice_get, refl, sym, ap, ◌∙◌, subst}
 use Rattle.std.specs.Option.{unwrap_or}
+use Rattle.std.specs.declared.rc.Rc.{Rc}
 use Rattle.asl_model.specs.Machine.{Scope}
 use Rattle.asl_model.specs.Numbering.{IsScopeOf, own_scope, IsWellNamed, table_of}
 use Rattle.asl_model.specs.Run as model
@@ -37,14 +38,14 @@ nothing_stands names nodes table place number found is =
     place_shown names nodes table place 0 table.some ∙ ap (option_map (shown_at names nodes)) (sym found ∙ ap (option_map (λ m. m.0)) is)
 
 -- a task that is found at a place waits there
-pub task_waits : (names : List (List ℕ)) (place : List ℕ) (a : model.Activity) (below : model.Activities) (node : Node) (visit : Visit) (payload : Tree) (asked : Asked)
-    → activity_at place a ≡ Some (shown_over names below node) → node ≡ nodes.Waiting visit payload → asked.state ≡ visit.state → slice_get names visit.state ≡ Some asked.name.now → asked.payload.now ≡ payload → WaitsAt names place a asked
+pub task_waits : (names : List (List ℕ)) (place : List ℕ) (a : model.Activity) (below : model.Activities) (node : Node) (visit : Visit) (payload : Rc Tree Global) (asked : Asked)
+    → activity_at place a ≡ Some (shown_over names below node) → node ≡ nodes.Waiting visit payload → asked.state ≡ visit.state → slice_get names visit.state ≡ Some asked.name.now → asked.payload.now ≡ payload.value → WaitsAt names place a asked
 task_waits names place a below node visit payload asked stands waits same named paid =
     let name : name_in names visit.state ≡ asked.name.now = ap (λ o. unwrap_or o (no_name names)) named in
-    let view : shown_over names below node ≡ model.Waiting asked.name.now (trees.view visit.raw) visit.counts.items (trees.view asked.payload.now) =
+    let view : shown_over names below node ≡ model.Waiting asked.name.now (trees.view visit.raw.value) visit.counts.items (trees.view asked.payload.now) =
     ap (shown_over names below) waits ∙ rw (name, paid) refl in
     record {
-      raw = trees.view visit.raw;
+      raw = trees.view visit.raw.value;
       counts = visit.counts.items;
       numbered = ap (slice_get names) same ∙ named;
       waits = stands ∙ ap Some view;
@@ -106,10 +107,10 @@ waiting_is_named machine well place a i raw counts payload h e none =
     none_some (sym none ∙ found.name)
 
 -- so a task whose state has no name waits nowhere
-pub unnamed_waits_nowhere : (m : Scope) (names : List (List ℕ)) (place : List ℕ) (a : model.Activity) (below : model.Activities) (node : Node) (visit : Visit) (payload : Tree) → names ≡ (table_of m).names → IsWellNamed m → StandsIn a m
+pub unnamed_waits_nowhere : (m : Scope) (names : List (List ℕ)) (place : List ℕ) (a : model.Activity) (below : model.Activities) (node : Node) (visit : Visit) (payload : Rc Tree Global) → names ≡ (table_of m).names → IsWellNamed m → StandsIn a m
     → activity_at place a ≡ Some (shown_over names below node) → node ≡ nodes.Waiting visit payload → slice_get names visit.state ≡ None → NoneWaitsAt place a
 unnamed_waits_nowhere m names place a below node visit payload same well h stands waits none =
-    let there : activity_at place a ≡ Some (model.Waiting (name_in names visit.state) (trees.view visit.raw) visit.counts.items (trees.view payload)) = stands ∙ ap (λ n. Some (shown_over names below n)) waits in
-    absurd (waiting_is_named m well place a visit.state (trees.view visit.raw) visit.counts.items (trees.view payload) h
-    (subst (λ ns. activity_at place a ≡ Some (model.Waiting (name_in ns visit.state) (trees.view visit.raw) visit.counts.items (trees.view payload))) same there)
+    let there : activity_at place a ≡ Some (model.Waiting (name_in names visit.state) (trees.view visit.raw.value) visit.counts.items (trees.view payload.value)) = stands ∙ ap (λ n. Some (shown_over names below n)) waits in
+    absurd (waiting_is_named m well place a visit.state (trees.view visit.raw.value) visit.counts.items (trees.view payload.value) h
+    (subst (λ ns. activity_at place a ≡ Some (model.Waiting (name_in ns visit.state) (trees.view visit.raw.value) visit.counts.items (trees.view payload.value))) same there)
     (subst (λ ns. slice_get ns visit.state ≡ None) same none))

@@ -3,6 +3,7 @@ use Rattle.std.proofs.Common.{◌≡◌, ◌≢◌, ◌<◌, ◌≤◌, refl, sy
 use Rattle.std.proofs.lemmas.Bool.{lt-ltb, le-ltb}
 use Rattle.std.proofs.lemmas.List.{length-append, take_all}
 use Rattle.std.proofs.lemmas.Option.{slice_get_within}
+use Rattle.std.specs.declared.rc.Rc.{Rc}
 use Rattle.asl_model.specs.Run as model
 use Rattle.asl_model.proofs.RunOptions.{some_inj, none_some}
 use Rattle.asl_run.specs.Activities.{ready_view}
@@ -310,7 +311,7 @@ pub end_written : (j : ℕ) (before after : List Node) (outcome : Outcome) → a
 end_written j before after outcome written = alone_written j before (End outcome) after (nodes.Ended outcome) refl written refl (λ names old v f g below. refl)
 
 -- a task waits
-pub ask_written : (j : ℕ) (before after : List Node) (was node : Node) (payload : Tree) → slice_get before j ≡ Some was → after ≡ slice_set before j node → range_of node ≡ None
+pub ask_written : (j : ℕ) (before after : List Node) (was node : Node) (payload : Rc Tree Global) → slice_get before j ≡ Some was → after ≡ slice_set before j node → range_of node ≡ None
     → ((visit : Visit) → visit_in was ≡ Some visit → node ≡ nodes.Waiting visit payload) → IsWritten j before (Ask payload) after
 ask_written j before after was node payload there written alone waits =
     alone_there j before after (Ask payload) was node refl there written alone (λ names visit e below. ap (shown_over names below) (waits visit e))
@@ -324,36 +325,36 @@ retry_written j before after was node retrier there written alone retries =
     let later = again.0 in
     let raised = again.2 in
     ap (shown_over names below) again.1
-    ∙ ap (λ i. model.Ready (name_in names i) (trees.view later.raw) later.counts.items) raised.state
-    ∙ ap (λ (t : Tree). model.Ready (name_in names visit.state) (trees.view t) later.counts.items) raised.raw
-    ∙ ap (model.Ready (name_in names visit.state) (trees.view visit.raw)) raised.counts)
+    ∙ ap (λ i. model.Ready (name_in names i) (trees.view later.raw.value) later.counts.items) raised.state
+    ∙ ap (λ (t : Rc Tree Global). model.Ready (name_in names visit.state) (trees.view t.value) later.counts.items) raised.raw
+    ∙ ap (model.Ready (name_in names visit.state) (trees.view visit.raw.value)) raised.counts)
 
 -- the same execution shows the same
 pub same_ready : (before after : Visit) → IsSame before after → IsAlike (nodes.Ready before) (nodes.Ready after)
 same_ready before after h = record {
   range = refl;
   shows = λ names below.
-      ap (λ i. model.Ready (name_in names i) (trees.view after.raw) after.counts.items) h.state
-      ∙ ap (λ (t : Tree). model.Ready (name_in names before.state) (trees.view t) after.counts.items) h.raw
-      ∙ ap (model.Ready (name_in names before.state) (trees.view before.raw)) h.counts;
+      ap (λ i. model.Ready (name_in names i) (trees.view after.raw.value) after.counts.items) h.state
+      ∙ ap (λ (t : Rc Tree Global). model.Ready (name_in names before.state) (trees.view t.value) after.counts.items) h.raw
+      ∙ ap (model.Ready (name_in names before.state) (trees.view before.raw.value)) h.counts;
 }
 
-pub same_waiting : (before after : Visit) (payload : Tree) → IsSame before after → IsAlike (nodes.Waiting before payload) (nodes.Waiting after payload)
+pub same_waiting : (before after : Visit) (payload : Rc Tree Global) → IsSame before after → IsAlike (nodes.Waiting before payload) (nodes.Waiting after payload)
 same_waiting before after payload h = record {
   range = refl;
   shows = λ names below.
-      ap (λ i. model.Waiting (name_in names i) (trees.view after.raw) after.counts.items (trees.view payload)) h.state
-      ∙ ap (λ (t : Tree). model.Waiting (name_in names before.state) (trees.view t) after.counts.items (trees.view payload)) h.raw
-      ∙ ap (λ cs. model.Waiting (name_in names before.state) (trees.view before.raw) cs (trees.view payload)) h.counts;
+      ap (λ i. model.Waiting (name_in names i) (trees.view after.raw.value) after.counts.items (trees.view payload.value)) h.state
+      ∙ ap (λ (t : Rc Tree Global). model.Waiting (name_in names before.state) (trees.view t.value) after.counts.items (trees.view payload.value)) h.raw
+      ∙ ap (λ cs. model.Waiting (name_in names before.state) (trees.view before.raw.value) cs (trees.view payload.value)) h.counts;
 }
 
 pub same_split : (before after : Visit) (children : Children) → IsSame before after → IsAlike (nodes.Split before children) (nodes.Split after children)
 same_split before after children h = record {
   range = refl;
   shows = λ names below.
-      ap (λ i. model.Split (name_in names i) (trees.view after.raw) after.counts.items below) h.state
-      ∙ ap (λ (t : Tree). model.Split (name_in names before.state) (trees.view t) after.counts.items below) h.raw
-      ∙ ap (λ cs. model.Split (name_in names before.state) (trees.view before.raw) cs below) h.counts;
+      ap (λ i. model.Split (name_in names i) (trees.view after.raw.value) after.counts.items below) h.state
+      ∙ ap (λ (t : Rc Tree Global). model.Split (name_in names before.state) (trees.view t.value) after.counts.items below) h.raw
+      ∙ ap (λ cs. model.Split (name_in names before.state) (trees.view before.raw.value) cs below) h.counts;
 }
 
 -- ---- nodes that are added

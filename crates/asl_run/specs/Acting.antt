@@ -30,15 +30,15 @@ state_at here = state_view here.state.now
 
 -- what is defined for a state's name, its settings, its raw input and its counts, of those here
 abbrev pub by_settings : {A : Type 0} → (List ℕ → Settings → Tree → List ℕ → A) → Here → A
-by_settings defined here = defined here.name.now (settings_view here.state.now.settings) (view here.visit.now.raw) here.visit.now.counts.items
+by_settings defined here = defined here.name.now (settings_view here.state.now.settings) (view here.visit.now.raw.value) here.visit.now.counts.items
 
 -- the same for the state itself
 abbrev pub by_state : {A : Type 0} → (List ℕ → State → Tree → List ℕ → A) → Here → A
-by_state defined here = defined here.name.now (state_at here) (view here.visit.now.raw) here.visit.now.counts.items
+by_state defined here = defined here.name.now (state_at here) (view here.visit.now.raw.value) here.visit.now.counts.items
 
 -- the step that comes of an error so
 abbrev pub by_trouble_at : Here → List ℕ → List ℕ → model.Trouble → model.Step
-by_trouble_at here error cause trouble = model.by_trouble here.name.now (view here.visit.now.raw) here.visit.now.counts.items error cause trouble
+by_trouble_at here error cause trouble = model.by_trouble here.name.now (view here.visit.now.raw.value) here.visit.now.counts.items error cause trouble
 
 -- the name is that of the execution's state, and its names lead on
 pub record IsAt (here : Here) : Type 0 where
@@ -105,7 +105,7 @@ takes_at here action = by_state (λ n state raw counts. model.moves_waiting n ra
 -- the execution stands in the node: what an action does there, it does for that execution
 pub record IsVisitOf (node : Node) (visit : Visit) : Type 0 where
   pub stands : visit_in node ≡ Some visit
-  pub does : (names : List (List ℕ)) (below : model.Activities) (action : model.Action) (state : State) → let shown = shown_over names below node in moves shown action state ≡ moves_as shown action (name_in names visit.state) state (view visit.raw) visit.counts.items
+  pub does : (names : List (List ℕ)) (below : model.Activities) (action : model.Action) (state : State) → let shown = shown_over names below node in moves shown action state ≡ moves_as shown action (name_in names visit.state) state (view visit.raw.value) visit.counts.items
 
 -- no execution of a state stands in the node, and no action does anything there
 pub record HasNoVisit (node : Node) : Type 0 where

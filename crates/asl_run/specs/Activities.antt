@@ -9,12 +9,12 @@ use Rattle.asl_run.specs.declared.entries.Outcome.TheVariants as outcomes
 
 -- a scope that has ended so
 abbrev pub ended_view : Outcome → model.Activity
-ended_view (outcomes.Output t) = model.Done (trees.view t)
+ended_view (outcomes.Output t) = model.Done (trees.view t.value)
 ended_view (outcomes.Failed error cause) = model.Failed (string_bytes error) (string_bytes cause)
 
 -- an execution that is about to enter its state; the states have these names by their numbers
 abbrev pub ready_view : List (List ℕ) → Visit → model.Activity
-ready_view names visit = model.Ready (name_in names visit.state) (trees.view visit.raw) visit.counts.items
+ready_view names visit = model.Ready (name_in names visit.state) (trees.view visit.raw.value) visit.counts.items
 
 -- so each of them, in order
 abbrev pub ready_children : List (List ℕ) → List Visit → model.Activities

@@ -18,9 +18,9 @@ use Rattle.asl_run.specs.declared.nodes.Node.TheVariants.{Ready, Waiting, Split,
 abbrev pub changed : List (List ℕ) → Visit → Change → model.Activity
 changed names visit (Enter entered) = ready_view names entered
 changed names visit (End outcome) = ended_view outcome
-changed names visit (Ask payload) = model.Waiting (name_in names visit.state) (trees.view visit.raw) visit.counts.items (trees.view payload)
-changed names visit (SplitInto visits) = model.Split (name_in names visit.state) (trees.view visit.raw) visit.counts.items (ready_children names visits.items)
-changed names visit (Retry retrier) = model.Ready (name_in names visit.state) (trees.view visit.raw) (model.one_higher retrier visit.counts.items)
+changed names visit (Ask payload) = model.Waiting (name_in names visit.state) (trees.view visit.raw.value) visit.counts.items (trees.view payload.value)
+changed names visit (SplitInto visits) = model.Split (name_in names visit.state) (trees.view visit.raw.value) visit.counts.items (ready_children names visits.items)
+changed names visit (Retry retrier) = model.Ready (name_in names visit.state) (trees.view visit.raw.value) (model.one_higher retrier visit.counts.items)
 
 -- the execution of a state that stands there; none where the scope has ended
 abbrev pub visit_in : Node → Option Visit

@@ -31,7 +31,7 @@ want_view wants.Answer = model.WantsAnswer
 
 -- how a scope ends
 abbrev pub outcome_view : Outcome → model.Outcome
-outcome_view (outcomes.Output t) = model.Output (trees.view t)
+outcome_view (outcomes.Output t) = model.Output (trees.view t.value)
 outcome_view (outcomes.Failed error cause) = model.FailedWith (string_bytes error) (string_bytes cause)
 
 -- the error of that name, where it is one of the six of data flow
@@ -50,9 +50,9 @@ raised_view n field error = option_map (λ e. model.Raised n (record { error = e
 
 -- an entry, with its place; none where it raises what is no error of data flow, which no run's does
 abbrev pub entry_view : Entry → List ℕ × Option model.Entry
-entry_view (entries.Enter at state input) = (at.items, Some (model.Entered (string_bytes state) (trees.view input)))
-entry_view (entries.Task at state payload) = (at.items, Some (model.Asked (string_bytes state) (trees.view payload)))
-entry_view (entries.Leave at state output) = (at.items, Some (model.Left (string_bytes state) (trees.view output)))
+entry_view (entries.Enter at state input) = (at.items, Some (model.Entered (string_bytes state) (trees.view input.value)))
+entry_view (entries.Task at state payload) = (at.items, Some (model.Asked (string_bytes state) (trees.view payload.value)))
+entry_view (entries.Leave at state output) = (at.items, Some (model.Left (string_bytes state) (trees.view output.value)))
 entry_view (entries.Raise at state error field) = (at.items, raised_view (string_bytes state) (string_bytes field) (error_named (string_bytes error)))
 entry_view (entries.TaskFailed at state error cause) = (at.items, Some (model.TaskFailed (string_bytes state) (string_bytes error) (string_bytes cause)))
 entry_view (entries.BranchFailed at state child error cause) = (at.items, Some (model.BranchFailed (string_bytes state) child (string_bytes error) (string_bytes cause)))

@@ -1,19 +1,10 @@
 -- What the answers of the code say of what is defined.
 use Rattle.std.specs.Prelude.{◌≡◌, Result, Ok, Err, IfOk}
 use Rattle.asl_model.specs.Faults as model
-use Rattle.asl_model.specs.Tree as trees_model
-use Rattle.asl_tree.specs.View.{view}
 use Rattle.asl_run.specs.Faults.{fault_view}
-use Rattle.asl_run.specs.declared.data.Data.{Data}
-use Rattle.asl_run.specs.declared.data.Data.TheVariants.{Lent, Made}
 use Rattle.asl_run.specs.declared.faults.Fault.{Fault}
 use Rattle.asl_run.specs.declared.faults.Stop.TheVariants as stops
 use Rattle.asl_run.specs.declared.faults.Stop.{Stop}
-
--- the tree
-abbrev pub data_view : Data → trees_model.Tree
-data_view (Lent t) = view t.now
-data_view (Made t) = view t
 
 -- an answer is what is defined, the value or the fault; want of memory says nothing of it
 pub record Flows {A B : Type 0} (seen : A → B) (r : Result A Stop) (defined : Result B model.Fault) : Type 0 where

@@ -1,6 +1,7 @@
 pub mod Entries
 pub mod Faults
 pub mod Troubles
+pub mod Data
 pub mod Flowing
 pub mod Working
 pub mod Driving

@@ -6,6 +6,8 @@ use Rattle.asl_model.specs.Tree.{Null}
 use Rattle.asl_tree.specs.View as trees
 use Rattle.asl_run.specs.Activities.{ended_view, ready_view}
 use Rattle.asl_run.specs.Standing.{name_in, children_of}
+use Rattle.asl_tree.specs.declared.Tree.{Tree}
+use Rattle.asl_run.specs.declared.activities.Visit.{Visit}
 use Rattle.asl_run.specs.declared.nodes.Children.{Children}
 use Rattle.asl_run.specs.declared.nodes.Node.{Node}
 use Rattle.asl_run.specs.declared.nodes.Node.TheVariants.{Ready, Waiting, Split, Ended}
@@ -15,8 +17,8 @@ use Rattle.asl_run.specs.declared.nodes.Node.TheVariants.{Ready, Waiting, Split,
 -- a node, over what its children show; the states have these names by their numbers
 abbrev pub shown_over : List (List ℕ) → model.Activities → Node → model.Activity
 shown_over names below (Ready visit) = ready_view names visit
-shown_over names below (Waiting visit payload) = model.Waiting (name_in names visit.state) (trees.view visit.raw) visit.counts.items (trees.view payload)
-shown_over names below (Split visit children) = model.Split (name_in names visit.state) (trees.view visit.raw) visit.counts.items below
+shown_over names below (Waiting visit payload) = model.Waiting (name_in names visit.state) (trees.view visit.raw.value) visit.counts.items (trees.view payload.value)
+shown_over names below (Split visit children) = model.Split (name_in names visit.state) (trees.view visit.raw.value) visit.counts.items below
 shown_over names below (Ended outcome) = ended_view outcome
 
 -- where the children of a node stand; only a Split has some
@@ -64,6 +66,14 @@ pub record IsRange (parents : ℕ → ℕ) (many i : ℕ) (children : Children) 
   pub behind : i < children.first.0
   pub within : children.first.0 + children.count ≤ many
   pub owned : (k : ℕ) → k < children.count → parents (children.first.0 + k) ≡ i
+
+-- a table of one node, about to enter the state of that number with that raw input
+pub record IsBegunWith (state : ℕ) (input : Tree) (nodes : List Node) : Type 0 where
+  pub visit : Visit
+  pub only : nodes ≡ Ready visit ∷ []
+  pub numbered : visit.state ≡ state
+  pub given : visit.raw.value ≡ input
+  pub uncounted : visit.counts.items ≡ []
 
 -- a table of at least one node, in which no node has two parents
 pub record IsTable (nodes : List Node) : Type 0 where

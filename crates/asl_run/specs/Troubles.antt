@@ -8,7 +8,7 @@ use Rattle.asl_run.specs.declared.troubles.Trouble.TheVariants.{Retries, Catches
 -- what comes of it
 abbrev pub trouble_view : Trouble → model.Trouble
 trouble_view (Retries i) = model.Retries i
-trouble_view (Catches i next input) = model.Catches i next.now (view input)
+trouble_view (Catches i next input) = model.Catches i next.now (view input.value)
 trouble_view Misfits = model.Misfits
 trouble_view Escapes = model.Escapes
 

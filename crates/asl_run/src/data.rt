@@ -1,19 +1,23 @@
-//! Trees that are lent or made on the way.
+//! Trees that are lent, shared or made on the way.
 
 ghost use Rattle.std.specs.Prelude.{◌≡◌, IfOk};
 ghost use Rattle.asl_model.specs.Tree.{NoFields, Object};
-ghost use Rattle.asl_run.specs.Flowing.{data_view};
+ghost use Rattle.asl_run.specs.Data.{data_view, datum_view};
 ghost use Rattle.asl_tree.specs.View.{view};
 
+use crate::entries::Datum;
 use asl_tree::{OutOfMemory, Tree, copy};
 use std::alloc::Global;
 use std::collections::BTreeMap;
+use std::rc::Rc;
 
 /// A tree on its way through a state.
 #[derive(Drop)]
 pub(crate) enum Data<'t> {
     /// A node of a tree that stands elsewhere.
     Lent(&'t Tree),
+    /// The whole of a datum of the run.
+    Shared(&'t Datum),
     /// A tree of its own.
     Made(Tree),
 }
@@ -32,16 +36,29 @@ impl<'t> Data<'t> {
     {
         match self {
             Data::Lent(tree) => tree,
+            Data::Shared(datum) => datum,
             Data::Made(tree) => tree,
         }
     }
 
-    /// The tree, to be kept: only one that is lent is copied.
+    /// The tree, to be kept by the run: only one that is lent is copied.
+    pub(crate) fn into_datum(self, alloc: Global) -> Result<Datum, OutOfMemory>
+        ensures { IfOk result (λ d. datum_view d ≡ data_view self.entry) }
+    {
+        match self {
+            Data::Lent(tree) => Ok(Rc::new(alloc, copy(alloc, tree)?)?),
+            Data::Shared(datum) => Ok(datum.clone()?),
+            Data::Made(tree) => Ok(Rc::new(alloc, tree)?),
+        }
+    }
+
+    /// The tree, to become a part of another one, which owns its parts: only one that was made isn't copied.
     pub(crate) fn into_tree(self, alloc: Global) -> Result<Tree, OutOfMemory>
         ensures { IfOk result (λ t. view t ≡ data_view self.entry) }
     {
         match self {
             Data::Lent(tree) => copy(alloc, tree),
+            Data::Shared(datum) => copy(alloc, datum),
             Data::Made(tree) => Ok(tree),
         }
     }

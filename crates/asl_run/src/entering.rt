@@ -7,21 +7,22 @@ ghost use Rattle.asl_model.specs.Machine as machine;
 ghost use Rattle.asl_model.specs.Run as model;
 ghost use Rattle.asl_run.specs.Acting.{Plans, by_state, names_at, state_at};
 ghost use Rattle.asl_run.specs.Activities.{ready_children};
-ghost use Rattle.asl_run.specs.Flowing.{data_view};
+ghost use Rattle.asl_run.specs.Data.{data_of, data_view};
 ghost use Rattle.asl_run.specs.Standing.{EachIsNamed};
 ghost use Rattle.asl_run.specs.Working.{work_view};
-ghost use Rattle.asl_tree.specs.View.{elements_view, view};
+ghost use Rattle.asl_tree.specs.View.{view};
 
 use crate::activities::Visit;
 use crate::changing::Change;
 use crate::data::Data;
+use crate::entries::Datum;
 use crate::flowing::at_output_path;
 use crate::leaving::{finish, leave_with};
 use crate::planning::{Here, Plan};
 use crate::troubling::raise;
 use crate::working::{Work, first_move};
 use asl_machine::Kind;
-use asl_tree::{OutOfMemory, Tree};
+use asl_tree::OutOfMemory;
 
 /// The state is entered.
 pub(crate) fn enter(here: &Here) -> Result<Plan, OutOfMemory>
@@ -34,7 +35,7 @@ pub(crate) fn enter(here: &Here) -> Result<Plan, OutOfMemory>
 
 /// What its first move comes to is done.
 fn carry_out(here: &Here, work: Work) -> Result<Plan, OutOfMemory>
-    ensures { IfOk result (λ plan. flow.first_move (state_at here.now) (view here.now.visit.now.raw) ≡ work_view work.entry → Plans here.now plan (by_state model.by_work here.now (work_view work.entry))) }
+    ensures { IfOk result (λ plan. flow.first_move (state_at here.now) (view here.now.visit.now.raw.value) ≡ work_view work.entry → Plans here.now plan (by_state model.by_work here.now (work_view work.entry))) }
 {
     match work {
         Work::Finishes(value) => finish(here, value),
@@ -53,29 +54,29 @@ fn carry_out(here: &Here, work: Work) -> Result<Plan, OutOfMemory>
 fn ask(here: &Here, payload: Data) -> Result<Plan, OutOfMemory>
     ensures { IfOk result (λ plan. Plans here.now plan (by_state model.by_work here.now (flow.Asks (data_view payload.entry)))) }
 {
-    let payload = payload.into_tree(here.alloc)?;
+    let payload = payload.into_datum(here.alloc)?;
     wait_for(here, payload)
 }
 
 /// It waits for the answer to its payload.
-fn wait_for(here: &Here, payload: Tree) -> Result<Plan, OutOfMemory>
-    ensures { IfOk result (λ plan. Plans here.now plan (by_state model.by_work here.now (flow.Asks (view payload)))) }
+fn wait_for(here: &Here, payload: Datum) -> Result<Plan, OutOfMemory>
+    ensures { IfOk result (λ plan. Plans here.now plan (by_state model.by_work here.now (flow.Asks (view payload.value)))) }
 {
     let told = here.asked(&payload);
     Plan::new(here.alloc, Change::Ask(payload)).after(told)
 }
 
 /// It starts a child for each of these inputs.
-fn split(here: &Here, inputs: Vec<Tree>) -> Result<Plan, OutOfMemory>
-    ensures { IfOk result (λ plan. flow.first_move (state_at here.now) (view here.now.visit.now.raw) ≡ flow.Splits (elements_view inputs.items) → Plans here.now plan (by_state model.by_work here.now (flow.Splits (elements_view inputs.items)))) }
+fn split(here: &Here, inputs: Vec<Datum>) -> Result<Plan, OutOfMemory>
+    ensures { IfOk result (λ plan. flow.first_move (state_at here.now) (view here.now.visit.now.raw.value) ≡ flow.Splits (data_of inputs.items) → Plans here.now plan (by_state model.by_work here.now (flow.Splits (data_of inputs.items)))) }
 {
     let children = start_children(here, inputs)?;
     Ok(Plan::new(here.alloc, Change::SplitInto(children)))
 }
 
 /// A child for each input, about to enter the start of its scope.
-fn start_children(here: &Here, inputs: Vec<Tree>) -> Result<Vec<Visit>, OutOfMemory>
-    ensures { IfOk result (λ children. EachIsNamed (names_at here.now) (model.started (machine.child_scope (kind_view here.now.state.now.kind)) (elements_view inputs.items)) → ready_children (names_at here.now) children.items ≡ model.started (machine.child_scope (kind_view here.now.state.now.kind)) (elements_view inputs.items)) }
+fn start_children(here: &Here, inputs: Vec<Datum>) -> Result<Vec<Visit>, OutOfMemory>
+    ensures { IfOk result (λ children. EachIsNamed (names_at here.now) (model.started (machine.child_scope (kind_view here.now.state.now.kind)) (data_of inputs.items)) → ready_children (names_at here.now) children.items ≡ model.started (machine.child_scope (kind_view here.now.state.now.kind)) (data_of inputs.items)) }
 {
     let mut children = Vec::with_capacity(here.alloc, inputs.len())?;
     for input in inputs {

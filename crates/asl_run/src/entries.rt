@@ -1,10 +1,15 @@
 //! What happens in a run: events at places, and the entries of its history.
 
 use asl_tree::Tree;
+use std::rc::Rc;
 
 /// Where an activity stands: the numbers of the children on the way down from the machine's own activity, whose place is
 /// empty.
 pub type Place = Vec<usize>;
+
+/// A tree that several parts of a run show and none changes: what leaves a state is what enters the next, and what the
+/// history tells is the same.
+pub type Datum = Rc<Tree>;
 
 /// The answer of a task.
 #[derive(Debug, Drop)]
@@ -34,30 +39,33 @@ pub enum Want {
 /// How a scope ends.
 #[derive(Debug, Drop)]
 pub enum Outcome {
-    Output(Tree),
+    /// With an output, which the run and its history share.
+    Output(Datum),
+    /// With an error and its cause.
     Failed { error: String, cause: String },
 }
 
-/// An entry of a run's history. All but `Ended` have the name of a state.
+/// An entry of a run's history. All but `Ended` have the name of a state. Its trees are those of the run itself, shared
+/// and not copied.
 #[derive(Debug, Drop)]
 pub enum Entry {
     /// The state is entered with its raw input.
     Enter {
         at: Place,
         state: String,
-        input: Tree,
+        input: Datum,
     },
     /// Its task is asked with a payload.
     Task {
         at: Place,
         state: String,
-        payload: Tree,
+        payload: Datum,
     },
     /// It is left with its output.
     Leave {
         at: Place,
         state: String,
-        output: Tree,
+        output: Datum,
     },
     /// A data-flow fault: its error's name, and the field where it was met.
     Raise {

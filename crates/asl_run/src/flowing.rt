@@ -1,16 +1,18 @@
 //! The data flow through a state: from its raw input to its effective input, and from its result to its output
 //! (States Language, "Input and Output Processing").
 
-ghost use Rattle.std.specs.Prelude.{◌≡◌, IsTrue, ◌↔◌, [], Some};
+ghost use Rattle.std.specs.Prelude.{◌≡◌, IsTrue, ◌↔◌, [], Some, codes};
 ghost use Rattle.asl_intrinsic.specs.View.{at_hand};
 ghost use Rattle.asl_machine.specs.Machine.{settings_view};
 ghost use Rattle.asl_model.specs.Flow as model;
 ghost use Rattle.asl_model.specs.Template.{template_value};
-ghost use Rattle.asl_run.specs.Flowing.{Flows, Finds, data_view};
+ghost use Rattle.asl_run.specs.Data.{data_view, datum_view};
+ghost use Rattle.asl_run.specs.Flowing.{Flows, Finds};
 ghost use Rattle.asl_template.specs.View as templates;
 ghost use Rattle.asl_tree.specs.View.{view};
 
 use crate::data::Data;
+use crate::entries::Datum;
 use crate::faults::{DataFlowError, Fault, Stop};
 use asl_intrinsic::Item;
 use asl_machine::Settings;
@@ -19,15 +21,16 @@ use asl_template::{Template, TemplateRefusal, eval};
 use asl_tree::{Tree, copy};
 use std::alloc::Global;
 
-/// What stands after `InputPath` and `Parameters`. Where no template makes it, it is lent by the raw input.
+/// What stands after `InputPath` and `Parameters`. Where no template makes it, it is lent by the raw input, or shared with
+/// it where it is the whole of it.
 pub(crate) fn effective_input<'t>(
     alloc: Global,
     settings: &Settings,
-    raw: &'t Tree,
+    raw: &'t Datum,
 ) -> Result<Data<'t>, Stop>
-    ensures { Flows data_view result (model.effective_input (settings_view settings.now) (view raw.now)) }
+    ensures { Flows data_view result (model.effective_input (settings_view settings.now) (view raw.now.value)) }
 {
-    let input = at_path(alloc, "InputPath", &settings.input_path, raw)?;
+    let input = at_input_path(alloc, &settings.input_path, raw)?;
     match &settings.parameters {
         Some(template) => {
             let value = by_template(alloc, "Parameters", template, input.as_tree(), None)?;
@@ -35,6 +38,20 @@ pub(crate) fn effective_input<'t>(
         }
         None => Ok(input),
     }
+}
+
+/// What `InputPath` gives of a raw input.
+fn at_input_path<'t>(
+    alloc: Global,
+    path: &Option<RefPath>,
+    raw: &'t Datum,
+) -> Result<Data<'t>, Fault>
+    ensures { Finds data_view result (model.at_path (codes "InputPath") path.now (view raw.now.value)) }
+{
+    if is_whole(path) {
+        return Ok(Data::Shared(raw));
+    }
+    at_path(alloc, "InputPath", path, raw)
 }
 
 /// What `InputPath` or `OutputPath` gives: the empty object where it is null, else what the path names.
@@ -89,14 +106,14 @@ pub(crate) fn by_template(
 }
 
 /// What `OutputPath` leaves of a tree: the empty object where it is null, else what the path names.
-pub(crate) fn at_output_path(alloc: Global, settings: &Settings, data: Data) -> Result<Tree, Stop>
-    ensures { Flows view result (model.at_output_path (settings_view settings.now) (data_view data.entry)) }
+pub(crate) fn at_output_path(alloc: Global, settings: &Settings, value: Data) -> Result<Datum, Stop>
+    ensures { Flows datum_view result (model.at_output_path (settings_view settings.now) (data_view value.entry)) }
 {
     if is_whole(&settings.output_path) {
-        return Ok(data.into_tree(alloc)?);
+        return Ok(value.into_datum(alloc)?);
     }
-    let output = at_path(alloc, "OutputPath", &settings.output_path, data.as_tree())?;
-    Ok(output.into_tree(alloc)?)
+    let output = at_path(alloc, "OutputPath", &settings.output_path, value.as_tree())?;
+    Ok(output.into_datum(alloc)?)
 }
 
 /// The output of a state with that raw input and that value as its result: `ResultSelector`, `ResultPath` and
@@ -104,10 +121,10 @@ pub(crate) fn at_output_path(alloc: Global, settings: &Settings, data: Data) -> 
 pub(crate) fn output_of(
     alloc: Global,
     settings: &Settings,
-    raw: &Tree,
+    raw: &Datum,
     value: Data,
-) -> Result<Tree, Stop>
-    ensures { Flows view result (model.output_of (settings_view settings.now) (view raw.now) (data_view value.entry)) }
+) -> Result<Datum, Stop>
+    ensures { Flows datum_view result (model.output_of (settings_view settings.now) (view raw.now.value) (data_view value.entry)) }
 {
     let selected = match &settings.result_selector {
         Some(template) => {
@@ -124,13 +141,13 @@ pub(crate) fn output_of(
 fn place_result<'t>(
     alloc: Global,
     path: &Option<RefPath>,
-    raw: &'t Tree,
+    raw: &'t Datum,
     value: Data<'t>,
 ) -> Result<Data<'t>, Stop>
-    ensures { Flows data_view result (model.result_placed path.now (view raw.now) (data_view value.entry)) }
+    ensures { Flows data_view result (model.result_placed path.now (view raw.now.value) (data_view value.entry)) }
 {
     let Some(path) = path else {
-        return Ok(Data::Lent(raw));
+        return Ok(Data::Shared(raw));
     };
     if path.segments().is_empty() {
         return Ok(value);

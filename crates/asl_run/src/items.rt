@@ -3,10 +3,12 @@
 ghost use Rattle.std.specs.Prelude.{◌≡◌, ◌<◌, ◌^◌, IfOk, option_map};
 ghost use Rattle.asl_machine.specs.Machine.{branches_view};
 ghost use Rattle.asl_model.specs.Flow as model;
+ghost use Rattle.asl_run.specs.Data.{data_of, datum_view};
 ghost use Rattle.asl_run.specs.Flowing.{Finds, Flows};
 ghost use Rattle.asl_template.specs.View as templates;
 ghost use Rattle.asl_tree.specs.View.{view, elements_view};
 
+use crate::entries::Datum;
 use crate::faults::{DataFlowError, Fault, Stop};
 use crate::flowing::{by_template, named_in};
 use asl_intrinsic::Item;
@@ -14,18 +16,19 @@ use asl_path::RefPath;
 use asl_template::Template;
 use asl_tree::{OutOfMemory, Tree, copy};
 use std::alloc::Global;
+use std::rc::Rc;
 
-/// A copy of the input for each branch.
+/// The input for each branch: all share it.
 pub(crate) fn branch_inputs(
     alloc: Global,
     branches: &[String],
-    input: &Tree,
-) -> Result<Vec<Tree>, OutOfMemory>
-    ensures { IfOk result (λ v. elements_view v.items ≡ model.branch_inputs (branches_view branches.now) (view input.now)) }
+    input: &Datum,
+) -> Result<Vec<Datum>, OutOfMemory>
+    ensures { IfOk result (λ v. data_of v.items ≡ model.branch_inputs (branches_view branches.now) (view input.now.value)) }
 {
     let mut inputs = Vec::with_capacity(alloc, branches.len())?;
     for _branch in branches {
-        inputs.push(copy(alloc, input)?)?;
+        inputs.push(input.clone()?)?;
     }
     Ok(inputs)
 }
@@ -51,8 +54,8 @@ pub(crate) fn item_inputs(
     selector: &Option<Template>,
     input: &Tree,
     items: &[Tree],
-) -> Result<Vec<Tree>, Stop>
-    ensures { Flows (λ v. elements_view v.items) result (model.item_inputs (option_map templates.view selector.now) (view input.now) 0 (elements_view items.now)) }
+) -> Result<Vec<Datum>, Stop>
+    ensures { Flows (λ v. data_of v.items) result (model.item_inputs (option_map templates.view selector.now) (view input.now) 0 (elements_view items.now)) }
 {
     let mut inputs = Vec::with_capacity(alloc, items.len())?;
     for (index, item) in items.iter().enumerate() {
@@ -68,9 +71,9 @@ fn item_input(
     input: &Tree,
     number: usize,
     item: &Tree,
-) -> Result<Tree, Stop>
+) -> Result<Datum, Stop>
     requires { number < 2 ^ 63 }
-    ensures { Flows view result (model.item_input (option_map templates.view selector.now) (view input.now) number (view item.now)) }
+    ensures { Flows datum_view result (model.item_input (option_map templates.view selector.now) (view input.now) number (view item.now)) }
 {
     match selector {
         Some(template) => {
@@ -78,8 +81,9 @@ fn item_input(
                 index: number as i64,
                 value: item,
             };
-            by_template(alloc, "ItemSelector", template, input, Some(item))
+            let value = by_template(alloc, "ItemSelector", template, input, Some(item))?;
+            Ok(Rc::new(alloc, value)?)
         }
-        None => Ok(copy(alloc, item)?),
+        None => Ok(Rc::new(alloc, copy(alloc, item)?)?),
     }
 }

@@ -5,22 +5,23 @@ ghost use Rattle.asl_model.specs.Faults as faults;
 ghost use Rattle.asl_model.specs.Run as model;
 ghost use Rattle.asl_model.specs.Tree as trees;
 ghost use Rattle.asl_run.specs.Acting.{Plans, by_settings, state_at};
-ghost use Rattle.asl_run.specs.Flowing.{Flows, data_view};
+ghost use Rattle.asl_run.specs.Data.{data_view, datum_view};
+ghost use Rattle.asl_run.specs.Flowing.{Flows};
 ghost use Rattle.asl_run.specs.Standing.{MayFollow};
 ghost use Rattle.asl_tree.specs.View.{view};
 
 use crate::changing::Change;
 use crate::data::Data;
-use crate::entries::Outcome;
+use crate::entries::{Datum, Outcome};
 use crate::faults::Stop;
 use crate::flowing::output_of;
 use crate::planning::{Here, Plan};
 use crate::troubling::raise;
-use asl_tree::{OutOfMemory, Tree};
+use asl_tree::OutOfMemory;
 
 /// The state leaves with an output, for that next state or for the end of its scope.
-fn leave(here: &Here, next: Option<&str>, output: Tree) -> Result<Plan, OutOfMemory>
-    ensures { IfOk result (λ plan. MayFollow (state_at here.now) (option_map (λ n. n.now) next.entry) → Plans here.now plan (model.leaves_for here.now.name.now (option_map (λ n. n.now) next.entry) (view output))) }
+fn leave(here: &Here, next: Option<&str>, output: Datum) -> Result<Plan, OutOfMemory>
+    ensures { IfOk result (λ plan. MayFollow (state_at here.now) (option_map (λ n. n.now) next.entry) → Plans here.now plan (model.leaves_for here.now.name.now (option_map (λ n. n.now) next.entry) (view output.value))) }
 {
     match next {
         Some(name) => leave_for(here, name, output),
@@ -29,16 +30,16 @@ fn leave(here: &Here, next: Option<&str>, output: Tree) -> Result<Plan, OutOfMem
 }
 
 /// So for that next state.
-fn leave_for(here: &Here, next: &str, output: Tree) -> Result<Plan, OutOfMemory>
-    ensures { IfOk result (λ plan. MayFollow (state_at here.now) (Some next.now) → Plans here.now plan (model.leaves_for here.now.name.now (Some next.now) (view output))) }
+fn leave_for(here: &Here, next: &str, output: Datum) -> Result<Plan, OutOfMemory>
+    ensures { IfOk result (λ plan. MayFollow (state_at here.now) (Some next.now) → Plans here.now plan (model.leaves_for here.now.name.now (Some next.now) (view output.value))) }
 {
     let told = here.left(&output);
     Plan::new(here.alloc, Change::Enter(here.ready(next, output))).after(told)
 }
 
 /// So for the end of its scope.
-fn leave_scope(here: &Here, output: Tree) -> Result<Plan, OutOfMemory>
-    ensures { IfOk result (λ plan. Plans here.now plan (model.leaves_for here.now.name.now None (view output))) }
+fn leave_scope(here: &Here, output: Datum) -> Result<Plan, OutOfMemory>
+    ensures { IfOk result (λ plan. Plans here.now plan (model.leaves_for here.now.name.now None (view output.value))) }
 {
     let entries = here.left_and_ended(&output)?;
     let ended = Outcome::Output(output);
@@ -52,9 +53,9 @@ fn leave_scope(here: &Here, output: Tree) -> Result<Plan, OutOfMemory>
 pub(crate) fn leave_with(
     here: &Here,
     next: Option<&str>,
-    output: Result<Tree, Stop>,
+    output: Result<Datum, Stop>,
 ) -> Result<Plan, OutOfMemory>
-    ensures { IfOk result (λ plan. (defined : Result trees.Tree faults.Fault) → Flows view output defined → MayFollow (state_at here.now) (option_map (λ n. n.now) next.entry) → Plans here.now plan (by_settings model.leaves_with here.now (option_map (λ n. n.now) next.entry) defined)) }
+    ensures { IfOk result (λ plan. (defined : Result trees.Tree faults.Fault) → Flows datum_view output defined → MayFollow (state_at here.now) (option_map (λ n. n.now) next.entry) → Plans here.now plan (by_settings model.leaves_with here.now (option_map (λ n. n.now) next.entry) defined)) }
 {
     match output {
         Ok(output) => leave(here, next, output),

@@ -30,7 +30,7 @@ mod working;
 
 pub use answers::{Answers, ListAnswers};
 pub use driving::{DriveRefusal, Stop, drive};
-pub use entries::{Answer, Entry, Event, Outcome, Place, Want};
+pub use entries::{Answer, Datum, Entry, Event, Outcome, Place, Want};
 pub use orders::{First, Last, Order};
 pub use running::{Run, start};
 pub use stepping::StepRefusal;

@@ -2,16 +2,17 @@
 
 ghost use Rattle.std.specs.Prelude.{◌+◌, ◌++◌, ◌<◌, ◌≡◌, ◌∷◌, ◌^◌, [], IfErr, IfOk, IfSome, List, None, length, map, Some, option_and_then, option_map, slice_get, ℕ};
 ghost use Rattle.asl_run.specs.Changing.{AreAlike, CanApply, IsApplied, IsWritten};
-ghost use Rattle.asl_run.specs.Nodes.{IsTable, child_number, in_table, number_from, number_in_range, range_of, shown_from};
+ghost use Rattle.asl_run.specs.Nodes.{IsBegunWith, IsTable, child_number, in_table, number_from, number_in_range, range_of, shown_from};
 ghost use Rattle.asl_run.specs.declared.nodes.Node as code;
 ghost use Rattle.asl_run.specs.declared.nodes.Node.TheVariants as variants;
 
 use crate::activities::Visit;
 use crate::changing::Change;
-use crate::entries::Outcome;
+use crate::entries::{Datum, Outcome};
 use asl_tree::{OutOfMemory, Tree};
-use std::alloc::Global;
+use std::alloc::{AllocFailed, Global};
 use std::marker::Model;
+use std::rc::Rc;
 
 /// The number of a node in its table.
 #[derive(Clone, Copy, Debug, PartialEq, Eq, Drop)]
@@ -30,7 +31,7 @@ pub(crate) enum Node {
     /// A state about to be entered.
     Ready(Visit),
     /// A Task whose task was asked with a payload.
-    Waiting { visit: Visit, payload: Tree },
+    Waiting { visit: Visit, payload: Datum },
     /// A Parallel or a Map with its children.
     Split { visit: Visit, children: Children },
     /// The scope has ended.
@@ -60,16 +61,21 @@ impl Model for Nodes {
 }
 
 impl Nodes {
-    /// A table with that state at the machine's own place, about to be entered. A refusal, for want of memory, gives it
-    /// back.
-    pub(crate) fn new(alloc: Global, visit: Visit) -> Result<Nodes, Visit>
-        ensures node { IfOk result (λ table. table ≡ variants.Ready visit ∷ []) }
-        ensures returned { IfErr result (λ back. back ≡ visit) }
+    /// A table with the state of that number at the machine's own place, about to be entered with that raw input. A
+    /// refusal, which is out of memory, gives the input back.
+    pub(crate) fn new(alloc: Global, state: usize, input: Tree) -> Result<Nodes, Tree>
+        ensures node { IfOk result (λ table. IsBegunWith state input table) }
+        ensures returned { IfErr result (λ back. back ≡ input) }
     {
         let Ok(mut nodes) = Vec::with_capacity(alloc, 1) else {
-            return Err(visit);
+            return Err(input);
         };
-        nodes.push_reserved(Node::Ready(visit));
+        let raw = match Rc::new(alloc, input) {
+            Ok(raw) => raw,
+            Err(AllocFailed { value }) => return Err(value),
+        };
+        let counts = Vec::new(alloc);
+        nodes.push_reserved(Node::Ready(Visit { state, raw, counts }));
         Ok(Nodes { nodes })
     }
 
@@ -158,15 +164,16 @@ fn apply(nodes: &mut Vec<Node>, number: usize, change: Change) -> Result<(), Out
     ensures changed { IfOk result (λ _. IsWritten number nodes.old.items change nodes.new.items) }
     ensures unchanged { IfErr result (λ _. AreAlike nodes.old.items nodes.new.items) }
 {
+    let alloc = *nodes.allocator();
     match change {
         Change::Enter(visit) => nodes[number] = Node::Ready(visit),
         Change::End(outcome) => nodes[number] = Node::Ended(outcome),
-        Change::Ask(payload) => nodes[number].wait(payload),
+        Change::Ask(payload) => nodes[number].wait(alloc, payload),
         Change::SplitInto(visits) => {
             let children = add(nodes, visits)?;
-            nodes[number].split(children);
+            nodes[number].split(alloc, children);
         }
-        Change::Retry(retrier) => nodes[number].retry(retrier)?,
+        Change::Retry(retrier) => nodes[number].retry(alloc, retrier)?,
     }
     Ok(())
 }

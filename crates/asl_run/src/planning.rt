@@ -11,10 +11,10 @@ ghost use Rattle.asl_tree.specs.View.{view};
 
 use crate::activities::Visit;
 use crate::changing::Change;
-use crate::entries::{Entry, Outcome, Place};
+use crate::entries::{Datum, Entry, Outcome, Place};
 use crate::faults::Fault;
 use asl_machine::{Machine, State};
-use asl_tree::{OutOfMemory, Tree, copy};
+use asl_tree::OutOfMemory;
 use std::alloc::Global;
 
 /// What a step is to do: the entries that it makes, and the change at its place.
@@ -106,28 +106,28 @@ impl<'m> Here<'m> {
 
     /// The entry that the state is entered with its raw input.
     pub(crate) fn entered(&self) -> Result<Entry, OutOfMemory>
-        ensures { IfOk result (λ entry. entry_view entry ≡ told_at self.now.at.now (model.Entered self.now.name.now (view self.now.visit.now.raw))) }
+        ensures { IfOk result (λ entry. entry_view entry ≡ told_at self.now.at.now (model.Entered self.now.name.now (view self.now.visit.now.raw.value))) }
     {
         let (at, state) = self.place_and_name()?;
-        let input = copy(self.alloc, &self.visit.raw)?;
+        let input = self.visit.raw.clone()?;
         Ok(Entry::Enter { at, state, input })
     }
 
     /// The entry that its task is asked with a payload.
-    pub(crate) fn asked(&self, payload: &Tree) -> Result<Entry, OutOfMemory>
-        ensures { IfOk result (λ entry. entry_view entry ≡ told_at self.now.at.now (model.Asked self.now.name.now (view payload.now))) }
+    pub(crate) fn asked(&self, payload: &Datum) -> Result<Entry, OutOfMemory>
+        ensures { IfOk result (λ entry. entry_view entry ≡ told_at self.now.at.now (model.Asked self.now.name.now (view payload.now.value))) }
     {
         let (at, state) = self.place_and_name()?;
-        let payload = copy(self.alloc, payload)?;
+        let payload = payload.clone()?;
         Ok(Entry::Task { at, state, payload })
     }
 
     /// The entry that it is left with an output.
-    pub(crate) fn left(&self, output: &Tree) -> Result<Entry, OutOfMemory>
-        ensures { IfOk result (λ entry. entry_view entry ≡ told_at self.now.at.now (model.Left self.now.name.now (view output.now))) }
+    pub(crate) fn left(&self, output: &Datum) -> Result<Entry, OutOfMemory>
+        ensures { IfOk result (λ entry. entry_view entry ≡ told_at self.now.at.now (model.Left self.now.name.now (view output.now.value))) }
     {
         let (at, state) = self.place_and_name()?;
-        let output = copy(self.alloc, output)?;
+        let output = output.clone()?;
         Ok(Entry::Leave { at, state, output })
     }
 
@@ -202,19 +202,19 @@ impl<'m> Here<'m> {
     }
 
     /// The entries that it is left with an output and that its scope ends with that.
-    pub(crate) fn left_and_ended(&self, output: &Tree) -> Result<Vec<Entry>, OutOfMemory>
-        ensures { IfOk result (λ entries. map entry_view entries.items ≡ map (told_at self.now.at.now) (model.Left self.now.name.now (view output.now) ∷ model.Ended (model.Output (view output.now)) ∷ [])) }
+    pub(crate) fn left_and_ended(&self, output: &Datum) -> Result<Vec<Entry>, OutOfMemory>
+        ensures { IfOk result (λ entries. map entry_view entries.items ≡ map (told_at self.now.at.now) (model.Left self.now.name.now (view output.now.value) ∷ model.Ended (model.Output (view output.now.value)) ∷ [])) }
     {
         let entries = with_first(self.ended_with(output), Vec::new(self.alloc))?;
         with_first(self.left(output), entries)
     }
 
     /// The entry that its scope ends with an output.
-    fn ended_with(&self, output: &Tree) -> Result<Entry, OutOfMemory>
-        ensures { IfOk result (λ entry. entry_view entry ≡ told_at self.now.at.now (model.Ended (model.Output (view output.now)))) }
+    fn ended_with(&self, output: &Datum) -> Result<Entry, OutOfMemory>
+        ensures { IfOk result (λ entry. entry_view entry ≡ told_at self.now.at.now (model.Ended (model.Output (view output.now.value)))) }
     {
         let at = self.place()?;
-        let outcome = Outcome::Output(copy(self.alloc, output)?);
+        let outcome = Outcome::Output(output.clone()?);
         Ok(Entry::Ended { at, outcome })
     }
 
@@ -238,8 +238,8 @@ impl<'m> Here<'m> {
 
     /// The execution of the state of that name that is about to be entered with that raw input. It is found by its number; a name that is no
     /// state's counts as that of the state 0.
-    pub(crate) fn ready(&self, name: &str, raw: Tree) -> Visit
-        ensures { ready_view (names_at self.now) result ≡ model.Ready (name_in (names_at self.now) (number_in (names_at self.now) name.now)) (view raw) [] }
+    pub(crate) fn ready(&self, name: &str, raw: Datum) -> Visit
+        ensures { ready_view (names_at self.now) result ≡ model.Ready (name_in (names_at self.now) (number_in (names_at self.now) name.now)) (view raw.value) [] }
     {
         Visit {
             state: self.machine.state_named(name).unwrap_or(0),

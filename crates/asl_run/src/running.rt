@@ -14,7 +14,6 @@ ghost use Rattle.asl_run.specs.Running.{IsRunOf, run_view};
 ghost use Rattle.asl_run.specs.Standing.{name_in};
 ghost use Rattle.asl_tree.specs.View.{view};
 
-use crate::activities::Visit;
 use crate::enabling::add_places;
 use crate::entries::{Answer, Entry, Event, Outcome, Place, Want};
 use crate::nodes::Node;
@@ -53,24 +52,13 @@ pub fn start<'m>(
     ensures starts { IfOk result (λ run. (m : Scope) → Shows machine.now m → run_view run ≡ model.start m (view input)) }
     ensures returned { IfErr result (λ refusal. refusal.1 ≡ input) }
 {
-    let visit = Visit {
-        state: first_state(machine),
-        raw: input,
-        counts: Vec::new(alloc),
-    };
-    match Standing::new(alloc, visit) {
+    match Standing::new(alloc, first_state(machine), input) {
         Ok(standing) => Ok(Run {
             alloc,
             machine,
             standing,
         }),
-        Err(
-            Visit {
-                state: _,
-                raw,
-                counts: _,
-            },
-        ) => Err((OutOfMemory, raw)),
+        Err(input) => Err((OutOfMemory, input)),
     }
 }
 

@@ -4,16 +4,15 @@ ghost use Rattle.std.specs.Vec.{vec_capacity};
 ghost use Rattle.std.specs.Prelude.{◌+◌, ◌<◌, ◌≤◌, ◌≡◌, ◌∷◌, ◌^◌, [], IfErr, IfOk, IfSome, List, length, slice_get, Some, true, false, ℕ};
 ghost use Rattle.asl_run.specs.Changing.{AreAlike, CanApply, IsApplied};
 ghost use Rattle.asl_run.specs.Counting.{CanPass, HasParent, IsBegun, IsBehindRunning, IsFirstRunning, IsFurther, IsGoing, IsOpenAt, IsPassed, is_joinable_so, of_new, open_count, own_count_of};
-ghost use Rattle.asl_run.specs.Nodes.{HasRange, number_from, shown_at, shown_from};
+ghost use Rattle.asl_run.specs.Nodes.{HasRange, IsBegunWith, number_from, shown_at, shown_from};
 ghost use Rattle.asl_run.specs.declared.nodes.Node as code;
 ghost use Rattle.asl_run.specs.declared.nodes.Node.TheVariants as variants;
 
-use crate::activities::Visit;
 use crate::changing::Change;
 use crate::enabling::{count_places, has_ended, has_failed};
 use crate::entries::Place;
 use crate::nodes::{Children, Node, NodeNumber, Nodes};
-use asl_tree::OutOfMemory;
+use asl_tree::{OutOfMemory, Tree};
 use std::alloc::Global;
 use std::marker::Model;
 
@@ -75,16 +74,17 @@ impl Model for Standing {
 }
 
 impl Standing {
-    /// That state at the machine's own place, about to be entered. A refusal, for want of memory, gives it back.
-    pub(crate) fn new(alloc: Global, visit: Visit) -> Result<Standing, Visit>
-        ensures node { IfOk result (λ standing. standing ≡ variants.Ready visit ∷ []) }
-        ensures returned { IfErr result (λ back. back ≡ visit) }
+    /// The state of that number at the machine's own place, about to be entered with that raw input. A refusal, which
+    /// is out of memory, gives the input back.
+    pub(crate) fn new(alloc: Global, state: usize, input: Tree) -> Result<Standing, Tree>
+        ensures node { IfOk result (λ standing. IsBegunWith state input standing) }
+        ensures returned { IfErr result (λ back. back ≡ input) }
     {
         let Ok(mut progress) = Vec::with_capacity(alloc, 1) else {
-            return Err(visit);
+            return Err(input);
         };
         progress.push_reserved(Progress::of_new(0));
-        let nodes = Nodes::new(alloc, visit)?;
+        let nodes = Nodes::new(alloc, state, input)?;
         Ok(Standing {
             nodes,
             progress,

@@ -1,17 +1,20 @@
 //! What comes of an error in a state (States Language, "Retrying after error", "Fallback States").
 
-ghost use Rattle.std.specs.Prelude.{◌≡◌, ◌<◌, ◌+◌, ◌^◌, ℕ, Ok, IfOk, IfErr, IfSome, map, string_bytes, option_map};
+ghost use Rattle.std.specs.Prelude.{◌≡◌, ◌<◌, ◌+◌, ◌^◌, ℕ, Ok, IfOk, IfErr, IfSome, Some, map, string_bytes, option_map};
 ghost use Rattle.asl_machine.specs.Machine.{catcher_view, retrier_view, settings_view};
 ghost use Rattle.asl_model.specs.Run as model;
+ghost use Rattle.asl_run.specs.Data.{datum_view};
 ghost use Rattle.asl_run.specs.Troubles.{CanRise, Reaches, trouble_view};
 ghost use Rattle.asl_run.specs.declared.troubles.Trouble.TheVariants.{Retries};
 ghost use Rattle.asl_tree.specs.View.{view};
 
+use crate::entries::Datum;
 use asl_machine::{Catcher, Retrier, Settings};
-use asl_path::{PlaceRefusal, place};
+use asl_path::{PlaceRefusal, RefPath, place};
 use asl_tree::{OutOfMemory, Tree, copy};
 use std::alloc::Global;
 use std::collections::BTreeMap;
+use std::rc::Rc;
 
 /// What comes of an error in a state.
 #[derive(Drop)]
@@ -22,7 +25,7 @@ pub(crate) enum Trouble<'m> {
     Catches {
         catcher: usize,
         next: &'m str,
-        input: Tree,
+        input: Datum,
     },
     /// A catcher takes the error, and its output can't be placed.
     Misfits,
@@ -35,13 +38,13 @@ pub(crate) enum Trouble<'m> {
 pub(crate) fn trouble_of<'m>(
     alloc: Global,
     settings: &'m Settings,
-    raw: &Tree,
+    raw: &Datum,
     counts: &[u64],
     error: &str,
     cause: &str,
 ) -> Result<Trouble<'m>, OutOfMemory>
     ensures rises { (i : ℕ) → result ≡ Ok (Retries i) → CanRise counts.now i }
-    ensures exact { IfOk result (λ t. trouble_view t ≡ model.trouble_of (settings_view settings.now) (view raw.now) counts.now error.now cause.now) }
+    ensures exact { IfOk result (λ t. trouble_view t ≡ model.trouble_of (settings_view settings.now) (view raw.now.value) counts.now error.now cause.now) }
 {
     if let Some(retrier) = retrying(&settings.retriers, counts, error) {
         return Ok(Trouble::Retries(retrier));
@@ -109,11 +112,11 @@ fn caught<'m>(
     alloc: Global,
     number: usize,
     catcher: &'m Catcher,
-    raw: &Tree,
+    raw: &Datum,
     error: &str,
     cause: &str,
 ) -> Result<Trouble<'m>, OutOfMemory>
-    ensures { IfOk result (λ t. trouble_view t ≡ model.caught_as number (string_bytes catcher.now.next) (model.caught_input (catcher_view catcher.now) (view raw.now) error.now cause.now)) }
+    ensures { IfOk result (λ t. trouble_view t ≡ model.caught_as number (string_bytes catcher.now.next) (model.caught_input (catcher_view catcher.now) (view raw.now.value) error.now cause.now)) }
 {
     match caught_input(alloc, catcher, raw, error, cause)? {
         Some(input) => Ok(Trouble::Catches {
@@ -125,20 +128,37 @@ fn caught<'m>(
     }
 }
 
-/// What the catcher hands to its next state, where the error output can be placed. Only where it is placed deeper than
-/// at `$`, or not at all, the raw input is copied.
+/// What the catcher hands to its next state, where the error output can be placed. Where it isn't placed at all, that is
+/// the raw input itself.
 fn caught_input(
     alloc: Global,
     catcher: &Catcher,
+    raw: &Datum,
+    error: &str,
+    cause: &str,
+) -> Result<Option<Datum>, OutOfMemory>
+    ensures { IfOk result (λ d. option_map datum_view d ≡ model.caught_input (catcher_view catcher.now) (view raw.now.value) error.now cause.now) }
+{
+    let Some(path) = &catcher.result_path else {
+        return Ok(Some(raw.clone()?));
+    };
+    match place_error(alloc, path, raw, error, cause)? {
+        Some(input) => Ok(Some(Rc::new(alloc, input)?)),
+        None => Ok(None),
+    }
+}
+
+/// The error output placed in the raw input, where it can be placed. Only where it is placed deeper than at `$` the raw
+/// input is copied.
+fn place_error(
+    alloc: Global,
+    path: &RefPath,
     raw: &Tree,
     error: &str,
     cause: &str,
 ) -> Result<Option<Tree>, OutOfMemory>
-    ensures { IfOk result (λ t. option_map view t ≡ model.caught_input (catcher_view catcher.now) (view raw.now) error.now cause.now) }
+    ensures { IfOk result (λ t. option_map view t ≡ model.error_placed (Some path.now) (view raw.now) error.now cause.now) }
 {
-    let Some(path) = &catcher.result_path else {
-        return Ok(Some(copy(alloc, raw)?));
-    };
     let output = error_output(alloc, error, cause)?;
     if path.segments().is_empty() {
         return Ok(Some(output));

@@ -9,10 +9,11 @@ ghost use Rattle.asl_run.specs.Troubles.{CanRise};
 ghost use Rattle.asl_tree.specs.View.{view};
 
 use crate::changing::Change;
+use crate::entries::Datum;
 use crate::faults::{DataFlowError, Fault};
 use crate::planning::{Here, Plan};
 use crate::troubles::{Trouble, trouble_of};
-use asl_tree::{OutOfMemory, Tree};
+use asl_tree::OutOfMemory;
 
 /// The state is in trouble with an error and a cause.
 pub(crate) fn in_trouble(here: &Here, error: &str, cause: &str) -> Result<Plan, OutOfMemory>
@@ -48,8 +49,8 @@ fn retry(here: &Here, retrier: usize) -> Result<Plan, OutOfMemory>
 }
 
 /// The catcher of that number hands this input to that state.
-fn hand_on(here: &Here, catcher: usize, next: &str, input: Tree) -> Result<Plan, OutOfMemory>
-    ensures { IfOk result (λ plan. MayFollow (state_at here.now) (Some next.now) → (error cause : List ℕ) → Plans here.now plan (by_trouble_at here.now error cause (model.Catches catcher next.now (view input)))) }
+fn hand_on(here: &Here, catcher: usize, next: &str, input: Datum) -> Result<Plan, OutOfMemory>
+    ensures { IfOk result (λ plan. MayFollow (state_at here.now) (Some next.now) → (error cause : List ℕ) → Plans here.now plan (by_trouble_at here.now error cause (model.Catches catcher next.now (view input.value)))) }
 {
     let told = here.caught(catcher, next);
     Plan::new(here.alloc, Change::Enter(here.ready(next, input))).after(told)

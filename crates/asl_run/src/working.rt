@@ -12,6 +12,7 @@ ghost use Rattle.asl_tree.specs.View.{view};
 use crate::choosing::choose;
 use crate::data::Data;
 use crate::delays::find_delay;
+use crate::entries::Datum;
 use crate::faults::{Fault, Stop};
 use crate::flowing::effective_input;
 use crate::items::{branch_inputs, find_items, item_inputs};
@@ -40,7 +41,7 @@ pub(crate) enum Work<'m> {
     /// It asks its task, with a payload.
     Asks(Data<'m>),
     /// It starts a child for each of these inputs.
-    Splits(Vec<Tree>),
+    Splits(Vec<Datum>),
     /// A data-flow fault.
     Raises(Fault),
 }
@@ -49,9 +50,9 @@ pub(crate) enum Work<'m> {
 pub(crate) fn first_move<'m>(
     alloc: Global,
     state: &'m State,
-    raw: &'m Tree,
+    raw: &'m Datum,
 ) -> Result<Work<'m>, OutOfMemory>
-    ensures { IfOk result (λ w. work_view w ≡ model.first_move (state_view state.now) (view raw.now)) }
+    ensures { IfOk result (λ w. work_view w ≡ model.first_move (state_view state.now) (view raw.now.value)) }
 {
     match work_of(alloc, state, raw) {
         Ok(work) => Ok(work),
@@ -61,8 +62,8 @@ pub(crate) fn first_move<'m>(
 }
 
 /// The same by the state's type.
-fn work_of<'m>(alloc: Global, state: &'m State, raw: &'m Tree) -> Result<Work<'m>, Stop>
-    ensures { Works result (model.work_of (kind_view state.now.kind) (settings_view state.now.settings) (view raw.now)) }
+fn work_of<'m>(alloc: Global, state: &'m State, raw: &'m Datum) -> Result<Work<'m>, Stop>
+    ensures { Works result (model.work_of (kind_view state.now.kind) (settings_view state.now.settings) (view raw.now.value)) }
 {
     let settings = &state.settings;
     match &state.kind {
@@ -89,9 +90,9 @@ fn pass<'m>(
     alloc: Global,
     settings: &Settings,
     value: &'m Option<Tree>,
-    raw: &'m Tree,
+    raw: &'m Datum,
 ) -> Result<Work<'m>, Stop>
-    ensures { Works result (model.work_of (machine.Pass (option_map view value.now)) (settings_view settings.now) (view raw.now)) }
+    ensures { Works result (model.work_of (machine.Pass (option_map view value.now)) (settings_view settings.now) (view raw.now.value)) }
 {
     let input = effective_input(alloc, settings, raw)?;
     match value {
@@ -106,9 +107,9 @@ fn choice<'m>(
     settings: &Settings,
     rules: &'m [Rule],
     default: &'m Option<String>,
-    raw: &'m Tree,
+    raw: &'m Datum,
 ) -> Result<Work<'m>, Stop>
-    ensures { Works result (model.work_of (machine.Choice (map rule_view rules.now) (option_map string_bytes default.now)) (settings_view settings.now) (view raw.now)) }
+    ensures { Works result (model.work_of (machine.Choice (map rule_view rules.now) (option_map string_bytes default.now)) (settings_view settings.now) (view raw.now.value)) }
 {
     let input = effective_input(alloc, settings, raw)?;
     let next = choose(rules, default, input.as_tree())?;
@@ -123,9 +124,9 @@ fn wait<'m>(
     alloc: Global,
     settings: &'m Settings,
     delay: &Delay,
-    raw: &'m Tree,
+    raw: &'m Datum,
 ) -> Result<Work<'m>, Stop>
-    ensures { Works result (model.work_of (machine.Wait (delay_view delay.now)) (settings_view settings.now) (view raw.now)) }
+    ensures { Works result (model.work_of (machine.Wait (delay_view delay.now)) (settings_view settings.now) (view raw.now.value)) }
 {
     let input = effective_input(alloc, settings, raw)?;
     find_delay(delay, input.as_tree())?;
@@ -140,12 +141,13 @@ fn parallel<'m>(
     alloc: Global,
     settings: &Settings,
     branches: &[String],
-    raw: &Tree,
+    raw: &Datum,
 ) -> Result<Work<'m>, Stop>
-    ensures { Works result (model.work_of (machine.Parallel (branches_view branches.now)) (settings_view settings.now) (view raw.now)) }
+    ensures { Works result (model.work_of (machine.Parallel (branches_view branches.now)) (settings_view settings.now) (view raw.now.value)) }
 {
     let input = effective_input(alloc, settings, raw)?;
-    Ok(Work::Splits(branch_inputs(alloc, branches, input.as_tree())?))
+    let shared = input.into_datum(alloc)?;
+    Ok(Work::Splits(branch_inputs(alloc, branches, &shared)?))
 }
 
 /// A Map splits into a child for each of its items.
@@ -154,9 +156,9 @@ fn map<'m>(
     settings: &Settings,
     items_path: &RefPath,
     item_selector: &Option<Template>,
-    raw: &Tree,
+    raw: &Datum,
 ) -> Result<Work<'m>, Stop>
-    ensures { (processor : machine.Scope) → Works result (model.work_of (machine.Map items_path.now (option_map templates.view item_selector.now) processor) (settings_view settings.now) (view raw.now)) }
+    ensures { (processor : machine.Scope) → Works result (model.work_of (machine.Map items_path.now (option_map templates.view item_selector.now) processor) (settings_view settings.now) (view raw.now.value)) }
 {
     let input = effective_input(alloc, settings, raw)?;
     let items = find_items(items_path, input.as_tree())?;

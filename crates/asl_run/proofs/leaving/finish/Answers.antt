@@ -1,5 +1,5 @@
 use Rattle.std.proofs.Common.{Bor, List, ℕ, option_map}
-use Rattle.asl_run.specs.Flowing.{data_view}
+use Rattle.asl_run.specs.Data.{data_view}
 use Rattle.asl_run.proofs.Planned.{finished_so}
 use Rattle.asl_run.proofs.leaving.finish.Goals as goal
 

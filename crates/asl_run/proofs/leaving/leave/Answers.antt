@@ -9,4 +9,4 @@ returns-in-Some c = rw c.in-Some.is c.leave_for.ensures
 
 pub returns-in-None : goal.returns-in-None
 returns-in-None c =
-    rw c.in-None.is (with_premise c.args.here.now c.leave_scope.result (Unit {0}) (model.leaves_for c.args.here.now.name.now None (view c.args.output)) c.leave_scope.ensures)
+    rw c.in-None.is (with_premise c.args.here.now c.leave_scope.result (Unit {0}) (model.leaves_for c.args.here.now.name.now None (view c.args.output.value)) c.leave_scope.ensures)

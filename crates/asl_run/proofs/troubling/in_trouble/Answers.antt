@@ -20,7 +20,7 @@ returns-in-Retries c =
 pub returns-in-Catches : goal.returns-in-Catches
 returns-in-Catches c =
     let caught = c.in-Catches in
-    caught_so c.args.here.now c.hand_on.result c.args.error.now c.args.cause.now c.deref.result.now c.in_ok-retrier.field-0 caught.catcher caught.next.now (view caught.input) (ap trouble_view caught.is) c.deref.ensures.value c.in_ok-retrier.ensures.exact c.hand_on.ensures
+    caught_so c.args.here.now c.hand_on.result c.args.error.now c.args.cause.now c.deref.result.now c.in_ok-retrier.field-0 caught.catcher caught.next.now (view caught.input.value) (ap trouble_view caught.is) c.deref.ensures.value c.in_ok-retrier.ensures.exact c.hand_on.ensures
 
 pub returns-in-Misfits : goal.returns-in-Misfits
 returns-in-Misfits c =

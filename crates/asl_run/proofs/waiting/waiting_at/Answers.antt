@@ -28,7 +28,7 @@ returns-in_ok-name-in-Waiting-clause-found c =
     let node = c.node.result.now in
     let nodes = c.args.nodes.now in
     task_waits names c.args.place.now (shown_at names nodes 0) (children_of (in_table (range_of node) (shown_from names 0 nodes))) node c.in-Waiting.visit c.in-Waiting.payload _
-    (node_stands names nodes c.number_at.ensures.table c.args.place.now c.number_at.result c.in_ok-number.number node c.number_at.ensures.number c.in_ok-number.was c.node.ensures.node) c.in-Waiting.is refl (sym c.name.ensures.name ∙ ap (option_map (λ n. n.now)) c.in_ok-name-in-Waiting.was) refl
+    (node_stands names nodes c.number_at.ensures.table c.args.place.now c.number_at.result c.in_ok-number.number node c.number_at.ensures.number c.in_ok-number.was c.node.ensures.node) c.in-Waiting.is refl (sym c.name.ensures.name ∙ ap (option_map (λ n. n.now)) c.in_ok-name-in-Waiting.was) c.deref.ensures
 
 pub returns-in-Ready-clause-none : goal.returns-in-Ready-clause-none
 returns-in-Ready-clause-none c = λ m shows h.

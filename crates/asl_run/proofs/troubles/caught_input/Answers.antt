@@ -1,8 +1,0 @@
-use Rattle.asl_tree.specs.View.{view}
-use Rattle.asl_run.proofs.Misfits.{nothing_handed_on}
-use Rattle.asl_run.proofs.troubles.caught_input.Goals as goal
-
-pub returns-in-Err-CannotPlace-default-default : goal.returns-in-Err-CannotPlace-default-default
-returns-in-Err-CannotPlace-default-default c =
-    let refused = c.in-Err-CannotPlace-default-default in
-    nothing_handed_on c.args.catcher.now.result_path c.in-Some.path (view c.in_ok-output.output) (view c.in_ok-copy-2.field-0) (view c.args.raw.now) c.args.error.now c.args.cause.now c.in-Some.is c.in_ok-output.ensures c.in_ok-copy-2.ensures (refused.ensures.no_placing.0 refused.field-0-0-is)
