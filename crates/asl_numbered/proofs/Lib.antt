@@ -7,6 +7,7 @@ pub mod Looking
 pub mod Marking
 pub mod Moving
 pub mod Parts
+pub mod Plain
 pub mod Readings
 pub mod Remembered
 pub mod Sameness

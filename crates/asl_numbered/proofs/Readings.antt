@@ -1,6 +1,6 @@
 -- Reading shapes into a table: references, levels, and the parts of levels one after another.
 use Rattle.std.proofs.Common.{◌≡◌, ◌<◌, ◌≤◌, ℕ, Bool, false, take, drop, Vec, zero, suc, pos, negsuc, List, [], ◌∷◌, ◌++◌, length, map, codes, Option, Some, None, Result, Ok, Err, Bor, option_map, slice_get, String, Global, string_bytes, string_cmp, refl, sym, ap, ◌∙◌, subst, arith}
-use Rattle.std.specs.Prelude.{option_to_list, IfOk, IfErr}
+use Rattle.std.specs.Prelude.{IfOk, IfErr}
 use Rattle.std.specs.BTreeMap.{BTreeMap, is_at, insert_entry}
 use Rattle.std.specs.List.{Contains}
 use Rattle.std.specs.List.Sorted.{IsStrictlySortedBy}
@@ -26,12 +26,12 @@ use Rattle.asl_numbered.specs.declared.node.Node.TheVariants.{List as Elements, 
 use Rattle.asl_numbered.specs.declared.node.NodeField.{NodeField}
 use Rattle.asl_numbered.specs.declared.NumberedRefusal.{NumberedRefusal}
 use Rattle.asl_numbered.specs.declared.NumberedRefusal.TheVariants as refusal
-use Rattle.asl_numbered.specs.Expansion.{shape_at, shapes_at, fields_at, shape_over, expansions, numbers_in, AreBelow, RefersBelow, IsNumberOf, AreNumbersOf, AreFieldsOf, Keeps}
-use Rattle.asl_numbered.specs.Reading.{AreGiven, IsRead, IsReadOver, IsReadRest, AreRead, AreFieldsRead, SaysOfOne, TellsOneOf}
+use Rattle.asl_numbered.specs.Expansion.{shape_at, shapes_at, fields_at, shape_over, expansions, AreBelow, RefersBelow, IsNumberOf, AreNumbersOf, AreFieldsOf, Keeps}
+use Rattle.asl_numbered.specs.Reading.{AreGiven, IsRead, IsReadOver, IsReadRest, AreRead, AreFieldsRead, TellsOneOf}
 use Rattle.asl_numbered.specs.Refusal.{numbered}
-use Rattle.asl_numbered.specs.References.{reference_among, reference_in, element_at, meant_by, referred, numbers_given, shapes_given, SpellsWith, by_reference, by_level, SpellsOver, with_none_inside, with_elements, with_properties, SpellEach, no_element, and_element, SpellsRest, no_rest, some_rest, SpellFields, no_field, and_field, inside, each_of, values_of, StandsIn, is_itself, stands_inside, HasFault, HasWrongNumber, SaysOf, TellsOf}
+use Rattle.asl_numbered.specs.References.{reference_among, reference_in, meant_by, referred, numbers_given, shapes_given, SpellsWith, by_reference, by_level, SpellsOver, with_none_inside, with_elements, with_properties, SpellEach, no_element, and_element, SpellsRest, no_rest, some_rest, SpellFields, no_field, and_field, inside, each_of, values_of, is_itself, stands_inside, TellsOf}
 use Rattle.asl_numbered.proofs.Appending.{names, appended}
-use Rattle.asl_numbered.proofs.Expansions.{as_many, below-append, below-wider, keeps_longer, kept_shape, shapes_at_stay, fields_at_stay}
+use Rattle.asl_numbered.proofs.Expansions.{as_many, below-append, below-wider, keeps_longer, kept_shape}
 use Rattle.asl_numbered.proofs.Growing.{numbers_kept, fields_kept, numbers_push}
 
 -- ---- numbers that are given

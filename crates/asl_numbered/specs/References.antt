@@ -1,5 +1,5 @@
 -- Spellings of shapes in which `{"shape": n}` stands for the n-th of given shapes, counted from 0.
-use Rattle.std.specs.Prelude.{◌≡◌, ◌<◌, ℕ, ℤ, pos, negsuc, List, [], ◌∷◌, ◌++◌, length, map, Bool, false, if◌then◌else◌, Option, Some, None, option_map, option_to_list, slice_get, bytes_eq, codes, IfSome}
+use Rattle.std.specs.Prelude.{◌≡◌, ℕ, ℤ, pos, negsuc, List, [], ◌∷◌, ◌++◌, map, Bool, false, if◌then◌else◌, Option, Some, None, option_map, option_to_list, slice_get, bytes_eq, codes}
 use Rattle.std.specs.Borrow.{Bor}
 use Rattle.std.specs.List.{Contains}
 use Rattle.asl_model.specs.Shape.{Shape, Any, ArrayShape, ObjectShape, Shapes, NoShapes, AndShape, FieldShapes, NoFieldShapes, AndFieldShape}
@@ -7,7 +7,7 @@ use Rattle.asl_model.specs.ShapeSpelling.{ShapeFault, with_all_needed, shape_fau
 use Rattle.asl_model.specs.Tree.{Tree, Null, Boolean, Integer, Text, Array, Object, Trees, NoTrees, AndTree, Fields, NoFields, AndField}
 use Rattle.asl_shape.specs.Level.{Level, Plain, ListLevel, ObjectLevel, SpelledOver, level_faults}
 use Rattle.asl_shape.specs.Refusal.{Tells, fault_named}
-use Rattle.asl_numbered.specs.Expansion.{shape_at, AreBelow}
+use Rattle.asl_numbered.specs.Expansion.{shape_at}
 use Rattle.asl_numbered.specs.declared.NumberedRefusal.{NumberedRefusal}
 use Rattle.asl_numbered.specs.declared.NumberedRefusal.TheVariants as refusal
 

@@ -1,22 +1,32 @@
 // Shapes under numbers.
-ghost use Rattle.std.specs.Prelude.{◌≡◌, ◌<◌, ◌↔◌, ℕ, List, [], length, IsTrue, IsSome, IfSome, IfOk, slice_get};
+ghost use Rattle.std.specs.Prelude.{◌≡◌, ◌<◌, ◌↔◌, ℕ, List, [], length, IsTrue, IsSome, IfSome, IfOk, IfErr, Some, None, slice_get};
 ghost use Rattle.std.specs.Option.{option_copied};
 ghost use Rattle.asl_model.specs.Shape as model;
 ghost use Rattle.asl_model.specs.ShapeOrder as order;
+ghost use Rattle.asl_model.specs.ShapeSpelling.{SpellsShape};
+ghost use Rattle.asl_model.specs.Tree as json;
+ghost use Rattle.asl_model.specs.Json.{tree_of};
 ghost use Rattle.asl_shape.specs.View.{view};
-ghost use Rattle.asl_numbered.specs.Expansion.{expansions, shape_at, shape_over, RefersBelow, IsNumberOf, Keeps};
+ghost use Rattle.asl_shape.specs.Spelled as trees;
+ghost use Rattle.asl_tree.specs.View.{view as tree_view};
+ghost use Rattle.serde_json.specs.View.{view as value_view};
+ghost use Rattle.asl_numbered.specs.Expansion.{expansions, shape_at, shape_over, AreBelow, RefersBelow, IsNumberOf, Keeps};
+ghost use Rattle.asl_numbered.specs.References.{shapes_given, SpellsWith, TellsOf, TellsFault};
 
+use crate::NumberedRefusal;
 use crate::adding::add;
 use crate::comparing::{Compared, compare};
 use crate::expanding::expand;
 use crate::joining::{Joined, join};
 use crate::node::Node;
 use crate::pair::Pair;
+use crate::reading::read;
 use crate::table::Table;
 use asl_model::shape_laws::{join_is_above_both, sub_means_inside};
 use asl_shape::Shape;
-use asl_tree::OutOfMemory;
+use asl_tree::{OutOfMemory, Tree};
 use indexmap::IndexMap;
+use serde_json::Value;
 use std::alloc::Global;
 use std::marker::Model;
 
@@ -180,5 +190,86 @@ impl Shapes {
         } else {
             Ok(None)
         }
+    }
+
+    /// The number of the shape that the tree spells, as `asl_shape` reads it.
+    ///
+    /// Where numbers are given, an object whose only field is `shape` stands for a shape, wherever a spelling may have
+    /// one: `{"shape": n}` for that of the number at place `n`, counted from 0. It is refused as `BadNumber` where `n` is
+    /// no whole number, is negative, or isn't below the count. Where none are given, such an object is what the shape
+    /// reader says of it.
+    ///
+    /// Where several refusals stand in a tree, the answer is one of them. A refusal may leave further entries in the table.
+    pub fn read_with(
+        &mut self,
+        tree: &Tree,
+        given: Option<&[usize]>,
+    ) -> Result<usize, NumberedRefusal>
+        requires given { IfSome given (λ ns. AreBelow (length self.old) ns.now) }
+        ensures number { IfOk result
+            (λ n. IsNumberOf (expansions self.new) (shape_at (expansions self.new) n) n) }
+        ensures spelled { IfOk result
+            (λ n. SpellsWith (shapes_given (expansions self.old) given.entry) (tree_view tree.now)
+            (shape_at (expansions self.new) n)) }
+        ensures spelled_alone { given.entry ≡ None → IfOk result
+            (λ n. SpellsShape (tree_view tree.now) (shape_at (expansions self.new) n)) }
+        ensures refused { IfErr result
+            (TellsOf (shapes_given (expansions self.old) given.entry) (tree_view tree.now)) }
+        ensures refused_alone { given.entry ≡ None → IfErr result (TellsFault (tree_view tree.now)) }
+        ensures keeps { Keeps (expansions self.old) (expansions self.new) }
+    {
+        let value = asl_tree::to_value(self.alloc, tree)?;
+        self.read_spelled(&value, given)
+    }
+
+    /// The number of the shape that the tree spells that a JSON value is, as [`Shapes::read_with`] tells it, with no tree
+    /// made of it.
+    ///
+    /// Of a value with a number that isn't whole, which is no tree, the answer says no more than that it is a number.
+    pub fn read_value_with(
+        &mut self,
+        value: &Value,
+        given: Option<&[usize]>,
+    ) -> Result<usize, NumberedRefusal>
+        requires given { IfSome given (λ ns. AreBelow (length self.old) ns.now) }
+        ensures number { IfOk result
+            (λ n. IsNumberOf (expansions self.new) (shape_at (expansions self.new) n) n) }
+        ensures spelled { IfOk result
+            (λ n. (t : json.Tree) → tree_of (value_view value.now) ≡ Some t
+            → SpellsWith (shapes_given (expansions self.old) given.entry) t
+            (shape_at (expansions self.new) n)) }
+        ensures spelled_alone { given.entry ≡ None → IfOk result
+            (λ n. (t : json.Tree) → tree_of (value_view value.now) ≡ Some t
+            → SpellsShape t (shape_at (expansions self.new) n)) }
+        ensures refused { IfErr result
+            (λ e. (t : json.Tree) → tree_of (value_view value.now) ≡ Some t
+            → TellsOf (shapes_given (expansions self.old) given.entry) t e) }
+        ensures refused_alone { given.entry ≡ None → IfErr result
+            (λ e. (t : json.Tree) → tree_of (value_view value.now) ≡ Some t
+            → TellsFault t e) }
+        ensures keeps { Keeps (expansions self.old) (expansions self.new) }
+    {
+        self.read_spelled(value, given)
+    }
+
+    /// The same of the tree by which the value is read.
+    fn read_spelled(
+        &mut self,
+        value: &Value,
+        given: Option<&[usize]>,
+    ) -> Result<usize, NumberedRefusal>
+        requires given { IfSome given (λ ns. AreBelow (length self.old) ns.now) }
+        ensures number { IfOk result
+            (λ n. IsNumberOf (expansions self.new) (shape_at (expansions self.new) n) n) }
+        ensures spelled { IfOk result
+            (λ n. SpellsWith (shapes_given (expansions self.old) given.entry)
+            (trees.view value.now) (shape_at (expansions self.new) n)) }
+        ensures refused { IfErr result
+            (TellsOf (shapes_given (expansions self.old) given.entry) (trees.view value.now)) }
+        ensures keeps { Keeps (expansions self.old) (expansions self.new) }
+    {
+        let answer = read(&mut self.table, self.alloc, value, given);
+        self.table.are_distinct();
+        answer
     }
 }

@@ -6,16 +6,16 @@ use Rattle.std.specs.List.Sorted.{IsStrictlySortedBy}
 use Rattle.std.specs.Map.{keys_of}
 use Rattle.std.specs.String.{string_cmp}
 use Rattle.serde_json.specs.declared.value.Value.{Value}
-use Rattle.asl_shape.specs.LevelView.{list_view, object_view, texts}
+use Rattle.asl_shape.specs.LevelView.{texts}
 use Rattle.asl_shape.specs.Spelled as trees
 use Rattle.asl_shape.proofs.Sizes.{smaller, element_smaller, member_smaller}
 use Rattle.asl_numbered.specs.Expansion.{expansions, numbers_in, AreBelow}
 use Rattle.asl_numbered.specs.declared.node.NodeField.{NodeField}
 use Rattle.asl_numbered.proofs.Appending.{names}
-use Rattle.asl_numbered.specs.Reading.{IsRead, IsReadRest, AreGiven, TellsOneOf}
+use Rattle.asl_numbered.specs.Reading.{IsRead, IsReadRest, TellsOneOf}
 use Rattle.asl_numbered.specs.References.{shapes_given, numbers_given, each_of, values_of, TellsOf}
 use Rattle.asl_numbered.proofs.Expansions.{as_many, keeps_same, keeps_trans}
-use Rattle.asl_numbered.proofs.Readings.{given_kept, given_same, reference_read, reference_told, level_told, over_answer, over_refusal, one_told, one_right, element_there, none_read, number_read, numbers_end, list_refers, list_read, no_rest_read, rest_answer, member_there, no_fields_read, field_read, object_refers, object_read}
+use Rattle.asl_numbered.proofs.Readings.{given_kept, given_same, reference_read, reference_told, level_told, over_answer, over_refusal, one_told, one_right, element_there, none_read, number_read, list_refers, list_read, no_rest_read, rest_answer, member_there, no_fields_read, field_read, object_refers, object_read}
 use Rattle.asl_numbered.proofs.reading.+read.Goals as goal
 
 pub read-returns-in-Some-Some-clause-number : goal.read-returns-in-Some-Some-clause-number

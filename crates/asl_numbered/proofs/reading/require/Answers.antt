@@ -1,7 +1,7 @@
-use Rattle.std.proofs.Common.{◌≡◌, true, refl, sym, ap, ◌∙◌}
+use Rattle.std.proofs.Common.{true, refl, sym, ap, ◌∙◌}
 use Rattle.std.specs.BTreeMap.{insert_entry}
 use Rattle.std.specs.String.{string_cmp}
-use Rattle.asl_numbered.specs.Expansion.{expansions, AreBelow}
+use Rattle.asl_numbered.specs.Expansion.{expansions}
 use Rattle.asl_numbered.specs.declared.node.NodeField.{NodeField}
 use Rattle.asl_numbered.proofs.Expansions.{as_many}
 use Rattle.asl_numbered.proofs.Marking.{mark_found, mark_new}

@@ -1,4 +1,4 @@
-use Rattle.std.proofs.Common.{◌≡◌, ◌∷◌, ◌+◌, ap, drop, string_bytes, subst, sym, arith}
+use Rattle.std.proofs.Common.{◌≡◌, ◌∷◌, ◌+◌, ap, drop, string_bytes, subst, arith}
 use Rattle.std.proofs.lemmas.Grind.{common_steps}
 use Rattle.asl_shape.specs.LevelView.{texts}
 use Rattle.asl_numbered.specs.Expansion.{expansions, numbers_in, AreBelow}

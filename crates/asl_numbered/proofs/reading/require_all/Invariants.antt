@@ -1,7 +1,6 @@
-use Rattle.std.proofs.Common.{drop, length}
-use Rattle.asl_model.specs.ShapeSpelling as model
+use Rattle.std.proofs.Common.{drop}
 use Rattle.asl_shape.specs.LevelView.{texts}
-use Rattle.asl_numbered.specs.Expansion.{expansions, fields_at, numbers_in, AreBelow, Keeps}
+use Rattle.asl_numbered.specs.Expansion.{expansions, fields_at, Keeps}
 use Rattle.asl_numbered.proofs.Marking.{Marks}
 use Rattle.asl_numbered.proofs.reading.require_all.Given as goal
 
