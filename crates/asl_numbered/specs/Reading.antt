@@ -1,4 +1,4 @@
--- What is read into a table, by the number that it gets.
+-- What is read into a table, by the number that it gets. No public clause cites this module.
 use Rattle.std.specs.Prelude.{◌<◌, ℕ, List, length, Option, String, IfSome}
 use Rattle.std.specs.declared.alloc.Global.{Global}
 use Rattle.std.specs.List.{Contains}

@@ -57,7 +57,8 @@ shapes_given table given = option_map (map (shape_at table)) (numbers_given give
 -- ---- what is spelled
 
 mutual
-  -- the tree spells the shape: it is a reference to it, or its level does, over what the spellings inside spell
+  -- The tree spells the shape: it is a reference to it, or says a level that has it, over what the spellings inside
+  -- spell. No reference says a level, since its one keyword stands beside no type.
   pub data SpellsWith (given : Option (List Shape)) : Tree → Shape → Type 0 where
     by_reference : {t : Tree} {s : Shape} → referred given t ≡ Some (Some s) → SpellsWith given t s
     by_level : {t : Tree} {level : Level} {s : Shape} → SpelledOver t level → SpellsOver given level s → SpellsWith given t s

@@ -1,7 +1,7 @@
-//! Shapes in a table: their numbers, their nodes, the shapes again, and how they compare and join, each call once with
-//! ample memory.
-use asl_numbered::{Node, NodeField, Shapes};
-use asl_shape::{Shape, read, write};
+//! Shapes in a table: their numbers, their nodes, the shapes again, how they compare and join, and how they are read
+//! from their spellings, each call once with ample memory.
+use asl_numbered::{Node, NodeField, NumberedRefusal, Shapes};
+use asl_shape::{Shape, ShapeRefusal, read, write};
 use asl_tree::to_text;
 use std::alloc::Global;
 use std::collections::BTreeMap;
@@ -273,4 +273,90 @@ fn forty_doublings(rt: HostRuntime) {
         [Some(second), Some(second)]
     );
     assert_eq!(rt; shapes.len(), 123);
+}
+
+/// What comes of reading a shape: the number and the shape, or the refusal.
+fn answered(
+    rt: &impl Abort,
+    alloc: Global,
+    shapes: &Shapes,
+    answer: Result<usize, NumberedRefusal>,
+) -> String {
+    match answer {
+        Ok(number) => {
+            let shape = expanded(rt, alloc, shapes, number);
+            format!(in alloc; "{number} {shape}").expect(rt, "memory")
+        }
+        Err(refusal) => format!(in alloc; "{refusal:?}").expect(rt, "memory"),
+    }
+}
+
+/// What comes of reading the text where that number alone is given. Its JSON value is read the same.
+fn read_over(
+    rt: &impl Abort,
+    alloc: Global,
+    shapes: &mut Shapes,
+    text: &str,
+    number: usize,
+) -> String {
+    let tree = asl_tree::read(alloc, text.as_bytes()).expect(rt, "a tree");
+    let value = asl_tree::to_value(alloc, &tree).expect(rt, "a value");
+    assert!(rt; number < shapes.len());
+    let answer = shapes.read_with(&tree, Some(&[number]));
+    assert!(rt; number < shapes.len());
+    let again = shapes.read_value_with(&value, Some(&[number]));
+    assert_eq!(rt; answer, again, "{text}");
+    answered(rt, alloc, shapes, answer)
+}
+
+/// A spelling that is read behind those above it, where 0 is given, the number of `integer`, and what comes of it.
+const REFERRING: [(&str, &str); 11] = [
+    (r#"{"shape":0}"#, r#"0 {"type":"integer"}"#),
+    (r#"{"shape":1}"#, "BadNumber"),
+    (r#"{"shape":-1}"#, "BadNumber"),
+    (r#"{"shape":"0"}"#, "BadNumber"),
+    (r#"{"shape":0,"title":"x"}"#, "Shape(BadType)"),
+    (
+        r#"{"type":"array","prefixItems":[{"shape":0},{"type":"string"}],"minItems":2}"#,
+        r#"3 {"minItems":2,"prefixItems":[{"type":"integer"},{"type":"string"}],"type":"array"}"#,
+    ),
+    (
+        r#"{"type":"array","items":{"type":"array","items":{"shape":2}}}"#,
+        "BadNumber",
+    ),
+    (
+        r#"{"type":"object","properties":{"b":{"shape":0}},"required":["b","a"]}"#,
+        r#"4 {"properties":{"a":true,"b":{"type":"integer"}},"required":["a","b"],"type":"object"}"#,
+    ),
+    (
+        r#"{"type":"object","properties":{"shape":{"shape":0}}}"#,
+        r#"5 {"properties":{"shape":{"type":"integer"}},"type":"object"}"#,
+    ),
+    (
+        r#"{"type":"integer","default":{"shape":7}}"#,
+        r#"0 {"type":"integer"}"#,
+    ),
+    (
+        r#"{"type":"object","required":["a","a"]}"#,
+        "Shape(NotAShape)",
+    ),
+];
+
+#[test]
+fn references_stand_for_given_shapes(rt: HostRuntime) {
+    let alloc = rt.alloc();
+    let mut shapes = Shapes::new(alloc);
+    let int = shapes.add(&Shape::Int).expect(&rt, "a number");
+    for (text, wanted) in &REFERRING {
+        let answer = read_over(&rt, alloc, &mut shapes, text, int);
+        assert_eq!(rt; answer.as_str(), *wanted, "{text}");
+    }
+    let reference = asl_tree::read(alloc, br#"{"shape":0}"#).expect(&rt, "a tree");
+    let none_given = shapes.read_with(&reference, None);
+    assert_eq!(rt;
+        none_given,
+        Err(NumberedRefusal::Shape(ShapeRefusal::BadType))
+    );
+    let nothing_there = shapes.read_with(&reference, Some(&[]));
+    assert_eq!(rt; nothing_there, Err(NumberedRefusal::BadNumber));
 }
