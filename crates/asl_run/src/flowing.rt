@@ -21,8 +21,8 @@ use asl_template::{Template, TemplateRefusal, eval};
 use asl_tree::{Tree, copy};
 use std::alloc::Global;
 
-/// What stands after `InputPath` and `Parameters`. Where no template makes it, it is lent by the raw input, or shared with
-/// it where it is the whole of it.
+/// What stands after `InputPath` and `Parameters`. Where no template makes it, it is lent by the raw input; where it is
+/// the whole of that, it is shared.
 pub(crate) fn effective_input<'t>(
     alloc: Global,
     settings: &Settings,

@@ -128,8 +128,8 @@ fn caught<'m>(
     }
 }
 
-/// What the catcher hands to its next state, where the error output can be placed. Where it isn't placed at all, that is
-/// the raw input itself.
+/// What the catcher hands to its next state, where the error output can be placed. Where nothing is placed, that is the
+/// raw input itself.
 fn caught_input(
     alloc: Global,
     catcher: &Catcher,
