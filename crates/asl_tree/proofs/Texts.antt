@@ -1,5 +1,5 @@
 -- JSON values beside the trees that they are.
-use Rattle.std.proofs.Common.{◌≡◌, ℕ, zero, suc, ◌<◌, List, [], ◌∷◌, ◌++◌, length, get_or, map, take, ◌≤◌, Option, Some, None, option_map, option_and_then, Bool, false, ◌||◌, ℤ, pos, negsuc, String, Global, Less, Greater, string_bytes, string_cmp, nat_cmp, refl, sym, ap, ◌∙◌, arith}
+use Rattle.std.proofs.Common.{◌≡◌, ℕ, zero, suc, ◌<◌, List, [], ◌∷◌, ◌++◌, length, get_or, map, take, ◌≤◌, Option, Some, None, option_map, option_and_then, String, Global, Less, Greater, string_bytes, string_cmp, nat_cmp, refl, sym, ap, ◌∙◌, arith}
 use Rattle.std.proofs.lemmas.List.{take_all}
 use Rattle.std.proofs.lemmas.Cmp.{nat_list_cmp_total}
 use Rattle.std.specs.Cmp.Lexicographic.{slice_cmp}
@@ -8,10 +8,8 @@ use Rattle.std.specs.List.Sorted.{IsStrictlySortedBy}
 use Rattle.std.specs.Map.{keys_of}
 use Rattle.std.specs.Ordering.{ordering_reverse}
 use Rattle.serde_json.specs.Data as json
-use Rattle.serde_json.specs.Find.{of_integer}
 use Rattle.serde_json.specs.View.{view as json_view}
 use Rattle.serde_json.specs.View.{items_view, members_view}
-use Rattle.serde_json.specs.Written.{has_float, items_have_float, members_have_float}
 use Rattle.serde_json.specs.declared.value.Value.{Value}
 use Rattle.asl_model.specs.Json.{tree_of, elements_of, members_of, value_of, items_of, members_for}
 use Rattle.asl_model.specs.Tree as model
@@ -107,30 +105,3 @@ put_last_for [] e more h = refl
 put_last_for (first ∷ done) e more h =
     let above = after_first first done e more h.0 in
     rw above (ap (json.member (string_bytes first.0) (value_of (view first.1))) (put_last_for done e more h.1))
-
--- ---- floats
-
-whole : (n : ℤ) → has_float (json.number (of_integer n)) ≡ false
-whole (pos n) = refl
-whole (negsuc n) = refl
-
-either_false : (a b : Bool) → a ≡ false → b ≡ false → (a || b) ≡ false
-either_false a b e f = rw (e, f) refl
-
-mutual
-  -- a tree's value has no float
-  pub has_no_float : (t : model.Tree) → has_float (value_of t) ≡ false
-  has_no_float model.Null = refl
-  has_no_float (model.Boolean b) = refl
-  has_no_float (model.Integer n) = whole n
-  has_no_float (model.Text s) = refl
-  has_no_float (model.Array ts) = items_have_no_float ts
-  has_no_float (model.Object fs) = members_have_no_float fs
-
-  items_have_no_float : (ts : model.Trees) → items_have_float (items_of ts) ≡ false
-  items_have_no_float model.NoTrees = refl
-  items_have_no_float (model.AndTree t ts) = either_false _ _ (has_no_float t) (items_have_no_float ts)
-
-  members_have_no_float : (fs : model.Fields) → members_have_float (members_for fs) ≡ false
-  members_have_no_float model.NoFields = refl
-  members_have_no_float (model.AndField n t fs) = either_false _ _ (has_no_float t) (members_have_no_float fs)
