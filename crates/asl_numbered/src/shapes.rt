@@ -215,8 +215,7 @@ impl Shapes {
             (λ n. SpellsShape (tree_view tree.now) (shape_at (expansions self.new) n)) }
         ensures refused { IfErr result
             (TellsOf (shapes_given (expansions self.old) given.entry) (tree_view tree.now)) }
-        ensures refused_alone { given.entry ≡ None
-            → IfErr result (TellsFault (tree_view tree.now)) }
+        ensures refused_alone { given.entry ≡ None → IfErr result (TellsFault (tree_view tree.now)) }
         ensures keeps { Keeps (expansions self.old) (expansions self.new) }
     {
         let value = asl_tree::to_value(self.alloc, tree)?;

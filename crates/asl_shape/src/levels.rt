@@ -495,8 +495,7 @@ fn distinct_names(alloc: Global, elements: &[Value]) -> Result<Vec<&String>, Sha
         (λ names. texts names.items ≡ model.texts_among (trees.elements_view elements.now)) }
     ensures refused { IfErr result
         (λ e. Tells e (model.unless (model.are_texts (trees.elements_view elements.now)
-        && model.are_distinct (model.texts_among (trees.elements_view elements.now)))
-        model.NotAShape)) }
+        && model.are_distinct (model.texts_among (trees.elements_view elements.now))) model.NotAShape)) }
 {
     let mut names = Vec::with_capacity(alloc, elements.len())?;
     let mut seen = BTreeSet::new(alloc);
@@ -515,8 +514,7 @@ fn name_in(element: &Value) -> Result<&String, ShapeRefusal>
     ensures named { IfOk result
         (λ name. trees.view element.now ≡ json.Text (string_bytes name.now)) }
     ensures refused { IfErr result
-        (λ e. Tells e (model.unless (model.is_text_value (trees.view element.now))
-        model.NotAShape)) }
+        (λ e. Tells e (model.unless (model.is_text_value (trees.view element.now)) model.NotAShape)) }
 {
     match element {
         Value::String(name) => Ok(name),

@@ -99,8 +99,7 @@ fn read_list(alloc: Global, first: &[Value], rest: Option<&Value>) -> Result<Sha
 #[tactic(auto, using(crate::proofs::Spellings::shapes_read, crate::proofs::Telling::told_left))]
 #[cycle(read)]
 fn read_elements(alloc: Global, elements: &[Value]) -> Result<Vec<Shape>, ShapeRefusal>
-    ensures right { IfOk result
-        (λ _. model.element_faults (trees.elements_view elements.now) ≡ []) }
+    ensures right { IfOk result (λ _. model.element_faults (trees.elements_view elements.now) ≡ []) }
     ensures shapes { IfOk result
         (λ v. shapes_view v.items ≡ model.element_shapes (trees.elements_view elements.now)) }
     ensures refused { IfErr result
@@ -136,8 +135,7 @@ fn read_object(
 ) -> Result<Shape, ShapeRefusal>
     ensures shape { IfOk result
         (λ s. view s ≡ shape_over (object_view properties.entry required.now extra)) }
-    ensures right { IfOk result
-        (λ _. inner_faults (object_view properties.entry required.now extra) ≡ []) }
+    ensures right { IfOk result (λ _. inner_faults (object_view properties.entry required.now extra) ≡ []) }
     ensures refused { IfErr result
         (λ e. Tells e (inner_faults (object_view properties.entry required.now extra))) }
 {
