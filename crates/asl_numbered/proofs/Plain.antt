@@ -10,7 +10,7 @@ use Rattle.asl_model.specs.Tree.{Tree, Trees, NoTrees, AndTree, Fields, NoFields
 use Rattle.asl_shape.specs.Level.{Level, Plain, ListLevel, ObjectLevel, shape_over, inner_faults, rest_shape, rest_faults}
 use Rattle.asl_shape.specs.Spelled.{spelled}
 use Rattle.asl_shape.proofs.Trees.{spelled-tree_of, spelled-value_of}
-use Rattle.asl_shape.proofs.Wholes.{both_none, level_within}
+use Rattle.asl_shape.proofs.Wholes.{level_within}
 use Rattle.serde_json.specs.Data.{Data}
 use Rattle.asl_numbered.specs.declared.NumberedRefusal.{NumberedRefusal}
 use Rattle.asl_numbered.specs.declared.NumberedRefusal.TheVariants as refusal
@@ -19,6 +19,9 @@ use Rattle.asl_numbered.specs.References.{SpellsWith, by_reference, by_level, Sp
 
 abbrev NoShapes : Option (List model.Shape)
 NoShapes = None
+
+both_none : (xs ys : List ShapeFault) → xs ≡ [] → ys ≡ [] → xs ++ ys ≡ []
+both_none xs ys e f = rw (e, f) refl
 
 mutual
   pub spells_plain : {t : Tree} {s : model.Shape} → SpellsWith NoShapes t s → SpellsShape t s
