@@ -81,7 +81,7 @@ ends-are machine certificate d s listed i =
 
 -- it is named by the scope of the first state
 pub start-is : (machine : Scope) → IsWellNamed machine → start_in (table_of machine) ≡ Some (start_of machine)
-start-is machine w = by machine (leads_to_row machine machine w own_scope (start_of machine) w.start)
+start-is machine w = by machine (leads_to_row machine machine w own_scope (start_of machine) w.leads.start)
   where
     by : (m : Scope) → LeadsToRow m m (start_of m) → start_in (table_of m) ≡ Some (start_of m)
     by (ScopeOf start NoStates) led = none_some led.named

@@ -1,15 +1,16 @@
 -- Worked certificates that are closed, and worked inputs and events that obey: no premise of the law is empty.
-use Rattle.std.proofs.Common.{◌≡◌, ◌∙◌, refl, subst, sym, arith, suc, List, [], ◌∷◌, map, Bool, true, false, ◌&&◌, ◌||◌, if◌then◌else◌, bytes_eq, IsTrue, Option, Some, None, is_some, codes}
+use Rattle.std.proofs.Common.{◌≡◌, ◌∙◌, refl, subst, sym, arith, ℕ, zero, suc, All, List, [], ◌∷◌, map, Bool, true, false, ◌&&◌, ◌||◌, if◌then◌else◌, bytes_eq, IsTrue, Option, Some, None, is_some, codes}
 use Rattle.asl_model.specs.Tree.{Tree, Null, Boolean, Integer, Text, Array, Object, Trees, NoTrees, AndTree, count, NoFields, trees_of}
 use Rattle.asl_model.specs.Path.{Name, Index}
 use Rattle.asl_model.specs.Shape.{Shape, Any, Never, IntegerShape, StringShape, ArrayShape, ObjectShape, NoShapes, AndShape, NoFieldShapes, AndFieldShape, Has, has, is_integer, is_text}
 use Rattle.asl_model.specs.Flow.{Asks, Splits, first_move}
-use Rattle.asl_model.specs.Machine.{Scope, ScopeOf, AndState, NoStates, StateOf, Pass, Task, Choice, Wait, SecondsPath, Succeed, Fail, Parallel, Map, AndScope, NoScopes}
+use Rattle.asl_model.specs.Machine.{Scope, ScopeOf, AndState, NoStates, StateOf, Pass, Task, Choice, Wait, SecondsPath, Succeed, Fail, Parallel, Map, AndScope, NoScopes, states_of, LeadsInside, own_scope}
 use Rattle.asl_model.specs.Run.{Ready, Waiting, Split, Done, NoActivities, AndActivity, Event, run_of, Move, Gives, Entered, Asked, Left, Ended, Output}
-use Rattle.asl_model.specs.Certificate.{TaskShapes, Declared, StateShapes, Certificate, under, or_never, branch_shape, EachHas, WorkFits, IsClosedAt, whole_machine, IsClosed, Obeys, NoTurnRaises, TurnsAreAsCertified, RunIsAsCertified, HasSplit, ActivityFits, MovesOn, Works, Nests, group_of}
+use Rattle.asl_model.specs.Certificate.{TaskShapes, Declared, StateShapes, Certificate, under, or_never, branch_shape, EachHas, WorkFits, IsClosedAt, whole_machine, IsClosed, Obeys, NoTurnRaises, TurnsAreAsCertified, RunIsAsCertified, HasSplit, ActivityFits, ActivitiesAreAsCertified, MovesOn, Works, Nests, group_of}
 use Rattle.asl_model.proofs.RunOptions.{false_true, none_some}
 use Rattle.asl_model.proofs.ClosedScopes.{closed_at_each}
-use Rattle.asl_model.proofs.RunLaws.{never_fault}
+use Rattle.asl_model.proofs.RunLaws.{never_fault, every_activity}
+use Rattle.asl_model.proofs.NamesLead.{IsNamed, ScopeLeads, leads_inside}
 use Rattle.asl_model.proofs.ExamplesRuns.{ends, whole, one, at, passing, placing, one_task, retrying_with, retrier, three_failures, retried_and_caught, told}
 
 -- what is certified of a state that has no children
@@ -210,27 +211,64 @@ other_answer : Obeys takes_integers (one_task (codes "A")) Null (at [] Move ∷ 
 other_answer h = false_true h.answers.1.0
 
 -- activities that aren't as certified: a raw input that its state doesn't take, an output that isn't the scope's, a
--- payload that its task doesn't take or its state doesn't ask with, a child too few, a child that isn't as certified
+-- payload that its task doesn't take or its state doesn't ask with, a child too few, a child that isn't as certified, a
+-- state of another scope, in the machine's own and in a child's
 other_ready : ActivityFits integers_in integers_out (Ready (codes "A") Null []) passing IntegerShape → ⊥
-other_ready h = false_true h
+other_ready h = false_true h.fits
 
 other_done : ActivityFits integers_in integers_out (Done Null) passing IntegerShape → ⊥
-other_done h = false_true h
+other_done h = false_true h.fits
 
 other_waiting : ActivityFits takes_integers (all_certified Any Any) (Waiting (codes "A") Null [] Null) (one_task (codes "A")) Any → ⊥
-other_waiting h = false_true h.1
+other_waiting h = false_true h.fits.1
 
 other_asking : ActivityFits takes_integers (all_certified Any Any) (Waiting (codes "A") (whole 1) [] (whole 2)) (one_task (codes "A")) Any → ⊥
-other_asking h = let asks : Some (Asks (whole 1)) ≡ Some (Asks (whole 2)) = h.2 in absurd (cc)
+other_asking h = let asks : Some (Asks (whole 1)) ≡ Some (Asks (whole 2)) = h.fits.2 in absurd (cc)
 
 child_too_few : ActivityFits two_tasks second_certified (Split (codes "P") (whole 5) [] (AndActivity (Ready (codes "T0") (whole 5) []) NoActivities)) second_of_two StringShape → ⊥
-child_too_few h = few h.1
+child_too_few h = few h.fits.1
   where
     few : HasSplit second_of_two (codes "P") (whole 5) (AndActivity (Ready (codes "T0") (whole 5) []) NoActivities) → ⊥
     few split = let splits : Some (Splits (trees_of (whole 5 ∷ whole 5 ∷ []))) ≡ Some (Splits split.inputs) = split.split in let counted : 1 ≡ count split.inputs = split.one_each in absurd (cc)
 
 other_child : ActivityFits two_tasks second_certified (Split (codes "P") (whole 5) [] (AndActivity (Ready (codes "T0") Null []) (AndActivity (Ready (codes "T1") (whole 5) []) NoActivities))) second_of_two StringShape → ⊥
-other_child h = false_true h.2.0
+other_child h = false_true h.fits.2.0
+
+-- the raw input is of the certified input of T0, which is a state of the first branch
+state_of_a_branch : ActivityFits two_tasks second_certified (Ready (codes "T0") (whole 5) []) second_of_two StringShape → ⊥
+state_of_a_branch h = false_true h.stands
+
+state_of_the_other_branch : ActivityFits two_tasks second_certified (Split (codes "P") (whole 5) [] (AndActivity (Ready (codes "T1") (whole 5) []) (AndActivity (Ready (codes "T1") (whole 5) []) NoActivities))) second_of_two StringShape → ⊥
+state_of_the_other_branch h = false_true h.stands.1.0
+
+state_in_its_branch : ActivityFits two_tasks second_certified (Split (codes "P") (whole 5) [] (AndActivity (Ready (codes "T0") (whole 5) []) (AndActivity (Ready (codes "T1") (whole 5) []) NoActivities))) second_of_two StringShape
+state_in_its_branch = record { stands = (refl, (refl, (refl, tt))); fits = (refl, record { inputs = trees_of (whole 5 ∷ whole 5 ∷ []); split = refl; one_each = refl }, (refl, (refl, tt))) }
+
+-- the names of that machine lead inside its scopes, so every activity of that run is as certified
+all_of_none : (P : List ℕ → Type 0) → All P []
+all_of_none P k d h = absurd (omega arith)
+
+all_of_one : (P : List ℕ → Type 0) (n : List ℕ) → P n → All P (n ∷ [])
+all_of_one P n p zero d h = p
+all_of_one P n p (suc k) d h = absurd (omega arith)
+
+task_leads : (n : List ℕ) → IsNamed (states_of (one_task n)) n → ScopeLeads (one_task n)
+task_leads n named = (named, ((all_of_none (IsNamed (states_of (one_task n))), tt), tt))
+
+second_leads : LeadsInside second_of_two
+second_leads =
+    let named : List ℕ → Type 0 = IsNamed (states_of second_of_two) in
+    leads_inside second_of_two (refl, ((all_of_none named, tt), ((all_of_one named (codes "N") refl, (task_leads (codes "T0") refl, (task_leads (codes "T1") refl, tt))), tt)))
+
+out_of_order_activities : ActivitiesAreAsCertified two_tasks second_certified second_of_two (whole 5) out_of_order
+out_of_order_activities = every_activity two_tasks second_certified second_of_two second_closed second_leads (whole 5) out_of_order out_of_order_obeys
+
+-- a Pass whose next state is one of a branch leads out of its scope
+abbrev pub into_a_branch : Scope
+into_a_branch = ScopeOf (codes "P") (AndState (codes "P") (StateOf (record ends { next = Some (codes "T0") }) (Parallel (AndScope (one_task (codes "T0")) NoScopes))) NoStates)
+
+leads_into_a_branch : LeadsInside into_a_branch → ⊥
+leads_into_a_branch leads = false_true (leads.targets into_a_branch own_scope (codes "P") (StateOf (record ends { next = Some (codes "T0") }) (Parallel (AndScope (one_task (codes "T0")) NoScopes))) refl (codes "T0") (0, omega arith, refl))
 
 -- the groups of the types
 groups : map group_of (Pass None ∷ Task (codes "r") ∷ Choice [] None ∷ Wait (SecondsPath []) ∷ Succeed ∷ Fail (codes "e") (codes "c") ∷ Parallel NoScopes ∷ Map [] None passing ∷ []) ≡ MovesOn ∷ Works ∷ Works ∷ Works ∷ MovesOn ∷ MovesOn ∷ Nests ∷ Nests ∷ []

@@ -61,6 +61,7 @@ pub mod RunOptions
 pub mod RunOrder
 pub mod RunPatterns
 pub mod RunPieces
+pub mod RunStands
 pub mod RunTemplates
 pub mod RunTrouble
 pub mod ShapeFields

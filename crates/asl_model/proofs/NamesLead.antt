@@ -1,7 +1,7 @@
 -- The names in a machine lead to its states where they do at each state, found by going through the nested scopes.
 use Rattle.std.proofs.Common.{◌≡◌, subst, ℕ, zero, suc, ◌<◌, List, Bool, true, false, if◌then◌else◌, IsTrue, Some, is_some, bytes_eq, All, arith}
 use Rattle.std.proofs.lemmas.List.Elements.{All-contains}
-use Rattle.asl_model.specs.Machine.{Scope, ScopeOf, States, NoStates, AndState, State, StateOf, Kind, Pass, Task, Choice, Wait, Succeed, Fail, Parallel, Map, Scopes, NoScopes, AndScope, kind_of, start_of, states_of, state_among, state_named, scope_at, child_scope, how_many}
+use Rattle.asl_model.specs.Machine.{Scope, ScopeOf, States, NoStates, AndState, State, StateOf, Kind, Pass, Task, Choice, Wait, Succeed, Fail, Parallel, Map, Scopes, NoScopes, AndScope, kind_of, start_of, states_of, state_among, state_named, scope_at, child_scope, how_many, LeadsInside}
 use Rattle.asl_model.specs.ShapeSpelling.{are_distinct}
 use Rattle.asl_model.specs.StandsFor.{all_names}
 use Rattle.asl_model.specs.Numbering.{IsScopeOf, own_scope, scope_of_child, HasNamed, targets_of, IsWellNamed}
@@ -98,12 +98,15 @@ module _ (machine : Scope) (leads : ScopeLeads machine) where
   at_state : (scope : Scope) → IsScopeOf machine scope → (n : List ℕ) (state : State) → state_named n scope ≡ Some state → StateLeads (states_of scope) state
   at_state scope is_scope n state e = found_leads (states_of scope) (states_of scope) n state (scope_own scope is_scope) e
 
-  -- where no name stands twice either, the machine is well named
-  pub leads_well : IsTrue (are_distinct (all_names machine)) → IsWellNamed machine
-  leads_well distinct = record {
-    distinct = distinct;
+  -- so the names lead inside the machine's scopes
+  pub leads_inside : LeadsInside machine
+  leads_inside = record {
     start = start_named machine leads;
     branch_starts = λ scope is_scope n settings branches e i less. start_named (scope_at i branches) (branch_leads i branches (inner_lead (states_of scope) (StateOf settings (Parallel branches)) (at_state scope is_scope n (StateOf settings (Parallel branches)) e)) less);
     processor_starts = λ scope is_scope n settings items selector processor e. start_named processor (inner_lead (states_of scope) (StateOf settings (Map items selector processor)) (at_state scope is_scope n (StateOf settings (Map items selector processor)) e));
     targets = λ scope is_scope n state e m among. All-contains (IsNamed (states_of scope)) (targets_of state) m (targets_lead (states_of scope) state (at_state scope is_scope n state e)) among;
   }
+
+  -- where no name stands twice either, the machine is well named
+  pub leads_well : IsTrue (are_distinct (all_names machine)) → IsWellNamed machine
+  leads_well distinct = record { distinct = distinct; leads = leads_inside }

@@ -1,13 +1,13 @@
--- Closed runs never fault: each step of an activity that is as certified raises nothing, makes entries that are as
--- certified, and leaves an activity that is as certified.
+-- Closed runs never fault: each step of an activity whose data are as certified raises nothing, makes entries that are as
+-- certified, and leaves an activity whose data are as certified.
 use Rattle.std.proofs.Common.{◌≡◌, refl, sym, ap, ◌∙◌, subst, ℕ, zero, suc, List, [], ◌∷◌, Bool, true, false, if◌then◌else◌, Option, Some, None, option_map, option_and_then, Result, Ok, Err}
 use Rattle.asl_model.specs.Tree.{Tree, Array, Trees, NoTrees, AndTree, count}
 use Rattle.asl_model.specs.Shape.{Shape, Has}
 use Rattle.asl_model.specs.Faults.{Fault}
 use Rattle.asl_model.specs.Machine.{Catcher, Settings, Scope, State, settings_of, kind_of, start_of, state_named, child_scope}
 use Rattle.asl_model.specs.Flow.{Work, Finishes, Leaves, FailsWith, Asks, Splits, Raises, at_output_path, output_of, first_move}
-use Rattle.asl_model.specs.Run.{Activity, Ready, Waiting, Split, Done, Failed, Activities, NoActivities, AndActivity, Action, Move, Gives, FailsTask, Event, Entry, Entered, TaskFailed, BranchFailed, Step, Trouble, Retries, Catches, Misfits, Escapes, Joining, AllDone, OneFailed, StillRunning, entry_then, caught_input, caught_as, caught_by, catching, takes_error, retrying, unless_retrying, trouble_of, by_trouble, troubled, leaves_for, leaves_with, started, by_work, done_before, running_before, joining, join_error, joins, moves_ready, moves_waiting, moves_split, acts, scope_under, scope_below, child_at, set_child, within, step_at, step, run, start, after_step, last_activity, entries_of, activity_at}
-use Rattle.asl_model.specs.Certificate.{waiting_name, Declared, Certificate, certified_input, IsScope, whole_machine, child_of_state, EachHas, OutputFits, WorkFits, CaughtFits, CatchersFit, IsClosedAt, IsClosed, AnswerObeys, ActionObeys, TakenObeys, AnswersObey, end_under, end_of_child, end_at, RaisesNothing, IsAsCertified, NoneRaises, EachIsAsCertified, NoTurnRaises, TurnsAreAsCertified, move_at, how_many_children, ActivityFits, ActivitiesFit, EachActivityFits}
+use Rattle.asl_model.specs.Run.{Activity, Ready, Waiting, Split, Done, Failed, Activities, NoActivities, AndActivity, Action, Move, Gives, FailsTask, Event, Entry, Entered, TaskFailed, BranchFailed, Step, Trouble, Retries, Catches, Misfits, Escapes, Joining, AllDone, OneFailed, StillRunning, entry_then, caught_input, caught_as, caught_by, catching, takes_error, retrying, unless_retrying, trouble_of, by_trouble, troubled, leaves_for, leaves_with, started, by_work, done_before, running_before, joining, join_error, joins, moves_ready, moves_waiting, moves_split, acts, scope_under, scope_below, child_at, set_child, within, step_at, step, run, start, after_step, entries_of, activity_at}
+use Rattle.asl_model.specs.Certificate.{waiting_name, Declared, Certificate, certified_input, IsScope, whole_machine, child_of_state, EachHas, OutputFits, WorkFits, CaughtFits, CatchersFit, IsClosedAt, IsClosed, AnswerObeys, ActionObeys, TakenObeys, AnswersObey, end_under, end_of_child, end_at, RaisesNothing, IsAsCertified, NoneRaises, EachIsAsCertified, NoTurnRaises, TurnsAreAsCertified, move_at, how_many_children, DataFits, EachDataFits}
 use Rattle.asl_model.proofs.RunOptions.{some_inj, none_some}
 
 -- children of which one is still running in front aren't all done
@@ -21,7 +21,7 @@ module _ (declared : Declared) (certificate : Certificate) (machine : Scope) (cl
   pub record StepFits (scope : Scope) (end : Shape) (s : Step) : Type 0 where
     pub quiet : NoneRaises s.entries
     pub entries : EachIsAsCertified declared certificate end s.entries
-    pub after : ActivityFits declared certificate s.after scope end
+    pub after : DataFits declared certificate s.after scope end
 
   -- leaving with an output that fits
   leaving : (scope : Scope) (end : Shape) (n : List ℕ) (next : Option (List ℕ)) (output : Tree) → OutputFits certificate end n next (Ok output) → StepFits scope end (leaves_for n next output)
@@ -74,7 +74,7 @@ module _ (declared : Declared) (certificate : Certificate) (machine : Scope) (cl
   entry_fits scope end entry s quiet as_certified fits = record { quiet = (quiet, fits.quiet); entries = (as_certified, fits.entries); after = fits.after }
 
   -- the children that are started fit
-  started_fits : (scopes : ℕ → Scope) (ends : ℕ → Shape) (inputs : Trees) → EachHas (λ i. certified_input certificate (start_of (scopes i))) inputs → ActivitiesFit declared certificate (started scopes inputs) scopes ends
+  started_fits : (scopes : ℕ → Scope) (ends : ℕ → Shape) (inputs : Trees) → EachHas (λ i. certified_input certificate (start_of (scopes i))) inputs → EachDataFits declared certificate (started scopes inputs) scopes ends
   started_fits scopes ends NoTrees fits = tt
   started_fits scopes ends (AndTree input inputs) fits = (fits.0, started_fits (λ i. scopes (suc i)) (λ i. ends (suc i)) inputs fits.1)
 
@@ -97,7 +97,7 @@ module _ (declared : Declared) (certificate : Certificate) (machine : Scope) (cl
       moved = ap (option_map (λ s. first_move s raw)) e ∙ ap Some m
 
       Below : Option State → Type 0
-      Below found = ActivitiesFit declared certificate (started (child_scope (kind_of state)) inputs) (scope_under found) (end_under certificate n found)
+      Below found = EachDataFits declared certificate (started (child_scope (kind_of state)) inputs) (scope_under found) (end_under certificate n found)
 
       children : Below (state_named n scope)
       children = subst Below (sym e) (started_fits (child_scope (kind_of state)) (end_under certificate n (Some state)) inputs fits.0)
@@ -113,7 +113,7 @@ module _ (declared : Declared) (certificate : Certificate) (machine : Scope) (cl
   done_fits output n ends outputs has StillRunning inner h = absurd (cc)
 
   -- all children are done: their outputs are results of the shapes certified for them
-  outputs_fit : (i : ℕ) (children : Activities) (scopes : ℕ → Scope) (ends : ℕ → Shape) (outputs : Trees) → joining i children ≡ AllDone outputs → ActivitiesFit declared certificate children scopes ends → (count outputs ≡ how_many_children children) × EachHas ends outputs
+  outputs_fit : (i : ℕ) (children : Activities) (scopes : ℕ → Scope) (ends : ℕ → Shape) (outputs : Trees) → joining i children ≡ AllDone outputs → EachDataFits declared certificate children scopes ends → (count outputs ≡ how_many_children children) × EachHas ends outputs
   outputs_fit i NoActivities scopes ends NoTrees e fits = (refl, tt)
   outputs_fit i NoActivities scopes ends (AndTree t ts) e fits = absurd (cc)
   outputs_fit i (AndActivity (Ready n raw counts) others) scopes ends outputs e fits = never_done (joining (suc i) others) e
@@ -142,7 +142,7 @@ module _ (declared : Declared) (certificate : Certificate) (machine : Scope) (cl
       let at = closed.states scope end is_scope n state e in
       subst (StepFits scope end) (some_inj h) (entry_fits scope end (TaskFailed n error cause) (troubled n (settings_of state) raw counts error cause) tt tt (troubled_fits scope end n (settings_of state) raw counts error cause has (at.catchers raw has)))
 
-  joins_fits : (scope : Scope) (end : Shape) (n : List ℕ) (state : State) (raw : Tree) (counts : List ℕ) (children : Activities) (inputs : Trees) (s : Step) → IsClosedAt declared certificate end n state → Has (certified_input certificate n) raw → first_move state raw ≡ Splits inputs → how_many_children children ≡ count inputs → ActivitiesFit declared certificate children (child_scope (kind_of state)) (end_under certificate n (Some state)) → (joined : Joining) → joining 0 children ≡ joined → joins n state raw counts joined ≡ Some s → StepFits scope end s
+  joins_fits : (scope : Scope) (end : Shape) (n : List ℕ) (state : State) (raw : Tree) (counts : List ℕ) (children : Activities) (inputs : Trees) (s : Step) → IsClosedAt declared certificate end n state → Has (certified_input certificate n) raw → first_move state raw ≡ Splits inputs → how_many_children children ≡ count inputs → EachDataFits declared certificate children (child_scope (kind_of state)) (end_under certificate n (Some state)) → (joined : Joining) → joining 0 children ≡ joined → joins n state raw counts joined ≡ Some s → StepFits scope end s
   joins_fits scope end n state raw counts children inputs s at has split one_each children_fit (AllDone outputs) e h =
       let fits : WorkFits declared certificate end n state raw (Splits inputs) = subst (WorkFits declared certificate end n state raw) split (at.work raw has) in
       let done = outputs_fit 0 children (child_scope (kind_of state)) (end_under certificate n (Some state)) outputs e children_fit in
@@ -151,13 +151,13 @@ module _ (declared : Declared) (certificate : Certificate) (machine : Scope) (cl
       subst (StepFits scope end) (some_inj h) (entry_fits scope end (BranchFailed n i error cause) (troubled n (settings_of state) raw counts (join_error (kind_of state) error) cause) tt tt (troubled_fits scope end n (settings_of state) raw counts (join_error (kind_of state) error) cause has (at.catchers raw has)))
   joins_fits scope end n state raw counts children inputs s at has split one_each children_fit StillRunning e h = none_some h
 
-  split_fits : (scope : Scope) (end : Shape) → IsScope certificate machine scope end → (n : List ℕ) (raw : Tree) (counts : List ℕ) (children : Activities) (action : Action) (s : Step) → Has (certified_input certificate n) raw → (inputs : Trees) → how_many_children children ≡ count inputs → (found : Option State) → state_named n scope ≡ found → option_map (λ state. first_move state raw) found ≡ Some (Splits inputs) → ActivitiesFit declared certificate children (scope_under found) (end_under certificate n found) → option_and_then (moves_split n raw counts children action) found ≡ Some s → StepFits scope end s
+  split_fits : (scope : Scope) (end : Shape) → IsScope certificate machine scope end → (n : List ℕ) (raw : Tree) (counts : List ℕ) (children : Activities) (action : Action) (s : Step) → Has (certified_input certificate n) raw → (inputs : Trees) → how_many_children children ≡ count inputs → (found : Option State) → state_named n scope ≡ found → option_map (λ state. first_move state raw) found ≡ Some (Splits inputs) → EachDataFits declared certificate children (scope_under found) (end_under certificate n found) → option_and_then (moves_split n raw counts children action) found ≡ Some s → StepFits scope end s
   split_fits scope end is_scope n raw counts children action s has inputs one_each None e splits children_fit h = none_some h
   split_fits scope end is_scope n raw counts children Move s has inputs one_each (Some state) e splits children_fit h = joins_fits scope end n state raw counts children inputs s (closed.states scope end is_scope n state e) has (some_inj splits) one_each children_fit (joining 0 children) refl h
   split_fits scope end is_scope n raw counts children (Gives answer) s has inputs one_each (Some state) e splits children_fit h = none_some h
   split_fits scope end is_scope n raw counts children (FailsTask error cause) s has inputs one_each (Some state) e splits children_fit h = none_some h
 
-  acts_fits : (scope : Scope) (end : Shape) → IsScope certificate machine scope end → (a : Activity) (action : Action) (s : Step) → ActivityFits declared certificate a scope end → ActionObeys declared [] a action → acts scope a action ≡ Some s → StepFits scope end s
+  acts_fits : (scope : Scope) (end : Shape) → IsScope certificate machine scope end → (a : Activity) (action : Action) (s : Step) → DataFits declared certificate a scope end → ActionObeys declared [] a action → acts scope a action ≡ Some s → StepFits scope end s
   acts_fits scope end is_scope (Ready n raw counts) action s fits obeys h = ready_fits scope end is_scope n raw counts action s fits (state_named n scope) refl h
   acts_fits scope end is_scope (Waiting n raw counts payload) action s fits obeys h = waiting_fits scope end is_scope n raw counts payload action s obeys fits.0 (state_named n scope) refl fits.2 h
   acts_fits scope end is_scope (Split n raw counts children) action s fits obeys h = split_fits scope end is_scope n raw counts children action s fits.0 fits.1.inputs fits.1.one_each (state_named n scope) refl fits.1.split fits.2 h
@@ -165,13 +165,13 @@ module _ (declared : Declared) (certificate : Certificate) (machine : Scope) (cl
   acts_fits scope end is_scope (Failed error cause) action s fits obeys h = none_some h
 
   -- a child that fits
-  child_fits : (i : ℕ) (children : Activities) (scopes : ℕ → Scope) (ends : ℕ → Shape) (child : Activity) → child_at i children ≡ Some child → ActivitiesFit declared certificate children scopes ends → ActivityFits declared certificate child (scopes i) (ends i)
+  child_fits : (i : ℕ) (children : Activities) (scopes : ℕ → Scope) (ends : ℕ → Shape) (child : Activity) → child_at i children ≡ Some child → EachDataFits declared certificate children scopes ends → DataFits declared certificate child (scopes i) (ends i)
   child_fits i NoActivities scopes ends child e fits = none_some e
-  child_fits zero (AndActivity first others) scopes ends child e fits = subst (λ (a : Activity). ActivityFits declared certificate a (scopes 0) (ends 0)) (some_inj e) fits.0
+  child_fits zero (AndActivity first others) scopes ends child e fits = subst (λ (a : Activity). DataFits declared certificate a (scopes 0) (ends 0)) (some_inj e) fits.0
   child_fits (suc i) (AndActivity first others) scopes ends child e fits = child_fits i others (λ k. scopes (suc k)) (λ k. ends (suc k)) child e fits.1
 
   -- children with one replaced by what fits
-  replaced_fit : (i : ℕ) (children : Activities) (scopes : ℕ → Scope) (ends : ℕ → Shape) (a : Activity) → ActivitiesFit declared certificate children scopes ends → ActivityFits declared certificate a (scopes i) (ends i) → ActivitiesFit declared certificate (set_child i a children) scopes ends
+  replaced_fit : (i : ℕ) (children : Activities) (scopes : ℕ → Scope) (ends : ℕ → Shape) (a : Activity) → EachDataFits declared certificate children scopes ends → DataFits declared certificate a (scopes i) (ends i) → EachDataFits declared certificate (set_child i a children) scopes ends
   replaced_fit i NoActivities scopes ends a fits new = tt
   replaced_fit zero (AndActivity first others) scopes ends a fits new = (new, fits.1)
   replaced_fit (suc i) (AndActivity first others) scopes ends a fits new = (fits.0, replaced_fit i others (λ k. scopes (suc k)) (λ k. ends (suc k)) a fits.1 new)
@@ -185,7 +185,7 @@ module _ (declared : Declared) (certificate : Certificate) (machine : Scope) (cl
   pub record MoveFits (scope : Scope) (end placed_end : Shape) (s : Step) : Type 0 where
     pub quiet : NoneRaises s.entries
     pub entries : EachIsAsCertified declared certificate placed_end s.entries
-    pub after : ActivityFits declared certificate s.after scope end
+    pub after : DataFits declared certificate s.after scope end
 
   -- an answer that obeys in the whole obeys in the child
   obeys_below : (i : ℕ) (p : List ℕ) (n : List ℕ) (raw : Tree) (counts : List ℕ) (children : Activities) (child : Activity) (action : Action) → child_at i children ≡ Some child → ActionObeys declared (i ∷ p) (Split n raw counts children) action → ActionObeys declared p child action
@@ -199,7 +199,7 @@ module _ (declared : Declared) (certificate : Certificate) (machine : Scope) (cl
   child_is_scope scope end is_scope n raw work i (Some state) e h = child_of_state n state i is_scope e
 
   -- a step of a child, as one of the whole
-  within_fits : (scope : Scope) (end : Shape) (n : List ℕ) (raw : Tree) (counts : List ℕ) (children : Activities) (i : ℕ) (placed_end : Shape) (s inner : Step) → ActivityFits declared certificate (Split n raw counts children) scope end → MoveFits (scope_below scope n i) (end_under certificate n (state_named n scope) i) placed_end inner → within n raw counts children i inner ≡ s → MoveFits scope end placed_end s
+  within_fits : (scope : Scope) (end : Shape) (n : List ℕ) (raw : Tree) (counts : List ℕ) (children : Activities) (i : ℕ) (placed_end : Shape) (s inner : Step) → DataFits declared certificate (Split n raw counts children) scope end → MoveFits (scope_below scope n i) (end_under certificate n (state_named n scope) i) placed_end inner → within n raw counts children i inner ≡ s → MoveFits scope end placed_end s
   within_fits scope end n raw counts children i placed_end s inner fits moved h = subst (MoveFits scope end placed_end) h (record {
     quiet = moved.quiet;
     entries = moved.entries;
@@ -207,7 +207,7 @@ module _ (declared : Declared) (certificate : Certificate) (machine : Scope) (cl
   })
 
   -- one step at any place
-  step_fits : (p : List ℕ) (scope : Scope) (end : Shape) → IsScope certificate machine scope end → (a : Activity) (action : Action) (s : Step) → ActivityFits declared certificate a scope end → ActionObeys declared p a action → step_at p scope a action ≡ Some s → MoveFits scope end (end_at certificate p scope end a) s
+  step_fits : (p : List ℕ) (scope : Scope) (end : Shape) → IsScope certificate machine scope end → (a : Activity) (action : Action) (s : Step) → DataFits declared certificate a scope end → ActionObeys declared p a action → step_at p scope a action ≡ Some s → MoveFits scope end (end_at certificate p scope end a) s
   step_fits [] scope end is_scope a action s fits obeys h = let done = acts_fits scope end is_scope a action s fits obeys h in record { quiet = done.quiet; entries = done.entries; after = done.after }
   step_fits (i ∷ p) scope end is_scope (Ready n raw counts) action s fits obeys h = none_some h
   step_fits (i ∷ p) scope end is_scope (Waiting n raw counts payload) action s fits obeys h = none_some h
@@ -218,26 +218,26 @@ module _ (declared : Declared) (certificate : Certificate) (machine : Scope) (cl
       End found = end_of_child (λ child. end_at certificate p (scope_below scope n i) (end_under certificate n (state_named n scope) i) child) found
 
       there : (child : Activity) → child_at i children ≡ Some child → (stepped : Option Step) → step_at p (scope_below scope n i) child action ≡ stepped → option_map (within n raw counts children i) stepped ≡ Some s
-          → ((t : Step) → ActivityFits declared certificate child (scope_below scope n i) (end_under certificate n (state_named n scope) i) → ActionObeys declared p child action → step_at p (scope_below scope n i) child action ≡ Some t → MoveFits (scope_below scope n i) (end_under certificate n (state_named n scope) i) (end_at certificate p (scope_below scope n i) (end_under certificate n (state_named n scope) i) child) t)
+          → ((t : Step) → DataFits declared certificate child (scope_below scope n i) (end_under certificate n (state_named n scope) i) → ActionObeys declared p child action → step_at p (scope_below scope n i) child action ≡ Some t → MoveFits (scope_below scope n i) (end_under certificate n (state_named n scope) i) (end_at certificate p (scope_below scope n i) (end_under certificate n (state_named n scope) i) child) t)
           → MoveFits scope end (End (Some child)) s
       there child e None f g inner = none_some g
       there child e (Some t) f g inner = within_fits scope end n raw counts children i (End (Some child)) s t fits (inner t (child_fits i children (scope_below scope n) (end_under certificate n (state_named n scope)) child e fits.2) (obeys_below i p n raw counts children child action e obeys) f) (some_inj g)
 
       go : (found : Option Activity) → child_at i children ≡ found → option_map (within n raw counts children i) (option_and_then (λ child. step_at p (scope_below scope n i) child action) found) ≡ Some s
-          → ((child : Activity) (t : Step) → ActivityFits declared certificate child (scope_below scope n i) (end_under certificate n (state_named n scope) i) → ActionObeys declared p child action → step_at p (scope_below scope n i) child action ≡ Some t → MoveFits (scope_below scope n i) (end_under certificate n (state_named n scope) i) (end_at certificate p (scope_below scope n i) (end_under certificate n (state_named n scope) i) child) t)
+          → ((child : Activity) (t : Step) → DataFits declared certificate child (scope_below scope n i) (end_under certificate n (state_named n scope) i) → ActionObeys declared p child action → step_at p (scope_below scope n i) child action ≡ Some t → MoveFits (scope_below scope n i) (end_under certificate n (state_named n scope) i) (end_at certificate p (scope_below scope n i) (end_under certificate n (state_named n scope) i) child) t)
           → MoveFits scope end (End (child_at i children)) s
       go None e g inner = none_some g
       go (Some child) e g inner = subst (λ (found : Option Activity). MoveFits scope end (End found) s) (sym e) (there child e (step_at p (scope_below scope n i) child action) refl g (inner child))
   step_fits (i ∷ p) scope end is_scope (Done output) action s fits obeys h = none_some h
   step_fits (i ∷ p) scope end is_scope (Failed error cause) action s fits obeys h = none_some h
 
-  -- an event leaves the machine's activity as certified
-  pub event_fits : (a : Activity) (event : Event) → ActivityFits declared certificate a machine certificate.output → (taken : Option Step) → step machine a event ≡ taken → TakenObeys declared event.place a event.action taken → NoneRaises (entries_of taken) × EachIsAsCertified declared certificate (end_at certificate event.place machine certificate.output a) (entries_of taken) × ActivityFits declared certificate (after_step a taken) machine certificate.output
+  -- an event leaves the data of the machine's activity as certified
+  pub event_fits : (a : Activity) (event : Event) → DataFits declared certificate a machine certificate.output → (taken : Option Step) → step machine a event ≡ taken → TakenObeys declared event.place a event.action taken → NoneRaises (entries_of taken) × EachIsAsCertified declared certificate (end_at certificate event.place machine certificate.output a) (entries_of taken) × DataFits declared certificate (after_step a taken) machine certificate.output
   event_fits a event fits None e obeys = (tt, tt, fits)
   event_fits a event fits (Some s) e obeys = let moved = step_fits event.place machine certificate.output whole_machine a event.action s fits obeys e in (moved.quiet, moved.entries, moved.after)
 
   -- all turns from an activity on
-  pub turns_fit : (a : Activity) (events : List Event) → ActivityFits declared certificate a machine certificate.output → AnswersObey declared (run machine a events) → NoTurnRaises (run machine a events) × TurnsAreAsCertified declared certificate machine (run machine a events)
+  pub turns_fit : (a : Activity) (events : List Event) → DataFits declared certificate a machine certificate.output → AnswersObey declared (run machine a events) → NoTurnRaises (run machine a events) × TurnsAreAsCertified declared certificate machine (run machine a events)
   turns_fit a [] fits obeys = (tt, tt)
   turns_fit a (event ∷ events) fits obeys =
       let first = event_fits a event fits (step machine a event) refl obeys.0 in
@@ -245,13 +245,5 @@ module _ (declared : Declared) (certificate : Certificate) (machine : Scope) (cl
       ((first.0, further.0), (first.1, further.1))
 
   -- the start
-  pub start_fits : (input : Tree) → Has declared.input input → ActivityFits declared certificate (start machine input) machine certificate.output
+  pub start_fits : (input : Tree) → Has declared.input input → DataFits declared certificate (start machine input) machine certificate.output
   start_fits input has = closed.start input has
-
-  -- all activities from one on
-  pub activities_fit : (a : Activity) (events : List Event) → ActivityFits declared certificate a machine certificate.output → AnswersObey declared (run machine a events) → EachActivityFits declared certificate machine (run machine a events) × ActivityFits declared certificate (last_activity a (run machine a events)) machine certificate.output
-  activities_fit a [] fits obeys = (tt, fits)
-  activities_fit a (event ∷ events) fits obeys =
-      let first = event_fits a event fits (step machine a event) refl obeys.0 in
-      let further = activities_fit (after_step a (step machine a event)) events first.2 obeys.1 in
-      ((fits, further.0), further.1)

@@ -1,23 +1,42 @@
 -- The laws about runs, each as the function of its name states it.
-use Rattle.std.proofs.Common.{ℕ, List, [], ◌∷◌, ◌++◌, map, Some}
+use Rattle.std.proofs.Common.{◌≡◌, refl, ℕ, List, [], ◌∷◌, ◌++◌, map, Option, Some, None}
 use Rattle.asl_model.specs.Tree.{Tree}
-use Rattle.asl_model.specs.Machine.{Scope}
-use Rattle.asl_model.specs.Run.{Event, Entry, Turn, start, run_of, entries_of, trace}
-use Rattle.asl_model.specs.Certificate.{Declared, Certificate, IsClosed, Obeys, RunIsAsCertified, TypeGroup, IsKeptBy, ActivitiesAreAsCertified, NoneRaises, NoTurnRaises, TellsNoFault}
-use Rattle.asl_model.proofs.RunFits.{event_fits, turns_fit, activities_fit, start_fits}
+use Rattle.asl_model.specs.Machine.{Scope, own_scope, LeadsInside}
+use Rattle.asl_model.specs.Run.{Activity, Event, Entry, Step, Turn, start, step, after_step, run, run_of, entries_of, trace, last_activity}
+use Rattle.asl_model.specs.Certificate.{Declared, Certificate, IsClosed, TakenObeys, AnswersObey, Obeys, RunIsAsCertified, ActivityFits, EachActivityFits, TypeGroup, IsKeptBy, ActivitiesAreAsCertified, NoneRaises, NoTurnRaises, TellsNoFault}
+use Rattle.asl_model.proofs.RunFits.{event_fits, turns_fit, start_fits}
+use Rattle.asl_model.proofs.RunStands.{step_stands, start_stands}
 
 pub never_fault : (declared : Declared) (certificate : Certificate) (machine : Scope) → IsClosed declared certificate machine → (input : Tree) (events : List Event) → Obeys declared machine input events → RunIsAsCertified declared certificate machine input events
 never_fault declared certificate machine closed input events obeys =
     let fits = turns_fit declared certificate machine closed (start machine input) events (start_fits declared certificate machine closed input obeys.has_input) obeys.answers in
     record { raises_nothing = fits.0; as_certified = fits.1 }
 
-pub every_activity : (declared : Declared) (certificate : Certificate) (machine : Scope) → IsClosed declared certificate machine → (input : Tree) (events : List Event) → Obeys declared machine input events → ActivitiesAreAsCertified declared certificate machine input events
-every_activity declared certificate machine closed input events obeys =
-    let fits = activities_fit declared certificate machine closed (start machine input) events (start_fits declared certificate machine closed input obeys.has_input) obeys.answers in
-    record { before_each = fits.0; after_all = fits.1 }
+module _ (declared : Declared) (certificate : Certificate) (machine : Scope) (closed : IsClosed declared certificate machine) (leads : LeadsInside machine) where
+  -- an event leaves the machine's activity as certified
+  activity_kept : (a : Activity) (event : Event) → ActivityFits declared certificate a machine certificate.output → (taken : Option Step) → step machine a event ≡ taken → TakenObeys declared event.place a event.action taken → ActivityFits declared certificate (after_step a taken) machine certificate.output
+  activity_kept a event before None e obeys = before
+  activity_kept a event before (Some s) e obeys = record {
+    stands = step_stands machine leads event.place machine own_scope a event.action s before.stands e;
+    fits = (event_fits declared certificate machine closed a event before.fits (Some s) e obeys).2;
+  }
 
-pub kept_by : (group : TypeGroup) (declared : Declared) (certificate : Certificate) (machine : Scope) → IsClosed declared certificate machine → IsKeptBy group declared certificate machine
-kept_by group declared certificate machine closed = record { kept = λ a event taken fits at_group e obeys. (event_fits declared certificate machine closed a event fits (Some taken) e obeys).2 }
+  -- all activities from one on
+  activities_fit : (a : Activity) (events : List Event) → ActivityFits declared certificate a machine certificate.output → AnswersObey declared (run machine a events) → EachActivityFits declared certificate machine (run machine a events) × ActivityFits declared certificate (last_activity a (run machine a events)) machine certificate.output
+  activities_fit a [] before obeys = (tt, before)
+  activities_fit a (event ∷ events) before obeys =
+      let first = activity_kept a event before (step machine a event) refl obeys.0 in
+      let further = activities_fit (after_step a (step machine a event)) events first obeys.1 in
+      ((before, further.0), further.1)
+
+  pub every_activity : (input : Tree) (events : List Event) → Obeys declared machine input events → ActivitiesAreAsCertified declared certificate machine input events
+  every_activity input events obeys =
+      let begins : ActivityFits declared certificate (start machine input) machine certificate.output = record { stands = start_stands machine leads input; fits = start_fits declared certificate machine closed input obeys.has_input } in
+      let fits = activities_fit (start machine input) events begins obeys.answers in
+      record { before_each = fits.0; after_all = fits.1 }
+
+  pub kept_by : (group : TypeGroup) → IsKeptBy group declared certificate machine
+  kept_by group = record { kept = λ a event taken before at_group e obeys. activity_kept a event before (Some taken) e obeys }
 
 -- the history of turns that raise nothing
 in_a_row : (front back : List (List ℕ × Entry)) → TellsNoFault front → TellsNoFault back → TellsNoFault (front ++ back)

@@ -176,15 +176,15 @@ module _ (machine : Scope) (declared : Declared) (certificate : Certificate) (we
 
   -- what follows a state is there
   target_there : {n : List ℕ} {settings : Settings} {kind : Kind} {end : Option Shape} (m : List ℕ) → HasState machine certificate n settings kind end → Contains (targets_of (StateOf settings kind)) m → IsThere m
-  target_there {n} {settings} {kind} m state c = leads_there m state.has_scope (well.targets state.scope (scope_is state.has_scope) n (StateOf settings kind) (is_found state (scope_is state.has_scope)) m c)
+  target_there {n} {settings} {kind} m state c = leads_there m state.has_scope (well.leads.targets state.scope (scope_is state.has_scope) n (StateOf settings kind) (is_found state (scope_is state.has_scope)) m c)
 
   -- so is the start state of a child
   started_there : {n : List ℕ} {entry : StateShapes} {settings : Settings} {kind : Kind} {end : Option Shape} {field : List ℕ} {child : Scope} {s : Shape} → HasState machine certificate n settings kind end → Starts entry settings kind field child s → IsThere (start_of child)
   started_there {n} {settings = settings} {child = child} state (starts_branch {branches = branches} {i = i} eff b) =
       let w = branch_at b in
-      leads_there (start_of child) (has_branch state.has_scope state.among b) (subst (λ c. HasNamed c (start_of c)) w.1 (well.branch_starts state.scope (scope_is state.has_scope) n settings branches (is_found state (scope_is state.has_scope)) i w.0))
+      leads_there (start_of child) (has_branch state.has_scope state.among b) (subst (λ c. HasNamed c (start_of c)) w.1 (well.leads.branch_starts state.scope (scope_is state.has_scope) n settings branches (is_found state (scope_is state.has_scope)) i w.0))
   started_there {n} {settings = settings} {child = child} state (starts_item {items = items} {selector = selector} eff found flows) =
-      leads_there (start_of child) (has_processor state.has_scope state.among) (well.processor_starts state.scope (scope_is state.has_scope) n settings items selector child (is_found state (scope_is state.has_scope)))
+      leads_there (start_of child) (has_processor state.has_scope state.among) (well.leads.processor_starts state.scope (scope_is state.has_scope) n settings items selector child (is_found state (scope_is state.has_scope)))
 
   -- ---- entries
 
@@ -235,7 +235,7 @@ module _ (machine : Scope) (declared : Declared) (certificate : Certificate) (we
       absurd (none (settings_of row.shown) (kind_of row.shown) row.end row.stands)
   of_machine (is_undeclared state none) = refl
   of_machine (is_unknown among none) = refl
-  of_machine (is_no_start_input {expected = expected} compared h) = not_outside declared.input expected (compared_any (leads_there (start_of machine) has_itself well.start) compared) h
+  of_machine (is_no_start_input {expected = expected} compared h) = not_outside declared.input expected (compared_any (leads_there (start_of machine) has_itself well.leads.start) compared) h
   of_machine (is_broken_in_flow state e live breaks) = of_flow state e breaks
 
 -- each finding that stands

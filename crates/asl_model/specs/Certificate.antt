@@ -7,7 +7,7 @@ use Rattle.asl_model.specs.Shape.{Shape, Any, Never, Has, Inside}
 use Rattle.asl_model.specs.Faults.{Fault}
 use Rattle.asl_model.specs.Machine.{Catcher, Scope, State, Kind, Pass, Task, Choice, Wait, Succeed, Fail, Parallel, Map, settings_of, kind_of, start_of, state_named, child_scope, how_many, names_state, names_task}
 use Rattle.asl_model.specs.Flow.{Work, Finishes, Leaves, FailsWith, Asks, Splits, Raises, at_output_path, output_of, first_move}
-use Rattle.asl_model.specs.Run.{Activity, Activities, NoActivities, AndActivity, Ready, Waiting, Split, Done, Failed, Action, Move, Gives, FailsTask, Event, Outcome, Output, FailedWith, Entry, Entered, Asked, Left, Raised, TaskFailed, BranchFailed, Retried, Caught, Ended, Step, Turn, caught_input, scope_below, activity_at, child_at, start, step, run_of, last_activity, entries_of}
+use Rattle.asl_model.specs.Run.{Activity, Activities, NoActivities, AndActivity, Ready, Waiting, Split, Done, Failed, Action, Move, Gives, FailsTask, Event, Outcome, Output, FailedWith, Entry, Entered, Asked, Left, Raised, TaskFailed, BranchFailed, Retried, Caught, Ended, Step, Turn, caught_input, scope_below, activity_at, StandsIn, child_at, start, step, run_of, last_activity, entries_of}
 
 -- the shapes of a task: of its payload, and of the answers that it gives
 pub record TaskShapes : Type 0 where
@@ -323,20 +323,31 @@ pub record HasSplit (scope : Scope) (n : List ℕ) (raw : Tree) (children : Acti
   pub one_each : how_many_children children ≡ count inputs
 
 abbrev mutual
-  -- An activity is as certified, which stands in a scope with that end: what is Ready, Waiting or Split has a raw input
-  -- of its state's certified input; a Waiting has the payload that its state asks with, one that its task takes; a
-  -- Split has a child for each input that its state splits into; what is Done has an output of the scope's end.
-  pub ActivityFits : Declared → Certificate → Activity → Scope → Shape → Type 0
-  ActivityFits declared certificate (Ready n raw counts) scope end = Has (certified_input certificate n) raw
-  ActivityFits declared certificate (Waiting n raw counts payload) scope end = Has (certified_input certificate n) raw × Has (takes_of declared n) payload × (move_at scope n raw ≡ Some (Asks payload))
-  ActivityFits declared certificate (Split n raw counts children) scope end = Has (certified_input certificate n) raw × HasSplit scope n raw children × ActivitiesFit declared certificate children (scope_below scope n) (end_under certificate n (state_named n scope))
-  ActivityFits declared certificate (Done output) scope end = Has end output
-  ActivityFits declared certificate (Failed error cause) scope end = Unit {0}
+  -- The data of an activity are as certified, which stands in a scope with that end: what is Ready, Waiting or Split has
+  -- a raw input of its state's certified input; a Waiting has the payload that its state asks with, one that its task
+  -- takes; a Split has a child for each input that its state splits into; what is Done has an output of the scope's end.
+  pub DataFits : Declared → Certificate → Activity → Scope → Shape → Type 0
+  DataFits declared certificate (Ready n raw counts) scope end = Has (certified_input certificate n) raw
+  DataFits declared certificate (Waiting n raw counts payload) scope end =
+      Has (certified_input certificate n) raw × Has (takes_of declared n) payload × (move_at scope n raw ≡ Some (Asks payload))
+  DataFits declared certificate (Split n raw counts children) scope end =
+      Has (certified_input certificate n) raw × HasSplit scope n raw children
+      × EachDataFits declared certificate children (scope_below scope n) (end_under certificate n (state_named n scope))
+  DataFits declared certificate (Done output) scope end = Has end output
+  DataFits declared certificate (Failed error cause) scope end = Unit {0}
 
   -- so for each child, in the scope of its number and with that scope's end
-  pub ActivitiesFit : Declared → Certificate → Activities → (ℕ → Scope) → (ℕ → Shape) → Type 0
-  ActivitiesFit declared certificate NoActivities scopes ends = Unit {0}
-  ActivitiesFit declared certificate (AndActivity child others) scopes ends = ActivityFits declared certificate child (scopes 0) (ends 0) × ActivitiesFit declared certificate others (λ i. scopes (suc i)) (λ i. ends (suc i))
+  pub EachDataFits : Declared → Certificate → Activities → (ℕ → Scope) → (ℕ → Shape) → Type 0
+  EachDataFits declared certificate NoActivities scopes ends = Unit {0}
+  EachDataFits declared certificate (AndActivity child others) scopes ends =
+      DataFits declared certificate child (scopes 0) (ends 0)
+      × EachDataFits declared certificate others (λ i. scopes (suc i)) (λ i. ends (suc i))
+
+-- An activity is as certified, which stands in a scope with that end: at every depth each state that is Ready, Waiting or
+-- Split is one of the scope in which it stands, and the data are as certified.
+pub record ActivityFits (declared : Declared) (certificate : Certificate) (a : Activity) (scope : Scope) (end : Shape) : Type 0 where
+  pub stands : StandsIn a scope
+  pub fits : DataFits declared certificate a scope end
 
 -- the types of states, by what their moves can do
 pub data TypeGroup : Type 0 where
@@ -378,11 +389,14 @@ group_at (i ∷ p) scope (Failed error cause) = None
 -- each activity of a run that obeys is as certified: that before each turn
 abbrev pub EachActivityFits : Declared → Certificate → Scope → List Turn → Type 0
 EachActivityFits declared certificate machine [] = Unit {0}
-EachActivityFits declared certificate machine (turn ∷ turns) = ActivityFits declared certificate turn.before machine certificate.output × EachActivityFits declared certificate machine turns
+EachActivityFits declared certificate machine (turn ∷ turns) =
+    ActivityFits declared certificate turn.before machine certificate.output × EachActivityFits declared certificate machine turns
 
 -- each event at a state of that group, which is taken and whose answer obeys, leaves an activity as certified that was so
 pub record IsKeptBy (group : TypeGroup) (declared : Declared) (certificate : Certificate) (machine : Scope) : Type 0 where
-  pub kept : (a : Activity) (event : Event) (taken : Step) → ActivityFits declared certificate a machine certificate.output → group_at event.place machine a ≡ Some group → step machine a event ≡ Some taken → ActionObeys declared event.place a event.action → ActivityFits declared certificate taken.after machine certificate.output
+  pub kept : (a : Activity) (event : Event) (taken : Step) → ActivityFits declared certificate a machine certificate.output
+      → group_at event.place machine a ≡ Some group → step machine a event ≡ Some taken
+      → ActionObeys declared event.place a event.action → ActivityFits declared certificate taken.after machine certificate.output
 
 -- the activities of a run that obeys are as certified, before each turn and after the last
 pub record ActivitiesAreAsCertified (declared : Declared) (certificate : Certificate) (machine : Scope) (input : Tree) (events : List Event) : Type 0 where

@@ -2,7 +2,7 @@
 -- A machine holds what a run or a finding looks at, defaults filled in. What is read and looked at nowhere is left
 -- out: comments, `Version`, `QueryLanguage`, `ProcessorConfig`, `MaxConcurrency` (the order of events is free), and all that is
 -- time alone (`TimeoutSeconds`, `HeartbeatSeconds`, `IntervalSeconds`, `BackoffRate`, `MaxDelaySeconds`, `JitterStrategy`).
-use Rattle.std.specs.Prelude.{ℕ, zero, suc, List, [], Bool, true, false, ◌&&◌, ◌||◌, Option, Some, None, bytes_eq, if◌then◌else◌}
+use Rattle.std.specs.Prelude.{◌≡◌, ◌<◌, ℕ, zero, suc, List, [], ◌++◌, map, Contains, Bool, true, false, ◌&&◌, ◌||◌, IsTrue, Option, Some, None, is_some, option_to_list, bytes_eq, if◌then◌else◌}
 use Rattle.asl_model.specs.Tree.{Tree}
 use Rattle.asl_model.specs.Path.{Segment}
 use Rattle.asl_model.specs.Template.{Template}
@@ -178,3 +178,43 @@ names_task machine n = some_state (λ m state. bytes_eq m n && is_task (kind_of 
 abbrev pub how_many : Scopes → ℕ
 how_many NoScopes = 0
 how_many (AndScope scope others) = suc (how_many others)
+
+-- ---- where the names in a machine lead
+
+-- the scopes of a machine: its own, and those of the states in its scopes
+pub data IsScopeOf (machine : Scope) : Scope → Type 0 where
+  own_scope : IsScopeOf machine machine
+  scope_of_child : {scope : Scope} (n : List ℕ) (state : State) (i : ℕ) → IsScopeOf machine scope → state_named n scope ≡ Some state
+      → IsScopeOf machine (child_scope (kind_of state) i)
+
+-- the scope has a state of that name
+abbrev pub HasNamed : Scope → List ℕ → Type 0
+HasNamed scope n = IsTrue (is_some (state_named n scope))
+
+-- the names of the states that a type lets follow: those of a Choice
+abbrev pub targets_by : Kind → List (List ℕ)
+targets_by (Pass result) = []
+targets_by (Task resource) = []
+targets_by (Choice rules default) = map (λ (rule : Rule). rule.next) rules ++ option_to_list default
+targets_by (Wait delay) = []
+targets_by Succeed = []
+targets_by (Fail error cause) = []
+targets_by (Parallel branches) = []
+targets_by (Map items selector processor) = []
+
+-- the names of the states that may follow a state: by `Next`, by `Catch`, and by its type
+abbrev pub targets_of : State → List (List ℕ)
+targets_of (StateOf settings kind) = option_to_list settings.next ++ (map (λ (catcher : Catcher). catcher.next) settings.catchers ++ targets_by kind)
+
+-- The names in a machine lead inside its scopes: each scope's start is one of its own states, and what follows a state
+-- is a state of the same scope.
+pub record LeadsInside (machine : Scope) : Type 0 where
+  pub start : HasNamed machine (start_of machine)
+  pub branch_starts : (scope : Scope) → IsScopeOf machine scope
+      → (n : List ℕ) (settings : Settings) (branches : Scopes) → state_named n scope ≡ Some (StateOf settings (Parallel branches))
+      → (i : ℕ) → i < how_many branches → HasNamed (scope_at i branches) (start_of (scope_at i branches))
+  pub processor_starts : (scope : Scope) → IsScopeOf machine scope
+      → (n : List ℕ) (settings : Settings) (items : List Segment) (selector : Option Template) (processor : Scope)
+      → state_named n scope ≡ Some (StateOf settings (Map items selector processor)) → HasNamed processor (start_of processor)
+  pub targets : (scope : Scope) → IsScopeOf machine scope → (n : List ℕ) (state : State) → state_named n scope ≡ Some state
+      → (m : List ℕ) → Contains (targets_of state) m → HasNamed scope m

@@ -1,12 +1,10 @@
 -- The states of a machine in one list. A state's number is its position in it, counted from 0: the states of a scope in
 -- their order, each followed by those of its own scopes, depth first. The numbers are the profile's own: the standard
 -- knows states by their names alone.
-use Rattle.std.specs.Prelude.{◌≡◌, ◌<◌, ℕ, suc, List, [], ◌∷◌, ◌++◌, map, IsTrue, Option, Some, None, is_some, option_map, option_to_list, position, bytes_eq, Contains}
+use Rattle.std.specs.Prelude.{ℕ, suc, List, [], ◌∷◌, ◌++◌, map, IsTrue, Option, Some, None, option_map, position, bytes_eq}
 use Rattle.std.specs.Option.{unwrap_or}
-use Rattle.asl_model.specs.Path.{Segment}
-use Rattle.asl_model.specs.Template.{Template}
-use Rattle.asl_model.specs.Test.{Rule}
-use Rattle.asl_model.specs.Machine.{Catcher, Settings, Scope, ScopeOf, States, NoStates, AndState, State, StateOf, Kind, Pass, Task, Choice, Wait, Succeed, Fail, Parallel, Map, Scopes, NoScopes, AndScope, start_of, kind_of, state_named, scope_at, child_scope, how_many}
+pub use Rattle.asl_model.specs.Machine.{IsScopeOf, own_scope, scope_of_child, HasNamed, targets_by, targets_of}
+use Rattle.asl_model.specs.Machine.{Scope, ScopeOf, States, NoStates, AndState, State, StateOf, Kind, Pass, Task, Choice, Wait, Succeed, Fail, Parallel, Map, Scopes, NoScopes, AndScope, start_of, LeadsInside}
 use Rattle.asl_model.specs.ShapeSpelling.{are_distinct}
 use Rattle.asl_model.specs.StandsFor.{all_names}
 
@@ -114,35 +112,7 @@ table_among states = record { names = map (λ s. s.name) states; states = map (�
 abbrev pub table_of : Scope → Table
 table_of machine = table_among (map outlined (standing machine))
 
--- the scopes of a machine: its own, and those of the states in its scopes
-pub data IsScopeOf (machine : Scope) : Scope → Type 0 where
-  own_scope : IsScopeOf machine machine
-  scope_of_child : {scope : Scope} (n : List ℕ) (state : State) (i : ℕ) → IsScopeOf machine scope → state_named n scope ≡ Some state → IsScopeOf machine (child_scope (kind_of state) i)
-
--- the scope has a state of that name
-abbrev pub HasNamed : Scope → List ℕ → Type 0
-HasNamed scope n = IsTrue (is_some (state_named n scope))
-
--- the names of the states that a type lets follow: those of a Choice
-abbrev pub targets_by : Kind → List (List ℕ)
-targets_by (Pass result) = []
-targets_by (Task resource) = []
-targets_by (Choice rules default) = map (λ (rule : Rule). rule.next) rules ++ option_to_list default
-targets_by (Wait delay) = []
-targets_by Succeed = []
-targets_by (Fail error cause) = []
-targets_by (Parallel branches) = []
-targets_by (Map items selector processor) = []
-
--- the names of the states that may follow a state: by `Next`, by `Catch`, and by its type
-abbrev pub targets_of : State → List (List ℕ)
-targets_of (StateOf settings kind) = option_to_list settings.next ++ (map (λ (catcher : Catcher). catcher.next) settings.catchers ++ targets_by kind)
-
--- A machine's names lead to its states: no name stands twice, each scope's start is one of its states, and what follows
--- a state is a state of the same scope.
+-- A machine is well named: no name stands twice, and its names lead inside its scopes.
 pub record IsWellNamed (machine : Scope) : Type 0 where
   pub distinct : IsTrue (are_distinct (all_names machine))
-  pub start : HasNamed machine (start_of machine)
-  pub branch_starts : (scope : Scope) → IsScopeOf machine scope → (n : List ℕ) (settings : Settings) (branches : Scopes) → state_named n scope ≡ Some (StateOf settings (Parallel branches)) → (i : ℕ) → i < how_many branches → HasNamed (scope_at i branches) (start_of (scope_at i branches))
-  pub processor_starts : (scope : Scope) → IsScopeOf machine scope → (n : List ℕ) (settings : Settings) (items : List Segment) (selector : Option Template) (processor : Scope) → state_named n scope ≡ Some (StateOf settings (Map items selector processor)) → HasNamed processor (start_of processor)
-  pub targets : (scope : Scope) → IsScopeOf machine scope → (n : List ℕ) (state : State) → state_named n scope ≡ Some state → (m : List ℕ) → Contains (targets_of state) m → HasNamed scope m
+  pub leads : LeadsInside machine

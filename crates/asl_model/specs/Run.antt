@@ -8,7 +8,7 @@ use Rattle.asl_model.specs.Tree.{Tree, Text, Array, Object, Trees, NoTrees, AndT
 use Rattle.asl_model.specs.Path.{Segment}
 use Rattle.asl_model.specs.Placing.{placed, Places}
 use Rattle.asl_model.specs.Faults.{ResultPathMatchFailure, Fault, error_name}
-use Rattle.asl_model.specs.Machine.{Retrier, Catcher, Settings, Scope, State, Kind, Pass, Task, Choice, Wait, Succeed, Fail, Parallel, Map, settings_of, kind_of, start_of, state_named, child_scope, empty_scope}
+use Rattle.asl_model.specs.Machine.{Retrier, Catcher, Settings, Scope, State, Kind, Pass, Task, Choice, Wait, Succeed, Fail, Parallel, Map, settings_of, kind_of, start_of, state_named, child_scope, empty_scope, HasNamed}
 use Rattle.asl_model.specs.Flow.{Work, Finishes, Leaves, FailsWith, Asks, Splits, Raises, at_output_path, output_of, first_move}
 
 mutual
@@ -342,6 +342,20 @@ activity_at (i ∷ p) (Waiting n raw counts payload) = None
 activity_at (i ∷ p) (Split n raw counts children) = option_and_then (activity_at p) (child_at i children)
 activity_at (i ∷ p) (Done output) = None
 activity_at (i ∷ p) (Failed error cause) = None
+
+abbrev mutual
+  -- each state that stands in an activity, at whatever depth, is a state of the scope in which it stands
+  pub StandsIn : Activity → Scope → Type 0
+  StandsIn (Ready n raw counts) scope = HasNamed scope n
+  StandsIn (Waiting n raw counts payload) scope = HasNamed scope n
+  StandsIn (Split n raw counts children) scope = HasNamed scope n × EachStandsIn children (scope_below scope n)
+  StandsIn (Done output) scope = Unit {0}
+  StandsIn (Failed error cause) scope = Unit {0}
+
+  -- so for each child, in the scope of its number
+  pub EachStandsIn : Activities → (ℕ → Scope) → Type 0
+  EachStandsIn NoActivities scopes = Unit {0}
+  EachStandsIn (AndActivity child others) scopes = StandsIn child (scopes 0) × EachStandsIn others (λ i. scopes (suc i))
 
 -- the children with that one replaced
 abbrev pub set_child : ℕ → Activity → Activities → Activities

@@ -9,7 +9,7 @@ ghost use Rattle.asl_model.specs.Shape.{Shape, IsProperShape};
 ghost use Rattle.asl_model.specs.Written.{written_shape, written_declared, written_certificate};
 ghost use Rattle.asl_model.specs.Template.{Template, IsInOrder};
 ghost use Rattle.asl_model.specs.Test.{Rule};
-ghost use Rattle.asl_model.specs.Machine.{Scope};
+ghost use Rattle.asl_model.specs.Machine.{Scope, LeadsInside};
 ghost use Rattle.asl_model.specs.Certificate.{Declared, Certificate};
 ghost use Rattle.asl_model.specs.Json.{ReadsAsValue, ReadsAsTree, tree_of};
 ghost use Rattle.asl_model.specs.PathSpelling.{path_of, Spells, PathFault, IsRefusedPath, printed_path, have_spellings};
@@ -54,6 +54,13 @@ pub fn values_stand_for_one_thing()
     ensures no_declared_fault { (v : Data) (d : Declared) (c : RecordComplaint) → StandsForDeclared v d → HasDeclaredFault v c → ⊥ }
     ensures certificate { (v : Data) (c d : Certificate) → StandsForCertificate v c → StandsForCertificate v d → c ≡ d }
     ensures no_certificate_fault { (v : Data) (d : Certificate) (c : RecordComplaint) → StandsForCertificate v d → HasCertificateFault v c → ⊥ }
+{}
+
+/// The names in a machine that a definition stands for lead inside its scopes: each scope starts at one of its own states,
+/// and what follows a state is a state of the same scope.
+pub fn machines_as_read_lead_inside()
+    ensures value { (v : Data) (m : Scope) → StandsFor v m → LeadsInside m }
+    ensures text { (text : List ℕ) (m : Scope) → ReadsAsMachine text m → LeadsInside m }
 {}
 
 /// A tree spells at most one shape, and nothing is wrong with one that does.

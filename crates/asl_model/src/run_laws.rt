@@ -7,7 +7,7 @@ ghost use Rattle.asl_model.specs.Placing.{placed, Places};
 ghost use Rattle.asl_model.specs.Intrinsic.{Item, Pieces, cut_at_holes, ArePiecesOf};
 ghost use Rattle.asl_model.specs.Template.{Template, template_value, IsInOrder, TellsLeastFailure};
 ghost use Rattle.asl_model.specs.Test.{PatternPart, is_cut_by, IsCutBy};
-ghost use Rattle.asl_model.specs.Machine.{Scope, Settings};
+ghost use Rattle.asl_model.specs.Machine.{Scope, Settings, LeadsInside};
 ghost use Rattle.asl_model.specs.Run.{Activity, Action, Event, Step, activity_at, step_at, run_of, trace, want_of, enabled, count_at, one_higher, Trouble, trouble_of, ComesTo, AreApart, Commute, Enables, AreInLexicographicOrder};
 ghost use Rattle.asl_model.specs.Certificate.{Declared, Certificate, IsClosed, Obeys, TellsNoFault, RunIsAsCertified, ActivitiesAreAsCertified, MovesOn, Works, Nests, IsKeptBy};
 
@@ -24,27 +24,34 @@ pub fn closed_runs_tell_no_fault()
     ensures { (declared : Declared) (certificate : Certificate) (machine : Scope) → IsClosed declared certificate machine → (input : Tree) (events : List Event) → Obeys declared machine input events → TellsNoFault (trace (run_of machine input events)) }
 {}
 
-/// Every activity of an obeying run is as certified, at every nesting depth: each Ready, Waiting and Split has a raw
-/// input of its state's certified input; each Waiting the payload that its state asks with, one that its task takes;
-/// each Split one child a branch, or one an element of the list found for its raw input, each in its own scope; each
-/// Done an output of its scope's end.
+/// Every activity of an obeying run is as certified, at every nesting depth, where the machine's names lead inside its
+/// scopes: the state of each Ready, Waiting and Split is one of the scope in which it stands, and its raw input is of the
+/// state's certified input; each Waiting has the payload that its state asks with, one that its task takes; each Split
+/// one child a branch, or one an element of the list found for its raw input, each in its own scope; each Done an output
+/// of its scope's end.
 pub fn every_activity_is_as_certified()
-    ensures { (declared : Declared) (certificate : Certificate) (machine : Scope) → IsClosed declared certificate machine → (input : Tree) (events : List Event) → Obeys declared machine input events → ActivitiesAreAsCertified declared certificate machine input events }
+    ensures { (declared : Declared) (certificate : Certificate) (machine : Scope) → IsClosed declared certificate machine
+        → LeadsInside machine → (input : Tree) (events : List Event) → Obeys declared machine input events
+        → ActivitiesAreAsCertified declared certificate machine input events }
 {}
 
-/// An event at a Pass, a Succeed or a Fail, wherever it is nested, leaves every activity as certified.
+/// An event at a Pass, a Succeed or a Fail, wherever it is nested, leaves every activity as certified, where the machine's
+/// names lead inside its scopes. So it is for the machine of every definition.
 pub fn moving_on_keeps_activities_as_certified()
-    ensures { (declared : Declared) (certificate : Certificate) (machine : Scope) → IsClosed declared certificate machine → IsKeptBy MovesOn declared certificate machine }
+    ensures { (declared : Declared) (certificate : Certificate) (machine : Scope) → IsClosed declared certificate machine
+        → LeadsInside machine → IsKeptBy MovesOn declared certificate machine }
 {}
 
-/// An event at a Wait, a Choice or a Task, with retry and catch, leaves every activity as certified.
+/// So does an event at a Wait, a Choice or a Task, with retry and catch.
 pub fn working_keeps_activities_as_certified()
-    ensures { (declared : Declared) (certificate : Certificate) (machine : Scope) → IsClosed declared certificate machine → IsKeptBy Works declared certificate machine }
+    ensures { (declared : Declared) (certificate : Certificate) (machine : Scope) → IsClosed declared certificate machine
+        → LeadsInside machine → IsKeptBy Works declared certificate machine }
 {}
 
-/// An event at a Parallel or a Map, which splits, joins or abandons its children, leaves every activity as certified.
+/// So does an event at a Parallel or a Map, which splits, joins or abandons its children.
 pub fn nesting_keeps_activities_as_certified()
-    ensures { (declared : Declared) (certificate : Certificate) (machine : Scope) → IsClosed declared certificate machine → IsKeptBy Nests declared certificate machine }
+    ensures { (declared : Declared) (certificate : Certificate) (machine : Scope) → IsClosed declared certificate machine
+        → LeadsInside machine → IsKeptBy Nests declared certificate machine }
 {}
 
 /// What stands apart from an event's place stays as it was.

@@ -54,14 +54,14 @@ starts_named machine scope well is n (StateOf settings (Parallel branches)) e ra
     splits_by _ (effective_input settings raw) inputs (λ v g.
     let same : branch_inputs branches v ≡ inputs = cc in
     subst (λ us. EachIsNamed names (started (child_scope (Parallel branches)) us)) same
-    (each_branch names branches v (λ i within. is_named machine (scope_at i branches) well (scope_of_child n (StateOf settings (Parallel branches)) i is e) (start_of (scope_at i branches)) (well.branch_starts scope is n settings branches e i within)))) f
+    (each_branch names branches v (λ i within. is_named machine (scope_at i branches) well (scope_of_child n (StateOf settings (Parallel branches)) i is e) (start_of (scope_at i branches)) (well.leads.branch_starts scope is n settings branches e i within)))) f
 starts_named machine scope well is n (StateOf settings (Map items selector processor)) e raw inputs f =
-    each_item (table_of machine).names processor inputs (is_named machine processor well (scope_of_child n (StateOf settings (Map items selector processor)) 0 is e) (start_of processor) (well.processor_starts scope is n settings items selector processor e))
+    each_item (table_of machine).names processor inputs (is_named machine processor well (scope_of_child n (StateOf settings (Map items selector processor)) 0 is e) (start_of processor) (well.leads.processor_starts scope is n settings items selector processor e))
 
 -- the names of a state lead to states
 leads_on : (machine scope : Scope) → IsWellNamed machine → IsScopeOf machine scope → (n : List ℕ) (state : State) → state_named n scope ≡ Some state → LeadsOn (table_of machine).names (outline state)
 leads_on machine scope well is n state e = record {
-  targets = λ m follows. is_named machine scope well is m (well.targets scope is n state e m (subst (λ ns. Contains ns m) (targets_outlined state) follows));
+  targets = λ m follows. is_named machine scope well is m (well.leads.targets scope is n state e m (subst (λ ns. Contains ns m) (targets_outlined state) follows));
   starts = λ raw inputs split. subst (EachIsNamed (table_of machine).names) (sym (started_outlined state inputs)) (starts_named machine scope well is n state e raw inputs (sym (first_move_outlined state raw) ∙ split));
 }
 

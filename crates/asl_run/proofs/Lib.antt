@@ -4,7 +4,6 @@ pub mod FewEntries
 pub mod Following
 pub mod GoingOn
 pub mod Inputs
-pub mod KeptStanding
 pub mod Leading
 pub mod Misfits
 pub mod Numbers

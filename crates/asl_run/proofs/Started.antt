@@ -14,7 +14,7 @@ use Rattle.asl_run.specs.declared.activities.Visit.{Visit}
 use Rattle.asl_run.specs.declared.nodes.Node.{Node}
 use Rattle.asl_run.specs.declared.nodes.Node.TheVariants.{Ready}
 use Rattle.asl_tree.specs.View.{view}
-use Rattle.asl_run.proofs.KeptStanding.{start_stands}
+use Rattle.asl_model.proofs.RunStands.{start_stands}
 use Rattle.asl_run.proofs.Leading.{is_named}
 use Rattle.asl_run.proofs.OpenPlaces.{adds_to_none, enabled_is_open}
 
@@ -31,8 +31,8 @@ first_placed (ScopeOf start (AndState n state others)) h = refl
 start_named : (machine : Scope) → IsWellNamed machine → (i : ℕ) → first_start (table_of machine) ≡ Some i → name_in (table_of machine).names i ≡ start_of machine
 start_named machine well i e =
     let names = (table_of machine).names in
-    let number : number_in names (start_of machine) ≡ i = some_inj (sym (first_placed machine well.start) ∙ e) in
-    ap (name_in names) (sym number) ∙ (is_named machine machine well own_scope (start_of machine) well.start).again
+    let number : number_in names (start_of machine) ≡ i = some_inj (sym (first_placed machine well.leads.start) ∙ e) in
+    ap (name_in names) (sym number) ∙ (is_named machine machine well own_scope (start_of machine) well.leads.start).again
 
 -- the machine's table has that start
 pub start_found : (machine : Machine) (m : Scope) → Shows machine m → (p : Placement) → slice_get (table_view machine).placements 0 ≡ Some p → name_in (table_view machine).names p.start ≡ start_of m
@@ -44,7 +44,7 @@ start_found machine m shown p e =
 pub start_missing : {A : Type 0} (machine : Machine) (m : Scope) → Shows machine m → slice_get (table_view machine).placements 0 ≡ None → A
 start_missing {A = A} machine m shown e =
     subst (λ (t : Table). slice_get t.placements 0 ≡ None → A) (sym shown.table)
-    (λ f. none_some (sym (ap (option_map (λ (q : Placement). q.start)) f) ∙ first_placed m shown.well_named.start)) e
+    (λ f. none_some (sym (ap (option_map (λ (q : Placement). q.start)) f) ∙ first_placed m shown.well_named.leads.start)) e
 
 -- the table of one node that is about to enter the start
 pub is_start : (m : Scope) (names : List (List ℕ)) (visit : Visit) (nodes : List Node) → nodes ≡ Ready visit ∷ [] → name_in names visit.state ≡ start_of m → visit.counts.items ≡ [] → shown_at names nodes 0 ≡ model.start m (view visit.raw.value)
@@ -52,7 +52,7 @@ is_start m names visit nodes is named none = ap (λ (l : List Node). shown_at na
 
 -- stands in the machine's scope
 pub starts_standing : (machine : Machine) (m : Scope) → Shows machine m → (a : model.Activity) (input : Tree) → a ≡ model.start m input → StandsIn a m
-starts_standing machine m shown a input is = subst (λ b. StandsIn b m) (sym is) (start_stands m shown.well_named input)
+starts_standing machine m shown a input is = subst (λ b. StandsIn b m) (sym is) (start_stands m shown.well_named.leads input)
 
 -- the places that were added to none are all that want an event
 pub all_open : (nodes all : List Node) (i : ℕ) (place : List ℕ) (before after : List (List ℕ × model.Want)) → nodes ≡ all → i ≡ 0 → place ≡ [] → before ≡ [] → AddsPlaces nodes i place before after → (names : List (List ℕ)) → after ≡ open_in (shown_at names all 0)

@@ -9,7 +9,7 @@ use Rattle.asl_run.specs.Stepping.{RefusedSo, StepsIn, Steps}
 use Rattle.asl_run.specs.declared.entries.Entry.{Entry}
 use Rattle.asl_run.specs.declared.stepping.StepRefusal.{StepRefusal}
 use Rattle.asl_run.specs.declared.stepping.StepRefusal.TheVariants.{NoSuchPlace, NotEnabled, OutOfMemory}
-use Rattle.asl_run.proofs.KeptStanding.{child_stands, scope_inside}
+use Rattle.asl_model.proofs.RunStands.{child_stands, scope_inside}
 
 -- a child put where it stood changes nothing
 same_set : (i : ℕ) (children : Activities) (child : Activity) → child_at i children ≡ Some child → set_child i child children ≡ children

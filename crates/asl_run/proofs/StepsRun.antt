@@ -15,14 +15,14 @@ use Rattle.asl_run.specs.declared.entries.Entry.{Entry}
 use Rattle.asl_run.specs.declared.entries.Event.{Event}
 use Rattle.asl_run.specs.declared.stepping.StepRefusal.{StepRefusal}
 use Rattle.asl_run.specs.declared.stepping.StepRefusal.TheVariants.{NoSuchPlace, NotEnabled, OutOfMemory}
-use Rattle.asl_run.proofs.KeptStanding.{step_stands}
+use Rattle.asl_model.proofs.RunStands.{step_stands}
 
 -- its states stand in their scopes
 pub still_stands : (machine : Machine) (m : Scope) (place : List ℕ) (a b : model.Activity) (action : model.Action) (r : Result (Vec Entry Global) StepRefusal) → Shows machine m → StandsIn a m → Steps machine place place a b action r → StandsIn b m
 still_stands machine m place a b action r shown stands h = go r (h.steps m m shown own_scope stands)
   where
     go : (answer : Result (Vec Entry Global) StepRefusal) → StepsIn m place place a b action answer → StandsIn b m
-    go (Ok entries) s = subst (λ c. StandsIn c m) (sym s.taken.left) (step_stands m shown.well_named place m own_scope a action s.taken.step stands s.taken.is)
+    go (Ok entries) s = subst (λ c. StandsIn c m) (sym s.taken.left) (step_stands m shown.well_named.leads place m own_scope a action s.taken.step stands s.taken.is)
     go (Err refusal) s = subst (λ c. StandsIn c m) (sym s.unchanged) stands
 
 -- ---- the answers

@@ -7,7 +7,7 @@ use Rattle.asl_model.specs.Numbering.{IsScopeOf, own_scope, IsWellNamed, table_o
 use Rattle.asl_model.specs.Run as model
 use Rattle.asl_model.specs.Run.{activity_at, child_at, scope_below}
 use Rattle.asl_model.proofs.RunOptions.{some_inj, none_some}
-use Rattle.asl_run.proofs.KeptStanding.{child_stands, scope_inside}
+use Rattle.asl_model.proofs.RunStands.{child_stands, scope_inside}
 use Rattle.asl_run.proofs.Leading.{IsFound, is_found}
 use Rattle.asl_run.proofs.Tables.{place_shown, shown_here}
 use Rattle.asl_run.specs.Nodes.{IsTable, in_table, number_from, range_of, shown_at, shown_from, shown_over}

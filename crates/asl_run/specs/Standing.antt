@@ -3,8 +3,9 @@ use Rattle.std.specs.Prelude.{◌≡◌, ℕ, suc, List, [], ◌∷◌, ◌++◌
 use Rattle.std.specs.Option.{unwrap_or}
 use Rattle.asl_model.specs.Flow.{Splits, first_move}
 use Rattle.asl_model.specs.Machine.{Scope, State, kind_of, child_scope}
-use Rattle.asl_model.specs.Numbering.{HasNamed, targets_of}
-use Rattle.asl_model.specs.Run.{Activity, Activities, NoActivities, AndActivity, Ready, Waiting, Split, Done, Failed, started, scope_below}
+use Rattle.asl_model.specs.Numbering.{targets_of}
+pub use Rattle.asl_model.specs.Run.{StandsIn, EachStandsIn}
+use Rattle.asl_model.specs.Run.{Activity, Activities, NoActivities, AndActivity, Ready, Waiting, Split, Done, Failed, started}
 use Rattle.asl_model.specs.Tree.{Tree, Trees}
 
 -- a text that is longer than each of these names, so none of them
@@ -47,17 +48,3 @@ MayFollow state (Some n) = Contains (targets_of state) n
 abbrev pub children_of : List Activity → Activities
 children_of [] = NoActivities
 children_of (a ∷ others) = AndActivity a (children_of others)
-
-abbrev mutual
-  -- each state that stands in an activity is a state of its scope
-  pub StandsIn : Activity → Scope → Type 0
-  StandsIn (Ready n raw counts) scope = HasNamed scope n
-  StandsIn (Waiting n raw counts payload) scope = HasNamed scope n
-  StandsIn (Split n raw counts children) scope = HasNamed scope n × EachStandsIn children (scope_below scope n)
-  StandsIn (Done output) scope = Unit {0}
-  StandsIn (Failed error cause) scope = Unit {0}
-
-  -- so for each child, in the scope of its number
-  pub EachStandsIn : Activities → (ℕ → Scope) → Type 0
-  EachStandsIn NoActivities scopes = Unit {0}
-  EachStandsIn (AndActivity child others) scopes = StandsIn child (scopes 0) × EachStandsIn others (λ i. scopes (suc i))

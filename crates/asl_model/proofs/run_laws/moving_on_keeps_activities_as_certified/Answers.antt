@@ -3,4 +3,4 @@ use Rattle.asl_model.proofs.RunLaws.{kept_by}
 use Rattle.asl_model.proofs.run_laws.moving_on_keeps_activities_as_certified.Goals as goal
 
 pub returns : goal.returns
-returns c = kept_by MovesOn
+returns c = λ declared certificate machine closed leads. kept_by declared certificate machine closed leads MovesOn

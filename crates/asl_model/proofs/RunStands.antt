@@ -7,13 +7,11 @@ use Rattle.asl_model.specs.Path.{Segment}
 use Rattle.asl_model.specs.Template.{Template}
 use Rattle.asl_model.specs.Test.{Rule, truth}
 use Rattle.asl_model.specs.Faults.{Fault, error_name, and_then}
-use Rattle.asl_model.specs.Machine.{Scope, Scopes, NoScopes, AndScope, State, StateOf, Settings, Catcher, Kind, Pass, Task, Choice, Wait, Succeed, Fail, Parallel, Map, settings_of, kind_of, start_of, state_named, scope_at, child_scope, how_many}
-use Rattle.asl_model.specs.Numbering.{IsScopeOf, scope_of_child, HasNamed, targets_by, targets_of, IsWellNamed}
+use Rattle.asl_model.specs.Machine.{Scope, Scopes, NoScopes, AndScope, State, StateOf, Settings, Catcher, Kind, Pass, Task, Choice, Wait, Succeed, Fail, Parallel, Map, settings_of, kind_of, start_of, state_named, scope_at, child_scope, how_many, IsScopeOf, scope_of_child, HasNamed, targets_by, targets_of, LeadsInside}
 use Rattle.asl_model.specs.Flow.{Work, Finishes, Leaves, FailsWith, Asks, Splits, Raises, works_on, by_truth, chosen, delay_in, branch_inputs, item_inputs, map_items, effective_input, at_output_path, output_of, work_of, first_move}
-use Rattle.asl_model.specs.Run.{Activity, Ready, Waiting, Split, Done, Failed, Activities, NoActivities, AndActivity, Action, Move, Gives, FailsTask, Step, Trouble, Retries, Catches, Misfits, Escapes, Joining, AllDone, OneFailed, StillRunning, caught_input, caught_as, caught_by, catching, takes_error, retrying, unless_retrying, trouble_of, by_trouble, troubled, leaves_with, started, by_work, joining, join_error, joins, moves_ready, moves_waiting, moves_split, acts, scope_under, scope_below, child_at, set_child, step_at, start}
+use Rattle.asl_model.specs.Run.{Activity, Ready, Waiting, Split, Done, Failed, Activities, NoActivities, AndActivity, Action, Move, Gives, FailsTask, Step, Trouble, Retries, Catches, Misfits, Escapes, Joining, AllDone, OneFailed, StillRunning, caught_input, caught_as, caught_by, catching, takes_error, retrying, unless_retrying, trouble_of, by_trouble, troubled, leaves_with, started, by_work, joining, join_error, joins, moves_ready, moves_waiting, moves_split, acts, scope_under, scope_below, child_at, set_child, step_at, start, StandsIn, EachStandsIn}
 use Rattle.asl_model.proofs.RunOptions.{some_inj, none_some, same_ok, ok_or_err}
 use Rattle.asl_model.proofs.RunApart.{step_below}
-use Rattle.asl_run.specs.Standing.{StandsIn, EachStandsIn}
 
 -- where one follows, it is a state of the scope
 abbrev Follows : Scope → Option (List ℕ) → Type 0
@@ -29,12 +27,12 @@ record IsPlaced (scope : Scope) (n : List ℕ) (state : State) : Type 0 where
   branch : (settings : Settings) (branches : Scopes) → state ≡ StateOf settings (Parallel branches) → (i : ℕ) → i < how_many branches → HasNamed (scope_at i branches) (start_of (scope_at i branches))
   processor : (settings : Settings) (items : List Segment) (selector : Option Template) (inner : Scope) → state ≡ StateOf settings (Map items selector inner) → HasNamed inner (start_of inner)
 
-is_placed : (machine : Scope) → IsWellNamed machine → (scope : Scope) → IsScopeOf machine scope → (n : List ℕ) (state : State) → state_named n scope ≡ Some state → IsPlaced scope n state
-is_placed machine well scope inside n state e = record {
+is_placed : (machine : Scope) → LeadsInside machine → (scope : Scope) → IsScopeOf machine scope → (n : List ℕ) (state : State) → state_named n scope ≡ Some state → IsPlaced scope n state
+is_placed machine leads scope inside n state e = record {
   here = ap is_some e;
-  targets = λ m h. well.targets scope inside n state e m h;
-  branch = λ settings branches is i h. well.branch_starts scope inside n settings branches (e ∙ ap Some is) i h;
-  processor = λ settings items selector inner is. well.processor_starts scope inside n settings items selector inner (e ∙ ap Some is);
+  targets = λ m h. leads.targets scope inside n state e m h;
+  branch = λ settings branches is i h. leads.branch_starts scope inside n settings branches (e ∙ ap Some is) i h;
+  processor = λ settings items selector inner is. leads.processor_starts scope inside n settings items selector inner (e ∙ ap Some is);
 }
 
 to_next : (scope : Scope) (n : List ℕ) (state : State) → IsPlaced scope n state → Follows scope (settings_of state).next
@@ -186,23 +184,23 @@ split_stands scope n raw counts children Move state s h m = joins_stand scope n 
 split_stands scope n raw counts children (Gives answer) state s h m = none_some m
 split_stands scope n raw counts children (FailsTask error cause) state s h m = none_some m
 
-module _ (machine : Scope) (well : IsWellNamed machine) where
+module _ (machine : Scope) (leads : LeadsInside machine) where
   acts_stands : (scope : Scope) → IsScopeOf machine scope → (a : Activity) (action : Action) (s : Step) → acts scope a action ≡ Some s → StandsIn s.after scope
   acts_stands scope inside (Ready n raw counts) action s e = go (state_named n scope) refl e
     where
       go : (found : Option State) → state_named n scope ≡ found → option_and_then (moves_ready n raw counts action) found ≡ Some s → StandsIn s.after scope
       go None f g = none_some g
-      go (Some state) f g = ready_stands scope n raw counts action state s f (is_placed machine well scope inside n state f) g
+      go (Some state) f g = ready_stands scope n raw counts action state s f (is_placed machine leads scope inside n state f) g
   acts_stands scope inside (Waiting n raw counts payload) action s e = go (state_named n scope) refl e
     where
       go : (found : Option State) → state_named n scope ≡ found → option_and_then (moves_waiting n raw counts action) found ≡ Some s → StandsIn s.after scope
       go None f g = none_some g
-      go (Some state) f g = waiting_stands scope n raw counts action state s (is_placed machine well scope inside n state f) g
+      go (Some state) f g = waiting_stands scope n raw counts action state s (is_placed machine leads scope inside n state f) g
   acts_stands scope inside (Split n raw counts children) action s e = go (state_named n scope) refl e
     where
       go : (found : Option State) → state_named n scope ≡ found → option_and_then (moves_split n raw counts children action) found ≡ Some s → StandsIn s.after scope
       go None f g = none_some g
-      go (Some state) f g = split_stands scope n raw counts children action state s (is_placed machine well scope inside n state f) g
+      go (Some state) f g = split_stands scope n raw counts children action state s (is_placed machine leads scope inside n state f) g
   acts_stands scope inside (Done output) action s e = none_some e
   acts_stands scope inside (Failed error cause) action s e = none_some e
 
@@ -229,18 +227,18 @@ scope_inside machine scope inside n h i = go (state_named n scope) refl h
     go (Some state) e some = scope_of_child n state i inside e
 
 -- a step at a place leaves states that stand in their scopes
-pub step_stands : (machine : Scope) → IsWellNamed machine → (p : List ℕ) (scope : Scope) → IsScopeOf machine scope → (a : Activity) (action : Action) (s : Step) → StandsIn a scope → step_at p scope a action ≡ Some s → StandsIn s.after scope
-step_stands machine well [] scope inside a action s h e = acts_stands machine well scope inside a action s e
-step_stands machine well (i ∷ p) scope inside (Ready n raw counts) action s h e = none_some e
-step_stands machine well (i ∷ p) scope inside (Waiting n raw counts payload) action s h e = none_some e
-step_stands machine well (i ∷ p) scope inside (Split n raw counts children) action s h e =
+pub step_stands : (machine : Scope) → LeadsInside machine → (p : List ℕ) (scope : Scope) → IsScopeOf machine scope → (a : Activity) (action : Action) (s : Step) → StandsIn a scope → step_at p scope a action ≡ Some s → StandsIn s.after scope
+step_stands machine leads [] scope inside a action s h e = acts_stands machine leads scope inside a action s e
+step_stands machine leads (i ∷ p) scope inside (Ready n raw counts) action s h e = none_some e
+step_stands machine leads (i ∷ p) scope inside (Waiting n raw counts payload) action s h e = none_some e
+step_stands machine leads (i ∷ p) scope inside (Split n raw counts children) action s h e =
     let b = step_below i p scope n raw counts children action s e in
     let child = child_stands i children (scope_below scope n) b.child b.stands h.1 in
-    let inner = step_stands machine well p (scope_below scope n i) (scope_inside machine scope inside n h.0 i) b.child action b.inner child b.steps in
+    let inner = step_stands machine leads p (scope_below scope n i) (scope_inside machine scope inside n h.0 i) b.child action b.inner child b.steps in
     subst (λ (t : Step). StandsIn t.after scope) b.whole (h.0, set_stands i b.inner.after children (scope_below scope n) inner h.1)
-step_stands machine well (i ∷ p) scope inside (Done output) action s h e = none_some e
-step_stands machine well (i ∷ p) scope inside (Failed error cause) action s h e = none_some e
+step_stands machine leads (i ∷ p) scope inside (Done output) action s h e = none_some e
+step_stands machine leads (i ∷ p) scope inside (Failed error cause) action s h e = none_some e
 
 -- the start stands in the machine's own scope
-pub start_stands : (machine : Scope) → IsWellNamed machine → (input : Tree) → StandsIn (start machine input) machine
-start_stands machine well input = well.start
+pub start_stands : (machine : Scope) → LeadsInside machine → (input : Tree) → StandsIn (start machine input) machine
+start_stands machine leads input = leads.start
