@@ -1,5 +1,5 @@
 -- Worked examples of what is printed.
-use Rattle.std.specs.Prelude.{◌≡◌, [], ◌∷◌, map, codes, refl}
+use Rattle.std.specs.Prelude.{◌≡◌, ℕ, List, [], ◌∷◌, map, codes, refl}
 use Rattle.std.specs.Fmt.{digits}
 use Rattle.serde_json.proofs.OnLiterals.{serde_json_on_literals}
 use Rattle.asl_model.specs.Finding as finding
@@ -7,6 +7,10 @@ use Rattle.asl_model.specs.Records as records
 use Rattle.asl_model.specs.DefinitionTable as definition
 use Rattle.asl_model.specs.ShapeSpelling.{BadType}
 use Rattle.asl_model.specs.Texts.{DefinitionText, DeclaredText, CertificateText, AnswersText, NotJson, BadDefinition, BadRecord, BadAnswer, NoMemory}
+use Rattle.asl_model.specs.Faults.{ResultPathMatchFailure}
+use Rattle.asl_model.specs.Tree.{Null}
+use Rattle.asl_model.specs.Run.{Entry, Entered, Raised}
+use Rattle.asl_model.specs.TracePrinted.{trace_text, HasNoRaiseLine, is_first_line, is_later_line}
 use Rattle.asl_model.specs.Verdict.{Accepted, Rejected}
 use Rattle.asl_model.specs.Printed.{verdict_text, refusal_line, refusal_status, ClosingVerdict, ClosingRun, ClosingCertificate, ClosingNotSettled, ClosingFault, RefusedText, TooLong, ReadFailed, WriteFailed, OutOfMemory, RunOutput, RunFailed, NoAnswer, StepsSpent, InputShape, AnswerShape, closing_line, closing_status, definition_line, declared_line, certificate_line}
 
@@ -42,6 +46,17 @@ no_memory = (refl, refl)
 answer_not_of_its_shape : (closing_line (ClosingRun (AnswerShape (codes "A"))) ≡ codes "answer not of its shape \"A\"\n") × (closing_status (ClosingRun (AnswerShape (codes "A"))) ≡ 3)
 unfolding serde_json_on_literals
 answer_not_of_its_shape = (refl, refl)
+
+-- a Raise line is seen among the lines of a trace, wherever it stands
+abbrev misfit : List ℕ × Entry
+misfit = ([], Raised (codes "A") (record { error = ResultPathMatchFailure; field = codes "ResultPath" }))
+
+abbrev with_a_fault : List ℕ
+with_a_fault = trace_text (([], Entered (codes "A") Null) ∷ misfit ∷ [])
+
+raise_line_is_seen : HasNoRaiseLine with_a_fault → ⊥
+unfolding serde_json_on_literals
+raise_line_is_seen h = h.none (codes "{\"at\":[],\"entry\":\"Raise\",\"error\":\"States.ResultPathMatchFailure\",\"field\":\"ResultPath\",\"state\":\"A\"}") (is_later_line (is_first_line refl)) (record { place = []; state = codes "A"; fault = record { error = ResultPathMatchFailure; field = codes "ResultPath" }; same = refl })
 
 -- the first three lines, the rest isn't looked at; and where lines are missing
 three_lines : (definition_line (codes "a\nb\nc\nd") ≡ codes "a") × (declared_line (codes "a\nb\nc\nd") ≡ codes "b") × (certificate_line (codes "a\nb\nc\nd") ≡ codes "c")

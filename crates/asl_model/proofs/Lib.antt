@@ -80,6 +80,7 @@ pub mod SpellingWritten
 pub mod StandingStates
 pub mod TargetsAmong
 pub mod TemplateGrammar
+pub mod TraceLines
 pub mod WellNamed
 pub mod WidestFindings
 pub mod WrittenNesting

@@ -1,10 +1,10 @@
 -- The lines of a run's trace (the profile's own format): each entry is one line of compact JSON.
-use Rattle.std.specs.Prelude.{ℕ, pos, List, [], ◌∷◌, ◌++◌, codes}
+use Rattle.std.specs.Prelude.{◌≡◌, ℕ, pos, List, [], ◌∷◌, ◌++◌, codes}
 use Rattle.asl_model.specs.Tree.{Tree, Integer, Text, Array, Object, Trees, NoTrees, AndTree, Fields, NoFields, AndField}
-use Rattle.asl_model.specs.Faults.{error_name}
+use Rattle.asl_model.specs.Faults.{Fault, error_name}
 use Rattle.asl_model.specs.Run.{Outcome, Output, FailedWith, Entry, Entered, Asked, Left, Raised, TaskFailed, BranchFailed, Retried, Caught, Ended}
 use Rattle.asl_model.specs.Json.{compact_text}
-use Rattle.asl_model.specs.Printed.{line_break}
+use Rattle.asl_model.specs.Printed.{line_break, first_line, further_lines}
 
 -- a place: the numbers of the children on the way
 abbrev pub numbers : List ℕ → Trees
@@ -56,3 +56,21 @@ entry_line e = compact_text (entry_tree e.0 e.1) ++ line_break
 abbrev pub trace_text : List (List ℕ × Entry) → List ℕ
 trace_text [] = []
 trace_text (e ∷ es) = entry_line e ++ trace_text es
+
+-- ---- lines of a text
+
+-- a line of the text: what stands before its first line break, or a line of what stands behind that
+pub data IsLineOf : List ℕ → List ℕ → Type 0 where
+  is_first_line : {line text : List ℕ} → line ≡ first_line text → IsLineOf line text
+  is_later_line : {line text : List ℕ} → IsLineOf line (further_lines text) → IsLineOf line text
+
+-- the line tells a data-flow fault, at some place and of some state
+pub record IsRaiseLine (line : List ℕ) : Type 0 where
+  pub place : List ℕ
+  pub state : List ℕ
+  pub fault : Fault
+  pub same : line ≡ compact_text (entry_tree place (Raised state fault))
+
+-- no line of the text tells a data-flow fault
+pub record HasNoRaiseLine (text : List ℕ) : Type 0 where
+  pub none : (line : List ℕ) → IsLineOf line text → IsRaiseLine line → ⊥

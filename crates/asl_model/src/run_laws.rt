@@ -8,7 +8,8 @@ ghost use Rattle.asl_model.specs.Intrinsic.{Item, Pieces, cut_at_holes, ArePiece
 ghost use Rattle.asl_model.specs.Template.{Template, template_value, IsInOrder, TellsLeastFailure};
 ghost use Rattle.asl_model.specs.Test.{PatternPart, is_cut_by, IsCutBy};
 ghost use Rattle.asl_model.specs.Machine.{Scope, Settings, LeadsInside};
-ghost use Rattle.asl_model.specs.Run.{Activity, Action, Event, Step, activity_at, step_at, run_of, trace, want_of, enabled, count_at, one_higher, Trouble, trouble_of, ComesTo, AreApart, Commute, Enables, AreInLexicographicOrder};
+ghost use Rattle.asl_model.specs.Run.{Activity, Action, Entry, Event, Step, activity_at, step_at, run_of, trace, want_of, enabled, count_at, one_higher, Trouble, trouble_of, ComesTo, AreApart, Commute, Enables, AreInLexicographicOrder};
+ghost use Rattle.asl_model.specs.TracePrinted.{HasNoRaiseLine, trace_text};
 ghost use Rattle.asl_model.specs.Certificate.{Declared, Certificate, IsClosed, Obeys, TellsNoFault, RunIsAsCertified, ActivitiesAreAsCertified, MovesOn, Works, Nests, IsKeptBy};
 
 /// Closed runs never fault: where a certificate is closed for a machine and declared shapes, then for every input and
@@ -22,6 +23,11 @@ pub fn closed_runs_never_fault()
 /// Closed runs tell no fault: under the same premises the history of the run has no entry of a data-flow fault.
 pub fn closed_runs_tell_no_fault()
     ensures { (declared : Declared) (certificate : Certificate) (machine : Scope) → IsClosed declared certificate machine → (input : Tree) (events : List Event) → Obeys declared machine input events → TellsNoFault (trace (run_of machine input events)) }
+{}
+
+/// The lines of a history without a data-flow fault have no Raise line among them.
+pub fn faultless_traces_have_no_raise_line()
+    ensures { (told : List (List ℕ × Entry)) → TellsNoFault told → HasNoRaiseLine (trace_text told) }
 {}
 
 /// Every activity of an obeying run is as certified, at every nesting depth, where the machine's names lead inside its

@@ -1,6 +1,7 @@
 pub mod Failures
 pub mod LineSteps
 pub mod Promises
+pub mod RaiseLines
 pub mod RefusedAnswers
 pub mod RefusedTexts
 pub mod Replies

@@ -1,7 +1,13 @@
 //! What a yes means for what stands in the midst of a run. The functions here do nothing: their contracts are the laws.
 
+ghost use Rattle.std.specs.Prelude.{List, Option, Some, ℕ};
+ghost use Rattle.asl_model.specs.Headline.{NeverFaults};
 ghost use Rattle.asl_model.specs.Machine.{Scope, LeadsInside};
 ghost use Rattle.asl_model.specs.Certificate.{Declared, Certificate, IsClosed, MovesOn, Works, Nests, IsKeptBy};
+ghost use Rattle.asl_model.specs.Printed.{RunEnd};
+ghost use Rattle.asl_model.specs.TracePrinted.{HasNoRaiseLine};
+ghost use Rattle.asl_tool.specs.Runs.{RunsTexts};
+ghost use Rattle.asl_tool.specs.declared.runs.Pick.{Pick};
 
 /// An event at a Pass, a Succeed or a Fail, wherever it is nested, leaves every activity of a run as certified: each state
 /// one of the scope in which it stands, its raw input of its certified input, an ended scope's output of the shape
@@ -29,4 +35,16 @@ pub fn nesting_activities_stay_as_certified()
         → LeadsInside machine → IsKeptBy Nests declared certificate machine }
 {
     asl_model::run_laws::nesting_keeps_activities_as_certified();
+}
+
+/// Where `verify_texts` says yes, no run of the same definition with the same declared shapes tells a data-flow fault:
+/// among the lines that `run_texts` writes there is no Raise line, whatever the input and the answers are, in whatever
+/// order the places are picked, and after however many events the run ends.
+pub fn verified_runs_write_no_raise_line()
+    ensures { (definition declared certificate : List ℕ) → NeverFaults definition declared certificate
+        → (input : List ℕ) (known : Option (List ℕ)) (order : Pick) (most : ℕ) (end : RunEnd) (text : List ℕ)
+        → RunsTexts definition (Some declared) input known order most end text → HasNoRaiseLine text }
+{
+    asl_model::reading_laws::texts_have_one_meaning();
+    asl_model::run_laws::faultless_traces_have_no_raise_line();
 }
