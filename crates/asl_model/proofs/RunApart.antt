@@ -1,8 +1,8 @@
 -- Events at places apart: one leaves the other's place as it was, and they commute.
-use Rattle.std.proofs.Common.{◌≡◌, ◌≢◌, refl, sym, ap, ◌∙◌, subst, ℕ, zero, suc, List, ◌∷◌, Option, Some, None, option_map, option_and_then}
+use Rattle.std.proofs.Common.{◌≡◌, ◌≢◌, refl, sym, ap, ◌∙◌, subst, ℕ, zero, suc, List, [], ◌∷◌, ◌++◌, Option, Some, None, option_map, option_and_then}
 use Rattle.asl_model.specs.Tree.{Tree}
 use Rattle.asl_model.specs.Machine.{Scope}
-use Rattle.asl_model.specs.Run.{Activity, Ready, Waiting, Split, Done, Failed, Activities, NoActivities, AndActivity, Action, Step, scope_below, child_at, set_child, within, step_at, activity_at, AreApart, apart_here, apart_below, Commute}
+use Rattle.asl_model.specs.Run.{Activity, Ready, Waiting, Split, Done, Failed, Activities, NoActivities, AndActivity, Action, Step, scope_below, child_at, set_child, within, step_at, activity_at, AreApart, apart_here, apart_below, HasChildReplaced, Commute}
 use Rattle.asl_model.proofs.RunOptions.{some_inj, none_some}
 
 -- a step at a place below a Split is one of the child there
@@ -127,3 +127,29 @@ apart_commute p q (apart_below {i = i} {p = p'} {q = q'} apart) scope (Split n r
     go one inner = with_two one (second_below i i q' scope n raw counts children y s t one.inner one.whole k) inner
 apart_commute p q (apart_below {i = i} {p = p'} {q = q'} apart) scope (Done output) x y s t h k = none_some h
 apart_commute p q (apart_below {i = i} {p = p'} {q = q'} apart) scope (Failed error cause) x y s t h k = none_some h
+
+-- a Split above a step's place stays one, and the child on the way there alone is replaced
+pub replaced_above : (q : List ℕ) (i : ℕ) (p : List ℕ) (scope : Scope) (a : Activity) (action : Action) (s : Step) → step_at (q ++ i ∷ p) scope a action ≡ Some s → HasChildReplaced i (activity_at q a) (activity_at q s.after)
+replaced_above [] i p scope (Ready n raw counts) action s h = none_some h
+replaced_above [] i p scope (Waiting n raw counts payload) action s h = none_some h
+replaced_above [] i p scope (Split n raw counts children) action s h =
+    let b = step_below i p scope n raw counts children action s h in
+    record { name = n; raw = raw; counts = counts; children = children; child = b.inner.after; stood = refl; stands = ap (λ (t : Step). Some t.after) (sym b.whole) }
+replaced_above [] i p scope (Done output) action s h = none_some h
+replaced_above [] i p scope (Failed error cause) action s h = none_some h
+replaced_above (j ∷ q) i p scope (Ready n raw counts) action s h = none_some h
+replaced_above (j ∷ q) i p scope (Waiting n raw counts payload) action s h = none_some h
+replaced_above (j ∷ q) i p scope (Split n raw counts children) action s h =
+    let b = step_below j (q ++ i ∷ p) scope n raw counts children action s h in
+    let below = replaced_above q i p (scope_below scope n j) b.child action b.inner b.steps in
+    record {
+      name = below.name;
+      raw = below.raw;
+      counts = below.counts;
+      children = below.children;
+      child = below.child;
+      stood = ap (option_and_then (activity_at q)) b.stands ∙ below.stood;
+      stands = ap (λ (t : Step). activity_at (j ∷ q) t.after) (sym b.whole) ∙ (ap (option_and_then (activity_at q)) (same_child j b.inner.after b.child children b.stands) ∙ below.stands);
+    }
+replaced_above (j ∷ q) i p scope (Done output) action s h = none_some h
+replaced_above (j ∷ q) i p scope (Failed error cause) action s h = none_some h

@@ -472,6 +472,17 @@ pub data AreApart : List ℕ → List ℕ → Type 0 where
   apart_here : {i j : ℕ} {p q : List ℕ} → i ≢ j → AreApart (i ∷ p) (j ∷ q)
   apart_below : {i : ℕ} {p q : List ℕ} → AreApart p q → AreApart (i ∷ p) (i ∷ q)
 
+-- What stood at a place is a Split, and still is: of the same state, with the same raw input and counts, and with the
+-- same children but the one of that number, which is another now.
+pub record HasChildReplaced (i : ℕ) (before after : Option Activity) : Type 0 where
+  pub name : List ℕ
+  pub raw : Tree
+  pub counts : List ℕ
+  pub children : Activities
+  pub child : Activity
+  pub stood : before ≡ Some (Split name raw counts children)
+  pub stands : after ≡ Some (Split name raw counts (set_child i child children))
+
 -- Two actions at places of an activity, of which the second follows the first with these steps, can be taken in the
 -- other order: each makes the same entries, and the activity after both is the same.
 pub record Commute (scope : Scope) (a : Activity) (p : List ℕ) (x : Action) (q : List ℕ) (y : Action) (first second : Step) : Type 0 where

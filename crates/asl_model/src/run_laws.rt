@@ -1,6 +1,6 @@
 //! Laws about runs. Each function here does nothing: its contract is the law.
 
-ghost use Rattle.std.specs.Prelude.{◌≡◌, ◌≢◌, ◌↔◌, ℕ, suc, List, Option, Some, is_some, IsTrue};
+ghost use Rattle.std.specs.Prelude.{◌≡◌, ◌≢◌, ◌↔◌, ◌∷◌, ◌++◌, ℕ, suc, List, Option, Some, is_some, IsTrue};
 ghost use Rattle.asl_model.specs.Tree.{Tree};
 ghost use Rattle.asl_model.specs.Path.{Segment, named_by, Names};
 ghost use Rattle.asl_model.specs.Placing.{placed, Places};
@@ -8,7 +8,7 @@ ghost use Rattle.asl_model.specs.Intrinsic.{Item, Pieces, cut_at_holes, ArePiece
 ghost use Rattle.asl_model.specs.Template.{Template, template_value, IsInOrder, TellsLeastFailure};
 ghost use Rattle.asl_model.specs.Test.{PatternPart, is_cut_by, IsCutBy};
 ghost use Rattle.asl_model.specs.Machine.{Scope, Settings, LeadsInside};
-ghost use Rattle.asl_model.specs.Run.{Activity, Action, Entry, Event, Step, activity_at, step_at, run_of, trace, want_of, enabled, count_at, one_higher, Trouble, trouble_of, ComesTo, AreApart, Commute, Enables, AreInLexicographicOrder};
+ghost use Rattle.asl_model.specs.Run.{Activity, Action, Entry, Event, Step, activity_at, step_at, run_of, trace, want_of, enabled, count_at, one_higher, Trouble, trouble_of, ComesTo, AreApart, HasChildReplaced, Commute, Enables, AreInLexicographicOrder};
 ghost use Rattle.asl_model.specs.TracePrinted.{HasNoRaiseLine, trace_text};
 ghost use Rattle.asl_model.specs.Certificate.{Declared, Certificate, IsClosed, Obeys, TellsNoFault, RunIsAsCertified, ActivitiesAreAsCertified, MovesOn, Works, Nests, IsKeptBy};
 
@@ -60,9 +60,14 @@ pub fn nesting_keeps_activities_as_certified()
         → LeadsInside machine → IsKeptBy Nests declared certificate machine }
 {}
 
-/// What stands apart from an event's place stays as it was.
+/// What stands apart from an event's place stays as it was. What stands above it is a Split, and stays the Split of the
+/// same state with the same raw input, counts and children, but for the child on the way to that place.
 pub fn apart_stays_as_it_was()
-    ensures { (p q : List ℕ) → AreApart p q → (scope : Scope) (a : Activity) (action : Action) (taken : Step) → step_at p scope a action ≡ Some taken → activity_at q taken.after ≡ activity_at q a }
+    ensures apart { (p q : List ℕ) → AreApart p q → (scope : Scope) (a : Activity) (action : Action) (taken : Step)
+        → step_at p scope a action ≡ Some taken → activity_at q taken.after ≡ activity_at q a }
+    ensures above { (q : List ℕ) (i : ℕ) (p : List ℕ) (scope : Scope) (a : Activity) (action : Action) (taken : Step)
+        → step_at (q ++ i ∷ p) scope a action ≡ Some taken
+        → HasChildReplaced i (activity_at q a) (activity_at q taken.after) }
 {}
 
 /// Two events at places apart can be taken in either order: each makes the same entries, and the activity after both
