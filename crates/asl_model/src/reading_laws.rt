@@ -129,11 +129,13 @@ pub fn texts_spell_paths_or_are_refused()
     ensures read { (text : List ℕ) (p : List Segment) → (path_of text ≡ Some p) ↔ Spells text p }
 {}
 
-/// The printed form of a path spells it, if any text does. Such paths are those whose segments have a spelling each.
+/// The printed form of a path spells it, if any text does, and reads as that path again. Such paths are those whose
+/// segments have a spelling each.
 pub fn printed_paths_are_spelled()
     ensures again { (text : List ℕ) (p : List Segment) → Spells text p → Spells (printed_path p) p }
     ensures spelled { (p : List Segment) → IsTrue (have_spellings p) → Spells (printed_path p) p }
     ensures have_spellings { (text : List ℕ) (p : List Segment) → Spells text p → IsTrue (have_spellings p) }
+    ensures read_back { (p : List Segment) → IsTrue (have_spellings p) → path_of (printed_path p) ≡ Some p }
 {}
 
 /// The characters of a text are as many as its bytes that continue no character.

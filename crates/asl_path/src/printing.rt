@@ -1,6 +1,6 @@
 //! Writing a path's text.
-ghost use Rattle.std.specs.Prelude.{◌≡◌, ◌++◌, IfOk, string_bytes};
-ghost use Rattle.asl_model.specs.PathSpelling.{Spells, printed_path, printed_segment, has_byte as text_has_byte, is_dot_name as may_stand_alone};
+ghost use Rattle.std.specs.Prelude.{◌≡◌, ◌++◌, IfOk, Some, string_bytes};
+ghost use Rattle.asl_model.specs.PathSpelling.{Spells, path_of, printed_path, printed_segment, has_byte as text_has_byte, is_dot_name as may_stand_alone};
 ghost use Rattle.asl_model.specs.Path.{Name};
 ghost use Rattle.asl_path.specs.View.{segment_view};
 
@@ -10,11 +10,12 @@ use asl_tree::OutOfMemory;
 use std::alloc::Global;
 
 /// The text of the path (States Language, "Reference Paths"): `.name` where the name can stand behind a dot, else
-/// `['name']` where it has no apostrophe, else `["name"]`, and `[n]` for an index. Refuses only where an allocation
-/// was refused.
+/// `['name']` where it has no apostrophe, else `["name"]`, and `[n]` for an index. It reads as the path again: what
+/// [`crate::parse`] gives for it, where memory allows. Refuses only where an allocation was refused.
 pub fn print(alloc: Global, path: &RefPath) -> Result<String, OutOfMemory>
     ensures printed { IfOk result (λ text. string_bytes text ≡ printed_path path.now) }
     ensures spells { IfOk result (λ text. Spells (string_bytes text) path.now) }
+    ensures read_back { IfOk result (λ text. path_of (string_bytes text) ≡ Some path.now) }
 {
     let mut text = String::from_str(alloc, "$")?;
     for segment in path.segments() {
