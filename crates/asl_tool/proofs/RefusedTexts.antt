@@ -11,7 +11,7 @@ use Rattle.asl_machine.specs.Refusal.{IsRefused as IsRefusedValue, without_memor
 use Rattle.asl_records.specs.Refusal.{IsDeclaredRefusal, IsCertificateRefusal}
 use Rattle.asl_records.specs.declared.refusals.ReadFault.{ReadFault}
 use Rattle.asl_records.specs.declared.refusals.ReadFault.TheVariants as kept
-use Rattle.asl_tool.specs.Verifying.{UnreadableStands, no_json, unread, record_fault_of, RefusesDefinition, definition_fault, definition_no_memory, RefusesDeclared, declared_fault, declared_no_memory, RefusesCertificate, certificate_fault, certificate_no_memory, IsRefused, fault_stands, no_memory}
+use Rattle.asl_tool.specs.Verifying.{UnreadableStands, no_json, unread, record_fault_of, RefusesDefinition, definition_fault, definition_no_memory, RefusesDeclared, declared_fault, declared_no_memory, RefusesCertificate, certificate_fault, certificate_no_memory, IsRefused, fault_stands, definition_unread, declared_unread, certificate_unread}
 
 -- ---- a text that gives no JSON value
 
@@ -59,12 +59,16 @@ refused-certificate text v kept.OutOfMemory reads h = certificate_no_memory
 
 pub definition-first : (definition declared certificate : List ℕ) (f : TextFault) → RefusesDefinition definition f → IsRefused definition declared certificate DefinitionText f
 definition-first definition declared certificate f (definition_fault h) = fault_stands (definition_refused h)
-definition-first definition declared certificate NoMemory definition_no_memory = no_memory
+definition-first definition declared certificate NoMemory definition_no_memory = definition_unread
 
 pub declared-first : (definition declared certificate : List ℕ) (machine : Scope) (f : TextFault) → ReadsAsMachine definition machine → RefusesDeclared declared f → IsRefused definition declared certificate DeclaredText f
 declared-first definition declared certificate machine f m (declared_fault h) = fault_stands (declared_refused m h)
-declared-first definition declared certificate machine NoMemory m declared_no_memory = no_memory
+declared-first definition declared certificate machine NoMemory m declared_no_memory = declared_unread (record { machine = machine; as_machine = m })
+
+-- there was no memory for the certificate, or to check it
+pub no_memory_to_check : (definition declared certificate : List ℕ) (machine : Scope) (shapes : Declared) → ReadsAsMachine definition machine → ReadsAsDeclared declared shapes → IsRefused definition declared certificate CertificateText NoMemory
+no_memory_to_check definition declared certificate machine shapes m d = certificate_unread (record { machine = machine; as_machine = m }) (record { shapes = shapes; as_declared = d })
 
 pub certificate-first : (definition declared certificate : List ℕ) (machine : Scope) (shapes : Declared) (f : TextFault) → ReadsAsMachine definition machine → ReadsAsDeclared declared shapes → RefusesCertificate certificate f → IsRefused definition declared certificate CertificateText f
 certificate-first definition declared certificate machine shapes f m d (certificate_fault h) = fault_stands (certificate_refused m d h)
-certificate-first definition declared certificate machine shapes NoMemory m d certificate_no_memory = no_memory
+certificate-first definition declared certificate machine shapes NoMemory m d certificate_no_memory = no_memory_to_check definition declared certificate machine shapes m d

@@ -10,8 +10,7 @@ use Rattle.asl_model.specs.Texts.{Which, DefinitionText, DeclaredText, Certifica
 use Rattle.asl_model.specs.Written.{written_certificate}
 use Rattle.asl_check.specs.View.{finding_view}
 use Rattle.asl_infer.specs.Inferring.{IsOfMachine, certified_shapes}
-use Rattle.asl_tool.specs.Runs.{MachineReads}
-use Rattle.asl_tool.specs.Verifying.{RefusesDefinition, RefusesDeclared}
+use Rattle.asl_tool.specs.Verifying.{MachineReads, RefusesDefinition, RefusesDeclared}
 use Rattle.asl_tool.specs.View.{which_view, text_fault_view}
 use Rattle.asl_tool.specs.declared.inferring.Inferred.{Inferred}
 use Rattle.asl_tool.specs.declared.inferring.Inferred.TheVariants.{Certificate, Finding, NotSettled}
@@ -75,7 +74,7 @@ IsFirstOfTwo definition declared CertificateText f = ⊥
 IsFirstOfTwo definition declared InputText f = ⊥
 IsFirstOfTwo definition declared AnswersText f = ⊥
 
--- why nothing is inferred: a refused text, or want of memory
+-- why nothing is inferred: a refused text, or there was no memory
 abbrev pub InferFaultStands : List ℕ → List ℕ → RunFault → Type 0
 InferFaultStands definition declared (run.Text refusal) = IsFirstOfTwo definition declared (which_view refusal.which) (text_fault_view refusal.fault)
 InferFaultStands definition declared run.TooLong = ⊥

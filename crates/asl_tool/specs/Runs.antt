@@ -21,7 +21,7 @@ use Rattle.asl_run.specs.declared.driving.Stop.{Stop}
 use Rattle.asl_run.specs.declared.driving.Stop.TheVariants as stops
 use Rattle.asl_tree.specs.View.{view}
 use Rattle.asl_tool.specs.Texts.{AreText, AreTooLong}
-use Rattle.asl_tool.specs.Verifying.{RefusesDefinition, RefusesDeclared}
+use Rattle.asl_tool.specs.Verifying.{MachineReads, RefusesDefinition, RefusesDeclared}
 use Rattle.asl_tool.specs.View.{which_view, text_fault_view}
 use Rattle.asl_tool.specs.Writing.{AppendsFront}
 use Rattle.asl_tool.specs.declared.given.Given.{Given}
@@ -206,11 +206,7 @@ pub record SourceRefuses (known : Option (List ℕ)) (f : TextFault) : Type 0 wh
   pub whole : AreText known text
   pub refused : RefusesAnswers text f
 
--- the texts in front of the declared shapes read; those in front of the input; those in front of the answers
-pub record MachineReads (definition : List ℕ) : Type 0 where
-  pub machine : Scope
-  pub as_machine : ReadsAsMachine definition machine
-
+-- the texts in front of the input read; those in front of the answers
 pub record ShapesRead (definition : List ℕ) (declared : Option (List ℕ)) : Type 0 where
   pub before : MachineReads definition
   pub shapes : Option Declared

@@ -2,7 +2,8 @@
 use Rattle.std.specs.Prelude.{ℕ, List, Option, option_map, ⊤}
 use Rattle.std.specs.Option.{unwrap_or}
 use Rattle.asl_model.specs.Machine.{Scope}
-use Rattle.asl_model.specs.Texts.{Which, TextFault, NotJson, NotWhole, BadRecord, NoMemory, IsNoJson, IsDefinitionFault, IsDeclaredFault, IsCertificateFault, IsRefusal, ReadsAsMachine}
+use Rattle.asl_model.specs.Certificate.{Declared}
+use Rattle.asl_model.specs.Texts.{Which, DefinitionText, DeclaredText, CertificateText, TextFault, NotJson, NotWhole, BadRecord, NoMemory, IsNoJson, IsDefinitionFault, IsDeclaredFault, IsCertificateFault, IsRefusal, ReadsAsMachine, ReadsAsDeclared}
 use Rattle.asl_machine.specs.Table.{Shows}
 use Rattle.asl_machine.specs.declared.machine.Machine.{Machine}
 use Rattle.asl_records.specs.View.{complaint_view}
@@ -45,10 +46,26 @@ pub data RefusesCertificate (text : List ℕ) : TextFault → Type 0 where
   certificate_fault : {f : TextFault} → IsCertificateFault text f → RefusesCertificate text f
   certificate_no_memory : RefusesCertificate text NoMemory
 
--- the text is the first of the three that is refused, and the fault stands in it; or there was no memory to say
+-- the text reads as a machine, as declared shapes
+pub record MachineReads (definition : List ℕ) : Type 0 where
+  pub machine : Scope
+  pub as_machine : ReadsAsMachine definition machine
+
+pub record DeclaredReads (declared : List ℕ) : Type 0 where
+  pub shapes : Declared
+  pub as_declared : ReadsAsDeclared declared shapes
+
+-- The text is the first of the three that is refused, and the fault stands in it. Or there was no memory to read it, and
+-- those in front of it read; with the certificate that is told too where there was none to check it.
 pub data IsRefused (definition declared certificate : List ℕ) : Which → TextFault → Type 0 where
-  fault_stands : {which : Which} {f : TextFault} → IsRefusal definition declared certificate which f → IsRefused definition declared certificate which f
-  no_memory : {which : Which} → IsRefused definition declared certificate which NoMemory
+  fault_stands : {which : Which} {f : TextFault}
+      → IsRefusal definition declared certificate which f
+      → IsRefused definition declared certificate which f
+  definition_unread : IsRefused definition declared certificate DefinitionText NoMemory
+  declared_unread : MachineReads definition
+      → IsRefused definition declared certificate DeclaredText NoMemory
+  certificate_unread : MachineReads definition → DeclaredReads declared
+      → IsRefused definition declared certificate CertificateText NoMemory
 
 -- that is so of the first three lines of known bytes; of three lines, where the bytes aren't known
 pub record OfLines (known : Option (List ℕ)) (Promise : List ℕ → List ℕ → List ℕ → Type 0) : Type 0 where

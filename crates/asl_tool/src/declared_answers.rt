@@ -29,7 +29,7 @@ impl Answers for DeclaredAnswers<'_> {
 
     ghost may_be_silent = { λ s n _. next_fits (option_map (λ d. declared_view d.now) s.declared) n (map answer_view s.list.items) ≡ false };
 
-    /// Never wants memory.
+    /// Never out of memory.
     fn next(&mut self, state: &str, _payload: &Tree) -> Result<Option<Answer>, OutOfMemory> {
         if self.next_fits(state) {
             Ok(self.list.pop_front())

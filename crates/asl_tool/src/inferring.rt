@@ -36,7 +36,7 @@ pub enum Inferred {
 /// more than 33 for each of its shapes.
 ///
 /// The texts are read in this order. Refused: Text for the first text that is refused, with a fault that stands in it, or
-/// with want of memory; OutOfMemory where a growth was refused afterwards.
+/// with OutOfMemory where there was none to read it; OutOfMemory where a growth was refused afterwards.
 pub fn infer_texts(
     alloc: Global,
     definition: &[u8],

@@ -57,7 +57,7 @@ fn finding_text(alloc: Global, finding: &Finding) -> Result<String, OutOfMemory>
 ///
 /// Status 0 is a yes, a certificate or a run's output; 1 a no, a certificate that wasn't settled or a failed run; 2 a text
 /// that is refused or too long; 3 an input or an answer that isn't of its shape; 4 a run without answer or steps left; 5
-/// want of memory or a reader or writer that failed.
+/// out of memory, or a reader or writer that failed.
 pub fn closing(alloc: Global, closing: &Closing) -> Result<(u8, String), OutOfMemory>
     ensures status { IfOk result (λ end. end.0 ≡ closing_status (closing_view closing.now)) }
     ensures line { IfOk result (λ end. string_bytes end.1 ≡ closing_line (closing_view closing.now)) }
@@ -121,7 +121,7 @@ fn fault_closing(alloc: Global, fault: &RunFault) -> Result<(u8, String), OutOfM
     }
 }
 
-/// The exit status and the line of want of memory.
+/// The exit status and the line where there is no memory.
 fn memory_closing(alloc: Global) -> Result<(u8, String), OutOfMemory>
     ensures status { IfOk result (λ end. end.0 ≡ 5) }
     ensures line { IfOk result (λ end. string_bytes end.1 ≡ out_of_memory) }

@@ -28,8 +28,9 @@ use std::alloc::Global;
 /// raises none of the six data-flow faults, and every state's input, every task's payload and every output has its
 /// certified shape. Otherwise No, with one finding for each name that has a broken rule.
 ///
-/// The texts are read in this order, and the first refused one is told, with a fault that stands in it; or with want of
-/// memory.
+/// The texts are read in this order, and the first refused one is told, with a fault that stands in it; or the one for
+/// which there was no memory, with OutOfMemory: those in front of it read. Where there was none to check the three, that
+/// is told with the certificate.
 pub fn verify_texts(
     alloc: Global,
     definition: &[u8],

@@ -1,9 +1,8 @@
 use Rattle.asl_records.specs.View.{declared_view, certificate_view}
 use Rattle.asl_check.specs.View.{verdict_view}
 use Rattle.asl_tool.specs.View.{text_fault_view}
-use Rattle.asl_tool.specs.Verifying.{no_memory}
 use Rattle.asl_tool.proofs.Promises.{closed, headline, rejected}
-use Rattle.asl_tool.proofs.RefusedTexts.{definition-first, declared-first, certificate-first}
+use Rattle.asl_tool.proofs.RefusedTexts.{definition-first, declared-first, certificate-first, no_memory_to_check}
 use Rattle.asl_tool.proofs.verifying.verify_texts.Goals as goal
 
 pub returns-in-Err-clause-refused : goal.returns-in-Err-clause-refused
@@ -43,4 +42,6 @@ returns-in-Ok-check-clause-no c =
     rejected c.args.definition.now c.args.declared.now c.args.certificate.now (verdict_view c.in-Ok-check.verdict) (returns-in-Ok-check-clause-verdict c)
 
 pub returns-clause-refused : goal.returns-clause-refused
-returns-clause-refused c = no_memory
+returns-clause-refused c =
+    no_memory_to_check c.args.definition.now c.args.declared.now c.args.certificate.now c.in-Ok.ensures.machine.definition (declared_view c.in-Ok-declared_text.declared)
+    c.in-Ok.ensures.machine.reads c.in-Ok-declared_text.ensures.declared
