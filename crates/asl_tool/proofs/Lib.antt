@@ -1,4 +1,5 @@
 pub mod Failures
+pub mod Fronts
 pub mod LineSteps
 pub mod Promises
 pub mod RaiseLines

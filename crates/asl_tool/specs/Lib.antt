@@ -1,5 +1,6 @@
 pub mod Answers
 pub mod Chunk
+pub mod Fronts
 pub mod Inferred
 pub mod Lines
 pub mod Runs

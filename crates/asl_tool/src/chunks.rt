@@ -19,6 +19,7 @@ pub(crate) struct Chunk {
 
 impl Chunk {
     ghost use Rattle.asl_tool.specs.Chunk.{pending};
+    ghost use Rattle.asl_tool.specs.Fronts.{FillsFronts};
 
     /// A chunk with nothing in it.
     pub(crate) fn new() -> Chunk
@@ -51,6 +52,8 @@ impl Chunk {
         ensures same { Keeps (prepend_known (pending self.old) (S.remaining source.old))
             (prepend_known (pending self.new) (S.remaining source.new)) }
         ensures end { OnOk result (pending self.new ≡ [] → IsAtEnd (S.remaining source.new)) }
+        ensures fronts { OnOk result (FillsFronts (S.begins source.old) (S.begins source.new)
+            (pending self.old) (pending self.new)) }
         ensures failure { OnErr result (IsTrue (S.failed source.new)) }
         ensures lasting { IsTrue (S.failed source.old) → IsTrue (S.failed source.new) }
     {

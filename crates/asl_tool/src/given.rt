@@ -1,8 +1,9 @@
 //! The texts that a run goes by, read.
 
-ghost use Rattle.std.specs.Prelude.{IsTrue, IfOk, IfErr, map, option_map};
+ghost use Rattle.std.specs.Prelude.{IsTrue, IfOk, IfErr, OnOk, map, option_map};
 ghost use Rattle.asl_records.specs.View.{declared_view};
 ghost use Rattle.asl_run.specs.Entries.{answer_view};
+ghost use Rattle.asl_tool.specs.Fronts.{IfAnswersRead, NoFrontIsLong};
 ghost use Rattle.asl_tool.specs.Runs.{GivesFault, IsGiven, ReadsAsShapes, RefusesShapes, SourceFault, SourceReads};
 ghost use Rattle.asl_tool.specs.View.{text_fault_view};
 
@@ -38,6 +39,8 @@ pub(crate) fn read_given<S: Source>(
     answers: &mut S,
 ) -> Result<Given, RunFault>
     ensures given { IfOk result (λ given. IsGiven definition.now (option_map (λ text. text.now) declared.entry) input.now (S.remaining answers.old) given) }
+    ensures endless { OnOk result (NoFrontIsLong (S.begins answers.old)) }
+    ensures endless_fault { IfErr result (IfAnswersRead (NoFrontIsLong (S.begins answers.old))) }
     ensures fault { IfErr result (λ fault. GivesFault definition.now (option_map (λ text. text.now) declared.entry) input.now (S.remaining answers.old) (S.failed answers.new) fault) }
     ensures lasting { IsTrue (S.failed answers.old) → IsTrue (S.failed answers.new) }
 {
@@ -91,6 +94,8 @@ fn declared_where_given(alloc: Global, text: Option<&[u8]>) -> Result<Option<Dec
 /// The answers that all the bytes of a source read as.
 fn answers_in_source<S: Source>(alloc: Global, source: &mut S) -> Result<VecDeque<Answer>, RunFault>
     ensures answers { IfOk result (λ answers. SourceReads (S.remaining source.old) (map answer_view answers.items)) }
+    ensures endless { OnOk result (NoFrontIsLong (S.begins source.old)) }
+    ensures endless_fault { IfErr result (IfAnswersRead (NoFrontIsLong (S.begins source.old))) }
     ensures fault { IfErr result (λ fault. SourceFault (S.remaining source.old) (S.failed source.new) fault) }
     ensures lasting { IsTrue (S.failed source.old) → IsTrue (S.failed source.new) }
 {

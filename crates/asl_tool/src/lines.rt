@@ -4,6 +4,7 @@ ghost use Rattle.std.specs.Prelude.{◌≡◌, ◌≤◌, length, vec_len, IsTru
 ghost use Rattle.std.specs.Io.KnownBytes.{prepend_known};
 ghost use Rattle.asl_tool.specs.Chunk.{pending};
 ghost use Rattle.asl_model.specs.Printed.{first_line};
+ghost use Rattle.asl_tool.specs.Fronts.{NoFrontLineIsLong, TakesFrontLine};
 ghost use Rattle.asl_tool.specs.Lines.{TakesLine, LineFaultStands, AreLines, NoLineIsLong, LinesFaultStands};
 
 use crate::chunks::Chunk;
@@ -26,6 +27,7 @@ pub(crate) struct Lines {
 pub(crate) fn read_lines<S: Source>(alloc: Global, source: &mut S) -> Result<Lines, RunFault>
     ensures lines { IfOk result (λ lines. AreLines (S.remaining source.old) lines.definition.items lines.declared.items lines.certificate.items) }
     ensures short { OnOk result (NoLineIsLong (S.remaining source.old)) }
+    ensures endless { OnOk result (NoFrontLineIsLong (S.begins source.old)) }
     ensures fault { IfErr result (λ fault. LinesFaultStands (S.remaining source.old) (S.failed source.new) fault) }
     ensures lasting { IsTrue (S.failed source.old) → IsTrue (S.failed source.new) }
 {
@@ -60,6 +62,8 @@ pub(crate) fn next_line<S: Source>(
     ensures line { IfOk result (λ line. TakesLine (prepend_known (pending chunk.old) (S.remaining source.old))
         (prepend_known (pending chunk.new) (S.remaining source.new)) line.items) }
     ensures within { IfOk result (λ line. vec_len line ≤ 16777216) }
+    ensures fronts { OnOk result (TakesFrontLine (S.begins source.old) (S.begins source.new)
+        (pending chunk.old) (pending chunk.new)) }
     ensures fault { IfErr result (λ fault. LineFaultStands (prepend_known (pending chunk.old) (S.remaining source.old))
         (S.failed source.new) fault) }
     ensures lasting { IsTrue (S.failed source.old) → IsTrue (S.failed source.new) }

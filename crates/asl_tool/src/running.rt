@@ -1,6 +1,6 @@
 //! From the texts of a run to its trace.
 
-ghost use Rattle.std.specs.Prelude.{◌≡◌, ℕ, List, map, option_map, IsTrue, IfOk, IfErr};
+ghost use Rattle.std.specs.Prelude.{◌≡◌, ℕ, List, map, option_map, IsTrue, IfOk, IfErr, OnOk};
 ghost use Rattle.asl_machine.specs.Table.{Shows, table_view};
 ghost use Rattle.asl_model.specs.Machine.{Scope};
 ghost use Rattle.asl_model.specs.Run as model;
@@ -8,6 +8,7 @@ ghost use Rattle.asl_model.specs.Tree as trees;
 ghost use Rattle.asl_records.specs.View.{declared_view};
 ghost use Rattle.asl_run.specs.Entries.{answer_view};
 ghost use Rattle.asl_tree.specs.View.{view};
+ghost use Rattle.asl_tool.specs.Fronts.{IfAnswersRead, NoFrontIsLong};
 ghost use Rattle.asl_tool.specs.Runs.{IsRun, RunsTo, RunFaultStands, WritesRun, end_at, fits_input};
 ghost use Rattle.asl_tool.specs.Tracing.{Traces};
 ghost use Rattle.asl_tool.specs.View.{run_end_view};
@@ -42,8 +43,9 @@ struct Told {
 ///
 /// The definition, the declared shapes, the input and the answers are read in this order, all before the run. Refused:
 /// Text for the first text that is refused; TooLong for answers of more than 16777216 bytes; Read and Write where the
-/// source or the sink failed; OutOfMemory where a growth was refused. After a failed write a front of a run's lines is
-/// written, after every other fault nothing.
+/// source or the sink failed; OutOfMemory where a growth was refused. So answers that never end are TooLong, but for a text
+/// in front of them, a failed read or a refused growth. After a failed write a front of a run's lines is written, after
+/// every other fault nothing.
 pub fn run_texts<R: Source, W: Sink>(
     alloc: Global,
     definition: &[u8],
@@ -55,6 +57,8 @@ pub fn run_texts<R: Source, W: Sink>(
     max_steps: u64,
 ) -> Result<RunEnd, RunFault>
     ensures run { IfOk result (λ end. WritesRun definition.now (option_map (λ text. text.now) declared.entry) input.now (R.remaining answers.old) order max_steps (W.contents out.old) (W.contents out.new) (run_end_view end)) }
+    ensures endless { OnOk result (NoFrontIsLong (R.begins answers.old)) }
+    ensures endless_fault { IfErr result (IfAnswersRead (NoFrontIsLong (R.begins answers.old))) }
     ensures fault { IfErr result (λ fault. RunFaultStands definition.now (option_map (λ text. text.now) declared.entry) input.now (R.remaining answers.old) (R.failed answers.new) order max_steps (W.contents out.old) (W.contents out.new) (W.failed out.new) fault) }
     ensures lasting_read { IsTrue (R.failed answers.old) → IsTrue (R.failed answers.new) }
     ensures lasting_write { IsTrue (W.failed out.old) → IsTrue (W.failed out.new) }

@@ -1,7 +1,8 @@
 //! Where a text comes from.
-ghost use Rattle.std.specs.Prelude.{◌≡◌, List, ℕ, Option, Bool, IsTrue, IsFalse, OnErr};
+ghost use Rattle.std.specs.Prelude.{◌≡◌, List, ℕ, Option, Bool, IsTrue, IsFalse, IfOk, OnErr};
 ghost use Rattle.std.specs.Io.{ReadsAtMost};
 ghost use Rattle.std.specs.Io.KnownBytes.{ReadConsumes};
+ghost use Rattle.asl_tool.specs.Fronts.{ReadsFronts};
 
 use std::io::Read;
 
@@ -13,6 +14,9 @@ pub struct Failed;
 pub trait Source {
     /// The bytes that are left to read, where they are known.
     ghost remaining: { Self → Option (List ℕ) };
+    /// Texts that the bytes which are left are known to begin with. A source that never ends may have texts of every length
+    /// here.
+    ghost begins: { Self → List ℕ → Type 0 } = { λ _ _. ⊥ };
     /// Whether a read has failed.
     ghost failed: { Self → Bool };
 
@@ -20,6 +24,8 @@ pub trait Source {
     fn read(&mut self, buffer: &mut [u8]) -> Result<usize, Failed>
         ensures within { ReadsAtMost result buffer.new }
         ensures bytes { ReadConsumes (remaining self.old) (remaining self.new) result buffer.new }
+        ensures fronts { IfOk result (λ count.
+            ReadsFronts (begins self.old) (begins self.new) count buffer.new) }
         ensures failure { OnErr result (IsTrue (failed self.new)) }
         ensures lasting { IsTrue (failed self.old) → IsTrue (failed self.new) };
 }

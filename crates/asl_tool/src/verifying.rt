@@ -5,6 +5,7 @@ ghost use Rattle.std.specs.Io.KnownBytes.{Appends};
 ghost use Rattle.asl_model.specs.Printed.{verdict_text};
 ghost use Rattle.asl_model.specs.Headline.{AreClosed, NeverFaults, AreRejected, IsVerdictOn, WhereAccepted, WhereRejected};
 ghost use Rattle.asl_check.specs.View.{verdict_view};
+ghost use Rattle.asl_tool.specs.Fronts.{IfLinesRead, NoFrontLineIsLong};
 ghost use Rattle.asl_tool.specs.Lines.{NoLineIsLong};
 ghost use Rattle.asl_tool.specs.Verifying.{IsRefused, OfLines, TellsRefusal};
 ghost use Rattle.asl_tool.specs.View.{which_view, text_fault_view};
@@ -84,7 +85,8 @@ pub fn verify_texts(
 ///
 /// All three lines are read before any is looked at. A missing line is an empty text, and what follows the third line
 /// break isn't looked at. Refused: TooLong for a line of more than 16777216 bytes, its break not counted; Read and Write
-/// where the source or the sink failed; Text as [`verify_texts`] does; OutOfMemory where a growth was refused.
+/// where the source or the sink failed; Text as [`verify_texts`] does; OutOfMemory where a growth was refused. So a line
+/// that never ends is TooLong, but for a failed read or a refused growth.
 pub fn check_lines<R: Source, W: Sink>(
     alloc: Global,
     source: &mut R,
@@ -97,6 +99,8 @@ pub fn check_lines<R: Source, W: Sink>(
     ensures written { IfOk result (λ v. Appends (W.contents sink.old) (W.contents sink.new) (verdict_text (verdict_view v))) }
     ensures refused { IfErr result (TellsRefusal (R.remaining source.old)) }
     ensures short { OnOk result (NoLineIsLong (R.remaining source.old)) }
+    ensures endless { OnOk result (NoFrontLineIsLong (R.begins source.old)) }
+    ensures endless_fault { IfErr result (IfLinesRead (NoFrontLineIsLong (R.begins source.old))) }
     ensures fault { IfErr result (λ fault. CheckFaultStands (R.remaining source.old) (R.failed source.new) (W.contents sink.old) (W.contents sink.new) (W.failed sink.new) fault) }
     ensures lasting_read { IsTrue (R.failed source.old) → IsTrue (R.failed source.new) }
     ensures lasting_write { IsTrue (W.failed sink.old) → IsTrue (W.failed sink.new) }

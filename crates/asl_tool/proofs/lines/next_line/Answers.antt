@@ -1,11 +1,25 @@
-use Rattle.std.proofs.Common.{◌≡◌, ◌+◌, ◌++◌, ◌≤◌, ◌<◌, List, ℕ, length, take, drop, arith, sym, ap, ◌∙◌, subst}
-use Rattle.std.proofs.lemmas.List.{length-take-le}
+use Rattle.std.proofs.Common.{◌≡◌, ◌+◌, ◌++◌, ◌≤◌, ◌<◌, List, ℕ, [], length, take, drop, arith, sym, ap, ◌∙◌, subst}
+use Rattle.std.proofs.lemmas.Bool.{eqb-true}
+use Rattle.std.proofs.lemmas.List.{length-append, length-take-le, nil_from_length}
 use Rattle.std.specs.Io.KnownBytes.{prepend_known}
 use Rattle.asl_tool.specs.Chunk.{pending}
-use Rattle.asl_model.specs.Printed.{first_line}
+use Rattle.asl_model.specs.Printed.{first_line, further_lines}
 use Rattle.asl_tool.specs.Lines.{TakesLine}
+use Rattle.asl_tool.specs.Fronts.{HasFront, FillsFronts}
+use Rattle.asl_tool.proofs.Fronts.{IsUnbroken, read_on, line_broken, line_ended, piece_taken, piece_unbroken}
 use Rattle.asl_tool.proofs.LineSteps.{LeavesLine, left_by_fill, left_by_piece, taken_by_piece, longer_by_piece}
 use Rattle.asl_tool.proofs.lines.next_line.Goals as goal
+
+pub returns-then-is_empty-clause-fronts : goal.returns-then-is_empty-clause-fronts
+returns-then-is_empty-clause-fronts g c = λ front before.
+    let begins = g.S.Source.begins c.fill.new.source in
+    let none : pending c.fill.new.self ≡ [] = sym c.rest-rest.ensures ∙ nil_from_length c.rest-rest.result.now (eqb-true (length c.rest-rest.result.now) 0 (sym c.if-is_empty.ensures)) in
+    let within : length c.pieces.line.items ≤ 16777216 = omega arith in
+    let P : List ℕ → Type 0 = λ v. HasFront begins v (further_lines front) in
+    let F : List ℕ → Type 0 = λ v. FillsFronts (g.S.Source.begins c.pieces.source) begins (pending c.pieces.chunk) v in
+    let ended = line_ended (g.S.Source.begins c.pieces.source) begins c.pieces.line.items (pending c.pieces.chunk) front c.pieces.invariant.unbroken within
+    (subst F none c.in-Ok.ensures.fronts) (c.pieces.invariant.fronts front before) in
+    (ended.0, subst P (sym none) ended.1)
 
 pub returns-then-front-len-clause-fault : goal.returns-then-front-len-clause-fault
 returns-then-front-len-clause-fault g c =
@@ -45,8 +59,24 @@ returns-then-ends-clause-line g c =
     let Q : List ℕ → Type 0 = λ v. TakesLine old (prepend_known v rest) (line ++ take n p) in
     subst P (sym extended) (subst Q (sym passed) (taken_by_piece old rest line p n count inside left))
 
+pub returns-then-ends-clause-fronts : goal.returns-then-ends-clause-fronts
+returns-then-ends-clause-fronts g c = λ front before.
+    let p = pending c.fill.new.self in
+    let n = c.front_of_line-front.result in
+    let begins = g.S.Source.begins c.fill.new.source in
+    let line = c.pieces.line.items in
+    let count : n ≡ length (first_line p) = c.front_of_line-front.ensures.count ∙ ap (λ (v : List ℕ). length (first_line v)) c.rest-rest.ensures in
+    let inside : n < length p = let P : List ℕ → Type 0 = λ v. n < length v in subst P c.rest-rest.ensures c.if-ends.true in
+    let passed : pending c.take-then-ends.new.self ≡ drop 1 (drop n p) = c.take-then-ends.ensures ∙ ap (λ (v : List ℕ). drop 1 v) c.take.ensures in
+    let whole : length (line ++ take n p) ≡ length line + n = length-append line (take n p) ∙ ap (λ k. length line + k) (length-take-le n p (omega arith)) in
+    let held = read_on (g.S.Source.begins c.pieces.source) begins line (pending c.pieces.chunk) p front (c.pieces.invariant.fronts front before) (λ more there. (c.in-Ok.ensures.fronts more there).0) in
+    let ended = line_broken begins line p front n count inside c.pieces.invariant.unbroken (omega arith) held in
+    let P : List ℕ → Type 0 = λ v. HasFront begins v (further_lines front) in
+    (ended.0, subst P (sym passed) ended.1)
+
 pub pieces-preserved : goal.pieces-preserved
 pieces-preserved g c =
+    let begins = g.S.Source.begins c.fill.new.source in
     let p = pending c.fill.new.self in
     let n = c.front_of_line-front.result in
     let old = prepend_known (pending c.args.chunk.now) (g.S.Source.remaining c.args.source.now) in
@@ -63,5 +93,11 @@ pieces-preserved g c =
     record {
       within = omega (arith, c.in-Ok-extend_from_slice.ensures.len, length-take-le n c.rest-rest.result.now c.front_of_line-front.ensures.within);
       taken = taken;
+      unbroken = subst IsUnbroken (sym extended) (piece_unbroken line p n count whole c.pieces.invariant.unbroken);
+      fronts = λ front before.
+          let held = read_on (g.S.Source.begins c.pieces.source) begins line (pending c.pieces.chunk) p front (c.pieces.invariant.fronts front before) (λ more there. (c.in-Ok.ensures.fronts more there).0) in
+          let F : List ℕ → Type 0 = λ v. HasFront begins (v ++ pending c.take.new.self) front in
+          let G : List ℕ → Type 0 = λ v. HasFront begins ((line ++ take n p) ++ v) front in
+          subst F (sym extended) (subst G (sym c.take.ensures) (piece_taken begins line p front n held));
       lasting = λ h. c.fill.ensures.lasting (c.pieces.invariant.lasting h);
     }

@@ -1,6 +1,8 @@
-use Rattle.std.proofs.Common.{◌≤◌, ◌-◌, IsTrue, vec_len}
+use Rattle.std.proofs.Common.{◌≤◌, ◌-◌, ◌++◌, List, ℕ, IsTrue, vec_len}
 use Rattle.std.specs.Io.KnownBytes.{prepend_known}
 use Rattle.asl_tool.specs.Chunk.{pending}
+use Rattle.asl_tool.specs.Fronts.{HasFront}
+use Rattle.asl_tool.proofs.Fronts.{IsUnbroken}
 use Rattle.asl_tool.proofs.LineSteps.{LeavesLine}
 use Rattle.asl_tool.proofs.lines.next_line.Given as goal
 
@@ -9,6 +11,8 @@ abbrev pub invariant-pieces : goal.invariant-pieces
 invariant-pieces g l = record {
   within : vec_len l.line ≤ 16777216;
   taken : LeavesLine (prepend_known (pending l.fn.chunk) (g.S.Source.remaining l.fn.source)) (prepend_known (pending l.chunk) (g.S.Source.remaining l.source)) l.line.items;
+  unbroken : IsUnbroken l.line.items;
+  fronts : (front : List ℕ) → HasFront (g.S.Source.begins l.fn.source) (pending l.fn.chunk) front → HasFront (g.S.Source.begins l.source) (l.line.items ++ pending l.chunk) front;
   lasting : IsTrue (g.S.Source.failed l.fn.source) → IsTrue (g.S.Source.failed l.source);
 }
 
