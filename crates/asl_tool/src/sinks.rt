@@ -24,6 +24,8 @@ pub trait Sink {
 }
 
 /// A sink over one of std's writers. A write that takes none of the bytes that it is given is a failed one.
+///
+/// What std says of a writer doesn't speak of its errors, so no clause says that the writer failed where this sink has.
 #[derive(Drop)]
 pub struct ToWrite<W: Write + Drop> {
     writer: W,

@@ -31,6 +31,9 @@ pub trait Source {
 }
 
 /// A source over one of std's readers. A read that was interrupted is a failed one.
+///
+/// What std says of a reader speaks neither of its errors nor of one that never ends. So no clause says that the reader
+/// failed where this source has, and none what this source begins with where its bytes aren't known.
 #[derive(Drop)]
 pub struct FromRead<R: Read + Drop> {
     reader: R,
