@@ -41,7 +41,8 @@ answer_of (Integer n) = None
 answer_of (Text s) = None
 answer_of (Array ts) = None
 answer_of (Object NoFields) = None
-answer_of (Object (AndField n t NoFields)) = if bytes_eq n (codes "Gives") then Some (Gives t) else (if bytes_eq n (codes "Fails") then failing t else None)
+answer_of (Object (AndField n t NoFields)) =
+    if bytes_eq n (codes "Gives") then Some (Gives t) else (if bytes_eq n (codes "Fails") then failing t else None)
 answer_of (Object (AndField n t (AndField m u fs))) = None
 
 -- the elements that are answers
@@ -84,7 +85,8 @@ pub record ReadsAsAnswers (text : List ℕ) (answers : List Action) : Type 0 whe
 pub data IsAnswersFault (text : List ℕ) : TextFault → Type 0 where
   answers_no_json : IsNoJson text → IsAnswersFault text NotJson
   answers_not_whole : {v : Data} → ReadsAsValue text v → tree_of v ≡ None → IsAnswersFault text NotWhole
-  answers_bad : {v : Data} {t : Tree} {i : ℕ} → ReadsAsValue text v → tree_of v ≡ Some t → Contains (answer_faults t) i → IsAnswersFault text (BadAnswer i)
+  answers_bad : {v : Data} {t : Tree} {i : ℕ} → ReadsAsValue text v → tree_of v ≡ Some t → Contains (answer_faults t) i
+      → IsAnswersFault text (BadAnswer i)
 
 -- ---- the format, a case for each rule
 
@@ -102,12 +104,15 @@ pub data TellsCause : Option Tree → List ℕ → Type 0 where
 -- the tree stands for the answer: `Gives` alone with any value, or `Fails` alone with an error
 pub data IsAnswer : Tree → Action → Type 0 where
   answer_gives : {t : Tree} → IsAnswer (Object (AndField (codes "Gives") t NoFields)) (Gives t)
-  answer_fails : {fs : Fields} {error cause : List ℕ} → HasErrorFields fs → field_named (codes "Error") fs ≡ Some (Text error) → TellsCause (field_named (codes "Cause") fs) cause → IsAnswer (Object (AndField (codes "Fails") (Object fs) NoFields)) (FailsTask error cause)
+  answer_fails : {fs : Fields} {error cause : List ℕ} → HasErrorFields fs
+      → field_named (codes "Error") fs ≡ Some (Text error) → TellsCause (field_named (codes "Cause") fs) cause
+      → IsAnswer (Object (AndField (codes "Fails") (Object fs) NoFields)) (FailsTask error cause)
 
 -- so for the elements of a list, in order
 pub data AreAnswers : Trees → List Action → Type 0 where
   no_more_answers : AreAnswers NoTrees []
-  and_answer : {t : Tree} {a : Action} {ts : Trees} {answers : List Action} → IsAnswer t a → AreAnswers ts answers → AreAnswers (AndTree t ts) (a ∷ answers)
+  and_answer : {t : Tree} {a : Action} {ts : Trees} {answers : List Action} → IsAnswer t a → AreAnswers ts answers
+      → AreAnswers (AndTree t ts) (a ∷ answers)
 
 -- the tree stands for a list of answers
 pub data StandsForAnswers : Tree → List Action → Type 0 where
@@ -116,4 +121,5 @@ pub data StandsForAnswers : Tree → List Action → Type 0 where
 -- what is wrong with a tree as a list of answers, by position: the element there is none; at 0 also, that it is no list
 pub data IsBadAnswer : Tree → ℕ → Type 0 where
   is_no_list : {t : Tree} → ((ts : Trees) → t ≡ Array ts → ⊥) → IsBadAnswer t 0
-  is_no_answer : {ts : Trees} {i : ℕ} {t : Tree} → element i ts ≡ Some t → ((a : Action) → IsAnswer t a → ⊥) → IsBadAnswer (Array ts) i
+  is_no_answer : {ts : Trees} {i : ℕ} {t : Tree} → element i ts ≡ Some t → ((a : Action) → IsAnswer t a → ⊥)
+      → IsBadAnswer (Array ts) i

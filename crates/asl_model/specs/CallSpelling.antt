@@ -26,7 +26,8 @@ is_context text = is_some (behind (codes "$$") text)
 
 -- the path in a template that a text spells; the first argument says whether paths to a Map's item are allowed
 abbrev pub reference_of : Bool → List ℕ → Option Reference
-reference_of item text = if is_context text then (if item then context_of text else None) else option_map InInput (path_of text)
+reference_of item text =
+    if is_context text then (if item then context_of text else None) else option_map InInput (path_of text)
 
 -- ---- calls as they are written
 
@@ -97,7 +98,9 @@ cut_pieces (x ∷ y ∷ rest) =
 
 -- `0`, or decimal digits without a leading zero
 abbrev pub is_whole : List ℕ → Bool
-is_whole digits = not (length digits == 0) && (front_length is_ascii_digit digits == length digits) && (length digits == 1 || not (slice_index digits 0 == 48))
+is_whole digits =
+    not (length digits == 0) && (front_length is_ascii_digit digits == length digits)
+    && (length digits == 1 || not (slice_index digits 0 == 48))
 
 -- the number below zero
 abbrev pub negated : ℕ → ℤ
@@ -106,7 +109,8 @@ negated (suc n) = negsuc n
 
 -- a whole number from 0 on, or from 0 down; 64 bits hold it
 abbrev pub number_of : List ℕ → Option ℤ
-number_of digits = if is_whole digits && nat_lt (digits_value 10 digits) (2 ^ 63) then Some (pos (digits_value 10 digits)) else None
+number_of digits =
+    if is_whole digits && nat_lt (digits_value 10 digits) (2 ^ 63) then Some (pos (digits_value 10 digits)) else None
 
 -- the number that digits behind a minus sign spell, where it is in range
 abbrev pub negative_of : List ℕ → Option ℤ
@@ -136,7 +140,8 @@ ends_path quote b = quote == 0 && is_one_of (codes ",) ") b
 
 -- the quote that is open behind a byte, 0 where none is
 abbrev pub open_quote : ℕ → ℕ → ℕ
-open_quote quote b = if quote == 0 then (if is_one_of (codes "'\"") b then b else 0) else (if b == quote then 0 else quote)
+open_quote quote b =
+    if quote == 0 then (if is_one_of (codes "'\"") b then b else 0) else (if b == quote then 0 else quote)
 
 -- how many bytes belong to the path that a text begins with
 abbrev pub path_length : ℕ → List ℕ → ℕ
@@ -190,7 +195,8 @@ cut_arguments nested (suc n) text = option_and_then (λ c. after_argument (λ re
 -- what stands behind `(`
 abbrev pub cut_parentheses : (List ℕ → Cut WrittenCall) → List ℕ → Cut WrittenArguments
 cut_parentheses nested [] = None
-cut_parentheses nested (x ∷ rest) = elim (x == 41) [ true ↦ Some (NoneWritten, rest) | false ↦ cut_arguments nested (length (x ∷ rest)) (x ∷ rest) ]
+cut_parentheses nested (x ∷ rest) =
+    elim (x == 41) [ true ↦ Some (NoneWritten, rest) | false ↦ cut_arguments nested (length (x ∷ rest)) (x ∷ rest) ]
 
 -- the call that a text begins with, in which calls nest at most that deep
 abbrev pub cut_call : ℕ → List ℕ → Cut WrittenCall
@@ -198,7 +204,8 @@ cut_call zero text = None
 cut_call (suc n) text =
     let k = front_length in_function_name text in
     elim (not (k == 0) && slice_index (drop k text) 0 == 40) [
-      | true ↦ option_map (λ c. (WrittenAs (take k text) c.0, c.1)) (cut_parentheses (λ rest. cut_call n rest) (without_spaces (drop (suc k) text)))
+      | true ↦ option_map (λ c. (WrittenAs (take k text) c.0, c.1))
+          (cut_parentheses (λ rest. cut_call n rest) (without_spaces (drop (suc k) text)))
       | false ↦ None
     ]
 
@@ -241,7 +248,8 @@ abbrev mutual
 abbrev mutual
   -- the call, where its functions are known and its paths are paths
   pub call_of : Bool → WrittenCall → Option Call
-  call_of item (WrittenAs n arguments) = option_and_then (λ f. option_map (CallOf f) (arguments_of item arguments)) (function_named n)
+  call_of item (WrittenAs n arguments) =
+      option_and_then (λ f. option_map (CallOf f) (arguments_of item arguments)) (function_named n)
 
   -- the argument that a written one means; the first argument says whether paths to a Map's item are allowed
   pub argument_of : Bool → WrittenArgument → Option Argument
@@ -255,7 +263,8 @@ abbrev mutual
   -- so for the arguments in order
   pub arguments_of : Bool → WrittenArguments → Option Arguments
   arguments_of item NoneWritten = Some NoArguments
-  arguments_of item (AndWritten argument others) = option_and_then (λ a. option_map (AndArgument a) (arguments_of item others)) (argument_of item argument)
+  arguments_of item (AndWritten argument others) =
+      option_and_then (λ a. option_map (AndArgument a) (arguments_of item others)) (argument_of item argument)
 
 -- how a text is refused as a call; the first of these that stands
 pub data CallFault : Type 0 where

@@ -19,7 +19,8 @@ pub record Declared : Type 0 where
   pub input : Shape
   pub tasks : List (List ℕ × TaskShapes)
 
--- what is certified of a state: the shapes of its raw input and of its output; for a Parallel the shape of each branch's end, for a Map that of its processor's end
+-- what is certified of a state: the shapes of its raw input and of its output; for a Parallel the shape of each
+-- branch's end, for a Map that of its processor's end
 pub record StateShapes : Type 0 where
   pub input : Shape
   pub output : Shape
@@ -130,7 +131,8 @@ is_map (Fail error cause) = false
 is_map (Parallel branches) = false
 is_map (Map items selector processor) = true
 
--- the entry is there and of the right form: a shape a branch for a Parallel, that of the processor's end for a Map alone
+-- the entry is there and of the right form: a shape a branch for a Parallel, that of the processor's end for a Map
+-- alone
 pub record HasEntry (certificate : Certificate) (n : List ℕ) (kind : Kind) : Type 0 where
   pub shapes : StateShapes
   pub stands : certified certificate n ≡ Some shapes
@@ -141,28 +143,36 @@ pub record HasEntry (certificate : Certificate) (n : List ℕ) (kind : Kind) : T
 -- output; a child's scope of a state in one of them with what the state's entry says.
 pub data IsScope (certificate : Certificate) (machine : Scope) : Scope → Shape → Type 0 where
   whole_machine : IsScope certificate machine machine certificate.output
-  child_of_state : {scope : Scope} {end : Shape} (n : List ℕ) (state : State) (i : ℕ) → IsScope certificate machine scope end → state_named n scope ≡ Some state → IsScope certificate machine (child_scope (kind_of state) i) (or_never (child_end (kind_of state) (certified certificate n) i))
+  child_of_state : {scope : Scope} {end : Shape} (n : List ℕ) (state : State) (i : ℕ)
+      → IsScope certificate machine scope end → state_named n scope ≡ Some state
+      → IsScope certificate machine (child_scope (kind_of state) i)
+      (or_never (child_end (kind_of state) (certified certificate n) i))
 
 -- each of the trees has the shape that its number gives
 abbrev pub EachHas : (ℕ → Shape) → Trees → Type 0
 EachHas shapes NoTrees = Unit {0}
 EachHas shapes (AndTree t ts) = Has (shapes 0) t × EachHas (λ i. shapes (suc i)) ts
 
--- the output of state n meets no fault, has the state's certified shape, and that of what comes next: the next state's input or the scope's end
+-- the output of state n meets no fault, has the state's certified shape, and that of what comes next: the next state's
+-- input or the scope's end
 abbrev pub OutputFits : Certificate → Shape → List ℕ → Option (List ℕ) → Result Tree Fault → Type 0
 OutputFits certificate end n next (Err fault) = ⊥
 OutputFits certificate end n None (Ok output) = Has (certified_output certificate n) output × Has end output
-OutputFits certificate end n (Some next) (Ok output) = Has (certified_output certificate n) output × Has (certified_input certificate next) output
+OutputFits certificate end n (Some next) (Ok output) =
+    Has (certified_output certificate n) output × Has (certified_input certificate next) output
 
 -- what the first move of state n comes to on raw input v raises no fault, and the shapes fit: of a payload, of each
 -- child's input, and of the output for each result that the shapes allow
 abbrev pub WorkFits : Declared → Certificate → Shape → List ℕ → State → Tree → Work → Type 0
-WorkFits declared certificate end n state v (Finishes result) = OutputFits certificate end n (settings_of state).next (output_of (settings_of state) v result)
-WorkFits declared certificate end n state v (Leaves next u) = OutputFits certificate end n next (at_output_path (settings_of state) u)
+WorkFits declared certificate end n state v (Finishes result) =
+    OutputFits certificate end n (settings_of state).next (output_of (settings_of state) v result)
+WorkFits declared certificate end n state v (Leaves next u) =
+    OutputFits certificate end n next (at_output_path (settings_of state) u)
 WorkFits declared certificate end n state v (FailsWith error cause) = Unit {0}
 WorkFits declared certificate end n state v (Asks payload) = Has (takes_of declared n) payload
     × ((answer : Tree) → Has (gives_of declared n) answer → OutputFits certificate end n (settings_of state).next (output_of (settings_of state) v answer))
-WorkFits declared certificate end n state v (Splits inputs) = EachHas (λ i. certified_input certificate (start_of (child_scope (kind_of state) i))) inputs
+WorkFits declared certificate end n state v (Splits inputs) =
+    EachHas (λ i. certified_input certificate (start_of (child_scope (kind_of state) i))) inputs
     × ((outputs : Trees) → count outputs ≡ count inputs → EachHas (λ i. or_never (child_end (kind_of state) (certified certificate n) i)) outputs → OutputFits certificate end n (settings_of state).next (output_of (settings_of state) v (Array outputs)))
 WorkFits declared certificate end n state v (Raises fault) = ⊥
 
@@ -174,13 +184,18 @@ CaughtFits certificate next (Some input) = Has (certified_input certificate next
 -- so for each of the catchers, whatever the error and its cause are
 abbrev pub CatchersFit : Certificate → Tree → List Catcher → Type 0
 CatchersFit certificate v [] = Unit {0}
-CatchersFit certificate v (catcher ∷ others) = ((error cause : List ℕ) → CaughtFits certificate catcher.next (caught_input catcher v error cause)) × CatchersFit certificate v others
+CatchersFit certificate v (catcher ∷ others) =
+    ((error cause : List ℕ) → CaughtFits certificate catcher.next (caught_input catcher v error cause))
+    × CatchersFit certificate v others
 
 -- the certificate is closed at state n of a scope with that end
-pub record IsClosedAt (declared : Declared) (certificate : Certificate) (end : Shape) (n : List ℕ) (state : State) : Type 0 where
+pub record IsClosedAt (declared : Declared) (certificate : Certificate) (end : Shape) (n : List ℕ) (state : State) :
+    Type 0 where
   pub entry : HasEntry certificate n (kind_of state)
-  pub work : (v : Tree) → Has (certified_input certificate n) v → WorkFits declared certificate end n state v (first_move state v)
-  pub catchers : (v : Tree) → Has (certified_input certificate n) v → CatchersFit certificate v (settings_of state).catchers
+  pub work : (v : Tree) → Has (certified_input certificate n) v
+      → WorkFits declared certificate end n state v (first_move state v)
+  pub catchers : (v : Tree) → Has (certified_input certificate n) v
+      → CatchersFit certificate v (settings_of state).catchers
 
 -- The certificate is closed: its entries are those of the machine's states, the declared tasks are its Tasks, the
 -- declared input is inside what is certified for the start state, and it is closed at each state of each scope.
@@ -188,7 +203,8 @@ pub record IsClosed (declared : Declared) (certificate : Certificate) (machine :
   pub no_other_entry : (n : List ℕ) → IsTrue (is_some (certified certificate n)) → IsTrue (names_state machine n)
   pub tasks : (n : List ℕ) → IsTrue (is_some (under n declared.tasks)) ↔ IsTrue (names_task machine n)
   pub start : Inside declared.input (certified_input certificate (start_of machine))
-  pub states : (scope : Scope) (end : Shape) → IsScope certificate machine scope end → (n : List ℕ) (state : State) → state_named n scope ≡ Some state → IsClosedAt declared certificate end n state
+  pub states : (scope : Scope) (end : Shape) → IsScope certificate machine scope end → (n : List ℕ) (state : State)
+      → state_named n scope ≡ Some state → IsClosedAt declared certificate end n state
 
 -- the name of the state that waits in the activity itself
 abbrev pub waiting_name : Activity → Option (List ℕ)
@@ -221,7 +237,8 @@ TakenObeys declared p a action (Some taken) = ActionObeys declared p a action
 -- each answer that is taken in these turns has the shape that is declared for its state
 abbrev pub AnswersObey : Declared → List Turn → Type 0
 AnswersObey declared [] = Unit {0}
-AnswersObey declared (turn ∷ turns) = TakenObeys declared turn.event.place turn.before turn.event.action turn.taken × AnswersObey declared turns
+AnswersObey declared (turn ∷ turns) =
+    TakenObeys declared turn.event.place turn.before turn.event.action turn.taken × AnswersObey declared turns
 
 -- an input and a list of events obey the declared shapes
 pub record Obeys (declared : Declared) (machine : Scope) (input : Tree) (events : List Event) : Type 0 where
@@ -285,7 +302,8 @@ NoneRaises (entry ∷ entries) = RaisesNothing entry × NoneRaises entries
 -- each of the entries is as certified, where the scope of their place has that end
 abbrev pub EachIsAsCertified : Declared → Certificate → Shape → List Entry → Type 0
 EachIsAsCertified declared certificate end [] = Unit {0}
-EachIsAsCertified declared certificate end (entry ∷ entries) = IsAsCertified declared certificate end entry × EachIsAsCertified declared certificate end entries
+EachIsAsCertified declared certificate end (entry ∷ entries) =
+    IsAsCertified declared certificate end entry × EachIsAsCertified declared certificate end entries
 
 -- no turn raises a data-flow fault
 abbrev pub NoTurnRaises : List Turn → Type 0
@@ -300,10 +318,14 @@ TellsNoFault (told ∷ further) = RaisesNothing told.1 × TellsNoFault further
 -- every entry of every turn is as certified
 abbrev pub TurnsAreAsCertified : Declared → Certificate → Scope → List Turn → Type 0
 TurnsAreAsCertified declared certificate machine [] = Unit {0}
-TurnsAreAsCertified declared certificate machine (turn ∷ turns) = EachIsAsCertified declared certificate (end_at certificate turn.event.place machine certificate.output turn.before) (entries_of turn.taken) × TurnsAreAsCertified declared certificate machine turns
+TurnsAreAsCertified declared certificate machine (turn ∷ turns) =
+    EachIsAsCertified declared certificate (end_at certificate turn.event.place machine certificate.output turn.before)
+    (entries_of turn.taken)
+    × TurnsAreAsCertified declared certificate machine turns
 
 -- the run of a machine on an input, with these events, raises no data-flow fault and is as certified throughout
-pub record RunIsAsCertified (declared : Declared) (certificate : Certificate) (machine : Scope) (input : Tree) (events : List Event) : Type 0 where
+pub record RunIsAsCertified (declared : Declared) (certificate : Certificate) (machine : Scope) (input : Tree)
+    (events : List Event) : Type 0 where
   pub raises_nothing : NoTurnRaises (run_of machine input events)
   pub as_certified : TurnsAreAsCertified declared certificate machine (run_of machine input events)
 
@@ -323,13 +345,16 @@ pub record HasSplit (scope : Scope) (n : List ℕ) (raw : Tree) (children : Acti
   pub one_each : how_many_children children ≡ count inputs
 
 abbrev mutual
-  -- The data of an activity are as certified, which stands in a scope with that end: what is Ready, Waiting or Split has
+  -- The data of an activity are as certified, which stands in a scope with that end: what is Ready, Waiting or Split
+  -- has
   -- a raw input of its state's certified input; a Waiting has the payload that its state asks with, one that its task
-  -- takes; a Split has a child for each input that its state splits into; what is Done has an output of the scope's end.
+  -- takes; a Split has a child for each input that its state splits into; what is Done has an output of the scope's
+  -- end.
   pub DataFits : Declared → Certificate → Activity → Scope → Shape → Type 0
   DataFits declared certificate (Ready n raw counts) scope end = Has (certified_input certificate n) raw
   DataFits declared certificate (Waiting n raw counts payload) scope end =
-      Has (certified_input certificate n) raw × Has (takes_of declared n) payload × (move_at scope n raw ≡ Some (Asks payload))
+      Has (certified_input certificate n) raw × Has (takes_of declared n) payload ×
+      (move_at scope n raw ≡ Some (Asks payload))
   DataFits declared certificate (Split n raw counts children) scope end =
       Has (certified_input certificate n) raw × HasSplit scope n raw children
       × EachDataFits declared certificate children (scope_below scope n) (end_under certificate n (state_named n scope))
@@ -343,9 +368,11 @@ abbrev mutual
       DataFits declared certificate child (scopes 0) (ends 0)
       × EachDataFits declared certificate others (λ i. scopes (suc i)) (λ i. ends (suc i))
 
--- An activity is as certified, which stands in a scope with that end: at every depth each state that is Ready, Waiting or
+-- An activity is as certified, which stands in a scope with that end: at every depth each state that is Ready, Waiting
+-- or
 -- Split is one of the scope in which it stands, and the data are as certified.
-pub record ActivityFits (declared : Declared) (certificate : Certificate) (a : Activity) (scope : Scope) (end : Shape) : Type 0 where
+pub record ActivityFits (declared : Declared) (certificate : Certificate) (a : Activity) (scope : Scope) (end : Shape) :
+    Type 0 where
   pub stands : StandsIn a scope
   pub fits : DataFits declared certificate a scope end
 
@@ -382,7 +409,8 @@ abbrev pub group_at : List ℕ → Scope → Activity → Option TypeGroup
 group_at [] scope a = group_here scope a
 group_at (i ∷ p) scope (Ready n raw counts) = None
 group_at (i ∷ p) scope (Waiting n raw counts payload) = None
-group_at (i ∷ p) scope (Split n raw counts children) = option_and_then (group_at p (scope_below scope n i)) (child_at i children)
+group_at (i ∷ p) scope (Split n raw counts children) =
+    option_and_then (group_at p (scope_below scope n i)) (child_at i children)
 group_at (i ∷ p) scope (Done output) = None
 group_at (i ∷ p) scope (Failed error cause) = None
 
@@ -390,15 +418,22 @@ group_at (i ∷ p) scope (Failed error cause) = None
 abbrev pub EachActivityFits : Declared → Certificate → Scope → List Turn → Type 0
 EachActivityFits declared certificate machine [] = Unit {0}
 EachActivityFits declared certificate machine (turn ∷ turns) =
-    ActivityFits declared certificate turn.before machine certificate.output × EachActivityFits declared certificate machine turns
+    ActivityFits declared certificate turn.before machine certificate.output × EachActivityFits declared certificate
+    machine turns
 
--- each event at a state of that group, which is taken and whose answer obeys, leaves an activity as certified that was so
-pub record IsKeptBy (group : TypeGroup) (declared : Declared) (certificate : Certificate) (machine : Scope) : Type 0 where
-  pub kept : (a : Activity) (event : Event) (taken : Step) → ActivityFits declared certificate a machine certificate.output
-      → group_at event.place machine a ≡ Some group → step machine a event ≡ Some taken
-      → ActionObeys declared event.place a event.action → ActivityFits declared certificate taken.after machine certificate.output
+-- each event at a state of that group, which is taken and whose answer obeys, leaves an activity as certified that was
+-- so
+pub record IsKeptBy (group : TypeGroup) (declared : Declared) (certificate : Certificate) (machine : Scope) : Type 0
+  where
+    pub kept : (a : Activity) (event : Event) (taken : Step)
+        → ActivityFits declared certificate a machine certificate.output
+        → group_at event.place machine a ≡ Some group → step machine a event ≡ Some taken
+        → ActionObeys declared event.place a event.action → ActivityFits declared certificate taken.after machine
+        certificate.output
 
 -- the activities of a run that obeys are as certified, before each turn and after the last
-pub record ActivitiesAreAsCertified (declared : Declared) (certificate : Certificate) (machine : Scope) (input : Tree) (events : List Event) : Type 0 where
+pub record ActivitiesAreAsCertified (declared : Declared) (certificate : Certificate) (machine : Scope) (input : Tree)
+    (events : List Event) : Type 0 where
   pub before_each : EachActivityFits declared certificate machine (run_of machine input events)
-  pub after_all : ActivityFits declared certificate (last_activity (start machine input) (run_of machine input events)) machine certificate.output
+  pub after_all : ActivityFits declared certificate (last_activity (start machine input) (run_of machine input events))
+      machine certificate.output

@@ -81,9 +81,11 @@ breaches_then go_on (Err faults) = map breach_of faults
 
 -- The entries
 
--- whether an entry has the form that the state's type asks for: a shape a branch for a Parallel, that of the processor's end for a Map alone
+-- whether an entry has the form that the state's type asks for: a shape a branch for a Parallel, that of the
+-- processor's end for a Map alone
 abbrev pub has_form : Kind → StateShapes → Bool
-has_form kind entry = (length entry.branches == branches_in kind) && (if is_map kind then is_some entry.item else is_none entry.item)
+has_form kind entry =
+    (length entry.branches == branches_in kind) && (if is_map kind then is_some entry.item else is_none entry.item)
 
 -- the state has an entry of the right form
 abbrev pub is_certified : Kind → Option StateShapes → Bool
@@ -92,7 +94,9 @@ is_certified kind (Some entry) = has_form kind entry
 
 -- the entry is there and of the right form, and a Task is declared
 abbrev pub entry_breaches : Kind → Option StateShapes → Option TaskShapes → List Breach
-entry_breaches kind entry task = breach_unless (is_certified kind entry) (codes "states") NotCertified ++ breach_unless (not (is_task kind) || is_some task) (codes "Resource") TaskUndeclared
+entry_breaches kind entry task =
+    breach_unless (is_certified kind entry) (codes "states") NotCertified
+    ++ breach_unless (not (is_task kind) || is_some task) (codes "Resource") TaskUndeclared
 
 -- the input that an entry certifies; a state without an entry has none, and what is no state takes no tree
 abbrev pub input_of_entry : Bool → Option StateShapes → Option Shape
@@ -111,16 +115,21 @@ effective_flow settings input = flow_then (through_template (codes "Parameters")
 
 -- the output, compared with the state's own and with the input of the state that follows
 abbrev pub next_breaches : (List ℕ → Option Shape) → Shape → List ℕ → List ℕ → Shape → List Breach
-next_breaches inputs certified_output field next output = breach_unless_sub (codes "OutputPath") OutputNotCertified output (Some certified_output) ++ breach_unless_sub field NextInput output (inputs next)
+next_breaches inputs certified_output field next output =
+    breach_unless_sub (codes "OutputPath") OutputNotCertified output (Some certified_output)
+    ++ breach_unless_sub field NextInput output (inputs next)
 
 -- the output, compared with the state's own and with the shape of the scope's end
 abbrev pub end_breaches : Shape → List ℕ → Option Shape → Shape → List Breach
-end_breaches certified_output field end output = breach_unless_sub (codes "OutputPath") OutputNotCertified output (Some certified_output) ++ breach_unless_sub field ScopeOutput output end
+end_breaches certified_output field end output =
+    breach_unless_sub (codes "OutputPath") OutputNotCertified output (Some certified_output)
+    ++ breach_unless_sub field ScopeOutput output end
 
 -- the same, by `Next` or `End`
 abbrev pub output_breaches : (List ℕ → Option Shape) → Shape → Option Shape → Option (List ℕ) → Shape → List Breach
 output_breaches inputs certified_output end None output = end_breaches certified_output (codes "End") end output
-output_breaches inputs certified_output end (Some next) output = next_breaches inputs certified_output (codes "Next") next output
+output_breaches inputs certified_output end (Some next) output =
+    next_breaches inputs certified_output (codes "Next") next output
 
 -- what a path names is of the kind that its field wants
 abbrev pub kind_breaches : List ℕ → (Shape → Bool) → Result Shape ℕ → List Breach
@@ -141,7 +150,8 @@ child_breaches inputs field scope input = breach_unless_sub field BranchInput in
 -- the branches' input, compared with that of each start state
 abbrev pub branch_breaches : (List ℕ → Option Shape) → Scopes → Shape → List Breach
 branch_breaches inputs NoScopes input = []
-branch_breaches inputs (AndScope scope others) input = child_breaches inputs (codes "Branches") scope input ++ branch_breaches inputs others input
+branch_breaches inputs (AndScope scope others) input =
+    child_breaches inputs (codes "Branches") scope input ++ branch_breaches inputs others input
 
 -- the shapes, as those of the first elements of an array
 abbrev pub as_first_elements : List Shape → Shapes
@@ -192,23 +202,30 @@ with_items go_on (Err at) = breach_unless false (codes "ItemsPath") PathMayBeMis
 -- Choices
 
 -- the output for an effective input, on its way to a state that the field names
-abbrev pub chosen_breaches : (List ℕ → Option Shape) → StateShapes → Settings → Kind → List ℕ → List ℕ → Shape → List Breach
-chosen_breaches inputs entry settings kind field next s = breaches_then (next_breaches inputs entry.output field next) (leave settings kind entry.input s)
+abbrev pub chosen_breaches : (List ℕ → Option Shape) → StateShapes → Settings → Kind → List ℕ → List ℕ → Shape
+    → List Breach
+chosen_breaches inputs entry settings kind field next s =
+    breaches_then (next_breaches inputs entry.output field next) (leave settings kind entry.input s)
 
 -- a rule's paths, and the output for what it lets through
 abbrev pub rule_breaches : (List ℕ → Option Shape) → StateShapes → Settings → Kind → List ℕ → Option Shape → List Breach
 rule_breaches inputs entry settings kind next None = breach_unless false (codes "Choices") PathMayBeMissing
-rule_breaches inputs entry settings kind next (Some s) = chosen_breaches inputs entry settings kind (codes "Choices") next s
+rule_breaches inputs entry settings kind next (Some s) =
+    chosen_breaches inputs entry settings kind (codes "Choices") next s
 
 -- each rule is taken on the whole effective input
 abbrev pub rules_breaches : (List ℕ → Option Shape) → StateShapes → Settings → Kind → List Rule → Shape → List Breach
 rules_breaches inputs entry settings kind [] s = []
-rules_breaches inputs entry settings kind (rule ∷ rules) s = rule_breaches inputs entry settings kind rule.next (rule_shape rule.test s) ++ rules_breaches inputs entry settings kind rules s
+rules_breaches inputs entry settings kind (rule ∷ rules) s =
+    rule_breaches inputs entry settings kind rule.next (rule_shape rule.test s)
+    ++ rules_breaches inputs entry settings kind rules s
 
 -- the output that goes to `Default`, where there is one
-abbrev pub default_breaches : (List ℕ → Option Shape) → StateShapes → Settings → Kind → Option (List ℕ) → Shape → List Breach
+abbrev pub default_breaches : (List ℕ → Option Shape) → StateShapes → Settings → Kind → Option (List ℕ) → Shape
+    → List Breach
 default_breaches inputs entry settings kind None s = []
-default_breaches inputs entry settings kind (Some next) s = chosen_breaches inputs entry settings kind (codes "Default") next s
+default_breaches inputs entry settings kind (Some next) s =
+    chosen_breaches inputs entry settings kind (codes "Default") next s
 
 -- Catchers
 
@@ -216,7 +233,8 @@ default_breaches inputs entry settings kind (Some next) s = chosen_breaches inpu
 abbrev pub error_output_shape : Shape
 error_output_shape = ObjectShape (AndFieldShape (codes "Cause") true StringShape (AndFieldShape (codes "Error") true StringShape NoFieldShapes)) false
 
--- the shape of the state's input with the error output placed at a catcher's `ResultPath`; where that is null, that input
+-- the shape of the state's input with the error output placed at a catcher's `ResultPath`; where that is null, that
+-- input
 abbrev pub error_placed_shape : Option (List Segment) → Shape → Result Shape ℕ
 error_placed_shape None input = Ok input
 error_placed_shape (Some path) input = put path error_output_shape input
@@ -229,70 +247,95 @@ caught_breaches inputs next (Err at) = breach_unless false (codes "Catch") Resul
 -- so for each of the state's catchers
 abbrev pub catcher_breaches : (List ℕ → Option Shape) → Shape → List Catcher → List Breach
 catcher_breaches inputs input [] = []
-catcher_breaches inputs input (catcher ∷ catchers) = caught_breaches inputs catcher.next (error_placed_shape catcher.result_path input) ++ catcher_breaches inputs input catchers
+catcher_breaches inputs input (catcher ∷ catchers) =
+    caught_breaches inputs catcher.next (error_placed_shape catcher.result_path input)
+    ++ catcher_breaches inputs input catchers
 
 -- States
 
 -- a result's way to the output, and the output's comparisons
-abbrev pub result_breaches : (List ℕ → Option Shape) → Option Shape → StateShapes → Settings → Kind → Shape → List Breach
-result_breaches inputs end entry settings kind result = breaches_then (output_breaches inputs entry.output end settings.next) (leave settings kind entry.input result)
+abbrev pub result_breaches : (List ℕ → Option Shape) → Option Shape → StateShapes → Settings → Kind → Shape
+    → List Breach
+result_breaches inputs end entry settings kind result =
+    breaches_then (output_breaches inputs entry.output end settings.next) (leave settings kind entry.input result)
 
 -- the result of a Map, where a shape is certified of its items
-abbrev pub map_breaches : (List ℕ → Option Shape) → Option Shape → StateShapes → Settings → Kind → Option Shape → Shapes × Shape → List Breach
+abbrev pub map_breaches : (List ℕ → Option Shape) → Option Shape → StateShapes → Settings → Kind → Option Shape
+    → Shapes × Shape → List Breach
 map_breaches inputs end entry settings kind None elements = []
-map_breaches inputs end entry settings kind (Some item) elements = result_breaches inputs end entry settings kind (map_result item elements.0 elements.1)
+map_breaches inputs end entry settings kind (Some item) elements =
+    result_breaches inputs end entry settings kind (map_result item elements.0 elements.1)
 
 -- the rules on what comes of an effective input of that shape, by the state's type
-abbrev pub work_breaches : Declared → (List ℕ → Option Shape) → Option Shape → List ℕ → StateShapes → Settings → Kind → Shape → List Breach
-work_breaches declared inputs end n entry settings (Pass None) s = result_breaches inputs end entry settings (Pass None) s
+abbrev pub work_breaches : Declared → (List ℕ → Option Shape) → Option Shape → List ℕ → StateShapes → Settings → Kind
+    → Shape → List Breach
+work_breaches declared inputs end n entry settings (Pass None) s =
+    result_breaches inputs end entry settings (Pass None) s
 work_breaches declared inputs end n entry settings (Pass (Some t)) s = []
-work_breaches declared inputs end n entry settings (Task resource) s = breach_unless_sub (codes "Parameters") PayloadNotTaken s (Some (takes_of declared n))
-work_breaches declared inputs end n entry settings (Choice rules default) s = rules_breaches inputs entry settings (Choice rules default) rules s ++ default_breaches inputs entry settings (Choice rules default) default s
-work_breaches declared inputs end n entry settings (Wait delay) s = delay_breaches delay s ++ result_breaches inputs end entry settings (Wait delay) s
-work_breaches declared inputs end n entry settings Succeed s = breaches_then (end_breaches entry.output (codes "Type") end) (leave settings Succeed entry.input s)
+work_breaches declared inputs end n entry settings (Task resource) s =
+    breach_unless_sub (codes "Parameters") PayloadNotTaken s (Some (takes_of declared n))
+work_breaches declared inputs end n entry settings (Choice rules default) s =
+    rules_breaches inputs entry settings (Choice rules default) rules s
+    ++ default_breaches inputs entry settings (Choice rules default) default s
+work_breaches declared inputs end n entry settings (Wait delay) s =
+    delay_breaches delay s ++ result_breaches inputs end entry settings (Wait delay) s
+work_breaches declared inputs end n entry settings Succeed s =
+    breaches_then (end_breaches entry.output (codes "Type") end) (leave settings Succeed entry.input s)
 work_breaches declared inputs end n entry settings (Fail error cause) s = []
 work_breaches declared inputs end n entry settings (Parallel branches) s = branch_breaches inputs branches s
 work_breaches declared inputs end n entry settings (Map items selector processor) s = with_items (λ elements. breaches_then (child_breaches inputs (codes "ItemProcessor") processor) (item_flow selector s (element_shape elements.0 elements.1)) ++ map_breaches inputs end entry settings (Map items selector processor) entry.item elements) (look items s)
 
 -- the rules that need no effective input, by the state's type: on a result that is a literal, declared of the task or
 -- certified of the branches, and on a Choice without `Default`
-abbrev pub settled_breaches : Declared → (List ℕ → Option Shape) → Option Shape → List ℕ → StateShapes → Settings → Kind → List Breach
+abbrev pub settled_breaches : Declared → (List ℕ → Option Shape) → Option Shape → List ℕ → StateShapes → Settings → Kind
+    → List Breach
 settled_breaches declared inputs end n entry settings (Pass None) = []
-settled_breaches declared inputs end n entry settings (Pass (Some t)) = result_breaches inputs end entry settings (Pass (Some t)) (literal t)
-settled_breaches declared inputs end n entry settings (Task resource) = result_breaches inputs end entry settings (Task resource) (gives_of declared n)
-settled_breaches declared inputs end n entry settings (Choice rules None) = breach_unless false (codes "Default") NoDefault
+settled_breaches declared inputs end n entry settings (Pass (Some t)) =
+    result_breaches inputs end entry settings (Pass (Some t)) (literal t)
+settled_breaches declared inputs end n entry settings (Task resource) =
+    result_breaches inputs end entry settings (Task resource) (gives_of declared n)
+settled_breaches declared inputs end n entry settings (Choice rules None) =
+    breach_unless false (codes "Default") NoDefault
 settled_breaches declared inputs end n entry settings (Choice rules (Some next)) = []
 settled_breaches declared inputs end n entry settings (Wait delay) = []
 settled_breaches declared inputs end n entry settings Succeed = []
 settled_breaches declared inputs end n entry settings (Fail error cause) = []
-settled_breaches declared inputs end n entry settings (Parallel branches) = result_breaches inputs end entry settings (Parallel branches) (ArrayShape (as_first_elements entry.branches) Never)
+settled_breaches declared inputs end n entry settings (Parallel branches) =
+    result_breaches inputs end entry settings (Parallel branches) (ArrayShape (as_first_elements entry.branches) Never)
 settled_breaches declared inputs end n entry settings (Map items selector processor) = []
 
 -- The rules of a state that has an entry: none further where its certified input isn't inhabited. A rule is passed over
 -- only where another broken one leaves it without a shape to look at.
-abbrev pub flow_breaches : Declared → (List ℕ → Option Shape) → Option Shape → List ℕ → Settings → Kind → Option StateShapes → List Breach
+abbrev pub flow_breaches : Declared → (List ℕ → Option Shape) → Option Shape → List ℕ → Settings → Kind
+    → Option StateShapes → List Breach
 flow_breaches declared inputs end n settings kind None = []
 flow_breaches declared inputs end n settings kind (Some entry) = if inhabited entry.input then breaches_then (work_breaches declared inputs end n entry settings kind) (effective_flow settings entry.input) ++ (settled_breaches declared inputs end n entry settings kind ++ catcher_breaches inputs entry.input settings.catchers) else []
 
 -- every rule that is broken at a state, by its name, in a scope with that shape of its end
 abbrev pub state_breaches : Scope → Declared → Certificate → Option Shape → List ℕ → Settings → Kind → List Breach
-state_breaches machine declared certificate end n settings kind = entry_breaches kind (certified certificate n) (under n declared.tasks) ++ flow_breaches declared (input_to_compare machine certificate) end n settings kind (certified certificate n)
+state_breaches machine declared certificate end n settings kind =
+    entry_breaches kind (certified certificate n) (under n declared.tasks)
+    ++ flow_breaches declared (input_to_compare machine certificate) end n settings kind (certified certificate n)
 
 -- Machines
 
 abbrev mutual
   -- every rule that is broken at a state of the scope, or of one inside it
   pub scope_findings : Scope → Scope → Declared → Certificate → Option Shape → List Finding
-  scope_findings (ScopeOf start held) machine declared certificate end = states_findings held machine declared certificate end
+  scope_findings (ScopeOf start held) machine declared certificate end =
+      states_findings held machine declared certificate end
 
   -- so for each of the states
   pub states_findings : States → Scope → Declared → Certificate → Option Shape → List Finding
   states_findings NoStates machine declared certificate end = []
-  states_findings (AndState n state others) machine declared certificate end = state_findings state machine declared certificate end n ++ states_findings others machine declared certificate end
+  states_findings (AndState n state others) machine declared certificate end =
+      state_findings state machine declared certificate end n ++ states_findings others machine declared certificate end
 
   -- at a state of that name, and in its own scopes
   pub state_findings : State → Scope → Declared → Certificate → Option Shape → List ℕ → List Finding
-  state_findings (StateOf settings kind) machine declared certificate end n = found_at n (state_breaches machine declared certificate end n settings kind) ++ children_findings kind machine declared certificate n
+  state_findings (StateOf settings kind) machine declared certificate end n =
+      found_at n (state_breaches machine declared certificate end n settings kind)
+      ++ children_findings kind machine declared certificate n
 
   -- in the scopes of a state of that name: a Parallel's branches, a Map's processor
   pub children_findings : Kind → Scope → Declared → Certificate → List ℕ → List Finding
@@ -302,23 +345,31 @@ abbrev mutual
   children_findings (Wait delay) machine declared certificate n = []
   children_findings Succeed machine declared certificate n = []
   children_findings (Fail error cause) machine declared certificate n = []
-  children_findings (Parallel branches) machine declared certificate n = branches_findings branches machine declared certificate n 0
-  children_findings (Map items selector processor) machine declared certificate n = scope_findings processor machine declared certificate (item_end (certified certificate n))
+  children_findings (Parallel branches) machine declared certificate n =
+      branches_findings branches machine declared certificate n 0
+  children_findings (Map items selector processor) machine declared certificate n =
+      scope_findings processor machine declared certificate (item_end (certified certificate n))
 
   -- from the branch of that number on
   pub branches_findings : Scopes → Scope → Declared → Certificate → List ℕ → ℕ → List Finding
   branches_findings NoScopes machine declared certificate n i = []
-  branches_findings (AndScope scope others) machine declared certificate n i = scope_findings scope machine declared certificate (branch_end i (certified certificate n)) ++ branches_findings others machine declared certificate n (suc i)
+  branches_findings (AndScope scope others) machine declared certificate n i =
+      scope_findings scope machine declared certificate (branch_end i (certified certificate n))
+      ++ branches_findings others machine declared certificate n (suc i)
 
 -- the entries' names that no state has
 abbrev pub unknown_entries : Scope → List (List ℕ × StateShapes) → List Finding
 unknown_entries machine [] = []
-unknown_entries machine (entry ∷ entries) = found_at entry.0 (breach_unless (names_state machine entry.0) (codes "states") NotAState) ++ unknown_entries machine entries
+unknown_entries machine (entry ∷ entries) =
+    found_at entry.0 (breach_unless (names_state machine entry.0) (codes "states") NotAState)
+    ++ unknown_entries machine entries
 
 -- the declared tasks' names that no Task state has
 abbrev pub unknown_tasks : Scope → List (List ℕ × TaskShapes) → List Finding
 unknown_tasks machine [] = []
-unknown_tasks machine (task ∷ tasks) = found_at task.0 (breach_unless (names_task machine task.0) (codes "tasks") TaskUnknown) ++ unknown_tasks machine tasks
+unknown_tasks machine (task ∷ tasks) =
+    found_at task.0 (breach_unless (names_task machine task.0) (codes "tasks") TaskUnknown)
+    ++ unknown_tasks machine tasks
 
 -- the declared input, compared with that of the machine's start state
 abbrev pub start_findings : Scope → Declared → Certificate → List Finding
@@ -326,7 +377,9 @@ start_findings machine declared certificate = found_at (start_of machine) (breac
 
 -- every rule that is broken
 abbrev pub findings : Scope → Declared → Certificate → List Finding
-findings machine declared certificate = unknown_entries machine certificate.states ++ (unknown_tasks machine declared.tasks ++ (start_findings machine declared certificate ++ scope_findings machine machine declared certificate (Some certificate.output)))
+findings machine declared certificate =
+    unknown_entries machine certificate.states
+    ++ (unknown_tasks machine declared.tasks ++ (start_findings machine declared certificate ++ scope_findings machine machine declared certificate (Some certificate.output)))
 
 -- the rule with the finding's fault is broken at its state and field
 abbrev pub Stands : Scope → Declared → Certificate → Finding → Type 0

@@ -1,4 +1,5 @@
--- The rules of a certificate, one by one, and what breaks each: a finding stands where the rule with its fault is broken
+-- The rules of a certificate, one by one, and what breaks each: a finding stands where the rule with its fault is
+-- broken
 -- at its state and field, whatever other findings stand. The rules are the profile's own; the shapes are those of
 -- ShapeFlow and ShapeOrder. The list of all findings that a checker computes is in Finding, and holds exactly these.
 use Rattle.std.specs.Prelude.{◌≡◌, ℕ, zero, suc, List, Bool, IsTrue, IsFalse, Option, Some, None, Ok, Err, Contains, codes}
@@ -19,22 +20,32 @@ use Rattle.asl_model.specs.Finding.{FindingFault, NotCertified, NotAState, TaskU
 -- a state of that name is one of these
 pub data IsAmong (n : List ℕ) (state : State) : States → Type 0 where
   state_is_first : {others : States} → IsAmong n state (AndState n state others)
-  state_is_later : {m : List ℕ} {other : State} {others : States} → IsAmong n state others → IsAmong n state (AndState m other others)
+  state_is_later : {m : List ℕ} {other : State} {others : States} → IsAmong n state others
+      → IsAmong n state (AndState m other others)
 
 -- the branch of that number
 pub data IsBranch (branch : Scope) : ℕ → Scopes → Type 0 where
   branch_is_first : {others : Scopes} → IsBranch branch zero (AndScope branch others)
-  branch_is_later : {i : ℕ} {other : Scope} {others : Scopes} → IsBranch branch i others → IsBranch branch (suc i) (AndScope other others)
+  branch_is_later : {i : ℕ} {other : Scope} {others : Scopes} → IsBranch branch i others
+      → IsBranch branch (suc i) (AndScope other others)
 
 -- The scopes of a machine, each with what is certified of its end: the machine itself with the certificate's output, a
 -- branch and a processor with what the entry of their state says, if it says something.
 pub data HasScope (machine : Scope) (certificate : Certificate) : Scope → Option Shape → Type 0 where
   has_itself : HasScope machine certificate machine (Some certificate.output)
-  has_branch : {scope branch : Scope} {end : Option Shape} {n : List ℕ} {settings : Settings} {branches : Scopes} {i : ℕ} → HasScope machine certificate scope end → IsAmong n (StateOf settings (Parallel branches)) (states_of scope) → IsBranch branch i branches → HasScope machine certificate branch (branch_end i (certified certificate n))
-  has_processor : {scope processor : Scope} {end : Option Shape} {n : List ℕ} {settings : Settings} {items : List Segment} {selector : Option Template} → HasScope machine certificate scope end → IsAmong n (StateOf settings (Map items selector processor)) (states_of scope) → HasScope machine certificate processor (item_end (certified certificate n))
+  has_branch : {scope branch : Scope} {end : Option Shape} {n : List ℕ} {settings : Settings} {branches : Scopes}
+      {i : ℕ}
+      → HasScope machine certificate scope end → IsAmong n (StateOf settings (Parallel branches)) (states_of scope)
+      → IsBranch branch i branches → HasScope machine certificate branch (branch_end i (certified certificate n))
+  has_processor : {scope processor : Scope} {end : Option Shape} {n : List ℕ} {settings : Settings}
+      {items : List Segment} {selector : Option Template}
+      → HasScope machine certificate scope end
+      → IsAmong n (StateOf settings (Map items selector processor)) (states_of scope)
+      → HasScope machine certificate processor (item_end (certified certificate n))
 
 -- the machine has a state of that name with those settings and of that type, in a scope with that end
-pub record HasState (machine : Scope) (certificate : Certificate) (n : List ℕ) (settings : Settings) (kind : Kind) (end : Option Shape) : Type 0 where
+pub record HasState (machine : Scope) (certificate : Certificate) (n : List ℕ) (settings : Settings) (kind : Kind)
+    (end : Option Shape) : Type 0 where
   pub scope : Scope
   pub has_scope : HasScope machine certificate scope end
   pub among : IsAmong n (StateOf settings kind) (states_of scope)
@@ -42,8 +53,11 @@ pub record HasState (machine : Scope) (certificate : Certificate) (n : List ℕ)
 -- what flows to a state of that name is compared with that: the input of its entry; and where no state has the name,
 -- Never, since what is no state takes no tree
 pub data IsCompared (machine : Scope) (certificate : Certificate) (n : List ℕ) : Shape → Type 0 where
-  compared_with_entry : {entry : StateShapes} → certified certificate n ≡ Some entry → IsCompared machine certificate n entry.input
-  compared_with_never : certified certificate n ≡ None → ((settings : Settings) (kind : Kind) (end : Option Shape) → HasState machine certificate n settings kind end → ⊥) → IsCompared machine certificate n Never
+  compared_with_entry : {entry : StateShapes} → certified certificate n ≡ Some entry
+      → IsCompared machine certificate n entry.input
+  compared_with_never : certified certificate n ≡ None
+      → ((settings : Settings) (kind : Kind) (end : Option Shape) → HasState machine certificate n settings kind end → ⊥)
+      → IsCompared machine certificate n Never
 
 -- ---- what flows through a state
 
@@ -63,16 +77,30 @@ next_target (Some next) = ToState (codes "Next") next
 
 -- What a state makes of an input of its entry's shape, and where that goes: the result of a Pass, a Task, a Parallel or
 -- a Map; what each rule of a Choice lets through, and `Default`; the effective input of a Wait or a Succeed.
-pub data Makes (declared : Declared) (n : List ℕ) (entry : StateShapes) (settings : Settings) : Kind → Shape → Target → Type 0 where
+pub data Makes (declared : Declared) (n : List ℕ) (entry : StateShapes) (settings : Settings) : Kind → Shape → Target →
+    Type 0 where
   makes_literal : {t : Tree} → Makes declared n entry settings (Pass (Some t)) (literal t) (next_target settings.next)
-  makes_what_it_takes : {s : Shape} → IsEffective settings entry s → Makes declared n entry settings (Pass None) s (next_target settings.next)
-  makes_answer : {resource : List ℕ} → Makes declared n entry settings (Task resource) (gives_of declared n) (next_target settings.next)
-  lets_through : {rules : List Rule} {default : Option (List ℕ)} {rule : Rule} {s u : Shape} → IsEffective settings entry s → Contains rules rule → rule_shape rule.test s ≡ Some u → Makes declared n entry settings (Choice rules default) u (ToState (codes "Choices") rule.next)
-  lets_default : {rules : List Rule} {next : List ℕ} {s : Shape} → IsEffective settings entry s → Makes declared n entry settings (Choice rules (Some next)) s (ToState (codes "Default") next)
-  lets_wait : {delay : Delay} {s : Shape} → IsEffective settings entry s → Makes declared n entry settings (Wait delay) s (next_target settings.next)
-  lets_succeed : {s : Shape} → IsEffective settings entry s → Makes declared n entry settings Succeed s (ToEnd (codes "Type"))
-  makes_outputs : {branches : Scopes} → Makes declared n entry settings (Parallel branches) (ArrayShape (as_first_elements entry.branches) Never) (next_target settings.next)
-  makes_items : {items : List Segment} {selector : Option Template} {processor : Scope} {s item : Shape} {first : Shapes} {rest : Shape} → IsEffective settings entry s → look items s ≡ Ok (ArrayShape first rest) → entry.item ≡ Some item → Makes declared n entry settings (Map items selector processor) (map_result item first rest) (next_target settings.next)
+  makes_what_it_takes : {s : Shape} → IsEffective settings entry s
+      → Makes declared n entry settings (Pass None) s (next_target settings.next)
+  makes_answer : {resource : List ℕ}
+      → Makes declared n entry settings (Task resource) (gives_of declared n) (next_target settings.next)
+  lets_through : {rules : List Rule} {default : Option (List ℕ)} {rule : Rule} {s u : Shape}
+      → IsEffective settings entry s → Contains rules rule → rule_shape rule.test s ≡ Some u
+      → Makes declared n entry settings (Choice rules default) u (ToState (codes "Choices") rule.next)
+  lets_default : {rules : List Rule} {next : List ℕ} {s : Shape} → IsEffective settings entry s
+      → Makes declared n entry settings (Choice rules (Some next)) s (ToState (codes "Default") next)
+  lets_wait : {delay : Delay} {s : Shape} → IsEffective settings entry s
+      → Makes declared n entry settings (Wait delay) s (next_target settings.next)
+  lets_succeed : {s : Shape} → IsEffective settings entry s
+      → Makes declared n entry settings Succeed s (ToEnd (codes "Type"))
+  makes_outputs : {branches : Scopes}
+      → Makes declared n entry settings (Parallel branches) (ArrayShape (as_first_elements entry.branches) Never)
+      (next_target settings.next)
+  makes_items : {items : List Segment} {selector : Option Template} {processor : Scope} {s item : Shape}
+      {first : Shapes} {rest : Shape}
+      → IsEffective settings entry s → look items s ≡ Ok (ArrayShape first rest) → entry.item ≡ Some item
+      → Makes declared n entry settings (Map items selector processor) (map_result item first rest)
+      (next_target settings.next)
 
 -- what `ResultSelector` leaves of a result, where it has trees
 pub record IsSelected (settings : Settings) (kind : Kind) (made selected : Shape) : Type 0 where
@@ -82,11 +110,14 @@ pub record IsSelected (settings : Settings) (kind : Kind) (made selected : Shape
 
 -- what `OutputPath` is applied to: a result as selected and placed in the raw input, or the effective input itself
 pub data GoesOut (settings : Settings) (kind : Kind) (raw made : Shape) : Shape → Type 0 where
-  goes_out_placed : {selected placed : Shape} → IsSelected settings kind made selected → through_placing (codes "ResultPath") settings.result_path raw selected ≡ Ok placed → GoesOut settings kind raw made placed
+  goes_out_placed : {selected placed : Shape} → IsSelected settings kind made selected
+      → through_placing (codes "ResultPath") settings.result_path raw selected ≡ Ok placed
+      → GoesOut settings kind raw made placed
   goes_out_as_it_is : leaving kind ≡ WithInput → GoesOut settings kind raw made made
 
 -- an output of that shape leaves the state, and where it goes
-pub record Leaves (declared : Declared) (n : List ℕ) (entry : StateShapes) (settings : Settings) (kind : Kind) (output : Shape) (target : Target) : Type 0 where
+pub record Leaves (declared : Declared) (n : List ℕ) (entry : StateShapes) (settings : Settings) (kind : Kind)
+    (output : Shape) (target : Target) : Type 0 where
   pub made : Shape
   pub makes : Makes declared n entry settings kind made target
   pub comes_out : leave settings kind entry.input made ≡ Ok output
@@ -95,77 +126,140 @@ pub record Leaves (declared : Declared) (n : List ℕ) (entry : StateShapes) (se
 pub data Wants : Kind → List ℕ → List Segment → (Shape → Bool) → Type 0 where
   wants_number : {path : List Segment} → Wants (Wait (SecondsPath path)) (codes "SecondsPath") path is_integer_shape
   wants_text : {path : List Segment} → Wants (Wait (TimestampPath path)) (codes "TimestampPath") path is_string_shape
-  wants_list : {items : List Segment} {selector : Option Template} {processor : Scope} → Wants (Map items selector processor) (codes "ItemsPath") items is_array_shape
+  wants_list : {items : List Segment} {selector : Option Template} {processor : Scope}
+      → Wants (Map items selector processor) (codes "ItemsPath") items is_array_shape
 
 -- the path in that field is looked up in that shape
-pub data LooksUp (declared : Declared) (n : List ℕ) (entry : StateShapes) (settings : Settings) (kind : Kind) : List ℕ → List Segment → Shape → Type 0 where
-  looks_up_input : {path : List Segment} → settings.input_path ≡ Some path → LooksUp declared n entry settings kind (codes "InputPath") path entry.input
-  looks_up_wanted : {field : List ℕ} {path : List Segment} {test : Shape → Bool} {s : Shape} → IsEffective settings entry s → Wants kind field path test → LooksUp declared n entry settings kind field path s
-  looks_up_output : {path : List Segment} {made s : Shape} {target : Target} → Makes declared n entry settings kind made target → GoesOut settings kind entry.input made s → settings.output_path ≡ Some path → LooksUp declared n entry settings kind (codes "OutputPath") path s
+pub data LooksUp (declared : Declared) (n : List ℕ) (entry : StateShapes) (settings : Settings) (kind : Kind) : List ℕ →
+    List Segment → Shape → Type 0 where
+  looks_up_input : {path : List Segment} → settings.input_path ≡ Some path
+      → LooksUp declared n entry settings kind (codes "InputPath") path entry.input
+  looks_up_wanted : {field : List ℕ} {path : List Segment} {test : Shape → Bool} {s : Shape}
+      → IsEffective settings entry s → Wants kind field path test → LooksUp declared n entry settings kind field path s
+  looks_up_output : {path : List Segment} {made s : Shape} {target : Target}
+      → Makes declared n entry settings kind made target → GoesOut settings kind entry.input made s
+      → settings.output_path ≡ Some path → LooksUp declared n entry settings kind (codes "OutputPath") path s
 
 -- the template in that field is evaluated on trees of that shape, with an item of the other
-pub data Evaluates (declared : Declared) (n : List ℕ) (entry : StateShapes) (settings : Settings) : Kind → List ℕ → Template → Shape → Option Shape → Type 0 where
-  evaluates_parameters : {kind : Kind} {template : Template} {s : Shape} → through_path (codes "InputPath") settings.input_path entry.input ≡ Ok s → settings.parameters ≡ Some template → Evaluates declared n entry settings kind (codes "Parameters") template s None
-  evaluates_item_selector : {items : List Segment} {selector : Template} {processor : Scope} {s : Shape} {first : Shapes} {rest : Shape} → IsEffective settings entry s → look items s ≡ Ok (ArrayShape first rest) → IsTrue (inhabited (element_shape first rest)) → Evaluates declared n entry settings (Map items (Some selector) processor) (codes "ItemSelector") selector s (Some (element_shape first rest))
-  evaluates_result_selector : {kind : Kind} {template : Template} {made : Shape} {target : Target} → Makes declared n entry settings kind made target → leaving kind ≡ WithResult → settings.result_selector ≡ Some template → Evaluates declared n entry settings kind (codes "ResultSelector") template made None
+pub data Evaluates (declared : Declared) (n : List ℕ) (entry : StateShapes) (settings : Settings) : Kind → List ℕ →
+    Template → Shape → Option Shape → Type 0 where
+  evaluates_parameters : {kind : Kind} {template : Template} {s : Shape}
+      → through_path (codes "InputPath") settings.input_path entry.input ≡ Ok s → settings.parameters ≡ Some template
+      → Evaluates declared n entry settings kind (codes "Parameters") template s None
+  evaluates_item_selector : {items : List Segment} {selector : Template} {processor : Scope} {s : Shape}
+      {first : Shapes} {rest : Shape}
+      → IsEffective settings entry s → look items s ≡ Ok (ArrayShape first rest)
+      → IsTrue (inhabited (element_shape first rest))
+      → Evaluates declared n entry settings (Map items (Some selector) processor) (codes "ItemSelector") selector s
+      (Some (element_shape first rest))
+  evaluates_result_selector : {kind : Kind} {template : Template} {made : Shape} {target : Target}
+      → Makes declared n entry settings kind made target → leaving kind ≡ WithResult
+      → settings.result_selector ≡ Some template
+      → Evaluates declared n entry settings kind (codes "ResultSelector") template made None
 
 mutual
   -- a template may have no value on trees of that shape with an item of the other: at some place a path may name
   -- nothing, or a call may fail
   pub data HasDoubt (input : Shape) (item : Option Shape) : Template → Doubt → Type 0 where
-    path_is_doubtful : {reference : Reference} {doubt : Doubt} → reference_shape reference input item ≡ Err doubt → HasDoubt input item (FromPath reference) doubt
+    path_is_doubtful : {reference : Reference} {doubt : Doubt} → reference_shape reference input item ≡ Err doubt
+        → HasDoubt input item (FromPath reference) doubt
     call_is_doubtful : {call : Call} → call_shape call input item ≡ None → HasDoubt input item (FromCall call) MayFail
-    doubt_in_array : {elements : Templates} {doubt : Doubt} → HaveDoubt input item elements doubt → HasDoubt input item (ArrayTemplate elements) doubt
-    doubt_in_object : {fields : FieldTemplates} {doubt : Doubt} → HasFieldDoubt input item fields doubt → HasDoubt input item (ObjectTemplate fields) doubt
+    doubt_in_array : {elements : Templates} {doubt : Doubt} → HaveDoubt input item elements doubt
+        → HasDoubt input item (ArrayTemplate elements) doubt
+    doubt_in_object : {fields : FieldTemplates} {doubt : Doubt} → HasFieldDoubt input item fields doubt
+        → HasDoubt input item (ObjectTemplate fields) doubt
 
   -- so for one of the elements
   pub data HaveDoubt (input : Shape) (item : Option Shape) : Templates → Doubt → Type 0 where
-    doubt_in_element : {template : Template} {others : Templates} {doubt : Doubt} → HasDoubt input item template doubt → HaveDoubt input item (AndTemplate template others) doubt
-    doubt_in_later : {template : Template} {others : Templates} {doubt : Doubt} → HaveDoubt input item others doubt → HaveDoubt input item (AndTemplate template others) doubt
+    doubt_in_element : {template : Template} {others : Templates} {doubt : Doubt} → HasDoubt input item template doubt
+        → HaveDoubt input item (AndTemplate template others) doubt
+    doubt_in_later : {template : Template} {others : Templates} {doubt : Doubt} → HaveDoubt input item others doubt
+        → HaveDoubt input item (AndTemplate template others) doubt
 
   -- so for one of the fields
   pub data HasFieldDoubt (input : Shape) (item : Option Shape) : FieldTemplates → Doubt → Type 0 where
-    doubt_in_field : {m : List ℕ} {template : Template} {others : FieldTemplates} {doubt : Doubt} → HasDoubt input item template doubt → HasFieldDoubt input item (AndFieldTemplate m template others) doubt
-    doubt_in_later_field : {m : List ℕ} {template : Template} {others : FieldTemplates} {doubt : Doubt} → HasFieldDoubt input item others doubt → HasFieldDoubt input item (AndFieldTemplate m template others) doubt
+    doubt_in_field : {m : List ℕ} {template : Template} {others : FieldTemplates} {doubt : Doubt}
+        → HasDoubt input item template doubt → HasFieldDoubt input item (AndFieldTemplate m template others) doubt
+    doubt_in_later_field : {m : List ℕ} {template : Template} {others : FieldTemplates} {doubt : Doubt}
+        → HasFieldDoubt input item others doubt → HasFieldDoubt input item (AndFieldTemplate m template others) doubt
 
 -- a tree of that shape is placed in the raw input, at the path in that field: a result, or a catcher's error output
-pub data Puts (declared : Declared) (n : List ℕ) (entry : StateShapes) (settings : Settings) (kind : Kind) : List ℕ → List Segment → Shape → Type 0 where
-  puts_result : {path : List Segment} {made selected : Shape} {target : Target} → Makes declared n entry settings kind made target → IsSelected settings kind made selected → settings.result_path ≡ Some path → Puts declared n entry settings kind (codes "ResultPath") path selected
-  puts_error_output : {catcher : Catcher} {path : List Segment} → Contains settings.catchers catcher → catcher.result_path ≡ Some path → Puts declared n entry settings kind (codes "Catch") path error_output_shape
+pub data Puts (declared : Declared) (n : List ℕ) (entry : StateShapes) (settings : Settings) (kind : Kind) : List ℕ →
+    List Segment → Shape → Type 0 where
+  puts_result : {path : List Segment} {made selected : Shape} {target : Target}
+      → Makes declared n entry settings kind made target → IsSelected settings kind made selected
+      → settings.result_path ≡ Some path → Puts declared n entry settings kind (codes "ResultPath") path selected
+  puts_error_output : {catcher : Catcher} {path : List Segment} → Contains settings.catchers catcher
+      → catcher.result_path ≡ Some path → Puts declared n entry settings kind (codes "Catch") path error_output_shape
 
 -- a child is started in that scope with an input of that shape, as the field says
 pub data Starts (entry : StateShapes) (settings : Settings) : Kind → List ℕ → Scope → Shape → Type 0 where
-  starts_branch : {branches : Scopes} {branch : Scope} {i : ℕ} {s : Shape} → IsEffective settings entry s → IsBranch branch i branches → Starts entry settings (Parallel branches) (codes "Branches") branch s
-  starts_item : {items : List Segment} {selector : Option Template} {processor : Scope} {s input : Shape} {first : Shapes} {rest : Shape} → IsEffective settings entry s → look items s ≡ Ok (ArrayShape first rest) → item_flow selector s (element_shape first rest) ≡ Ok input → Starts entry settings (Map items selector processor) (codes "ItemProcessor") processor input
+  starts_branch : {branches : Scopes} {branch : Scope} {i : ℕ} {s : Shape} → IsEffective settings entry s
+      → IsBranch branch i branches → Starts entry settings (Parallel branches) (codes "Branches") branch s
+  starts_item : {items : List Segment} {selector : Option Template} {processor : Scope} {s input : Shape}
+      {first : Shapes} {rest : Shape}
+      → IsEffective settings entry s → look items s ≡ Ok (ArrayShape first rest)
+      → item_flow selector s (element_shape first rest) ≡ Ok input
+      → Starts entry settings (Map items selector processor) (codes "ItemProcessor") processor input
 
 -- ---- the rules on what flows
 
 -- A rule is broken in a state of a scope with that end, whose entry has an input with trees: the field, and the fault.
-pub data BreaksFlow (machine : Scope) (declared : Declared) (certificate : Certificate) (end : Option Shape) (n : List ℕ) (entry : StateShapes) (settings : Settings) (kind : Kind) : List ℕ → FindingFault → Type 0 where
+pub data BreaksFlow (machine : Scope) (declared : Declared) (certificate : Certificate) (end : Option Shape)
+    (n : List ℕ) (entry : StateShapes) (settings : Settings) (kind : Kind) : List ℕ → FindingFault → Type 0 where
   -- a path may name nothing: in a field, in a template, in a rule of a Choice
-  path_may_be_missing : {field : List ℕ} {path : List Segment} {s : Shape} {at : ℕ} → LooksUp declared n entry settings kind field path s → look path s ≡ Err at → BreaksFlow machine declared certificate end n entry settings kind field PathMayBeMissing
-  template_may_be_missing : {field : List ℕ} {template : Template} {input : Shape} {item : Option Shape} → Evaluates declared n entry settings kind field template input item → IsTrue (inhabited input) → HasDoubt input item template MayBeMissing → BreaksFlow machine declared certificate end n entry settings kind field PathMayBeMissing
-  rule_may_be_missing : {rules : List Rule} {default : Option (List ℕ)} {rule : Rule} {s : Shape} → kind ≡ Choice rules default → IsEffective settings entry s → Contains rules rule → rule_shape rule.test s ≡ None → BreaksFlow machine declared certificate end n entry settings kind (codes "Choices") PathMayBeMissing
+  path_may_be_missing : {field : List ℕ} {path : List Segment} {s : Shape} {at : ℕ}
+      → LooksUp declared n entry settings kind field path s → look path s ≡ Err at
+      → BreaksFlow machine declared certificate end n entry settings kind field PathMayBeMissing
+  template_may_be_missing : {field : List ℕ} {template : Template} {input : Shape} {item : Option Shape}
+      → Evaluates declared n entry settings kind field template input item → IsTrue (inhabited input)
+      → HasDoubt input item template MayBeMissing
+      → BreaksFlow machine declared certificate end n entry settings kind field PathMayBeMissing
+  rule_may_be_missing : {rules : List Rule} {default : Option (List ℕ)} {rule : Rule} {s : Shape}
+      → kind ≡ Choice rules default → IsEffective settings entry s → Contains rules rule → rule_shape rule.test s ≡ None
+      → BreaksFlow machine declared certificate end n entry settings kind (codes "Choices") PathMayBeMissing
   -- what a path names isn't of the kind that its field wants
-  may_be_of_wrong_kind : {field : List ℕ} {path : List Segment} {test : Shape → Bool} {s t : Shape} → IsEffective settings entry s → Wants kind field path test → look path s ≡ Ok t → IsFalse (test t) → BreaksFlow machine declared certificate end n entry settings kind field WrongKind
+  may_be_of_wrong_kind : {field : List ℕ} {path : List Segment} {test : Shape → Bool} {s t : Shape}
+      → IsEffective settings entry s → Wants kind field path test → look path s ≡ Ok t → IsFalse (test t)
+      → BreaksFlow machine declared certificate end n entry settings kind field WrongKind
   -- what is placed may not fit
-  may_not_fit : {field : List ℕ} {path : List Segment} {s : Shape} {at : ℕ} → Puts declared n entry settings kind field path s → put path s entry.input ≡ Err at → BreaksFlow machine declared certificate end n entry settings kind field ResultMayNotFit
+  may_not_fit : {field : List ℕ} {path : List Segment} {s : Shape} {at : ℕ}
+      → Puts declared n entry settings kind field path s → put path s entry.input ≡ Err at
+      → BreaksFlow machine declared certificate end n entry settings kind field ResultMayNotFit
   -- a call in a template may fail
-  may_fail : {field : List ℕ} {template : Template} {input : Shape} {item : Option Shape} → Evaluates declared n entry settings kind field template input item → IsTrue (inhabited input) → HasDoubt input item template MayFail → BreaksFlow machine declared certificate end n entry settings kind field IntrinsicMayFail
+  may_fail : {field : List ℕ} {template : Template} {input : Shape} {item : Option Shape}
+      → Evaluates declared n entry settings kind field template input item → IsTrue (inhabited input)
+      → HasDoubt input item template MayFail
+      → BreaksFlow machine declared certificate end n entry settings kind field IntrinsicMayFail
   -- a Choice has no `Default`
-  has_no_default : {rules : List Rule} → kind ≡ Choice rules None → BreaksFlow machine declared certificate end n entry settings kind (codes "Default") NoDefault
+  has_no_default : {rules : List Rule} → kind ≡ Choice rules None
+      → BreaksFlow machine declared certificate end n entry settings kind (codes "Default") NoDefault
   -- the payload isn't inside what the task takes
-  payload_is_not_taken : {resource : List ℕ} {s : Shape} → kind ≡ Task resource → IsEffective settings entry s → IsFalse (sub s (takes_of declared n)) → BreaksFlow machine declared certificate end n entry settings kind (codes "Parameters") PayloadNotTaken
+  payload_is_not_taken : {resource : List ℕ} {s : Shape} → kind ≡ Task resource → IsEffective settings entry s
+      → IsFalse (sub s (takes_of declared n))
+      → BreaksFlow machine declared certificate end n entry settings kind (codes "Parameters") PayloadNotTaken
   -- the output isn't inside the state's own
-  output_is_not_certified : {output : Shape} {target : Target} → Leaves declared n entry settings kind output target → IsFalse (sub output entry.output) → BreaksFlow machine declared certificate end n entry settings kind (codes "OutputPath") OutputNotCertified
+  output_is_not_certified : {output : Shape} {target : Target} → Leaves declared n entry settings kind output target
+      → IsFalse (sub output entry.output)
+      → BreaksFlow machine declared certificate end n entry settings kind (codes "OutputPath") OutputNotCertified
   -- the output isn't inside the next state's input
-  is_no_next_input : {output expected : Shape} {field next : List ℕ} → Leaves declared n entry settings kind output (ToState field next) → IsCompared machine certificate next expected → IsFalse (sub output expected) → BreaksFlow machine declared certificate end n entry settings kind field NextInput
+  is_no_next_input : {output expected : Shape} {field next : List ℕ}
+      → Leaves declared n entry settings kind output (ToState field next) → IsCompared machine certificate next expected
+      → IsFalse (sub output expected)
+      → BreaksFlow machine declared certificate end n entry settings kind field NextInput
   -- the output isn't inside what is certified of the scope's end
-  is_no_scope_output : {output expected : Shape} {field : List ℕ} → Leaves declared n entry settings kind output (ToEnd field) → end ≡ Some expected → IsFalse (sub output expected) → BreaksFlow machine declared certificate end n entry settings kind field ScopeOutput
+  is_no_scope_output : {output expected : Shape} {field : List ℕ}
+      → Leaves declared n entry settings kind output (ToEnd field) → end ≡ Some expected → IsFalse (sub output expected)
+      → BreaksFlow machine declared certificate end n entry settings kind field ScopeOutput
   -- a child's input isn't inside its start state's
-  is_no_branch_input : {field : List ℕ} {child : Scope} {s expected : Shape} → Starts entry settings kind field child s → IsCompared machine certificate (start_of child) expected → IsFalse (sub s expected) → BreaksFlow machine declared certificate end n entry settings kind field BranchInput
+  is_no_branch_input : {field : List ℕ} {child : Scope} {s expected : Shape} → Starts entry settings kind field child s
+      → IsCompared machine certificate (start_of child) expected → IsFalse (sub s expected)
+      → BreaksFlow machine declared certificate end n entry settings kind field BranchInput
   -- what a catcher hands on isn't inside the next state's input
-  is_no_catch_input : {catcher : Catcher} {s expected : Shape} → Contains settings.catchers catcher → error_placed_shape catcher.result_path entry.input ≡ Ok s → IsCompared machine certificate catcher.next expected → IsFalse (sub s expected) → BreaksFlow machine declared certificate end n entry settings kind (codes "Catch") CatchInput
+  is_no_catch_input : {catcher : Catcher} {s expected : Shape} → Contains settings.catchers catcher
+      → error_placed_shape catcher.result_path entry.input ≡ Ok s → IsCompared machine certificate catcher.next expected
+      → IsFalse (sub s expected)
+      → BreaksFlow machine declared certificate end n entry settings kind (codes "Catch") CatchInput
 
 -- ---- all rules
 
@@ -173,14 +267,29 @@ pub data BreaksFlow (machine : Scope) (declared : Declared) (certificate : Certi
 -- There is no other rule.
 pub data IsBroken (machine : Scope) (declared : Declared) (certificate : Certificate) : Finding → Type 0 where
   -- a state has no entry of the right form
-  is_not_certified : {n : List ℕ} {settings : Settings} {kind : Kind} {end : Option Shape} → HasState machine certificate n settings kind end → (HasEntry certificate n kind → ⊥) → IsBroken machine declared certificate (record { state = n; field = codes "states"; fault = NotCertified })
+  is_not_certified : {n : List ℕ} {settings : Settings} {kind : Kind} {end : Option Shape}
+      → HasState machine certificate n settings kind end → (HasEntry certificate n kind → ⊥)
+      → IsBroken machine declared certificate (record { state = n; field = codes "states"; fault = NotCertified })
   -- an entry names no state
-  is_not_a_state : {entry : List ℕ × StateShapes} → Contains certificate.states entry → ((settings : Settings) (kind : Kind) (end : Option Shape) → HasState machine certificate entry.0 settings kind end → ⊥) → IsBroken machine declared certificate (record { state = entry.0; field = codes "states"; fault = NotAState })
+  is_not_a_state : {entry : List ℕ × StateShapes} → Contains certificate.states entry
+      → ((settings : Settings) (kind : Kind) (end : Option Shape) → HasState machine certificate entry.0 settings kind end → ⊥)
+      → IsBroken machine declared certificate (record { state = entry.0; field = codes "states"; fault = NotAState })
   -- a Task isn't declared
-  is_undeclared : {n resource : List ℕ} {settings : Settings} {end : Option Shape} → HasState machine certificate n settings (Task resource) end → under n declared.tasks ≡ None → IsBroken machine declared certificate (record { state = n; field = codes "Resource"; fault = TaskUndeclared })
+  is_undeclared : {n resource : List ℕ} {settings : Settings} {end : Option Shape}
+      → HasState machine certificate n settings (Task resource) end → under n declared.tasks ≡ None
+      → IsBroken machine declared certificate (record { state = n; field = codes "Resource"; fault = TaskUndeclared })
   -- a declared task names no Task state
-  is_unknown : {task : List ℕ × TaskShapes} → Contains declared.tasks task → ((settings : Settings) (resource : List ℕ) (end : Option Shape) → HasState machine certificate task.0 settings (Task resource) end → ⊥) → IsBroken machine declared certificate (record { state = task.0; field = codes "tasks"; fault = TaskUnknown })
+  is_unknown : {task : List ℕ × TaskShapes} → Contains declared.tasks task
+      → ((settings : Settings) (resource : List ℕ) (end : Option Shape) → HasState machine certificate task.0 settings (Task resource) end → ⊥)
+      → IsBroken machine declared certificate (record { state = task.0; field = codes "tasks"; fault = TaskUnknown })
   -- the declared input isn't inside the start state's
-  is_no_start_input : {expected : Shape} → IsCompared machine certificate (start_of machine) expected → IsFalse (sub declared.input expected) → IsBroken machine declared certificate (record { state = start_of machine; field = codes "StartAt"; fault = StartInput })
+  is_no_start_input : {expected : Shape} → IsCompared machine certificate (start_of machine) expected
+      → IsFalse (sub declared.input expected)
+      → IsBroken machine declared certificate
+      (record { state = start_of machine; field = codes "StartAt"; fault = StartInput })
   -- a rule on what flows is broken in a state whose entry has an input with trees
-  is_broken_in_flow : {n field : List ℕ} {settings : Settings} {kind : Kind} {end : Option Shape} {entry : StateShapes} {fault : FindingFault} → HasState machine certificate n settings kind end → certified certificate n ≡ Some entry → IsTrue (inhabited entry.input) → BreaksFlow machine declared certificate end n entry settings kind field fault → IsBroken machine declared certificate (record { state = n; field = field; fault = fault })
+  is_broken_in_flow : {n field : List ℕ} {settings : Settings} {kind : Kind} {end : Option Shape} {entry : StateShapes}
+      {fault : FindingFault}
+      → HasState machine certificate n settings kind end → certified certificate n ≡ Some entry
+      → IsTrue (inhabited entry.input) → BreaksFlow machine declared certificate end n entry settings kind field fault
+      → IsBroken machine declared certificate (record { state = n; field = field; fault = fault })

@@ -124,12 +124,14 @@ branch_inputs (AndScope branch others) v = AndTree v (branch_inputs others v)
 -- the input of a Map's child: the item, or the value of `ItemSelector` for the Map's effective input v and the item
 abbrev pub item_input : Option Template → Tree → ℕ → Tree → Result Tree Fault
 item_input None v i t = Ok t
-item_input (Some selector) v i t = met_in (codes "ItemSelector") (template_value selector v (Some (record { number = pos i; value = t })))
+item_input (Some selector) v i t =
+    met_in (codes "ItemSelector") (template_value selector v (Some (record { number = pos i; value = t })))
 
 -- the inputs of a Map's children, one for each item from number i on; the first fault counts
 abbrev pub item_inputs : Option Template → Tree → ℕ → Trees → Result Trees Fault
 item_inputs selector v i NoTrees = Ok NoTrees
-item_inputs selector v i (AndTree t ts) = and_then (λ u. and_then (λ us. Ok (AndTree u us)) (item_inputs selector v (suc i) ts)) (item_input selector v i t)
+item_inputs selector v i (AndTree t ts) =
+    and_then (λ u. and_then (λ us. Ok (AndTree u us)) (item_inputs selector v (suc i) ts)) (item_input selector v i t)
 
 -- the items of a Map: the list that `ItemsPath` names in the effective input
 abbrev pub map_items : List Segment → Tree → Result Trees Fault
@@ -139,11 +141,14 @@ map_items p v = and_then (list_wanted (codes "ItemsPath")) (named_in (codes "Ite
 abbrev pub work_of : Kind → Settings → Tree → Work
 work_of (Pass result) settings raw = works_on (λ v. Finishes (unwrap_or result v)) (effective_input settings raw)
 work_of (Task resource) settings raw = works_on Asks (effective_input settings raw)
-work_of (Choice rules default) settings raw = works_on (λ v. works_on (λ next. Leaves (Some next) v) (chosen rules default v)) (effective_input settings raw)
-work_of (Wait delay) settings raw = works_on (λ v. works_on (λ u. Leaves settings.next v) (delay_in delay v)) (effective_input settings raw)
+work_of (Choice rules default) settings raw =
+    works_on (λ v. works_on (λ next. Leaves (Some next) v) (chosen rules default v)) (effective_input settings raw)
+work_of (Wait delay) settings raw =
+    works_on (λ v. works_on (λ u. Leaves settings.next v) (delay_in delay v)) (effective_input settings raw)
 work_of Succeed settings raw = works_on (Leaves None) (effective_input settings raw)
 work_of (Fail error cause) settings raw = FailsWith error cause
-work_of (Parallel branches) settings raw = works_on (λ v. Splits (branch_inputs branches v)) (effective_input settings raw)
+work_of (Parallel branches) settings raw =
+    works_on (λ v. Splits (branch_inputs branches v)) (effective_input settings raw)
 work_of (Map items selector processor) settings raw = works_on (λ v. works_on Splits (and_then (item_inputs selector v 0) (map_items items v))) (effective_input settings raw)
 
 -- what a state's first move comes to for a raw input

@@ -10,7 +10,8 @@ use Rattle.asl_model.specs.Verdict.{Verdict, Accepted, Rejected, IsTelling, IsRi
 use Rattle.asl_model.specs.Texts.{ReadsAsMachine, ReadsAsDeclared, ReadsAsCertificate}
 
 -- the three texts read as that machine, those declared shapes and that certificate
-pub record ReadAs (definition declared certificate : List ℕ) (machine : Scope) (shapes : Declared) (certified : Certificate) : Type 0 where
+pub record ReadAs (definition declared certificate : List ℕ) (machine : Scope) (shapes : Declared)
+    (certified : Certificate) : Type 0 where
   pub as_machine : ReadsAsMachine definition machine
   pub as_declared : ReadsAsDeclared declared shapes
   pub as_certificate : ReadsAsCertificate certificate certified
@@ -31,7 +32,8 @@ pub record AreClosed (definition declared certificate : List ℕ) : Type 0 where
   pub read : ReadAs definition declared certificate machine shapes certified
   pub closed : IsClosed shapes certified machine
 
--- The three texts read, and for every input of the declared shape and every list of moves and task answers, branches and
+-- The three texts read, and for every input of the declared shape and every list of moves and task answers, branches
+-- and
 -- iterations interleaved in any way, each answer a failure or of its declared shape, the run raises none of the six
 -- data-flow faults, and every state's input, every task's payload and every output has its certified shape.
 pub record NeverFaults (definition declared certificate : List ℕ) : Type 0 where
@@ -39,8 +41,10 @@ pub record NeverFaults (definition declared certificate : List ℕ) : Type 0 whe
   pub shapes : Declared
   pub certified : Certificate
   pub read : ReadAs definition declared certificate machine shapes certified
-  pub tells_no_fault : (input : Tree) (events : List Event) → Obeys shapes machine input events → TellsNoFault (trace (run_of machine input events))
-  pub as_certified : (input : Tree) (events : List Event) → Obeys shapes machine input events → RunIsAsCertified shapes certified machine input events
+  pub tells_no_fault : (input : Tree) (events : List Event) → Obeys shapes machine input events
+      → TellsNoFault (trace (run_of machine input events))
+  pub as_certified : (input : Tree) (events : List Event) → Obeys shapes machine input events
+      → RunIsAsCertified shapes certified machine input events
 
 -- the three texts read, and these findings are the right ones to tell
 pub record AreRejected (definition declared certificate : List ℕ) (told : List Finding) : Type 0 where

@@ -29,15 +29,18 @@ is_of_machine CatchInput = false
 
 -- ---- the widest certificate
 
--- the widest entry of a state of that type: Any throughout, for each branch of a Parallel and for the items of a Map too
+-- the widest entry of a state of that type: Any throughout, for each branch of a Parallel and for the items of a Map
+-- too
 abbrev pub widest_entry : Kind → StateShapes
 widest_entry kind = record { input = Any; output = Any; branches = replicate (branches_in kind) Any; item = if is_map kind then Some Any else None }
 
 -- the widest certificate of a machine with that table: the widest entry of each of its states, and no other entry
 pub record IsWidest (table : Table) (certificate : Certificate) : Type 0 where
   pub output : certificate.output ≡ Any
-  pub entries : (i : ℕ) (n : List ℕ) (state : State) → slice_get table.names i ≡ Some n → slice_get table.states i ≡ Some state → certified certificate n ≡ Some (widest_entry (kind_of state))
-  pub no_other_entry : (n : List ℕ) → IsTrue (is_some (certified certificate n)) → (i : ℕ) × (slice_get table.names i ≡ Some n)
+  pub entries : (i : ℕ) (n : List ℕ) (state : State) → slice_get table.names i ≡ Some n
+      → slice_get table.states i ≡ Some state → certified certificate n ≡ Some (widest_entry (kind_of state))
+  pub no_other_entry : (n : List ℕ) → IsTrue (is_some (certified certificate n))
+      → (i : ℕ) × (slice_get table.names i ≡ Some n)
 
 -- ---- broken rules
 
@@ -48,7 +51,8 @@ finding_of n breach = record { state = n; field = breach.field; fault = breach.f
 -- the rule is broken in a state of that name with that entry, whatever is certified of the states that follow, of its
 -- children's start states and of its scope's end
 abbrev pub IsBrokenAnyway : Declared → List ℕ → State → StateShapes → Breach → Type 0
-IsBrokenAnyway declared n state entry breach = (inputs : List ℕ → Option Shape) (end : Option Shape) → Contains (flow_breaches declared inputs end n (settings_of state) (kind_of state) (Some entry)) breach
+IsBrokenAnyway declared n state entry breach = (inputs : List ℕ → Option Shape) (end : Option Shape) → Contains
+    (flow_breaches declared inputs end n (settings_of state) (kind_of state) (Some entry)) breach
 
 -- the finding stands for some certificate
 abbrev pub StandsForSome : Scope → Declared → Finding → Type 0

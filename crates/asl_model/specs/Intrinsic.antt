@@ -61,7 +61,8 @@ referred (InItem p) input item = option_and_then (λ i. named_by p i.value) item
 -- the digits of n in front of the text; n has at most that many
 abbrev pub digits_before : ℕ → ℕ → List ℕ → List ℕ
 digits_before zero n text = text
-digits_before (suc most) n text = elim (nat_lt n 10) [ true ↦ (48 + n) ∷ text | false ↦ digits_before most (n / 10) ((48 + n % 10) ∷ text) ]
+digits_before (suc most) n text =
+    elim (nat_lt n 10) [ true ↦ (48 + n) ∷ text | false ↦ digits_before most (n / 10) ((48 + n % 10) ∷ text) ]
 
 -- a whole number in decimal
 abbrev pub decimal_text : ℤ → List ℕ
@@ -149,7 +150,8 @@ pieces_of None (Object fs) = None
 -- `States.Format`, for the pieces of its first argument where that is a literal text
 abbrev pub formatted : Option Pieces → Trees → Option Tree
 formatted literal NoTrees = None
-formatted literal (AndTree t ts) = option_map Text (option_and_then (λ pieces. holes_filled pieces.first pieces.after_holes ts) (pieces_of literal t))
+formatted literal (AndTree t ts) =
+    option_map Text (option_and_then (λ pieces. holes_filled pieces.first pieces.after_holes ts) (pieces_of literal t))
 
 -- how long an array is
 abbrev pub length_of : Tree → Option Tree
@@ -175,7 +177,8 @@ applied StatesFormat literal values = formatted literal values
 abbrev mutual
   -- the value of a call, for the template's input and the item at hand; None is an intrinsic failure
   pub call_value : Call → Tree → Option Item → Option Tree
-  call_value (CallOf function arguments) input item = option_and_then (applied function (literal_pieces arguments)) (argument_values arguments input item)
+  call_value (CallOf function arguments) input item =
+      option_and_then (applied function (literal_pieces arguments)) (argument_values arguments input item)
 
   -- the value of an argument
   pub argument_value : Argument → Tree → Option Item → Option Tree

@@ -1,7 +1,9 @@
 -- Machines: nested scopes of states (States Language, "Structure of a State Machine" and "State Types").
 -- A machine holds what a run or a finding looks at, defaults filled in. What is read and looked at nowhere is left
--- out: comments, `Version`, `QueryLanguage`, `ProcessorConfig`, `MaxConcurrency` (the order of events is free), and all that is
--- time alone (`TimeoutSeconds`, `HeartbeatSeconds`, `IntervalSeconds`, `BackoffRate`, `MaxDelaySeconds`, `JitterStrategy`).
+-- out: comments, `Version`, `QueryLanguage`, `ProcessorConfig`, `MaxConcurrency` (the order of events is free), and all
+-- that is
+-- time alone (`TimeoutSeconds`, `HeartbeatSeconds`, `IntervalSeconds`, `BackoffRate`, `MaxDelaySeconds`,
+-- `JitterStrategy`).
 use Rattle.std.specs.Prelude.{◌≡◌, ◌<◌, ℕ, zero, suc, List, [], ◌++◌, map, Contains, Bool, true, false, ◌&&◌, ◌||◌, IsTrue, Option, Some, None, is_some, option_to_list, bytes_eq, if◌then◌else◌}
 use Rattle.asl_model.specs.Tree.{Tree}
 use Rattle.asl_model.specs.Path.{Segment}
@@ -13,7 +15,8 @@ pub record Retrier : Type 0 where
   pub error_equals : List (List ℕ)
   pub max_attempts : ℕ
 
--- an element of `Catch`: the error names that it takes, where the error output is placed (None: `null`), and the state that follows
+-- an element of `Catch`: the error names that it takes, where the error output is placed (None: `null`), and the state
+-- that follows
 pub record Catcher : Type 0 where
   pub error_equals : List (List ℕ)
   pub result_path : Option (List Segment)
@@ -184,7 +187,8 @@ how_many (AndScope scope others) = suc (how_many others)
 -- the scopes of a machine: its own, and those of the states in its scopes
 pub data IsScopeOf (machine : Scope) : Scope → Type 0 where
   own_scope : IsScopeOf machine machine
-  scope_of_child : {scope : Scope} (n : List ℕ) (state : State) (i : ℕ) → IsScopeOf machine scope → state_named n scope ≡ Some state
+  scope_of_child : {scope : Scope} (n : List ℕ) (state : State) (i : ℕ) → IsScopeOf machine scope
+      → state_named n scope ≡ Some state
       → IsScopeOf machine (child_scope (kind_of state) i)
 
 -- the scope has a state of that name
@@ -204,17 +208,21 @@ targets_by (Map items selector processor) = []
 
 -- the names of the states that may follow a state: by `Next`, by `Catch`, and by its type
 abbrev pub targets_of : State → List (List ℕ)
-targets_of (StateOf settings kind) = option_to_list settings.next ++ (map (λ (catcher : Catcher). catcher.next) settings.catchers ++ targets_by kind)
+targets_of (StateOf settings kind) =
+    option_to_list settings.next ++ (map (λ (catcher : Catcher). catcher.next) settings.catchers ++ targets_by kind)
 
 -- The names in a machine lead inside its scopes: each scope's start is one of its own states, and what follows a state
 -- is a state of the same scope.
 pub record LeadsInside (machine : Scope) : Type 0 where
   pub start : HasNamed machine (start_of machine)
   pub branch_starts : (scope : Scope) → IsScopeOf machine scope
-      → (n : List ℕ) (settings : Settings) (branches : Scopes) → state_named n scope ≡ Some (StateOf settings (Parallel branches))
+      → (n : List ℕ) (settings : Settings) (branches : Scopes) → state_named n scope ≡ Some
+      (StateOf settings (Parallel branches))
       → (i : ℕ) → i < how_many branches → HasNamed (scope_at i branches) (start_of (scope_at i branches))
   pub processor_starts : (scope : Scope) → IsScopeOf machine scope
       → (n : List ℕ) (settings : Settings) (items : List Segment) (selector : Option Template) (processor : Scope)
-      → state_named n scope ≡ Some (StateOf settings (Map items selector processor)) → HasNamed processor (start_of processor)
-  pub targets : (scope : Scope) → IsScopeOf machine scope → (n : List ℕ) (state : State) → state_named n scope ≡ Some state
+      → state_named n scope ≡ Some (StateOf settings (Map items selector processor)) → HasNamed processor
+      (start_of processor)
+  pub targets : (scope : Scope) → IsScopeOf machine scope → (n : List ℕ) (state : State)
+      → state_named n scope ≡ Some state
       → (m : List ℕ) → Contains (targets_of state) m → HasNamed scope m

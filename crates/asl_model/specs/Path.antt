@@ -27,5 +27,7 @@ named_by (s ∷ p) v = option_and_then (named_by p) (child s v)
 -- field of an object; an index then q, what q names in that element of an array. There is no other case.
 pub data Names : List Segment → Tree → Tree → Type 0 where
   names_itself : {v : Tree} → Names [] v v
-  names_in_field : {n : List ℕ} {q : List Segment} {fs : Fields} {u w : Tree} → field_named n fs ≡ Some u → Names q u w → Names (Name n ∷ q) (Object fs) w
-  names_in_element : {i : ℕ} {q : List Segment} {ts : Trees} {u w : Tree} → element i ts ≡ Some u → Names q u w → Names (Index i ∷ q) (Array ts) w
+  names_in_field : {n : List ℕ} {q : List Segment} {fs : Fields} {u w : Tree} → field_named n fs ≡ Some u → Names q u w
+      → Names (Name n ∷ q) (Object fs) w
+  names_in_element : {i : ℕ} {q : List Segment} {ts : Trees} {u w : Tree} → element i ts ≡ Some u → Names q u w
+      → Names (Index i ∷ q) (Array ts) w

@@ -33,11 +33,14 @@ in_quoted_name quote b = not (b == quote) && not (b == 92)
 
 -- `0`, or decimal digits without a leading zero, at most 4294967295
 abbrev pub is_index : List ℕ → Bool
-is_index digits = not (length digits == 0) && (length digits == 1 || not (slice_index digits 0 == 48)) && nat_lt (digits_value 10 digits) (2 ^ 32)
+is_index digits =
+    not (length digits == 0) && (length digits == 1 || not (slice_index digits 0 == 48))
+    && nat_lt (digits_value 10 digits) (2 ^ 32)
 
 -- the name that a text begins with, at least one byte and as long as possible, and what is behind it
 abbrev pub cut_dot_name : List ℕ → Option (Segment × List ℕ)
-cut_dot_name text = let n = front_length in_dot_name text in if n == 0 then None else Some (Name (take n text), drop n text)
+cut_dot_name text =
+    let n = front_length in_dot_name text in if n == 0 then None else Some (Name (take n text), drop n text)
 
 -- the name up to that quote and `]`, and what is behind them
 abbrev pub cut_quoted_name : ℕ → List ℕ → Option (Segment × List ℕ)
@@ -54,7 +57,8 @@ cut_index text =
 -- what stands behind `[`: a name in apostrophes or in quotes, or an index
 abbrev pub cut_bracket : List ℕ → Option (Segment × List ℕ)
 cut_bracket [] = None
-cut_bracket (x ∷ rest) = if x == 39 then cut_quoted_name 39 rest else (if x == 34 then cut_quoted_name 34 rest else cut_index (x ∷ rest))
+cut_bracket (x ∷ rest) =
+    if x == 39 then cut_quoted_name 39 rest else (if x == 34 then cut_quoted_name 34 rest else cut_index (x ∷ rest))
 
 -- the segment that a text begins with, and what is behind it
 abbrev pub cut_segment : List ℕ → Option (Segment × List ℕ)
@@ -78,7 +82,8 @@ pub record Spells (text : List ℕ) (p : List Segment) : Type 0 where
 abbrev pub segments_of : ℕ → List ℕ → Option (List Segment)
 segments_of n [] = Some []
 segments_of zero (x ∷ rest) = None
-segments_of (suc n) (x ∷ rest) = option_and_then (λ c. option_map (λ p. c.0 ∷ p) (segments_of n c.1)) (cut_segment (x ∷ rest))
+segments_of (suc n) (x ∷ rest) =
+    option_and_then (λ c. option_map (λ p. c.0 ∷ p) (segments_of n c.1)) (cut_segment (x ∷ rest))
 
 -- the path that a text spells
 abbrev pub path_of : List ℕ → Option (List Segment)

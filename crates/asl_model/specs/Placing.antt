@@ -13,7 +13,8 @@ without_field n (AndField m t fs) = if bytes_eq m n then without_field n fs else
 -- the fields with one more, in front of the first whose name is greater
 abbrev pub insert_field : List ℕ → Tree → Fields → Fields
 insert_field n w NoFields = AndField n w NoFields
-insert_field n w (AndField m t fs) = if comes_before n m then AndField n w (AndField m t fs) else AndField m t (insert_field n w fs)
+insert_field n w (AndField m t fs) =
+    if comes_before n m then AndField n w (AndField m t fs) else AndField m t (insert_field n w fs)
 
 -- the fields with that one created or replaced
 abbrev pub set_field : List ℕ → Tree → Fields → Fields
@@ -48,8 +49,10 @@ placed (s ∷ p) w (Boolean b) = None
 placed (s ∷ p) w (Integer n) = None
 placed (s ∷ p) w (Text t) = None
 placed (Name n ∷ p) w (Array ts) = None
-placed (Index i ∷ p) w (Array ts) = option_map (λ u. Array (set_element i u ts)) (option_and_then (placed p w) (element i ts))
-placed (Name n ∷ p) w (Object fs) = option_map (λ u. Object (set_field n u fs)) (in_or_built (placed p w) (built p w) (field_named n fs))
+placed (Index i ∷ p) w (Array ts) =
+    option_map (λ u. Array (set_element i u ts)) (option_and_then (placed p w) (element i ts))
+placed (Name n ∷ p) w (Object fs) =
+    option_map (λ u. Object (set_field n u fs)) (in_or_built (placed p w) (built p w) (field_named n fs))
 placed (Index i ∷ p) w (Object fs) = None
 
 -- u is w under objects that are built for the names of the path
@@ -62,6 +65,9 @@ pub data Builds : List Segment → Tree → Tree → Type 0 where
 -- names that remain. An index needs a list that is longer than it. There is no other case.
 pub data Places : List Segment → Tree → Tree → Tree → Type 0 where
   places_itself : {w v : Tree} → Places [] w v w
-  places_in_field : {n : List ℕ} {p : List Segment} {w v u : Tree} {fs : Fields} → field_named n fs ≡ Some v → Places p w v u → Places (Name n ∷ p) w (Object fs) (Object (set_field n u fs))
-  places_new_field : {n : List ℕ} {p : List Segment} {w u : Tree} {fs : Fields} → field_named n fs ≡ None → Builds p w u → Places (Name n ∷ p) w (Object fs) (Object (set_field n u fs))
-  places_in_element : {i : ℕ} {p : List Segment} {w v u : Tree} {ts : Trees} → element i ts ≡ Some v → Places p w v u → Places (Index i ∷ p) w (Array ts) (Array (set_element i u ts))
+  places_in_field : {n : List ℕ} {p : List Segment} {w v u : Tree} {fs : Fields} → field_named n fs ≡ Some v
+      → Places p w v u → Places (Name n ∷ p) w (Object fs) (Object (set_field n u fs))
+  places_new_field : {n : List ℕ} {p : List Segment} {w u : Tree} {fs : Fields} → field_named n fs ≡ None → Builds p w u
+      → Places (Name n ∷ p) w (Object fs) (Object (set_field n u fs))
+  places_in_element : {i : ℕ} {p : List Segment} {w v u : Tree} {ts : Trees} → element i ts ≡ Some v → Places p w v u
+      → Places (Index i ∷ p) w (Array ts) (Array (set_element i u ts))

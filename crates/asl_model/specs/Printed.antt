@@ -42,7 +42,9 @@ finding_name finding.CatchInput = codes "CatchInput"
 
 -- `no STATE FIELD FAULT`, the state's name as a JSON text
 abbrev pub finding_line : Finding → List ℕ
-finding_line f = codes "no " ++ (quoted_name f.state ++ (codes " " ++ (f.field ++ (codes " " ++ (finding_name f.fault ++ line_break)))))
+finding_line f =
+    codes "no "
+    ++ (quoted_name f.state ++ (codes " " ++ (f.field ++ (codes " " ++ (finding_name f.fault ++ line_break)))))
 
 -- a line for each finding
 abbrev pub finding_lines : List Finding → List ℕ
@@ -105,7 +107,8 @@ place_text n field = codes " " ++ (quoted_name n ++ field_text field)
 
 -- `refused WHICH FAULT`, where it stands, and the line break
 abbrev pub refusal_text : Which → List ℕ → List ℕ → List ℕ
-refusal_text which fault place = codes "refused " ++ (which_name which ++ (codes " " ++ (fault ++ (place ++ line_break))))
+refusal_text which fault place =
+    codes "refused " ++ (which_name which ++ (codes " " ++ (fault ++ (place ++ line_break))))
 
 -- the line where memory was refused
 abbrev pub out_of_memory : List ℕ

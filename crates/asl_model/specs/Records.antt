@@ -118,7 +118,8 @@ field_faults row (Some v) = misfits row.value v
 -- what is wrong with the fields that rows name
 abbrev pub rows_complaints : List ℕ → List RecordRow → Members → List RecordComplaint
 rows_complaints name [] ms = []
-rows_complaints name (row ∷ rows) ms = map (complaint name row.field) (field_faults row (get_member row.field ms)) ++ rows_complaints name rows ms
+rows_complaints name (row ∷ rows) ms =
+    map (complaint name row.field) (field_faults row (get_member row.field ms)) ++ rows_complaints name rows ms
 
 -- the name is that of a row
 abbrev pub has_row : List ℕ → List RecordRow → Bool
@@ -149,11 +150,13 @@ entries_complaints rows (json.member n v ms) = object_complaints n rows v ++ ent
 
 -- all that is wrong with a value as declared shapes, and as a certificate
 abbrev pub declared_complaints : Data → List RecordComplaint
-declared_complaints v = object_complaints [] declared_rows v ++ entries_complaints task_rows (members_under (codes "tasks") v)
+declared_complaints v =
+    object_complaints [] declared_rows v ++ entries_complaints task_rows (members_under (codes "tasks") v)
 
 -- and as a certificate
 abbrev pub certificate_complaints : Data → List RecordComplaint
-certificate_complaints v = object_complaints [] certificate_rows v ++ entries_complaints state_rows (members_under (codes "states") v)
+certificate_complaints v =
+    object_complaints [] certificate_rows v ++ entries_complaints state_rows (members_under (codes "states") v)
 
 -- ---- what is read
 
@@ -179,7 +182,8 @@ abbrev pub state_from : Data → StateShapes
 state_from v = record {
   input = shape_at (codes "input") v;
   output = shape_at (codes "output") v;
-  branches = unwrap_or (option_map shapes_from (option_and_then as_array (get_member (codes "branches") (members_in v)))) [];
+  branches =
+      unwrap_or (option_map shapes_from (option_and_then as_array (get_member (codes "branches") (members_in v)))) [];
   item = option_map shape_from (get_member (codes "item") (members_in v));
 }
 

@@ -1,6 +1,7 @@
 -- How the rules of a Choice are spelled (States Language, "Choice State").
 -- A rule is `And` or `Or` with a list of rules, `Not` with one, or `Variable` with exactly one operator. At the top it
--- has `Next`, and may have a `Comment`. The profile chooses: an escape in a pattern other than `\*` and `\\` is refused.
+-- has `Next`, and may have a `Comment`. The profile chooses: an escape in a pattern other than `\*` and `\\` is
+-- refused.
 -- Every tree has here a test, with defaults where something is wrong, and a list of all that is wrong with it.
 use Rattle.std.specs.Prelude.{◌≡◌, ◌-◌, ℕ, List, [], ◌∷◌, ◌++◌, length, take, drop, ◌==◌, ◌||◌, Bool, true, false, is_some, if◌then◌else◌, Option, Some, None, option_map, option_and_then, Result, Ok, Err, bytes_eq, codes}
 use Rattle.std.specs.Option.{unwrap_or}
@@ -57,7 +58,8 @@ comparison_named n =
 
 -- a comparison with `Path` at its end
 abbrev pub path_comparison_named : List ℕ → Option Comparison
-path_comparison_named n = if bytes_eq (drop (length n - 4) n) (codes "Path") then comparison_named (take (length n - 4) n) else None
+path_comparison_named n =
+    if bytes_eq (drop (length n - 4) n) (codes "Path") then comparison_named (take (length n - 4) n) else None
 
 -- the kind that an operator asks for
 abbrev pub kind_named : List ℕ → Option ValueKind
@@ -101,9 +103,12 @@ given_or fault f (Some a) = f a
 
 -- the test of an operator and its operand on the value at a path
 abbrev pub operator_test : List Segment → Operator → Tree → Result Test RuleFault
-operator_test p (WithValue comparison) t = if is_comparable comparison t then Ok (Compare p comparison (Constant t)) else Err BadOperand
-operator_test p (WithPath comparison) t = given_or BadOperand (λ s. given_or BadPath (λ q. Ok (Compare p comparison (AtPath q))) (path_of s)) (as_text t)
-operator_test p Matching t = given_or BadOperand (λ s. given_or BadPattern (λ parts. Ok (StringMatches p parts)) (pattern_of s)) (as_text t)
+operator_test p (WithValue comparison) t =
+    if is_comparable comparison t then Ok (Compare p comparison (Constant t)) else Err BadOperand
+operator_test p (WithPath comparison) t =
+    given_or BadOperand (λ s. given_or BadPath (λ q. Ok (Compare p comparison (AtPath q))) (path_of s)) (as_text t)
+operator_test p Matching t =
+    given_or BadOperand (λ s. given_or BadPattern (λ parts. Ok (StringMatches p parts)) (pattern_of s)) (as_text t)
 operator_test p (OfKind kind) t = given_or BadOperand (λ b. Ok (IsOfKind p kind b)) (as_boolean t)
 operator_test p Presence t = given_or BadOperand (λ b. Ok (IsPresent p b)) (as_boolean t)
 
@@ -159,7 +164,9 @@ variable_path_faults (Some s) = if is_some (path_of s) then [] else BadPath ∷ 
 
 -- what is wrong with a rule that has `Variable`
 abbrev pub variable_faults : Tree → Fields → List RuleFault
-variable_faults t fs = variable_path_faults (as_text t) ++ (one_faults (main_fields fs) ++ operator_faults (unwrap_or (variable_in fs) []) (main_fields fs))
+variable_faults t fs =
+    variable_path_faults (as_text t)
+    ++ (one_faults (main_fields fs) ++ operator_faults (unwrap_or (variable_in fs) []) (main_fields fs))
 
 -- what is wrong with one that hasn't: it has exactly one of `And`, `Or` and `Not`, with these faults
 abbrev pub joined_faults : List (List ℕ × Tree) → List RuleFault → List RuleFault → List RuleFault → List RuleFault
@@ -184,7 +191,9 @@ test_by fs ands ors inner =
 
 -- `Next` and `Comment` don't stand below the top
 abbrev pub inner_faults : Fields → List RuleFault
-inner_faults fs = (if is_some (field_named (codes "Next") fs) then NextInside ∷ [] else []) ++ (if is_some (field_named (codes "Comment") fs) then NotARule ∷ [] else [])
+inner_faults fs =
+    (if is_some (field_named (codes "Next") fs) then NextInside ∷ [] else [])
+    ++ (if is_some (field_named (codes "Comment") fs) then NotARule ∷ [] else [])
 
 -- at the top `Next` is a text, and `Comment` where it is there
 abbrev pub text_faults : Bool → Option Tree → List RuleFault
@@ -205,7 +214,8 @@ abbrev mutual
   test_of (Integer n) = no_test
   test_of (Text s) = no_test
   test_of (Array ts) = no_test
-  test_of (Object fs) = test_by fs (tests_under (codes "And") fs) (tests_under (codes "Or") fs) (test_under (codes "Not") fs)
+  test_of (Object fs) =
+      test_by fs (tests_under (codes "And") fs) (tests_under (codes "Or") fs) (test_under (codes "Not") fs)
 
   -- the test in the field of that name
   pub test_under : List ℕ → Fields → Test
@@ -258,7 +268,8 @@ abbrev mutual
   -- what is wrong with the test in the field of that name
   pub nested_faults_under : List ℕ → Fields → List RuleFault
   nested_faults_under n NoFields = []
-  nested_faults_under n (AndField m t fs) = elim (bytes_eq m n) [ true ↦ nested_faults t | false ↦ nested_faults_under n fs ]
+  nested_faults_under n (AndField m t fs) =
+      elim (bytes_eq m n) [ true ↦ nested_faults t | false ↦ nested_faults_under n fs ]
 
   -- what is wrong with the list of tests in the field of that name
   pub list_faults_under : List ℕ → Fields → List RuleFault

@@ -107,11 +107,13 @@ retrying i (retrier ∷ others) counts error = if takes_error error retrier.erro
 -- the first catcher that takes the error, with its number, where the catchers are numbered from i on
 abbrev pub catching : ℕ → List Catcher → List ℕ → Option (ℕ × Catcher)
 catching i [] error = None
-catching i (catcher ∷ others) error = if takes_error error catcher.error_equals then Some (i, catcher) else catching (suc i) others error
+catching i (catcher ∷ others) error =
+    if takes_error error catcher.error_equals then Some (i, catcher) else catching (suc i) others error
 
 -- the object that tells an error and its cause
 abbrev pub error_output : List ℕ → List ℕ → Tree
-error_output error cause = Object (AndField (codes "Cause") (Text cause) (AndField (codes "Error") (Text error) NoFields))
+error_output error cause =
+    Object (AndField (codes "Cause") (Text cause) (AndField (codes "Error") (Text error) NoFields))
 
 -- the error output placed in the raw input at the catcher's `ResultPath`; where that is null, the raw input
 abbrev pub error_placed : Option (List Segment) → Tree → List ℕ → List ℕ → Option Tree
@@ -169,7 +171,8 @@ CatcherTakes error catcher = AppearsIn error catcher.error_equals
 -- the first of a list of which something holds, and its number, counted from 0
 pub data IsFirst {A : Type 0} (P : A → Type 0) : List A → ℕ → A → Type 0 where
   first_is_this : {a : A} {others : List A} → P a → IsFirst P (a ∷ others) 0 a
-  first_is_later : {a b : A} {others : List A} {i : ℕ} → (P b → ⊥) → IsFirst P others i a → IsFirst P (b ∷ others) (suc i) a
+  first_is_later : {a b : A} {others : List A} {i : ℕ} → (P b → ⊥) → IsFirst P others i a
+      → IsFirst P (b ∷ others) (suc i) a
 
 -- it holds of none of the list
 pub data HoldsOfNone {A : Type 0} (P : A → Type 0) : List A → Type 0 where
@@ -179,22 +182,32 @@ pub data HoldsOfNone {A : Type 0} (P : A → Type 0) : List A → Type 0 where
 -- an error isn't retried: no retrier takes it, or the first that does has no attempt left
 pub data IsNotRetried (retriers : List Retrier) (counts : List ℕ) (error : List ℕ) : Type 0 where
   no_retrier_takes : HoldsOfNone (RetrierTakes error) retriers → IsNotRetried retriers counts error
-  no_attempt_is_left : {i : ℕ} {retrier : Retrier} → IsFirst (RetrierTakes error) retriers i retrier → retrier.max_attempts ≤ count_at i counts → IsNotRetried retriers counts error
+  no_attempt_is_left : {i : ℕ} {retrier : Retrier} → IsFirst (RetrierTakes error) retriers i retrier
+      → retrier.max_attempts ≤ count_at i counts → IsNotRetried retriers counts error
 
 -- what a catcher hands to its next state: the raw input with the error output placed at its `ResultPath`; where that
 -- is null, the raw input itself
 pub data HandsOn : Option (List Segment) → Tree → Tree → Tree → Type 0 where
   hands_on_raw : {raw output : Tree} → HandsOn None raw output raw
-  hands_on_placed : {p : List Segment} {raw output input : Tree} → Places p output raw input → HandsOn (Some p) raw output input
+  hands_on_placed : {p : List Segment} {raw output input : Tree} → Places p output raw input
+      → HandsOn (Some p) raw output input
 
 -- What comes of an error in a state with that raw input and those counts. The first retrier that takes it retries,
 -- where it has an attempt left. Otherwise the first catcher that takes it hands on what it places, or nothing can be
 -- placed there; where no catcher takes it, the state fails. There is no other case.
 pub data ComesTo (settings : Settings) (raw : Tree) (counts : List ℕ) (error cause : List ℕ) : Trouble → Type 0 where
-  is_retried : {i : ℕ} {retrier : Retrier} → IsFirst (RetrierTakes error) settings.retriers i retrier → count_at i counts < retrier.max_attempts → ComesTo settings raw counts error cause (Retries i)
-  is_caught : {i : ℕ} {catcher : Catcher} {input : Tree} → IsNotRetried settings.retriers counts error → IsFirst (CatcherTakes error) settings.catchers i catcher → HandsOn catcher.result_path raw (error_output error cause) input → ComesTo settings raw counts error cause (Catches i catcher.next input)
-  is_no_fit : {i : ℕ} {catcher : Catcher} → IsNotRetried settings.retriers counts error → IsFirst (CatcherTakes error) settings.catchers i catcher → ((input : Tree) → HandsOn catcher.result_path raw (error_output error cause) input → ⊥) → ComesTo settings raw counts error cause Misfits
-  is_not_caught : IsNotRetried settings.retriers counts error → HoldsOfNone (CatcherTakes error) settings.catchers → ComesTo settings raw counts error cause Escapes
+  is_retried : {i : ℕ} {retrier : Retrier} → IsFirst (RetrierTakes error) settings.retriers i retrier
+      → count_at i counts < retrier.max_attempts → ComesTo settings raw counts error cause (Retries i)
+  is_caught : {i : ℕ} {catcher : Catcher} {input : Tree} → IsNotRetried settings.retriers counts error
+      → IsFirst (CatcherTakes error) settings.catchers i catcher
+      → HandsOn catcher.result_path raw (error_output error cause) input
+      → ComesTo settings raw counts error cause (Catches i catcher.next input)
+  is_no_fit : {i : ℕ} {catcher : Catcher} → IsNotRetried settings.retriers counts error
+      → IsFirst (CatcherTakes error) settings.catchers i catcher
+      → ((input : Tree) → HandsOn catcher.result_path raw (error_output error cause) input → ⊥)
+      → ComesTo settings raw counts error cause Misfits
+  is_not_caught : IsNotRetried settings.retriers counts error → HoldsOfNone (CatcherTakes error) settings.catchers
+      → ComesTo settings raw counts error cause Escapes
 
 -- the step that comes of an error in state n
 abbrev pub by_trouble : List ℕ → Tree → List ℕ → List ℕ → List ℕ → Trouble → Step
@@ -205,11 +218,13 @@ by_trouble n raw counts error cause Escapes = ends_failing error cause
 
 -- state n is in trouble with an error and a cause
 abbrev pub troubled : List ℕ → Settings → Tree → List ℕ → List ℕ → List ℕ → Step
-troubled n settings raw counts error cause = by_trouble n raw counts error cause (trouble_of settings raw counts error cause)
+troubled n settings raw counts error cause =
+    by_trouble n raw counts error cause (trouble_of settings raw counts error cause)
 
 -- state n has met a data-flow fault: it is raised, and then in trouble with its error and, as the cause, its field
 abbrev pub faulted : List ℕ → Settings → Tree → List ℕ → Fault → Step
-faulted n settings raw counts fault = entry_then (Raised n fault) (troubled n settings raw counts (error_name fault.error) fault.field)
+faulted n settings raw counts fault =
+    entry_then (Raised n fault) (troubled n settings raw counts (error_name fault.error) fault.field)
 
 -- state n leaves with an output, for its next state or the end of its scope
 abbrev pub leaves_for : List ℕ → Option (List ℕ) → Tree → Step
@@ -228,12 +243,14 @@ finishes n settings raw counts result = leaves_with n settings raw counts settin
 -- a child for each input, Ready at the start of its scope; the scopes are given by the child's number
 abbrev pub started : (ℕ → Scope) → Trees → Activities
 started scopes NoTrees = NoActivities
-started scopes (AndTree input inputs) = AndActivity (Ready (start_of (scopes 0)) input []) (started (λ i. scopes (suc i)) inputs)
+started scopes (AndTree input inputs) =
+    AndActivity (Ready (start_of (scopes 0)) input []) (started (λ i. scopes (suc i)) inputs)
 
 -- the step that a first move comes to
 abbrev pub by_work : List ℕ → State → Tree → List ℕ → Work → Step
 by_work n state raw counts (Finishes result) = finishes n (settings_of state) raw counts result
-by_work n state raw counts (Leaves next v) = leaves_with n (settings_of state) raw counts next (at_output_path (settings_of state) v)
+by_work n state raw counts (Leaves next v) =
+    leaves_with n (settings_of state) raw counts next (at_output_path (settings_of state) v)
 by_work n state raw counts (FailsWith error cause) = ends_failing error cause
 by_work n state raw counts (Asks payload) = record { entries = Asked n payload ∷ []; after = Waiting n raw counts payload }
 by_work n state raw counts (Splits inputs) = record { entries = []; after = Split n raw counts (started (child_scope (kind_of state)) inputs) }
@@ -303,7 +320,8 @@ moves_ready n raw counts (FailsTask error cause) state = None
 abbrev pub moves_waiting : List ℕ → Tree → List ℕ → Action → State → Option Step
 moves_waiting n raw counts Move state = None
 moves_waiting n raw counts (Gives answer) state = Some (finishes n (settings_of state) raw counts answer)
-moves_waiting n raw counts (FailsTask error cause) state = Some (entry_then (TaskFailed n error cause) (troubled n (settings_of state) raw counts error cause))
+moves_waiting n raw counts (FailsTask error cause) state =
+    Some (entry_then (TaskFailed n error cause) (troubled n (settings_of state) raw counts error cause))
 
 -- the same for a Split: it joins
 abbrev pub moves_split : List ℕ → Tree → List ℕ → Activities → Action → State → Option Step
@@ -314,8 +332,10 @@ moves_split n raw counts children (FailsTask error cause) state = None
 -- one step of an activity itself, which stands in a scope
 abbrev pub acts : Scope → Activity → Action → Option Step
 acts scope (Ready n raw counts) action = option_and_then (moves_ready n raw counts action) (state_named n scope)
-acts scope (Waiting n raw counts payload) action = option_and_then (moves_waiting n raw counts action) (state_named n scope)
-acts scope (Split n raw counts children) action = option_and_then (moves_split n raw counts children action) (state_named n scope)
+acts scope (Waiting n raw counts payload) action =
+    option_and_then (moves_waiting n raw counts action) (state_named n scope)
+acts scope (Split n raw counts children) action =
+    option_and_then (moves_split n raw counts children action) (state_named n scope)
 acts scope (Done output) action = None
 acts scope (Failed error cause) action = None
 
@@ -458,14 +478,16 @@ abbrev mutual
   pub enabled : Activity → Scope → List (List ℕ × Want)
   enabled (Ready n raw counts) scope = wanted_here WantsMove (state_named n scope)
   enabled (Waiting n raw counts payload) scope = wanted_here WantsAnswer (state_named n scope)
-  enabled (Split n raw counts children) scope = join_wanted (joining 0 children) (state_named n scope) ++ enabled_below children (scope_below scope n) 0
+  enabled (Split n raw counts children) scope =
+      join_wanted (joining 0 children) (state_named n scope) ++ enabled_below children (scope_below scope n) 0
   enabled (Done output) scope = []
   enabled (Failed error cause) scope = []
 
   -- those of the children from number i on
   pub enabled_below : Activities → (ℕ → Scope) → ℕ → List (List ℕ × Want)
   enabled_below NoActivities scopes i = []
-  enabled_below (AndActivity child others) scopes i = map (down_from i) (enabled child (scopes i)) ++ enabled_below others scopes (suc i)
+  enabled_below (AndActivity child others) scopes i =
+      map (down_from i) (enabled child (scopes i)) ++ enabled_below others scopes (suc i)
 
 -- two places apart: neither stands at or below the other
 pub data AreApart : List ℕ → List ℕ → Type 0 where
@@ -485,7 +507,8 @@ pub record HasChildReplaced (i : ℕ) (before after : Option Activity) : Type 0 
 
 -- Two actions at places of an activity, of which the second follows the first with these steps, can be taken in the
 -- other order: each makes the same entries, and the activity after both is the same.
-pub record Commute (scope : Scope) (a : Activity) (p : List ℕ) (x : Action) (q : List ℕ) (y : Action) (first second : Step) : Type 0 where
+pub record Commute (scope : Scope) (a : Activity) (p : List ℕ) (x : Action) (q : List ℕ) (y : Action)
+    (first second : Step) : Type 0 where
   pub sooner : Step
   pub later : Step
   pub second_first : step_at q scope a y ≡ Some sooner

@@ -121,7 +121,8 @@ abbrev mutual
   -- each mention of a field holds: its shape where the field is there, and that it is there where it is needed
   pub fields_have : FieldShapes → Fields → Bool
   fields_have NoFieldShapes fs = true
-  fields_have (AndFieldShape n needed s shapes) fs = there_and needed (has s) (field_named n fs) && fields_have shapes fs
+  fields_have (AndFieldShape n needed s shapes) fs =
+      there_and needed (has s) (field_named n fs) && fields_have shapes fs
 
 -- the tree has the shape, as a fact
 abbrev pub Has : Shape → Tree → Type 0
@@ -133,13 +134,16 @@ Inside a b = (t : Tree) → Has a t → Has b t
 
 -- the name is that of a mentioned field
 pub data IsMentioned : List ℕ → FieldShapes → Type 0 where
-  mentioned_first : {n : List ℕ} {needed : Bool} {s : Shape} {shapes : FieldShapes} → IsMentioned n (AndFieldShape n needed s shapes)
-  mentioned_later : {n m : List ℕ} {needed : Bool} {s : Shape} {shapes : FieldShapes} → IsMentioned n shapes → IsMentioned n (AndFieldShape m needed s shapes)
+  mentioned_first : {n : List ℕ} {needed : Bool} {s : Shape} {shapes : FieldShapes}
+      → IsMentioned n (AndFieldShape n needed s shapes)
+  mentioned_later : {n m : List ℕ} {needed : Bool} {s : Shape} {shapes : FieldShapes} → IsMentioned n shapes
+      → IsMentioned n (AndFieldShape m needed s shapes)
 
 -- the name of each field is mentioned
 pub data AreMentioned : Fields → FieldShapes → Type 0 where
   none_to_mention : {shapes : FieldShapes} → AreMentioned NoFields shapes
-  and_mentioned : {n : List ℕ} {t : Tree} {fs : Fields} {shapes : FieldShapes} → IsMentioned n shapes → AreMentioned fs shapes → AreMentioned (AndField n t fs) shapes
+  and_mentioned : {n : List ℕ} {t : Tree} {fs : Fields} {shapes : FieldShapes} → IsMentioned n shapes
+      → AreMentioned fs shapes → AreMentioned (AndField n t fs) shapes
 
 mutual
   -- The tree is valid against the shape. Every tree is against Any, and none against Never; a tree of one of the four
@@ -151,21 +155,29 @@ mutual
     boolean_is_valid : {b : Bool} → IsValid BooleanShape (Boolean b)
     integer_is_valid : {n : ℤ} → IsValid IntegerShape (Integer n)
     string_is_valid : {s : List ℕ} → IsValid StringShape (Text s)
-    array_is_valid : {first : Shapes} {rest : Shape} {ts : Trees} → HasValidElements first rest ts → IsValid (ArrayShape first rest) (Array ts)
-    open_object_is_valid : {shapes : FieldShapes} {fs : Fields} → HasValidFields shapes fs → IsValid (ObjectShape shapes true) (Object fs)
-    closed_object_is_valid : {shapes : FieldShapes} {fs : Fields} → HasValidFields shapes fs → AreMentioned fs shapes → IsValid (ObjectShape shapes false) (Object fs)
+    array_is_valid : {first : Shapes} {rest : Shape} {ts : Trees} → HasValidElements first rest ts
+        → IsValid (ArrayShape first rest) (Array ts)
+    open_object_is_valid : {shapes : FieldShapes} {fs : Fields} → HasValidFields shapes fs
+        → IsValid (ObjectShape shapes true) (Object fs)
+    closed_object_is_valid : {shapes : FieldShapes} {fs : Fields} → HasValidFields shapes fs → AreMentioned fs shapes
+        → IsValid (ObjectShape shapes false) (Object fs)
 
   -- each of the first elements is there and valid against its own shape, and each further one against that of the rest
   pub data HasValidElements : Shapes → Shape → Trees → Type 0 where
     no_further_element : {rest : Shape} → HasValidElements NoShapes rest NoTrees
-    further_element_is_valid : {rest : Shape} {t : Tree} {ts : Trees} → IsValid rest t → HasValidElements NoShapes rest ts → HasValidElements NoShapes rest (AndTree t ts)
-    first_element_is_valid : {s : Shape} {others : Shapes} {rest : Shape} {t : Tree} {ts : Trees} → IsValid s t → HasValidElements others rest ts → HasValidElements (AndShape s others) rest (AndTree t ts)
+    further_element_is_valid : {rest : Shape} {t : Tree} {ts : Trees} → IsValid rest t
+        → HasValidElements NoShapes rest ts → HasValidElements NoShapes rest (AndTree t ts)
+    first_element_is_valid : {s : Shape} {others : Shapes} {rest : Shape} {t : Tree} {ts : Trees} → IsValid s t
+        → HasValidElements others rest ts → HasValidElements (AndShape s others) rest (AndTree t ts)
 
   -- each mentioned field is valid against its shape where it is there; one that isn't there isn't needed
   pub data HasValidFields : FieldShapes → Fields → Type 0 where
     no_field_mentioned : {fs : Fields} → HasValidFields NoFieldShapes fs
-    present_field_is_valid : {n : List ℕ} {needed : Bool} {s : Shape} {shapes : FieldShapes} {fs : Fields} {t : Tree} → field_named n fs ≡ Some t → IsValid s t → HasValidFields shapes fs → HasValidFields (AndFieldShape n needed s shapes) fs
-    absent_field_is_valid : {n : List ℕ} {s : Shape} {shapes : FieldShapes} {fs : Fields} → field_named n fs ≡ None → HasValidFields shapes fs → HasValidFields (AndFieldShape n false s shapes) fs
+    present_field_is_valid : {n : List ℕ} {needed : Bool} {s : Shape} {shapes : FieldShapes} {fs : Fields} {t : Tree}
+        → field_named n fs ≡ Some t → IsValid s t → HasValidFields shapes fs
+        → HasValidFields (AndFieldShape n needed s shapes) fs
+    absent_field_is_valid : {n : List ℕ} {s : Shape} {shapes : FieldShapes} {fs : Fields} → field_named n fs ≡ None
+        → HasValidFields shapes fs → HasValidFields (AndFieldShape n false s shapes) fs
 
 -- the name comes before that of the first mention
 abbrev pub before_mentions : List ℕ → FieldShapes → Bool
@@ -197,7 +209,8 @@ abbrev mutual
   -- names are UTF-8 and stand in byte order, and shapes are proper
   pub AreProperFields : FieldShapes → Type 0
   AreProperFields NoFieldShapes = Unit {0}
-  AreProperFields (AndFieldShape n needed s shapes) = IsUtf8 n × IsTrue (before_mentions n shapes) × IsProperShape s × AreProperFields shapes
+  AreProperFields (AndFieldShape n needed s shapes) =
+      IsUtf8 n × IsTrue (before_mentions n shapes) × IsProperShape s × AreProperFields shapes
 
 abbrev mutual
   -- whether some tree has the shape

@@ -1,6 +1,7 @@
 -- Shapes through a state: what follows of the shape of a state's input for what its paths name, its templates give, its
 -- rules let through and its output is (States Language, "Input and Output Processing", "Payload Template",
--- "Intrinsic Functions", "Choice State"). The rules are the profile's own, and of a shape without a tree all give Never.
+-- "Intrinsic Functions", "Choice State"). The rules are the profile's own, and of a shape without a tree all give
+-- Never.
 use Rattle.std.specs.Prelude.{ℕ, zero, suc, ◌==◌, List, [], ◌∷◌, ◌++◌, length, map, Bool, true, false, ◌&&◌, ◌||◌, not, Option, Some, None, Result, Ok, Err, codes, if◌then◌else◌}
 use Rattle.asl_model.specs.Tree.{Tree, Null, Boolean, Integer, Text, Array, Object, Trees, NoTrees, AndTree, Fields, NoFields, AndField}
 use Rattle.asl_model.specs.Path.{Segment, Name, Index}
@@ -109,11 +110,13 @@ put_or_built true inner outer = inner
 put_or_built false inner outer = join_results inner outer
 
 -- what is placed in a field, by its mention
-abbrev pub put_mentioned : (Shape → Result Shape ℕ) → Bool → List Segment → Shape → Option (Bool × Shape) → Result Shape ℕ
+abbrev pub put_mentioned : (Shape → Result Shape ℕ) → Bool → List Segment → Shape → Option (Bool × Shape)
+    → Result Shape ℕ
 put_mentioned go_on extra path w None = put_unmentioned extra path w
 put_mentioned go_on extra path w (Some mention) = put_or_built mention.0 (go_on mention.1) (built_shape path w)
 
--- the shape of a tree with one placed under a segment, or the refusal; the function goes on behind the segment, with the path
+-- the shape of a tree with one placed under a segment, or the refusal; the function goes on behind the segment, with
+-- the path
 abbrev pub put_under : (Shape → Result Shape ℕ) → Segment → List Segment → Shape → Shape → Result Shape ℕ
 put_under go_on segment path w Any = Err 0
 put_under go_on segment path w Never = Err 0
@@ -123,7 +126,8 @@ put_under go_on segment path w IntegerShape = Err 0
 put_under go_on segment path w StringShape = Err 0
 put_under go_on (Name n) path w (ArrayShape first rest) = Err 0
 put_under go_on (Index i) path w (ArrayShape first rest) = put_in_place go_on i first rest (place_at i first)
-put_under go_on (Name n) path w (ObjectShape shapes extra) = object_with n shapes extra (put_mentioned go_on extra path w (mention_of n shapes))
+put_under go_on (Name n) path w (ObjectShape shapes extra) =
+    object_with n shapes extra (put_mentioned go_on extra path w (mention_of n shapes))
 put_under go_on (Index i) path w (ObjectShape shapes extra) = Err 0
 
 -- The shape of every tree of the first shape with a tree of the second placed at the path, or the number of the
@@ -236,7 +240,8 @@ fits_holes (Some pieces) s others = length pieces.after_holes == how_many_shapes
 abbrev pub format_of : Option Pieces → Option Shapes → Option Shape
 format_of literal_text None = None
 format_of literal_text (Some NoShapes) = None
-format_of literal_text (Some (AndShape s others)) = if fits_holes literal_text s others && all_formattable others then Some StringShape else None
+format_of literal_text (Some (AndShape s others)) =
+    if fits_holes literal_text s others && all_formattable others then Some StringShape else None
 
 -- the shape of a function's value, where it has one for all values of its arguments
 abbrev pub value_shape : Function → Option Pieces → Option Shapes → Option Shape
@@ -247,7 +252,8 @@ value_shape StatesFormat literal_text shapes = format_of literal_text shapes
 abbrev mutual
   -- the shape of a call's value; None: it may fail
   pub call_shape : Call → Shape → Option Shape → Option Shape
-  call_shape (CallOf function arguments) input item = value_shape function (literal_pieces arguments) (argument_shapes arguments input item)
+  call_shape (CallOf function arguments) input item =
+      value_shape function (literal_pieces arguments) (argument_shapes arguments input item)
 
   -- the shape of an argument's value; None: it may fail
   pub argument_shape : Argument → Shape → Option Shape → Option Shape
@@ -261,7 +267,8 @@ abbrev mutual
   -- the shapes of all arguments; None: one may fail
   pub argument_shapes : Arguments → Shape → Option Shape → Option Shapes
   argument_shapes NoArguments input item = Some NoShapes
-  argument_shapes (AndArgument argument others) input item = and_argument (argument_shape argument input item) (argument_shapes others input item)
+  argument_shapes (AndArgument argument others) input item =
+      and_argument (argument_shape argument input item) (argument_shapes others input item)
 
 -- a doubt, with the name of the nearest object field
 abbrev pub doubts_at : List ℕ → Result Shape Doubt → List (List ℕ × Doubt)
@@ -290,12 +297,14 @@ abbrev mutual
   -- those of the elements, in order
   pub element_doubts : Templates → List ℕ → Shape → Option Shape → List (List ℕ × Doubt)
   element_doubts NoTemplates field input item = []
-  element_doubts (AndTemplate template others) field input item = doubts template field input item ++ element_doubts others field input item
+  element_doubts (AndTemplate template others) field input item =
+      doubts template field input item ++ element_doubts others field input item
 
   -- those of the fields, each under its own name
   pub field_doubts : FieldTemplates → Shape → Option Shape → List (List ℕ × Doubt)
   field_doubts NoFieldTemplates input item = []
-  field_doubts (AndFieldTemplate n template others) input item = doubts template n input item ++ field_doubts others input item
+  field_doubts (AndFieldTemplate n template others) input item =
+      doubts template n input item ++ field_doubts others input item
 
 abbrev mutual
   -- the shape of a template's value, where there is no doubt
@@ -309,12 +318,14 @@ abbrev mutual
   -- the shapes of the elements
   pub filled_elements : Templates → Shape → Option Shape → Shapes
   filled_elements NoTemplates input item = NoShapes
-  filled_elements (AndTemplate template others) input item = AndShape (filled_shape template input item) (filled_elements others input item)
+  filled_elements (AndTemplate template others) input item =
+      AndShape (filled_shape template input item) (filled_elements others input item)
 
   -- each field is needed, with the shape of its value
   pub filled_fields : FieldTemplates → Shape → Option Shape → FieldShapes
   filled_fields NoFieldTemplates input item = NoFieldShapes
-  filled_fields (AndFieldTemplate n template others) input item = set_mention n true (filled_shape template input item) (filled_fields others input item)
+  filled_fields (AndFieldTemplate n template others) input item =
+      set_mention n true (filled_shape template input item) (filled_fields others input item)
 
 -- the shape, or the doubts where there are some
 abbrev pub unless_doubts : List (List ℕ × Doubt) → Shape → Result Shape (List (List ℕ × Doubt))
@@ -480,7 +491,8 @@ result_flow settings raw result = flow_then (output_flow settings) (flow_then (t
 
 -- the same, Never where the raw input or the result isn't inhabited
 abbrev pub result_leaves : Settings → Shape → Shape → Flow
-result_leaves settings raw result = if inhabited raw && inhabited result then result_flow settings raw result else Ok Never
+result_leaves settings raw result =
+    if inhabited raw && inhabited result then result_flow settings raw result else Ok Never
 
 -- what leaves a state: its result, its effective input, or nothing
 pub data Leaving : Type 0 where

@@ -94,7 +94,8 @@ each_shape test (AndShape s others) = test s && each_shape test others
 -- each field that the second fields alone mention can't be there
 abbrev pub others_never_there : FieldShapes → FieldShapes → Bool
 others_never_there shapes NoFieldShapes = true
-others_never_there shapes (AndFieldShape n needed s others) = (mentions n shapes || not (inhabited s)) && others_never_there shapes others
+others_never_there shapes (AndFieldShape n needed s others) =
+    (mentions n shapes || not (inhabited s)) && others_never_there shapes others
 
 -- A field that is needed or not, with a test of its shape and whether that shape is Any, against the mention of it
 -- in another object shape, which has `extra` or not: where it is mentioned there, it is needed there if it is needed
@@ -114,20 +115,27 @@ abbrev mutual
   sub a BooleanShape = not (inhabited a) || is_boolean_shape a
   sub a IntegerShape = not (inhabited a) || is_integer_shape a
   sub a StringShape = not (inhabited a) || is_string_shape a
-  sub a (ArrayShape first rest) = not (inhabited a) || array_shape_where (λ others further. elements_sub others further first (λ s. sub s rest)) a
-  sub a (ObjectShape shapes extra) = not (inhabited a) || object_shape_where (λ others more. fields_sub others more shapes && (extra || (not more && others_never_there shapes others))) a
+  sub a (ArrayShape first rest) =
+      not (inhabited a) || array_shape_where (λ others further. elements_sub others further first (λ s. sub s rest)) a
+  sub a (ObjectShape shapes extra) =
+      not (inhabited a)
+      || object_shape_where
+      (λ others more. fields_sub others more shapes && (extra || (not more && others_never_there shapes others))) a
 
   -- The first array shape (its first elements, its further ones) is not shorter than the second's first elements;
   -- place by place it is inside these, and all its further ones pass the test of the second's further ones.
   pub elements_sub : Shapes → Shape → Shapes → (Shape → Bool) → Bool
   elements_sub others further NoShapes test = each_shape test others && test further
   elements_sub NoShapes further (AndShape s first) test = false
-  elements_sub (AndShape other others) further (AndShape s first) test = sub other s && elements_sub others further first test
+  elements_sub (AndShape other others) further (AndShape s first) test =
+      sub other s && elements_sub others further first test
 
   -- each field of the second object shape fits its mention in the first (its fields, whether there may be others)
   pub fields_sub : FieldShapes → Bool → FieldShapes → Bool
   fields_sub others more NoFieldShapes = true
-  fields_sub others more (AndFieldShape n needed s shapes) = mention_fits needed (λ other. sub other s) (is_any_shape s) more (mention_of n others) && fields_sub others more shapes
+  fields_sub others more (AndFieldShape n needed s shapes) =
+      mention_fits needed (λ other. sub other s) (is_any_shape s) more (mention_of n others)
+      && fields_sub others more shapes
 
 -- the mentions, without this one if it is to be left out
 abbrev pub with_mention_unless : Bool → List ℕ → Bool → Shape → FieldShapes → FieldShapes
@@ -137,7 +145,8 @@ with_mention_unless false m needed s shapes = AndFieldShape m needed s shapes
 -- the mentions without those of one name
 abbrev pub without_mention : List ℕ → FieldShapes → FieldShapes
 without_mention n NoFieldShapes = NoFieldShapes
-without_mention n (AndFieldShape m needed s shapes) = with_mention_unless (bytes_eq m n) m needed s (without_mention n shapes)
+without_mention n (AndFieldShape m needed s shapes) =
+    with_mention_unless (bytes_eq m n) m needed s (without_mention n shapes)
 
 -- the mentions with this one in place of all others of its name
 abbrev pub set_mention : List ℕ → Bool → Shape → FieldShapes → FieldShapes
@@ -169,7 +178,8 @@ abbrev mutual
 abbrev pub common_joins : (Shape → Shape → Shape) → Shapes → Shapes → Shapes
 common_joins joined NoShapes others = NoShapes
 common_joins joined (AndShape s first) NoShapes = NoShapes
-common_joins joined (AndShape s first) (AndShape other others) = AndShape (joined s other) (common_joins joined first others)
+common_joins joined (AndShape s first) (AndShape other others) =
+    AndShape (joined s other) (common_joins joined first others)
 
 -- the places of one that the other doesn't have
 abbrev pub further_places : Shapes → Shapes → Shapes
@@ -184,24 +194,28 @@ joined_with_each joined s (AndShape other others) = joined_with_each joined (joi
 
 -- A field in front of the joined ones: needed where both need it, with the join of the shapes; one that the other
 -- object doesn't mention is dropped where that may have further fields, else it is optional.
-abbrev pub keep_joined : (Shape → Shape → Shape) → List ℕ → Bool → Shape → Bool → Option (Bool × Shape) → FieldShapes → FieldShapes
+abbrev pub keep_joined : (Shape → Shape → Shape) → List ℕ → Bool → Shape → Bool → Option (Bool × Shape) → FieldShapes
+    → FieldShapes
 keep_joined joined n needed s more None kept = with_mention_unless more n false s kept
 keep_joined joined n needed s more (Some mention) kept = AndFieldShape n (needed && mention.0) (joined s mention.1) kept
 
 -- the first object's fields, joined with the second (its fields, whether there may be others)
 abbrev pub joined_fields : (Shape → Shape → Shape) → FieldShapes → FieldShapes → Bool → FieldShapes
 joined_fields joined NoFieldShapes others more = NoFieldShapes
-joined_fields joined (AndFieldShape n needed s shapes) others more = keep_joined joined n needed s more (mention_of n others) (joined_fields joined shapes others more)
+joined_fields joined (AndFieldShape n needed s shapes) others more =
+    keep_joined joined n needed s more (mention_of n others) (joined_fields joined shapes others more)
 
 -- with an optional field, unless it is dropped
 abbrev pub with_optional_unless : Bool → List ℕ → Shape → FieldShapes → FieldShapes
 with_optional_unless true n s kept = kept
 with_optional_unless false n s kept = set_mention n false s kept
 
--- with the second object's fields that the first (its fields, whether there may be others) doesn't mention: dropped where it may have further fields, else optional
+-- with the second object's fields that the first (its fields, whether there may be others) doesn't mention: dropped
+-- where it may have further fields, else optional
 abbrev pub with_other_fields : FieldShapes → Bool → FieldShapes → FieldShapes → FieldShapes
 with_other_fields shapes extra NoFieldShapes kept = kept
-with_other_fields shapes extra (AndFieldShape n needed s others) kept = with_optional_unless (extra || mentions n shapes) n s (with_other_fields shapes extra others kept)
+with_other_fields shapes extra (AndFieldShape n needed s others) kept =
+    with_optional_unless (extra || mentions n shapes) n s (with_other_fields shapes extra others kept)
 
 -- an array shape joined with another shape
 abbrev pub join_array : (Shape → Shape → Shape) → Shapes → Shape → Shape → Shape
@@ -223,7 +237,8 @@ join_object joined shapes extra BooleanShape = Any
 join_object joined shapes extra IntegerShape = Any
 join_object joined shapes extra StringShape = Any
 join_object joined shapes extra (ArrayShape first rest) = Any
-join_object joined shapes extra (ObjectShape others more) = ObjectShape (with_other_fields shapes extra others (joined_fields joined shapes others more)) (extra || more)
+join_object joined shapes extra (ObjectShape others more) =
+    ObjectShape (with_other_fields shapes extra others (joined_fields joined shapes others more)) (extra || more)
 
 -- the join of two shapes of which trees are there: a kind with itself part by part, and Any for all else
 abbrev pub join_kinds : (Shape → Shape → Shape) → Shape → Shape → Shape

@@ -88,7 +88,8 @@ simple_keywords = codes "type" ∷ annotations
 -- a fault for each field that isn't one of those keywords
 abbrev pub foreign_faults : ShapeFault → List (List ℕ) → Fields → List ShapeFault
 foreign_faults fault keywords NoFields = []
-foreign_faults fault keywords (AndField n t fs) = if is_among n keywords then foreign_faults fault keywords fs else fault ∷ foreign_faults fault keywords fs
+foreign_faults fault keywords (AndField n t fs) =
+    if is_among n keywords then foreign_faults fault keywords fs else fault ∷ foreign_faults fault keywords fs
 
 -- ---- `required` and `additionalProperties`
 
@@ -168,11 +169,13 @@ unmentioned extra = if extra then Any else Never
 -- the fields, with the first mention of that name needed
 abbrev pub with_mention_needed : List ℕ → FieldShapes → FieldShapes
 with_mention_needed n NoFieldShapes = NoFieldShapes
-with_mention_needed n (AndFieldShape m needed s shapes) = if bytes_eq m n then AndFieldShape m true s shapes else AndFieldShape m needed s (with_mention_needed n shapes)
+with_mention_needed n (AndFieldShape m needed s shapes) =
+    if bytes_eq m n then AndFieldShape m true s shapes else AndFieldShape m needed s (with_mention_needed n shapes)
 
 -- the fields, with that one needed: where it is mentioned, or else as one more at its place in byte order
 abbrev pub with_needed : Bool → List ℕ → FieldShapes → FieldShapes
-with_needed extra n shapes = if mentions n shapes then with_mention_needed n shapes else insert_mention n true (unmentioned extra) shapes
+with_needed extra n shapes =
+    if mentions n shapes then with_mention_needed n shapes else insert_mention n true (unmentioned extra) shapes
 
 -- the fields with each of these needed
 abbrev pub with_all_needed : Bool → List (List ℕ) → FieldShapes → FieldShapes
@@ -303,7 +306,8 @@ abbrev mutual
   -- what is wrong with the field of that name, where there is one, as the spelling of a shape
   pub shape_faults_under : List ℕ → Fields → List ShapeFault
   shape_faults_under n NoFields = []
-  shape_faults_under n (AndField m t fs) = elim (bytes_eq m n) [ true ↦ shape_faults t | false ↦ shape_faults_under n fs ]
+  shape_faults_under n (AndField m t fs) =
+      elim (bytes_eq m n) [ true ↦ shape_faults t | false ↦ shape_faults_under n fs ]
 
   -- as a list of shapes
   pub shapes_faults : Tree → List ShapeFault
@@ -322,7 +326,8 @@ abbrev mutual
   -- with the list in the field of that name
   pub shapes_faults_under : List ℕ → Fields → List ShapeFault
   shapes_faults_under n NoFields = []
-  shapes_faults_under n (AndField m t fs) = elim (bytes_eq m n) [ true ↦ shapes_faults t | false ↦ shapes_faults_under n fs ]
+  shapes_faults_under n (AndField m t fs) =
+      elim (bytes_eq m n) [ true ↦ shapes_faults t | false ↦ shapes_faults_under n fs ]
 
   -- as an object of shapes
   pub properties_faults : Tree → List ShapeFault
@@ -341,7 +346,8 @@ abbrev mutual
   -- with the object in the field of that name
   pub properties_faults_under : List ℕ → Fields → List ShapeFault
   properties_faults_under n NoFields = []
-  properties_faults_under n (AndField m t fs) = elim (bytes_eq m n) [ true ↦ properties_faults t | false ↦ properties_faults_under n fs ]
+  properties_faults_under n (AndField m t fs) =
+      elim (bytes_eq m n) [ true ↦ properties_faults t | false ↦ properties_faults_under n fs ]
 
 -- the tree spells the shape
 pub record SpellsShape (t : Tree) (s : Shape) : Type 0 where

@@ -130,12 +130,15 @@ abbrev pub state_by : Option StateType → Members → Scopes → Scope → Stat
 state_by None ms branches processor = StateOf (settings_in None ms) Succeed
 state_by (Some PassState) ms branches processor = StateOf (settings_in (template_at false (codes "Parameters") ms) ms) (Pass (option_and_then tree_of (get_member (codes "Result") ms)))
 state_by (Some TaskState) ms branches processor = StateOf (settings_in (template_at false (codes "Parameters") ms) ms) (Task (unwrap_or (text_at (codes "Resource") ms) []))
-state_by (Some ChoiceState) ms branches processor = StateOf (settings_in None ms) (Choice (rules_of ms) (text_at (codes "Default") ms))
+state_by (Some ChoiceState) ms branches processor =
+    StateOf (settings_in None ms) (Choice (rules_of ms) (text_at (codes "Default") ms))
 state_by (Some WaitState) ms branches processor = StateOf (settings_in None ms) (Wait (delay_of ms))
 state_by (Some SucceedState) ms branches processor = StateOf (settings_in None ms) Succeed
 state_by (Some FailState) ms branches processor = StateOf (settings_in None ms) (Fail (unwrap_or (text_at (codes "Error") ms) []) (unwrap_or (text_at (codes "Cause") ms) []))
-state_by (Some ParallelState) ms branches processor = StateOf (settings_in (template_at false (codes "Parameters") ms) ms) (Parallel branches)
-state_by (Some MapState) ms branches processor = StateOf (settings_in None ms) (Map (path_at (codes "ItemsPath") ms) (selector_of ms) processor)
+state_by (Some ParallelState) ms branches processor =
+    StateOf (settings_in (template_at false (codes "Parameters") ms) ms) (Parallel branches)
+state_by (Some MapState) ms branches processor =
+    StateOf (settings_in None ms) (Map (path_at (codes "ItemsPath") ms) (selector_of ms) processor)
 
 -- the field is a Map's processor, or has its older name
 abbrev pub is_processor : List ℕ → Bool
@@ -154,7 +157,8 @@ abbrev mutual
   -- the states in the field of that name
   pub states_under : List ℕ → Members → States
   states_under field json.no_members = NoStates
-  states_under field (json.member n v ms) = elim (bytes_eq field n) [ true ↦ states_in v | false ↦ states_under field ms ]
+  states_under field (json.member n v ms) =
+      elim (bytes_eq field n) [ true ↦ states_in v | false ↦ states_under field ms ]
 
   -- the states in a value of `States`
   pub states_in : Data → States
@@ -182,7 +186,8 @@ abbrev mutual
   -- the scopes in `Branches`
   pub branches_under : Members → Scopes
   branches_under json.no_members = NoScopes
-  branches_under (json.member n v ms) = elim (bytes_eq (codes "Branches") n) [ true ↦ scopes_in v | false ↦ branches_under ms ]
+  branches_under (json.member n v ms) =
+      elim (bytes_eq (codes "Branches") n) [ true ↦ scopes_in v | false ↦ branches_under ms ]
 
   -- the branches in a list
   pub scopes_in : Data → Scopes
@@ -299,7 +304,8 @@ field_faults row (Some v) = misfits row.wanted v
 -- what is wrong with the fields that rows name
 abbrev pub rows_complaints : Place → List Row → Members → List Complaint
 rows_complaints place [] ms = []
-rows_complaints place (row ∷ rows) ms = map (complaint_at place row.field) (field_faults row (get_member row.field ms)) ++ rows_complaints place rows ms
+rows_complaints place (row ∷ rows) ms =
+    map (complaint_at place row.field) (field_faults row (get_member row.field ms)) ++ rows_complaints place rows ms
 
 -- the name is that of a row
 abbrev pub has_row : List ℕ → List Row → Bool
@@ -378,7 +384,8 @@ wait_complaints place ms = one_of_complaints place (codes "Seconds") (given_amon
 
 -- exactly one of a Map's `ItemProcessor` and its older name
 abbrev pub processor_complaints : Place → Members → List Complaint
-processor_complaints place ms = one_of_complaints place (codes "ItemProcessor") (given_among (codes "ItemProcessor" ∷ codes "Iterator" ∷ []) ms)
+processor_complaints place ms =
+    one_of_complaints place (codes "ItemProcessor") (given_among (codes "ItemProcessor" ∷ codes "Iterator" ∷ []) ms)
 
 -- at most one of a Map's `ItemSelector` and its older name
 abbrev pub selector_complaints : Place → Members → List Complaint
@@ -387,13 +394,15 @@ selector_complaints place ms = complain_unless (not (is_given (codes "ItemSelect
 -- each rule goes on to a state of the scope
 abbrev pub rules_complaints : Place → List (List ℕ) → List Rule → List Complaint
 rules_complaints place names [] = []
-rules_complaints place names (rule ∷ rules) = target_complaints place names (codes "Choices") (Some rule.next) ++ rules_complaints place names rules
+rules_complaints place names (rule ∷ rules) =
+    target_complaints place names (codes "Choices") (Some rule.next) ++ rules_complaints place names rules
 
 -- ---- retriers and catchers
 
 -- `States.ALL` stands alone, and in the last element
 abbrev pub has_proper_names : Members → Bool → Bool
-has_proper_names ms is_last = not (is_among (codes "States.ALL") (error_names ms)) || (is_last && length (error_names ms) == 1)
+has_proper_names ms is_last =
+    not (is_among (codes "States.ALL") (error_names ms)) || (is_last && length (error_names ms) == 1)
 
 -- no element follows
 abbrev pub is_last_before : Items → Bool
@@ -402,7 +411,8 @@ is_last_before (json.item v vs) = false
 
 -- what is wrong with an element of a list that should be an object of those fields
 abbrev pub element_complaints : Place → List ℕ → List Row → Data → List Complaint
-element_complaints place field rows v = unwrap_or (option_map (fields_complaints place rows) (as_object v)) (complaint_at place field (wrong_kind v) ∷ [])
+element_complaints place field rows v =
+    unwrap_or (option_map (fields_complaints place rows) (as_object v)) (complaint_at place field (wrong_kind v) ∷ [])
 
 -- what is wrong with each element of `Retry`
 abbrev pub retriers_complaints : Place → Items → List Complaint
@@ -432,12 +442,18 @@ trouble_complaints state names ms =
 -- the rules on several fields, for each type
 abbrev pub type_complaints : StateType → List ℕ → List (List ℕ) → Members → List Complaint
 type_complaints PassState state names ms = next_complaints (place_of_state state) names ms
-type_complaints TaskState state names ms = next_complaints (place_of_state state) names ms ++ (heartbeat_complaints (place_of_state state) ms ++ trouble_complaints state names ms)
-type_complaints ChoiceState state names ms = target_complaints (place_of_state state) names (codes "Default") (text_at (codes "Default") ms) ++ rules_complaints (place_of_state state) names (rules_of ms)
-type_complaints WaitState state names ms = next_complaints (place_of_state state) names ms ++ wait_complaints (place_of_state state) ms
+type_complaints TaskState state names ms =
+    next_complaints (place_of_state state) names ms
+    ++ (heartbeat_complaints (place_of_state state) ms ++ trouble_complaints state names ms)
+type_complaints ChoiceState state names ms =
+    target_complaints (place_of_state state) names (codes "Default") (text_at (codes "Default") ms)
+    ++ rules_complaints (place_of_state state) names (rules_of ms)
+type_complaints WaitState state names ms =
+    next_complaints (place_of_state state) names ms ++ wait_complaints (place_of_state state) ms
 type_complaints SucceedState state names ms = []
 type_complaints FailState state names ms = []
-type_complaints ParallelState state names ms = next_complaints (place_of_state state) names ms ++ trouble_complaints state names ms
+type_complaints ParallelState state names ms =
+    next_complaints (place_of_state state) names ms ++ trouble_complaints state names ms
 type_complaints MapState state names ms =
     next_complaints (place_of_state state) names ms
     ++ (processor_complaints (place_of_state state) ms
@@ -461,9 +477,14 @@ nested_complaints ParallelState branches processor = branches
 nested_complaints MapState branches processor = processor
 
 -- without a type only the fields of every state are looked at
-abbrev pub state_complaints_by : Option StateType → List ℕ → List (List ℕ) → Members → List Complaint → List Complaint → List Complaint
-state_complaints_by None state names ms branches processor = rows_complaints (place_of_state state) every_state_rows ms ++ unknown_type (place_of_state state) (text_at (codes "Type") ms)
-state_complaints_by (Some type) state names ms branches processor = fields_complaints (place_of_state state) (rows_of type) ms ++ (type_complaints type state names ms ++ nested_complaints type branches processor)
+abbrev pub state_complaints_by : Option StateType → List ℕ → List (List ℕ) → Members → List Complaint → List Complaint
+    → List Complaint
+state_complaints_by None state names ms branches processor =
+    rows_complaints (place_of_state state) every_state_rows ms
+    ++ unknown_type (place_of_state state) (text_at (codes "Type") ms)
+state_complaints_by (Some type) state names ms branches processor =
+    fields_complaints (place_of_state state) (rows_of type) ms
+    ++ (type_complaints type state names ms ++ nested_complaints type branches processor)
 
 -- how many Unicode characters a text has: as many as bytes that continue none
 abbrev pub characters : List ℕ → ℕ
@@ -492,7 +513,8 @@ abbrev mutual
   -- with the states in `States`; the names are those of the states of the scope
   pub states_complaints_under : List (List ℕ) → Members → List Complaint
   states_complaints_under names json.no_members = []
-  states_complaints_under names (json.member n v ms) = elim (bytes_eq (codes "States") n) [ true ↦ states_complaints names v | false ↦ states_complaints_under names ms ]
+  states_complaints_under names (json.member n v ms) =
+      elim (bytes_eq (codes "States") n) [ true ↦ states_complaints names v | false ↦ states_complaints_under names ms ]
 
   -- what is wrong with a value of `States`
   pub states_complaints : List (List ℕ) → Data → List Complaint
@@ -506,7 +528,8 @@ abbrev mutual
   -- with the name of each member, and with it as a state
   pub each_state_complaints : List (List ℕ) → Members → List Complaint
   each_state_complaints names json.no_members = []
-  each_state_complaints names (json.member n v ms) = name_complaints n ++ (state_complaints names n v ++ each_state_complaints names ms)
+  each_state_complaints names (json.member n v ms) =
+      name_complaints n ++ (state_complaints names n v ++ each_state_complaints names ms)
 
   -- with a value as a state
   pub state_complaints : List (List ℕ) → List ℕ → Data → List Complaint
@@ -553,7 +576,8 @@ duplicate_complaints (n ∷ ns) = if is_among n ns then complaint_at (place_of_s
 
 -- a machine has at most 10,000 states
 abbrev pub number_complaints : List (List ℕ) → List Complaint
-number_complaints names = complain_unless (not (nat_lt 10000 (length names))) (place_of_state []) (codes "States") TooLarge
+number_complaints names =
+    complain_unless (not (nat_lt 10000 (length names))) (place_of_state []) (codes "States") TooLarge
 
 -- a definition is an object
 abbrev pub no_object_complaints : Data → List Complaint

@@ -53,12 +53,14 @@ abbrev mutual
   -- those of the elements from that position on
   pub element_failures : ℕ → Templates → Tree → Option Item → List Failure
   element_failures i NoTemplates input item = []
-  element_failures i (AndTemplate t others) input item = map (below (Index i)) (failures t input item) ++ element_failures (suc i) others input item
+  element_failures i (AndTemplate t others) input item =
+      map (below (Index i)) (failures t input item) ++ element_failures (suc i) others input item
 
   -- those of the fields
   pub field_failures : FieldTemplates → Tree → Option Item → List Failure
   field_failures NoFieldTemplates input item = []
-  field_failures (AndFieldTemplate n t others) input item = map (below (Name n)) (failures t input item) ++ field_failures others input item
+  field_failures (AndFieldTemplate n t others) input item =
+      map (below (Name n)) (failures t input item) ++ field_failures others input item
 
 abbrev mutual
   -- the template with each of its paths and calls replaced by its value (null where there is none)
@@ -77,7 +79,8 @@ abbrev mutual
   -- so for each field
   pub fields_filled : FieldTemplates → Tree → Option Item → Fields
   fields_filled NoFieldTemplates input item = NoFields
-  fields_filled (AndFieldTemplate n t others) input item = AndField n (filled t input item) (fields_filled others input item)
+  fields_filled (AndFieldTemplate n t others) input item =
+      AndField n (filled t input item) (fields_filled others input item)
 
 -- the value, unless a place fails; then the first failure counts
 abbrev pub unless_failing : List Failure → Tree → Result Tree DataFlowError
@@ -101,10 +104,16 @@ template_named n (AndFieldTemplate m t others) = if bytes_eq m n then Some t els
 
 -- A place of a template fails, for an input and the item at hand: a path that names nothing, or a call without a value.
 pub data FailsAt (input : Tree) (item : Option Item) : Template → List Segment → DataFlowError → Type 0 where
-  path_fails : {reference : Reference} → referred reference input item ≡ None → FailsAt input item (FromPath reference) [] ParameterPathFailure
-  call_fails : {call : Call} → call_value call input item ≡ None → FailsAt input item (FromCall call) [] IntrinsicFailure
-  fails_in_element : {i : ℕ} {elements : Templates} {t : Template} {p : List Segment} {error : DataFlowError} → template_element i elements ≡ Some t → FailsAt input item t p error → FailsAt input item (ArrayTemplate elements) (Index i ∷ p) error
-  fails_in_field : {n : List ℕ} {fields : FieldTemplates} {t : Template} {p : List Segment} {error : DataFlowError} → template_named n fields ≡ Some t → FailsAt input item t p error → FailsAt input item (ObjectTemplate fields) (Name n ∷ p) error
+  path_fails : {reference : Reference} → referred reference input item ≡ None
+      → FailsAt input item (FromPath reference) [] ParameterPathFailure
+  call_fails : {call : Call} → call_value call input item ≡ None
+      → FailsAt input item (FromCall call) [] IntrinsicFailure
+  fails_in_element : {i : ℕ} {elements : Templates} {t : Template} {p : List Segment} {error : DataFlowError}
+      → template_element i elements ≡ Some t → FailsAt input item t p error
+      → FailsAt input item (ArrayTemplate elements) (Index i ∷ p) error
+  fails_in_field : {n : List ℕ} {fields : FieldTemplates} {t : Template} {p : List Segment} {error : DataFlowError}
+      → template_named n fields ≡ Some t → FailsAt input item t p error
+      → FailsAt input item (ObjectTemplate fields) (Name n ∷ p) error
 
 -- a place comes before another: at the first difference by number, or by the bytes of the names
 pub data IsBefore : List Segment → List Segment → Type 0 where
@@ -115,7 +124,8 @@ pub data IsBefore : List Segment → List Segment → Type 0 where
 -- the least failing place of a template, with its error
 pub record IsLeastFailure (input : Tree) (item : Option Item) (t : Template) (failure : Failure) : Type 0 where
   pub fails : FailsAt input item t failure.place failure.error
-  pub least : (p : List Segment) (error : DataFlowError) → FailsAt input item t p error → (failure.place ≡ p) ⊎ IsBefore failure.place p
+  pub least : (p : List Segment) (error : DataFlowError) → FailsAt input item t p error
+      → (failure.place ≡ p) ⊎ IsBefore failure.place p
 
 -- the name comes before each of these fields' names
 abbrev pub before_each : List ℕ → FieldTemplates → Bool
@@ -143,5 +153,7 @@ abbrev mutual
 
 -- what a template's value tells: the fault of the least failing place, or that no place fails
 abbrev pub TellsLeastFailure : Tree → Option Item → Template → Result Tree DataFlowError → Type 0
-TellsLeastFailure input item t (Ok v) = (v ≡ filled t input item) × ((p : List Segment) (error : DataFlowError) → FailsAt input item t p error → ⊥)
-TellsLeastFailure input item t (Err error) = (p : List Segment) × IsLeastFailure input item t (record { place = p; error = error })
+TellsLeastFailure input item t (Ok v) =
+    (v ≡ filled t input item) × ((p : List Segment) (error : DataFlowError) → FailsAt input item t p error → ⊥)
+TellsLeastFailure input item t (Err error) =
+    (p : List Segment) × IsLeastFailure input item t (record { place = p; error = error })

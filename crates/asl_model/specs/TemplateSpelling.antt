@@ -130,7 +130,8 @@ abbrev mutual
   -- with each field
   pub fields_faults : Bool → Fields → List TemplateFault
   fields_faults item NoFields = []
-  fields_faults item (AndField n t fs) = (elim (is_marked n) [ true ↦ marked_faults item t | false ↦ part_faults item t ]) ++ fields_faults item fs
+  fields_faults item (AndField n t fs) =
+      (elim (is_marked n) [ true ↦ marked_faults item t | false ↦ part_faults item t ]) ++ fields_faults item fs
 
 -- all that is wrong with a tree as a template; the first argument says whether paths to a Map's item are allowed
 abbrev pub template_faults : Bool → Tree → List TemplateFault

@@ -136,8 +136,10 @@ is_of_kind BooleanKind t = is_some (as_boolean t)
 -- the text can be cut into parts, one for each element of the pattern: a byte is itself, a star any text
 pub data IsCutBy : List PatternPart → List ℕ → Type 0 where
   cut_is_over : IsCutBy [] []
-  cut_off_byte : {b : ℕ} {parts : List PatternPart} {further : List ℕ} → IsCutBy parts further → IsCutBy (ByteOf b ∷ parts) (b ∷ further)
-  cut_off_star : {parts : List PatternPart} {further : List ℕ} (front : List ℕ) → IsCutBy parts further → IsCutBy (Star ∷ parts) (front ++ further)
+  cut_off_byte : {b : ℕ} {parts : List PatternPart} {further : List ℕ} → IsCutBy parts further
+      → IsCutBy (ByteOf b ∷ parts) (b ∷ further)
+  cut_off_star : {parts : List PatternPart} {further : List ℕ} (front : List ℕ) → IsCutBy parts further
+      → IsCutBy (Star ∷ parts) (front ++ further)
 
 -- the text itself, or what is left behind some front of it, passes the test
 abbrev pub some_end : (List ℕ → Bool) → List ℕ → Bool
@@ -180,7 +182,8 @@ abbrev mutual
   truth (And tests) input = all_true tests input
   truth (Or tests) input = some_true tests input
   truth (Not test) input = option_map not (truth test input)
-  truth (Compare p comparison operand) input = option_and_then (λ t. option_map (compares comparison t) (operand_value operand input)) (named_by p input)
+  truth (Compare p comparison operand) input =
+      option_and_then (λ t. option_map (compares comparison t) (operand_value operand input)) (named_by p input)
   truth (StringMatches p pattern) input = option_map (λ t. matches pattern (as_text t)) (named_by p input)
   truth (IsOfKind p kind wanted) input = option_map (λ t. same_truth wanted (is_of_kind kind t)) (named_by p input)
   truth (IsPresent p wanted) input = Some (same_truth wanted (is_some (named_by p input)))

@@ -53,22 +53,29 @@ IsNoJson text = (v : Data) → ReadsAsValue text v → ⊥
 -- that is wrong with the text as a definition
 pub data IsDefinitionFault (text : List ℕ) : TextFault → Type 0 where
   definition_no_json : IsNoJson text → IsDefinitionFault text NotJson
-  definition_complaint : {v : Data} {c : Complaint} → ReadsAsValue text v → HasComplaint v c → IsDefinitionFault text (BadDefinition c)
+  definition_complaint : {v : Data} {c : Complaint} → ReadsAsValue text v → HasComplaint v c
+      → IsDefinitionFault text (BadDefinition c)
 
 -- as declared shapes
 pub data IsDeclaredFault (text : List ℕ) : TextFault → Type 0 where
   declared_no_json : IsNoJson text → IsDeclaredFault text NotJson
   declared_not_whole : {v : Data} → ReadsAsValue text v → tree_of v ≡ None → IsDeclaredFault text NotWhole
-  declared_complaint : {v : Data} {c : RecordComplaint} → ReadsAsValue text v → HasDeclaredFault v c → IsDeclaredFault text (BadRecord c)
+  declared_complaint : {v : Data} {c : RecordComplaint} → ReadsAsValue text v → HasDeclaredFault v c
+      → IsDeclaredFault text (BadRecord c)
 
 -- as a certificate
 pub data IsCertificateFault (text : List ℕ) : TextFault → Type 0 where
   certificate_no_json : IsNoJson text → IsCertificateFault text NotJson
   certificate_not_whole : {v : Data} → ReadsAsValue text v → tree_of v ≡ None → IsCertificateFault text NotWhole
-  certificate_complaint : {v : Data} {c : RecordComplaint} → ReadsAsValue text v → HasCertificateFault v c → IsCertificateFault text (BadRecord c)
+  certificate_complaint : {v : Data} {c : RecordComplaint} → ReadsAsValue text v → HasCertificateFault v c
+      → IsCertificateFault text (BadRecord c)
 
 -- the first of the three texts that is refused, and what is wrong with it
 pub data IsRefusal (definition declared certificate : List ℕ) : Which → TextFault → Type 0 where
-  definition_refused : {f : TextFault} → IsDefinitionFault definition f → IsRefusal definition declared certificate DefinitionText f
-  declared_refused : {machine : Scope} {f : TextFault} → ReadsAsMachine definition machine → IsDeclaredFault declared f → IsRefusal definition declared certificate DeclaredText f
-  certificate_refused : {machine : Scope} {shapes : Declared} {f : TextFault} → ReadsAsMachine definition machine → ReadsAsDeclared declared shapes → IsCertificateFault certificate f → IsRefusal definition declared certificate CertificateText f
+  definition_refused : {f : TextFault} → IsDefinitionFault definition f
+      → IsRefusal definition declared certificate DefinitionText f
+  declared_refused : {machine : Scope} {f : TextFault} → ReadsAsMachine definition machine → IsDeclaredFault declared f
+      → IsRefusal definition declared certificate DeclaredText f
+  certificate_refused : {machine : Scope} {shapes : Declared} {f : TextFault} → ReadsAsMachine definition machine
+      → ReadsAsDeclared declared shapes → IsCertificateFault certificate f
+      → IsRefusal definition declared certificate CertificateText f

@@ -1,4 +1,5 @@
--- Which verdict is right for a machine, declared shapes and a certificate (the profile's own): yes exactly where no rule
+-- Which verdict is right for a machine, declared shapes and a certificate (the profile's own): yes exactly where no
+-- rule
 -- is broken, and else one finding for each name that has one.
 use Rattle.std.specs.Prelude.{◌≡◌, ◌≢◌, ℕ, List, [], ◌∷◌, Bool, true, IsTrue, ⊤, Contains}
 use Rattle.asl_model.specs.Tree.{comes_before}
@@ -25,12 +26,14 @@ AreInNameOrder (f ∷ fs) = IsTrue (before_next f.state fs) × AreInNameOrder fs
 abbrev pub TellsOf : List Finding → List ℕ → Type 0
 TellsOf told n = (f : Finding) × Contains told f × (f.state ≡ n)
 
--- the findings that are told: at least one, in the order of their names; each stands; each name with a broken rule has one
-pub record IsTelling (machine : Scope) (declared : Declared) (certificate : Certificate) (told : List Finding) : Type 0 where
-  pub some : told ≢ []
-  pub in_order : AreInNameOrder told
-  pub standing : (f : Finding) → Contains told f → Stands machine declared certificate f
-  pub complete : (f : Finding) → Stands machine declared certificate f → TellsOf told f.state
+-- the findings that are told: at least one, in the order of their names; each stands; each name with a broken rule has
+-- one
+pub record IsTelling (machine : Scope) (declared : Declared) (certificate : Certificate) (told : List Finding) : Type 0
+  where
+    pub some : told ≢ []
+    pub in_order : AreInNameOrder told
+    pub standing : (f : Finding) → Contains told f → Stands machine declared certificate f
+    pub complete : (f : Finding) → Stands machine declared certificate f → TellsOf told f.state
 
 -- the verdict is right: yes where no rule is broken, no with such findings
 abbrev pub IsRight : Scope → Declared → Certificate → Verdict → Type 0

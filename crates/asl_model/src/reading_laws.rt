@@ -35,15 +35,19 @@ pub fn texts_have_one_meaning()
     ensures path { (text : List ℕ) (p q : List Segment) → Spells text p → Spells text q → p ≡ q }
     ensures machine { (text : List ℕ) (m n : Scope) → ReadsAsMachine text m → ReadsAsMachine text n → m ≡ n }
     ensures declared { (text : List ℕ) (d e : Declared) → ReadsAsDeclared text d → ReadsAsDeclared text e → d ≡ e }
-    ensures certificate { (text : List ℕ) (c d : Certificate) → ReadsAsCertificate text c → ReadsAsCertificate text d → c ≡ d }
+    ensures certificate { (text : List ℕ) (c d : Certificate) → ReadsAsCertificate text c → ReadsAsCertificate text d
+        → c ≡ d }
 {}
 
 /// Nothing is wrong with a text that has a meaning.
 pub fn meaningful_texts_have_no_fault()
     ensures path { (text : List ℕ) (p : List Segment) (f : PathFault) → Spells text p → IsRefusedPath text f → ⊥ }
-    ensures machine { (text : List ℕ) (m : Scope) (f : TextFault) → ReadsAsMachine text m → IsDefinitionFault text f → ⊥ }
-    ensures declared { (text : List ℕ) (d : Declared) (f : TextFault) → ReadsAsDeclared text d → IsDeclaredFault text f → ⊥ }
-    ensures certificate { (text : List ℕ) (c : Certificate) (f : TextFault) → ReadsAsCertificate text c → IsCertificateFault text f → ⊥ }
+    ensures machine { (text : List ℕ) (m : Scope) (f : TextFault) → ReadsAsMachine text m → IsDefinitionFault text f
+        → ⊥ }
+    ensures declared { (text : List ℕ) (d : Declared) (f : TextFault) → ReadsAsDeclared text d
+        → IsDeclaredFault text f → ⊥ }
+    ensures certificate { (text : List ℕ) (c : Certificate) (f : TextFault) → ReadsAsCertificate text c
+        → IsCertificateFault text f → ⊥ }
 {}
 
 /// A JSON value stands for at most one machine, declared shapes, certificate, and nothing is wrong with one that does.
@@ -51,9 +55,11 @@ pub fn values_stand_for_one_thing()
     ensures machine { (v : Data) (m n : Scope) → StandsFor v m → StandsFor v n → m ≡ n }
     ensures no_complaint { (v : Data) (m : Scope) (c : Complaint) → StandsFor v m → HasComplaint v c → ⊥ }
     ensures declared { (v : Data) (d e : Declared) → StandsForDeclared v d → StandsForDeclared v e → d ≡ e }
-    ensures no_declared_fault { (v : Data) (d : Declared) (c : RecordComplaint) → StandsForDeclared v d → HasDeclaredFault v c → ⊥ }
+    ensures no_declared_fault { (v : Data) (d : Declared) (c : RecordComplaint) → StandsForDeclared v d
+        → HasDeclaredFault v c → ⊥ }
     ensures certificate { (v : Data) (c d : Certificate) → StandsForCertificate v c → StandsForCertificate v d → c ≡ d }
-    ensures no_certificate_fault { (v : Data) (d : Certificate) (c : RecordComplaint) → StandsForCertificate v d → HasCertificateFault v c → ⊥ }
+    ensures no_certificate_fault { (v : Data) (d : Certificate) (c : RecordComplaint) → StandsForCertificate v d
+        → HasCertificateFault v c → ⊥ }
 {}
 
 /// The names in a machine that a definition stands for lead inside its scopes: each scope starts at one of its own states,
@@ -72,9 +78,12 @@ pub fn trees_spell_one_shape()
 /// A tree spells at most one template, and either spells one or has a fault. So it is with and without leave for paths to
 /// a Map's item.
 pub fn trees_spell_one_template()
-    ensures template { (item : Bool) (t : Tree) (p q : Template) → SpellsTemplate item t p → SpellsTemplate item t q → p ≡ q }
-    ensures no_fault { (item : Bool) (t : Tree) (p : Template) (f : TemplateFault) → SpellsTemplate item t p → HasTemplateFault item t f → ⊥ }
-    ensures either { (item : Bool) (t : Tree) → ((p : Template) × SpellsTemplate item t p) ⊎ ((f : TemplateFault) × HasTemplateFault item t f) }
+    ensures template { (item : Bool) (t : Tree) (p q : Template) → SpellsTemplate item t p → SpellsTemplate item t q
+        → p ≡ q }
+    ensures no_fault { (item : Bool) (t : Tree) (p : Template) (f : TemplateFault) → SpellsTemplate item t p
+        → HasTemplateFault item t f → ⊥ }
+    ensures either { (item : Bool) (t : Tree)
+        → ((p : Template) × SpellsTemplate item t p) ⊎ ((f : TemplateFault) × HasTemplateFault item t f) }
     ensures read { (item : Bool) (t : Tree) (p : Template) → (template_of item t ≡ Some p) ↔ SpellsTemplate item t p }
 {}
 
@@ -108,15 +117,20 @@ pub fn written_shapes_are_spelled()
 
 /// Every JSON value that is the tree written for declared shapes, or for a certificate, of proper shapes stands for them.
 pub fn written_records_are_read_back()
-    ensures declared { (v : Data) (d : Declared) → HoldsForDeclared IsProperShape d → tree_of v ≡ Some (written_declared d) → StandsForDeclared v d }
-    ensures certificate { (v : Data) (c : Certificate) → HoldsForCertificate IsProperShape c → tree_of v ≡ Some (written_certificate c) → StandsForCertificate v c }
+    ensures declared { (v : Data) (d : Declared) → HoldsForDeclared IsProperShape d
+        → tree_of v ≡ Some (written_declared d) → StandsForDeclared v d }
+    ensures certificate { (v : Data) (c : Certificate) → HoldsForCertificate IsProperShape c
+        → tree_of v ≡ Some (written_certificate c) → StandsForCertificate v c }
 {}
 
 /// Each text has a meaning or a fault, and so has each JSON value as a definition and each tree as a shape.
 pub fn texts_have_a_meaning_or_a_fault()
-    ensures machine { (text : List ℕ) → ((m : Scope) × ReadsAsMachine text m) ⊎ ((f : TextFault) × IsDefinitionFault text f) }
-    ensures declared { (text : List ℕ) → ((d : Declared) × ReadsAsDeclared text d) ⊎ ((f : TextFault) × IsDeclaredFault text f) }
-    ensures certificate { (text : List ℕ) → ((c : Certificate) × ReadsAsCertificate text c) ⊎ ((f : TextFault) × IsCertificateFault text f) }
+    ensures machine { (text : List ℕ)
+        → ((m : Scope) × ReadsAsMachine text m) ⊎ ((f : TextFault) × IsDefinitionFault text f) }
+    ensures declared { (text : List ℕ)
+        → ((d : Declared) × ReadsAsDeclared text d) ⊎ ((f : TextFault) × IsDeclaredFault text f) }
+    ensures certificate { (text : List ℕ)
+        → ((c : Certificate) × ReadsAsCertificate text c) ⊎ ((f : TextFault) × IsCertificateFault text f) }
     ensures value { (v : Data) → ((m : Scope) × StandsFor v m) ⊎ ((c : Complaint) × HasComplaint v c) }
     ensures shape { (t : Tree) → ((a : Shape) × SpellsShape t a) ⊎ ((f : ShapeFault) × HasShapeFault t f) }
 {}
@@ -146,32 +160,42 @@ pub fn characters_are_counted()
 /// A text reads as at most one list of answers, and reads as one or has a fault, never both.
 pub fn texts_have_one_list_of_answers()
     ensures one { (text : List ℕ) (a b : List Action) → ReadsAsAnswers text a → ReadsAsAnswers text b → a ≡ b }
-    ensures no_fault { (text : List ℕ) (a : List Action) (f : TextFault) → ReadsAsAnswers text a → IsAnswersFault text f → ⊥ }
-    ensures either { (text : List ℕ) → ((a : List Action) × ReadsAsAnswers text a) ⊎ ((f : TextFault) × IsAnswersFault text f) }
+    ensures no_fault { (text : List ℕ) (a : List Action) (f : TextFault) → ReadsAsAnswers text a
+        → IsAnswersFault text f → ⊥ }
+    ensures either { (text : List ℕ)
+        → ((a : List Action) × ReadsAsAnswers text a) ⊎ ((f : TextFault) × IsAnswersFault text f) }
 {}
 
 /// The function that cuts a text as a call gives exactly the call that the text writes, and the one that reads paths in
 /// templates exactly the path that it spells.
 pub fn written_calls_are_exactly_cut()
     ensures written { (text : List ℕ) (c : WrittenCall) → (written_call text ≡ Some c) ↔ WritesCall 32 text c }
-    ensures reference { (item : Bool) (text : List ℕ) (r : Reference) → (reference_of item text ≡ Some r) ↔ SpellsReference item text r }
+    ensures reference { (item : Bool) (text : List ℕ) (r : Reference)
+        → (reference_of item text ≡ Some r) ↔ SpellsReference item text r }
 {}
 
 /// Each text spells an intrinsic call or is refused, never both, and in one way: the lesser refusal counts. The function
 /// that reads calls gives exactly the call that a text spells, or its refusal. So it is with and without leave for paths
 /// to a Map's item.
 pub fn texts_spell_calls_or_are_refused()
-    ensures either { (item : Bool) (text : List ℕ) → ((c : Call) × SpellsCall item text c) ⊎ ((f : CallFault) × IsRefusedCall item text f) }
-    ensures call { (item : Bool) (text : List ℕ) (c d : Call) → SpellsCall item text c → SpellsCall item text d → c ≡ d }
-    ensures no_refusal { (item : Bool) (text : List ℕ) (c : Call) (f : CallFault) → SpellsCall item text c → IsRefusedCall item text f → ⊥ }
-    ensures one_refusal { (item : Bool) (text : List ℕ) (f g : CallFault) → IsRefusedCall item text f → IsRefusedCall item text g → f ≡ g }
+    ensures either { (item : Bool) (text : List ℕ)
+        → ((c : Call) × SpellsCall item text c) ⊎ ((f : CallFault) × IsRefusedCall item text f) }
+    ensures call { (item : Bool) (text : List ℕ) (c d : Call) → SpellsCall item text c → SpellsCall item text d
+        → c ≡ d }
+    ensures no_refusal { (item : Bool) (text : List ℕ) (c : Call) (f : CallFault) → SpellsCall item text c
+        → IsRefusedCall item text f → ⊥ }
+    ensures one_refusal { (item : Bool) (text : List ℕ) (f g : CallFault) → IsRefusedCall item text f
+        → IsRefusedCall item text g → f ≡ g }
     ensures read { (item : Bool) (text : List ℕ) (c : Call) → (call_from item text ≡ Ok c) ↔ SpellsCall item text c }
-    ensures refused { (item : Bool) (text : List ℕ) (f : CallFault) → (call_from item text ≡ Err f) ↔ IsRefusedCall item text f }
+    ensures refused { (item : Bool) (text : List ℕ) (f : CallFault)
+        → (call_from item text ≡ Err f) ↔ IsRefusedCall item text f }
 {}
 
 /// A text reads as a list of answers exactly where it reads as a tree that stands for it, by the rules of the format, and
 /// an element is refused exactly where it stands for no answer.
 pub fn answers_are_exactly_read()
-    ensures read { (text : List ℕ) (answers : List Action) → ReadsAsAnswers text answers ↔ ((t : Tree) × ReadsAsTree text t × StandsForAnswers t answers) }
-    ensures bad { (text : List ℕ) (i : ℕ) → IsAnswersFault text (BadAnswer i) ↔ ((t : Tree) × ReadsAsTree text t × IsBadAnswer t i) }
+    ensures read { (text : List ℕ) (answers : List Action)
+        → ReadsAsAnswers text answers ↔ ((t : Tree) × ReadsAsTree text t × StandsForAnswers t answers) }
+    ensures bad { (text : List ℕ) (i : ℕ)
+        → IsAnswersFault text (BadAnswer i) ↔ ((t : Tree) × ReadsAsTree text t × IsBadAnswer t i) }
 {}

@@ -17,12 +17,16 @@ ghost use Rattle.asl_model.specs.Certificate.{Declared, Certificate, IsClosed, O
 /// output and the output of each scope has its certified shape. The events are moves and answers, those of branches
 /// and iterations in any order; each answer that is taken is a failure, or has its declared shape.
 pub fn closed_runs_never_fault()
-    ensures { (declared : Declared) (certificate : Certificate) (machine : Scope) → IsClosed declared certificate machine → (input : Tree) (events : List Event) → Obeys declared machine input events → RunIsAsCertified declared certificate machine input events }
+    ensures { (declared : Declared) (certificate : Certificate) (machine : Scope)
+        → IsClosed declared certificate machine → (input : Tree) (events : List Event)
+        → Obeys declared machine input events → RunIsAsCertified declared certificate machine input events }
 {}
 
 /// Closed runs tell no fault: under the same premises the history of the run has no entry of a data-flow fault.
 pub fn closed_runs_tell_no_fault()
-    ensures { (declared : Declared) (certificate : Certificate) (machine : Scope) → IsClosed declared certificate machine → (input : Tree) (events : List Event) → Obeys declared machine input events → TellsNoFault (trace (run_of machine input events)) }
+    ensures { (declared : Declared) (certificate : Certificate) (machine : Scope)
+        → IsClosed declared certificate machine → (input : Tree) (events : List Event)
+        → Obeys declared machine input events → TellsNoFault (trace (run_of machine input events)) }
 {}
 
 /// The lines of a history without a data-flow fault have no Raise line among them.
@@ -73,12 +77,15 @@ pub fn apart_stays_as_it_was()
 /// Two events at places apart can be taken in either order: each makes the same entries, and the activity after both
 /// is the same.
 pub fn apart_events_commute()
-    ensures { (p q : List ℕ) → AreApart p q → (scope : Scope) (a : Activity) (x y : Action) (first second : Step) → step_at p scope a x ≡ Some first → step_at q scope first.after y ≡ Some second → Commute scope a p x q y first second }
+    ensures { (p q : List ℕ) → AreApart p q → (scope : Scope) (a : Activity) (x y : Action) (first second : Step)
+        → step_at p scope a x ≡ Some first → step_at q scope first.after y ≡ Some second
+        → Commute scope a p x q y first second }
 {}
 
 /// A place is in the list of enabled ones, with a kind of event, exactly where an event of that kind has a step there.
 pub fn enabled_lists_exactly_the_steps()
-    ensures { (p : List ℕ) (scope : Scope) (a : Activity) (action : Action) → IsTrue (is_some (step_at p scope a action)) ↔ Enables (enabled a scope) p (want_of action) }
+    ensures { (p : List ℕ) (scope : Scope) (a : Activity) (action : Action)
+        → IsTrue (is_some (step_at p scope a action)) ↔ Enables (enabled a scope) p (want_of action) }
 {}
 
 /// The enabled places stand in lexicographic order, a place before those below it, each once.
@@ -109,13 +116,15 @@ pub fn cutting_gives_exactly_the_pieces()
 /// The value of a template whose names stand in byte order is the fault of its least failing place, or else every place
 /// filled, where no place fails.
 pub fn template_faults_are_those_of_the_least_place()
-    ensures { (input : Tree) (item : Option Item) (t : Template) → IsInOrder t → TellsLeastFailure input item t (template_value t input item) }
+    ensures { (input : Tree) (item : Option Item) (t : Template) → IsInOrder t
+        → TellsLeastFailure input item t (template_value t input item) }
 {}
 
 /// What comes of an error in a state is exactly what the rules of retriers and catchers say: it is retried, or caught,
 /// or its error output can't be placed, or the state fails.
 pub fn trouble_is_exactly_what_comes()
-    ensures { (settings : Settings) (raw : Tree) (counts error cause : List ℕ) (t : Trouble) → ComesTo settings raw counts error cause t ↔ trouble_of settings raw counts error cause ≡ t }
+    ensures { (settings : Settings) (raw : Tree) (counts error cause : List ℕ) (t : Trouble)
+        → ComesTo settings raw counts error cause t ↔ trouble_of settings raw counts error cause ≡ t }
 {}
 
 /// Each retrier counts its own attempts: a retry makes its count one higher, and leaves the others.

@@ -45,40 +45,51 @@ pub fn join_is_above_both()
 
 /// Where a path is found in a shape, it names in every tree of that shape a tree of the shape that is found.
 pub fn look_means_named()
-    ensures named { (path : List Segment) (s t : Shape) → look path s ≡ Ok t → (v : Tree) → Has s v → (w : Tree) × Names path v w × Has t w }
+    ensures named { (path : List Segment) (s t : Shape) → look path s ≡ Ok t → (v : Tree) → Has s v
+        → (w : Tree) × Names path v w × Has t w }
 {}
 
 /// Where a shape is put at a path in another, placing any tree of the one there in any tree of the other gives a tree
 /// of the shape that comes out.
 pub fn put_means_placed()
-    ensures placed { (path : List Segment) (w s r : Shape) → put path w s ≡ Ok r → (x v : Tree) → Has w x → Has s v → (u : Tree) × Places path x v u × Has r u }
+    ensures placed { (path : List Segment) (w s r : Shape) → put path w s ≡ Ok r → (x v : Tree) → Has w x → Has s v
+        → (u : Tree) × Places path x v u × Has r u }
 {}
 
 /// Where a template has a shape, it has a value of that shape for every tree of the input's shape and every item of
 /// the item's.
 pub fn template_shape_means_a_value()
-    ensures value { (template : Template) (input : Shape) (item : Option Shape) (r : Shape) → template_shape template input item ≡ Ok r → (v : Tree) (i : Option Item) → Has input v → ItemHas item i → (u : Tree) × (template_value template v i ≡ Ok u) × Has r u }
+    ensures value { (template : Template) (input : Shape) (item : Option Shape) (r : Shape)
+        → template_shape template input item ≡ Ok r → (v : Tree) (i : Option Item) → Has input v → ItemHas item i
+        → (u : Tree) × (template_value template v i ≡ Ok u) × Has r u }
 {}
 
 /// Where a rule has a shape, its test is true or false of every tree, and each tree of which it is true has that shape.
 pub fn rule_shape_means_decided()
-    ensures decided { (test : Test) (s r : Shape) → rule_shape test s ≡ Some r → (v : Tree) → Has s v → (b : Bool) × (truth test v ≡ Some b) × (IsTrue b → Has r v) }
+    ensures decided { (test : Test) (s r : Shape) → rule_shape test s ≡ Some r → (v : Tree) → Has s v
+        → (b : Bool) × (truth test v ≡ Some b) × (IsTrue b → Has r v) }
 {}
 
 /// Where a state's output has a shape, no data-flow fault is met on the way to it, and it has that shape: for a result
 /// that goes through `ResultSelector`, `ResultPath` and `OutputPath`, and for an effective input that goes through
 /// `OutputPath` alone.
 pub fn leave_means_an_output()
-    ensures result { (settings : Settings) (kind : Kind) (raw work r : Shape) → leaving kind ≡ WithResult → leave settings kind raw work ≡ Ok r → (v x : Tree) → Has raw v → Has work x → (u : Tree) × (output_of settings v x ≡ Ok u) × Has r u }
-    ensures input { (settings : Settings) (kind : Kind) (raw work r : Shape) → leaving kind ≡ WithInput → leave settings kind raw work ≡ Ok r → (v x : Tree) → Has raw v → Has work x → (u : Tree) × (at_output_path settings x ≡ Ok u) × Has r u }
+    ensures result { (settings : Settings) (kind : Kind) (raw work r : Shape) → leaving kind ≡ WithResult
+        → leave settings kind raw work ≡ Ok r → (v x : Tree) → Has raw v → Has work x
+        → (u : Tree) × (output_of settings v x ≡ Ok u) × Has r u }
+    ensures input { (settings : Settings) (kind : Kind) (raw work r : Shape) → leaving kind ≡ WithInput
+        → leave settings kind raw work ≡ Ok r → (v x : Tree) → Has raw v → Has work x
+        → (u : Tree) × (at_output_path settings x ≡ Ok u) × Has r u }
 {}
 
 /// Where no rule is broken, the certificate is closed: for every machine of all eight state types.
 pub fn no_broken_rule_means_closed()
-    ensures closed { (machine : Scope) (declared : Declared) (certificate : Certificate) → findings machine declared certificate ≡ [] → IsClosed declared certificate machine }
+    ensures closed { (machine : Scope) (declared : Declared) (certificate : Certificate)
+        → findings machine declared certificate ≡ [] → IsClosed declared certificate machine }
 {}
 
 /// The list of findings has a finding exactly where the rule with its fault is broken at its state and field.
 pub fn findings_are_exactly_the_broken_rules()
-    ensures exactly { (machine : Scope) (declared : Declared) (certificate : Certificate) (finding : Finding) → IsBroken machine declared certificate finding ↔ Stands machine declared certificate finding }
+    ensures exactly { (machine : Scope) (declared : Declared) (certificate : Certificate) (finding : Finding)
+        → IsBroken machine declared certificate finding ↔ Stands machine declared certificate finding }
 {}
