@@ -42,6 +42,7 @@ pub mod Outlines
 pub mod PathPrinting
 pub mod PathReading
 pub mod PlacingExactly
+pub mod ProperTexts
 pub mod ReadingAnswers
 pub mod ReadingCharacters
 pub mod ReadingLaws

@@ -3,7 +3,7 @@
 ghost use Rattle.std.specs.Prelude.{◌≡◌, ◌⊎◌, ◌↔◌, ℕ, List, length, Bool, Some, Ok, Err, IsTrue};
 ghost use Rattle.std.specs.Str.{encode_utf8_all};
 ghost use Rattle.serde_json.specs.Data.{Data};
-ghost use Rattle.asl_model.specs.Tree.{Tree};
+ghost use Rattle.asl_model.specs.Tree.{Tree, IsProper};
 ghost use Rattle.asl_model.specs.Path.{Segment};
 ghost use Rattle.asl_model.specs.Shape.{Shape, IsProperShape};
 ghost use Rattle.asl_model.specs.Written.{written_shape, written_declared, written_certificate};
@@ -60,6 +60,11 @@ pub fn values_stand_for_one_thing()
     ensures certificate { (v : Data) (c d : Certificate) → StandsForCertificate v c → StandsForCertificate v d → c ≡ d }
     ensures no_certificate_fault { (v : Data) (d : Certificate) (c : RecordComplaint) → StandsForCertificate v d
         → HasCertificateFault v c → ⊥ }
+{}
+
+/// A tree that a text reads as is proper: its texts are UTF-8, and each object has its names once, in byte order.
+pub fn trees_as_read_are_proper()
+    ensures { (text : List ℕ) (t : Tree) → ReadsAsTree text t → IsProper t }
 {}
 
 /// The names in a machine that a definition stands for lead inside its scopes: each scope starts at one of its own states,
