@@ -1,7 +1,11 @@
 //! Tests of the calls from texts to texts.
 //!
-//! They stand apart from the other libraries' tests, so that those needn't wait for the crate that these test.
+//! They stand apart from the other libraries' tests, so that those needn't wait for the crate that these test. Beside them
+//! stands a source that never ends: by its contract it is never read as a text.
 #![tactic(auto)]
 
+mod endless;
 #[cfg(test)]
 mod texts;
+
+pub use endless::{Endless, endless_text};

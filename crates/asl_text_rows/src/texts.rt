@@ -1,6 +1,7 @@
 //! Texts to texts, over a source and a sink in memory: what is written, the exit status, the line on standard error.
-ghost use Rattle.std.specs.Prelude.{Some, None, false};
+ghost use Rattle.std.specs.Prelude.{Some};
 
+use crate::endless::Endless;
 use asl_tool::{Closing, Failed, Sink, Source, check_lines, closing, read_text};
 use std::alloc::Global;
 use std::process::Abort;
@@ -188,20 +189,6 @@ fn tells_failed_readers_and_writers(rt: HostRuntime) {
     let (code, _) = closing(alloc, &end).expect(&rt, "a closing");
     assert_eq!(rt; sink.bytes.as_slice(), "ye".as_bytes());
     assert_eq!(rt; code, 5);
-}
-
-/// Never ends.
-#[derive(Drop)]
-struct Endless;
-
-impl Source for Endless {
-    ghost remaining = { λ _. None };
-
-    ghost failed = { λ _. false };
-
-    fn read(&mut self, buffer: &mut [u8]) -> Result<usize, Failed> {
-        Ok(buffer.len())
-    }
 }
 
 /// What is told of a source that can't be read as one text; nothing where it can.
