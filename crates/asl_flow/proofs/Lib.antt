@@ -3,8 +3,8 @@ pub mod Doubts
 pub mod FunctionShapes
 pub mod Leavings
 pub mod LiteralFields
+pub mod NarrowedParts
 pub mod Needed
-pub mod Presence
 pub mod Puts
 pub mod Replaced
 pub mod ShapeParts

@@ -1,9 +1,9 @@
 pub mod CallAnswer
 pub mod Counting
 pub mod Items
-pub mod Kept
 pub mod Leaving
 pub mod Looking
+pub mod Narrowed
 pub mod Putting
 pub mod Sources
 pub mod TemplateAnswer

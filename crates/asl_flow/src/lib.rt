@@ -23,5 +23,5 @@ pub use leaving::{FlowFault, leave};
 pub use literals::literal_shape;
 pub use looking::{LookRefusal, find_shape, look};
 pub use putting::{PutRefusal, put};
-pub use rules::{RuleShapeRefusal, rule_shape};
+pub use rules::{RuleShapeRefusal, rule_shape, rule_shape_at};
 pub use templates::{TemplateShapeRefusal, template_shape};
