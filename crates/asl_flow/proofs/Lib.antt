@@ -5,6 +5,8 @@ pub mod Leavings
 pub mod LiteralFields
 pub mod NarrowedParts
 pub mod Needed
+pub mod Numbered
+pub mod NumberedParts
 pub mod Puts
 pub mod Replaced
 pub mod ShapeParts

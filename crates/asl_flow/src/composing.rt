@@ -5,16 +5,16 @@ ghost use Rattle.std.specs.declared.alloc.Global.{Global};
 ghost use Rattle.asl_model.specs.Shape as model;
 ghost use Rattle.asl_shape.specs.View.{view, shapes_view};
 
-use asl_shape::{Field, Shape};
+use asl_shape::Shape;
 use asl_tree::OutOfMemory;
 use std::alloc::Global;
 use std::collections::BTreeMap;
 
 /// Inserts the field under a copy of the name.
-pub(crate) fn set_field(
-    fields: &mut BTreeMap<String, Field>,
+pub(crate) fn set_field<F: Drop>(
+    fields: &mut BTreeMap<String, F>,
     name: &String,
-    field: Field,
+    field: F,
 ) -> Result<(), OutOfMemory>
     ensures { OnOk result ((key : String Global) × (string_bytes key ≡ string_bytes name.now) × (fields.new.entries ≡ insert_entry string_cmp fields.old.entries key field)) }
 {

@@ -136,7 +136,9 @@ fn narrow(
             Ok(number)
         }
         Test::Compare {
-            variable, operand, ..
+            variable,
+            operand,
+            ..
         } => {
             let found = is_found(shapes, number, variable)
                 && is_operand_found(shapes, number, operand);
