@@ -86,7 +86,6 @@ pub fn rule_shape_at(
 }
 
 // Narrows the shape to the trees for which the test is true; of a shape without a tree the answer is `Never`.
-#[cycle(narrow)]
 fn narrow_inhabited(
     alloc: Global,
     shapes: &mut Shapes,
