@@ -3,6 +3,7 @@ pub mod Doubts
 pub mod FunctionShapes
 pub mod Leavings
 pub mod LiteralFields
+pub mod Narrowings
 pub mod Needed
 pub mod Presence
 pub mod Puts

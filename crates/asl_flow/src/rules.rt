@@ -43,7 +43,7 @@ impl From<OutOfMemory> for RuleShapeRefusal {
 /// `MayBeMissing`, and where there is no such path, only `OutOfMemory` is possible. `IsPresent` narrows the shape to the
 /// trees in which its path names something, where that is wanted. `And` hands the narrowed shape from each part to the
 /// next and answers the last; `Or` and `Not` look at each part with the shape as it is, and answer that. Of a shape
-/// without a tree the answer is `Never`.
+/// without a tree the answer is `Never`, also of one that a part of an `And` hands to the next.
 pub fn rule_shape(alloc: Global, test: &Test, shape: &Shape) -> Result<Shape, RuleShapeRefusal>
     ensures as_defined { IfOk result (λ s. model.rule_shape (test_view test.now) (view shape.now) ≡ Some (view s)) }
     ensures decided { IfOk result (λ s. (t : Tree) → shapes.Has (view shape.now) t → (b : Bool) × (truth (test_view test.now) t ≡ Some b) × (IsTrue b → shapes.Has (view s) t)) }
@@ -101,7 +101,7 @@ fn narrow<'s>(alloc: Global, test: &Test, shape: Kept<'s>) -> Result<Kept<'s>, R
     }
 }
 
-// Narrows the shape by each test in turn.
+// Narrows the shape by each test in turn; from a shape without a tree on the answer is `Never`.
 #[cycle(narrow)]
 fn narrow_by_all<'s>(
     alloc: Global,
@@ -113,6 +113,9 @@ fn narrow_by_all<'s>(
 {
     let mut narrowed = shape;
     for test in tests {
+        if !inhabited(narrowed.shape()) {
+            return Ok(Kept::Narrowed(Shape::Never));
+        }
         narrowed = narrow(alloc, test, narrowed)?;
     }
     Ok(narrowed)
