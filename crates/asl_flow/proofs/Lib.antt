@@ -4,6 +4,7 @@ pub mod FunctionShapes
 pub mod Leavings
 pub mod LiteralFields
 pub mod NarrowedParts
+pub mod NarrowedTests
 pub mod Needed
 pub mod Numbered
 pub mod NumberedParts

@@ -46,7 +46,7 @@ impl From<OutOfMemory> for RuleShapeRefusal {
 /// `MayBeMissing`, and where there is no such path, only `OutOfMemory` is possible. `IsPresent` narrows the shape to the
 /// trees in which its path names something, where that is wanted. `And` hands the narrowed shape from each part to the
 /// next and answers the last; `Or` and `Not` look at each part with the shape as it is, and answer that. Of a shape
-/// without a tree the answer is `Never`.
+/// without a tree the answer is `Never`, also of one that a part of an `And` hands to the next.
 pub fn rule_shape(alloc: Global, test: &Test, shape: &Shape) -> Result<Shape, RuleShapeRefusal>
     ensures as_defined { IfOk result (λ s. model.rule_shape (test_view test.now) (view shape.now) ≡ Some (view s)) }
     ensures decided { IfOk result (λ s. (t : Tree) → Has (view shape.now) t → (b : Bool) × (truth (test_view test.now) t ≡ Some b) × (IsTrue b → Has (view s) t)) }
@@ -86,6 +86,7 @@ pub fn rule_shape_at(
 }
 
 // Narrows the shape to the trees for which the test is true; of a shape without a tree the answer is `Never`.
+#[cycle(narrow)]
 fn narrow_inhabited(
     alloc: Global,
     shapes: &mut Shapes,
@@ -156,7 +157,7 @@ fn narrow(
     }
 }
 
-// Narrows the shape by each test in turn.
+// Narrows the shape by each test in turn; from a shape without a tree on the answer is `Never`.
 #[cycle(narrow)]
 fn narrow_by_all(
     alloc: Global,
@@ -175,7 +176,7 @@ fn narrow_by_all(
 {
     let mut narrowed = number;
     for test in tests {
-        narrowed = narrow(alloc, shapes, test, narrowed)?;
+        narrowed = narrow_inhabited(alloc, shapes, test, narrowed)?;
     }
     Ok(narrowed)
 }

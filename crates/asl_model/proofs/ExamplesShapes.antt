@@ -5,7 +5,7 @@ use Rattle.asl_model.specs.Tree.{Tree, Null, Boolean, Integer, Text, Array, Obje
 use Rattle.asl_model.specs.Path.{Segment, Name, Index}
 use Rattle.asl_model.specs.Intrinsic.{InInput, InItem, ItemIndex, CallOf, StatesArray, StatesFormat, StatesArrayLength, Pieces, Argument, IntegerArgument, TextArgument, PathArgument, NoArguments, AndArgument}
 use Rattle.asl_model.specs.Template.{Template, Literal, FromPath, FromCall, ArrayTemplate, ObjectTemplate, NoTemplates, AndTemplate, NoFieldTemplates, AndFieldTemplate}
-use Rattle.asl_model.specs.Test.{Test, And, Or, Compare, StringIs, NumericIs, Equals, LessThan, Constant, IsPresent, Tests, NoTests, AndTest}
+use Rattle.asl_model.specs.Test.{Test, And, Or, Not, Compare, StringIs, NumericIs, Equals, LessThan, Constant, IsOfKind, NullKind, IsPresent, Tests, NoTests, AndTest}
 use Rattle.asl_model.specs.Machine.{Kind, Settings, SecondsPath, Scope, ScopeOf, NoStates, AndState, StateOf, Pass, Task, Choice, Wait, Succeed, Parallel, Map, NoScopes, AndScope}
 use Rattle.asl_model.specs.Shape.{Shape, Any, Never, NullShape, BooleanShape, IntegerShape, StringShape, ArrayShape, ObjectShape, NoShapes, AndShape, FieldShapes, NoFieldShapes, AndFieldShape, has}
 use Rattle.asl_model.specs.ShapeOrder.{sub, join}
@@ -193,6 +193,31 @@ and_narrows = refl
 
 and_in_order : rule_shape (And (AndTest k_is_x (AndTest (IsPresent k true) NoTests))) with_k ≡ None
 and_in_order = refl
+
+-- in a closed object a field that can't have a value isn't there, so the tests behind that of its presence give Never
+abbrev closed_without_k : Shape
+closed_without_k = closed (optional (codes "k") Never NoFieldShapes)
+
+abbrev k_is_null : Test
+k_is_null = IsOfKind k NullKind true
+
+and_ends_at_never : rule_shape (And (AndTest (IsPresent k true) (AndTest k_is_null NoTests))) closed_without_k ≡ Some Never
+and_ends_at_never = refl
+
+-- so where a path of such a test would name nothing in the object
+and_asks_no_further : rule_shape (And (AndTest (IsPresent k true) (AndTest (Not (And (AndTest (IsOfKind (Name (codes "j") ∷ []) NullKind true) NoTests))) NoTests))) closed_without_k ≡ Some Never
+and_asks_no_further = refl
+
+-- an And inside another starts from what is narrowed, and one inside Not from the shape as it is
+nested_and_ends_at_never : rule_shape (And (AndTest (And (AndTest (IsPresent k true) NoTests)) (AndTest k_is_null NoTests))) closed_without_k ≡ Some Never
+nested_and_ends_at_never = refl
+
+never_true_under_not : rule_shape (Not (And (AndTest (IsPresent k true) (AndTest k_is_null NoTests)))) closed_without_k ≡ Some closed_without_k
+never_true_under_not = refl
+
+-- the last test gives what it narrows to, as it does alone
+and_gives_the_last : rule_shape (And (AndTest (IsPresent k true) NoTests)) closed_without_k ≡ Some (closed (needed (codes "k") Never NoFieldShapes))
+and_gives_the_last = refl
 
 -- Templates
 

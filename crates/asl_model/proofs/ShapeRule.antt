@@ -8,7 +8,7 @@ use Rattle.asl_model.specs.Path.{Segment, Name, Index, child, named_by}
 use Rattle.asl_model.specs.Test.{Test, And, Or, Not, Compare, StringMatches, IsOfKind, IsPresent, Tests, NoTests, AndTest, Operand, Constant, AtPath, truth, all_true, some_true, and_truth, or_truth, same_truth, operand_value, compares, matches, as_text, is_of_kind}
 use Rattle.asl_model.specs.Shape.{Shape, Any, Never, NullShape, BooleanShape, IntegerShape, StringShape, ArrayShape, ObjectShape, Shapes, NoShapes, AndShape, FieldShapes, Has, has, elements_have, fields_have, all_mentioned}
 use Rattle.asl_model.specs.ShapeOrder.{mention_of, set_mention}
-use Rattle.asl_model.specs.ShapeFlow.{look, place_at, set_place, narrow_mention, narrow_place, narrow_under, where_present, if_found, both_found, operand_shape, unless_none, narrowed_by, true_of, each_true_of, each_found, rule_shape}
+use Rattle.asl_model.specs.ShapeFlow.{look, place_at, set_place, narrow_mention, narrow_place, narrow_under, where_present, if_found, both_found, operand_shape, unless_none, where_inhabited, narrowed_by, true_of, each_true_of, each_found, rule_shape}
 use Rattle.asl_model.proofs.ShapeInhabited.{has-inhabited}
 use Rattle.asl_model.proofs.ShapeInside.{mention_holds, closed_absent, all_mentioned-from, there-mentioned}
 use Rattle.asl_model.proofs.ShapeFields.{have-set, mentions-set}
@@ -118,6 +118,10 @@ narrowed-parts : (go_on : Shape → Option Shape) (first : Option Shape) (r : Sh
 narrowed-parts go_on None r e = absurd (cc)
 narrowed-parts go_on (Some a) r e = (a, refl, e)
 
+-- a shape that a tree has is gone on with
+inhabited-goes-on : (go_on : Shape → Option Shape) (s r : Shape) (v : Tree) → where_inhabited go_on s ≡ Some r → Has s v → go_on s ≡ Some r
+inhabited-goes-on go_on s r v e h = rw (has-inhabited s v h) at e
+
 operand-there : (operand : Operand) (s t : Shape) (v : Tree) → operand_shape operand s ≡ Ok t → Has s v → (u : Tree) × (operand_value operand v ≡ Some u)
 operand-there (Constant t) s r v e h = (t, refl)
 operand-there (AtPath path) s r v e h =
@@ -179,8 +183,8 @@ mutual
       let is : s ≡ r = cc in
       (true, refl, λ yes_true. whole-has s r v is h)
   all-decided (AndTest test others) s r v e h =
-      let parts = narrowed-parts (each_true_of others) (true_of test s) r e in
-      let first = decided test s parts.0 v parts.1 h in
+      let parts = narrowed-parts (each_true_of others) (where_inhabited (true_of test) s) r e in
+      let first = decided test s parts.0 v (inhabited-goes-on (true_of test) s parts.0 v parts.1 h) h in
       and-decided r v (truth test v) (all_true others v) first.0 first.1 (λ yes_true. all-decided others parts.0 r v parts.2 (first.2 yes_true))
 
   some-decided : (tests : Tests) (s r : Shape) (v : Tree) → each_found tests s ≡ Some r → Has s v → (b : Bool) × (some_true tests v ≡ Some b)
@@ -192,4 +196,4 @@ mutual
       or-decided (truth test v) (some_true others v) first.0 further.0 first.1 further.1
 
 pub rule-decided : (test : Test) (s r : Shape) (v : Tree) → rule_shape test s ≡ Some r → Has s v → Decided r v (truth test v)
-rule-decided test s r v e h = decided test s r v (rw (has-inhabited s v h) at e) h
+rule-decided test s r v e h = decided test s r v (inhabited-goes-on (true_of test) s r v e h) h

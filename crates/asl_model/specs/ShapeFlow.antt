@@ -375,6 +375,10 @@ abbrev pub unless_none : Option Shape → Option Shape → Option Shape
 unless_none None s = None
 unless_none (Some part) s = s
 
+-- goes on with a shape that has a tree, and with one that has none to Never
+abbrev pub where_inhabited : (Shape → Option Shape) → Shape → Option Shape
+where_inhabited go_on s = if inhabited s then go_on s else Some Never
+
 -- goes on with the shape, where there is one
 abbrev pub narrowed_by : (Shape → Option Shape) → Option Shape → Option Shape
 narrowed_by go_on None = None
@@ -391,10 +395,11 @@ abbrev mutual
   true_of (IsOfKind path kind expected) s = if_found (look path s) s
   true_of (IsPresent path expected) s = if expected then Some (where_present path s) else Some s
 
-  -- the narrowed shape goes from each test to the next
+  -- the narrowed shape goes from each test to the next, where it has a tree; else the tests that follow give Never
   pub each_true_of : Tests → Shape → Option Shape
   each_true_of NoTests s = Some s
-  each_true_of (AndTest test others) s = narrowed_by (each_true_of others) (true_of test s)
+  each_true_of (AndTest test others) s =
+      narrowed_by (each_true_of others) (where_inhabited (true_of test) s)
 
   -- the shape as it is, where no path of any of the tests may name nothing
   pub each_found : Tests → Shape → Option Shape
@@ -403,7 +408,7 @@ abbrev mutual
 
 -- the shape of the trees of a shape for which a rule is true; None: a path of it may name nothing
 abbrev pub rule_shape : Test → Shape → Option Shape
-rule_shape test s = if inhabited s then true_of test s else Some Never
+rule_shape test s = where_inhabited (true_of test) s
 
 -- The output of a state
 

@@ -28,7 +28,7 @@ fn test(rt: &impl Abort, alloc: Global, fields: &str) -> Test {
 }
 
 /// The fields of a rule, a shape, and the shape of its trees for which the rule is true, or the refusal.
-const TRUE_OF: [(&str, &str, &str); 22] = [
+const TRUE_OF: [(&str, &str, &str); 24] = [
     (
         r#""Variable":"$.k","IsPresent":true"#,
         r#"{"type":"object","additionalProperties":false}"#,
@@ -78,6 +78,16 @@ const TRUE_OF: [(&str, &str, &str); 22] = [
         r#""And":[{"Variable":"$.k","IsPresent":true},{"Variable":"$.j","IsNull":true}]"#,
         r#"{"type":"object","additionalProperties":false}"#,
         "false",
+    ),
+    (
+        r#""And":[{"Variable":"$.k","IsPresent":true},{"Variable":"$.k","IsNull":true}]"#,
+        r#"{"type":"object","properties":{"k":false},"additionalProperties":false}"#,
+        "false",
+    ),
+    (
+        r#""And":[{"Variable":"$.k","IsPresent":true}]"#,
+        r#"{"type":"object","properties":{"k":false},"additionalProperties":false}"#,
+        r#"{"additionalProperties":false,"properties":{"k":false},"required":["k"],"type":"object"}"#,
     ),
     (
         r#""Variable":"$.a","StringEqualsPath":"$.b""#,
