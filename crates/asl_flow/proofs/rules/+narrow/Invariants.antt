@@ -7,11 +7,13 @@ use Rattle.asl_flow.proofs.rules.+narrow.Given as goal
 abbrev pub invariant-check_all-loop-test : goal.invariant-check_all-loop-test
 invariant-check_all-loop-test l =
     Keeps (expansions l.initial.shapes) (expansions l.shapes)
-    × each_found (tests_view l.tests) (shape_at (expansions l.initial.shapes) l.number)
-    ≡ each_found (tests_view (drop l.test-index l.tests)) (shape_at (expansions l.initial.shapes) l.number)
+    × (l.number < length l.shapes)
+    × (shape_at (expansions l.shapes) l.number ≡ shape_at (expansions l.initial.shapes) l.number)
+    × (each_found (tests_view l.tests) (shape_at (expansions l.initial.shapes) l.number)
+    ≡ each_found (tests_view (drop l.test-index l.tests)) (shape_at (expansions l.initial.shapes) l.number))
 
 abbrev pub invariant-narrow_by_all-loop-test : goal.invariant-narrow_by_all-loop-test
 invariant-narrow_by_all-loop-test l =
     Keeps (expansions l.initial.shapes) (expansions l.shapes) × (l.narrowed < length l.shapes)
-    × each_true_of (tests_view l.tests) (shape_at (expansions l.initial.shapes) l.initial.narrowed)
-    ≡ each_true_of (tests_view (drop l.test-index l.tests)) (shape_at (expansions l.shapes) l.narrowed)
+    × (each_true_of (tests_view l.tests) (shape_at (expansions l.initial.shapes) l.initial.narrowed)
+    ≡ each_true_of (tests_view (drop l.test-index l.tests)) (shape_at (expansions l.shapes) l.narrowed))
