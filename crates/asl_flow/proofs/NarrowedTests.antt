@@ -17,7 +17,7 @@ pub kept_narrowed : (old new : List Node) (n : ℕ) (narrowed : Option Shape) �
 kept_narrowed old new n narrowed keeps within is = record { within = still_within old new n keeps within; same = is ∙ ap Some (sym (still_shown old new n keeps within)) }
 
 some-then : (part s : Option Shape) → IsSome part → unless_none part s ≡ s
-some-then None s h = absurd h
+some-then None s h = absurd (cc)
 some-then (Some t) s h = refl
 
 module _ (whole : Option Shape) (tests : List Test) (i : ℕ) (test : Test) (s t : Shape) (within : i < length tests) (is : test ≡ get_or tests i test) (so_far : whole ≡ each_found (tests_view (drop i tests)) s) (same : t ≡ s) where
