@@ -1,4 +1,4 @@
-use Rattle.std.proofs.Common.{Some, None, Ok, string_bytes, length, refl, ap, arith}
+use Rattle.std.proofs.Common.{Some, None, Ok, string_bytes, length, refl, ap, arith, rules}
 use Rattle.asl_model.specs.Path.{Name, Index}
 use Rattle.asl_model.specs.ShapeFlow.{where_present}
 use Rattle.asl_numbered.specs.Expansion.{expansions, shape_at, shapes_at, fields_at}
@@ -92,5 +92,5 @@ narrow_under-returns-in-None-2-clause-shown t c =
     let k = c.in-Name-segment.name in
     let level = object_level table object.field-0.now object.fields object.extra c.args.number object.field-0-is object.ensures.level in
     let none = mention_found k object.fields c.get-in-Name-segment.result c.copied-in-Name-segment.result c.get-in-Name-segment.ensures.value c.copied-in-Name-segment.ensures table None c.in-None-2.is in
-    let closed = closed_object go_on (string_bytes k) (fields_at table object.fields.entries) object.extra (shape_at table c.args.number) level c.if-extra.false none in
+    let closed = closed_object go_on (string_bytes k) (fields_at table object.fields.entries) object.extra (shape_at table c.args.number) level (search rules) none in
     shows_narrowed go_on c.put_never-in-None-2.new.shapes (shape_at table c.args.number) _ c.args.segment.now (Name (string_bytes k)) c.put_never-in-None-2.result (ap segment_view c.in-Name-segment.is) closed c.put_never-in-None-2.ensures.shown
