@@ -1,4 +1,5 @@
 pub mod ArgumentShapes
+pub mod Composed
 pub mod Doubts
 pub mod FunctionShapes
 pub mod Leavings
@@ -8,3 +9,4 @@ pub mod Presence
 pub mod Puts
 pub mod Replaced
 pub mod ShapeParts
+pub mod SourcesKept

@@ -20,8 +20,8 @@ mod rules;
 mod templates;
 
 pub use leaving::{FlowFault, leave};
-pub use literals::literal_shape;
+pub use literals::{literal_shape, literal_shape_at};
 pub use looking::{LookRefusal, find_shape, look};
 pub use putting::{PutRefusal, put};
 pub use rules::{RuleShapeRefusal, rule_shape};
-pub use templates::{TemplateShapeRefusal, template_shape};
+pub use templates::{TemplateShapeRefusal, template_shape, template_shape_at};
