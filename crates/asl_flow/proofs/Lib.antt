@@ -5,6 +5,8 @@ pub mod FunctionShapes
 pub mod Leavings
 pub mod LiteralFields
 pub mod Needed
+pub mod Numbered
+pub mod NumberedParts
 pub mod Presence
 pub mod Puts
 pub mod Replaced

@@ -13,6 +13,8 @@ mod leaving;
 mod literals;
 mod looking;
 mod narrowing;
+mod numbers;
+mod parts;
 mod putting;
 mod references;
 mod replacing;
@@ -21,7 +23,7 @@ mod templates;
 
 pub use leaving::{FlowFault, leave};
 pub use literals::{literal_shape, literal_shape_at};
-pub use looking::{LookRefusal, find_shape, look};
-pub use putting::{PutRefusal, put};
+pub use looking::{LookRefusal, find_shape, look, look_at};
+pub use putting::{PutRefusal, put, put_at};
 pub use rules::{RuleShapeRefusal, rule_shape};
 pub use templates::{TemplateShapeRefusal, template_shape, template_shape_at};

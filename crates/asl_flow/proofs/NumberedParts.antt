@@ -1,0 +1,77 @@
+-- What one segment, and then the segments behind it, lead to in a shape of a table, by number.
+use Rattle.std.proofs.Common.{◌≡◌, ℕ, zero, suc, ◌+◌, ◌<◌, ◌≤◌, Bool, List, [], ◌∷◌, Option, Some, None, Result, Ok, Err, option_map, is_some, Bor, String, Global, string_bytes, IfSome, length, get_or, drop, drop-cons, refl, ap, sym, ◌∙◌, arith, Vec, BTreeMap}
+use borrow.Author.Tests.{ltb-true, ltb-false}
+use lib.Dec.{ltb}
+use Rattle.std.specs.BTreeMap.{get_by}
+use Rattle.std.specs.Option.{option_copied}
+use Rattle.std.specs.Prelude.{IfOk}
+use Rattle.std.specs.String.{string_cmp}
+use Rattle.asl_model.specs.Path as path
+use Rattle.asl_model.specs.Shape as model
+use Rattle.asl_model.specs.ShapeFlow.{part_at, place_at, look_at, if_needed}
+use Rattle.asl_model.specs.ShapeOrder.{mention_of}
+use Rattle.asl_flow.specs.Counting.{counted_on}
+use Rattle.asl_flow.specs.Numbers.{shown}
+use Rattle.asl_flow.specs.Putting.{mentioned}
+use Rattle.asl_flow.proofs.ShapeParts.{counted_none, counted_one}
+use Rattle.asl_numbered.specs.declared.node.NodeField.{NodeField}
+use Rattle.asl_numbered.specs.Expansion.{shape_at, shapes_at, fields_at, numbers_in, AreBelow}
+use Rattle.asl_numbered.proofs.Comparisons.{mention_of_number, found-below}
+use Rattle.asl_path.specs.View.{segment_view, segments_view}
+use Rattle.asl_path.specs.declared.Segment as code
+
+-- ---- places
+
+place_within : (table : List model.Shape) (ns : List ℕ) (i d : ℕ) → i < length ns → Some (shape_at table (get_or ns i d)) ≡ place_at i (shapes_at table ns)
+place_within table [] i d h = absurd (omega arith)
+place_within table (n ∷ ns) zero d h = refl
+place_within table (n ∷ ns) (suc i) d h = place_within table ns i d (omega arith)
+
+place_past : (table : List model.Shape) (ns : List ℕ) (i : ℕ) → length ns ≤ i → None ≡ place_at i (shapes_at table ns)
+place_past table [] i h = refl
+place_past table (n ∷ ns) zero h = absurd (omega arith)
+place_past table (n ∷ ns) (suc i) h = place_past table ns i (omega arith)
+
+-- getting a number of a list gets the one at that place
+pub place_got : (table : List model.Shape) (ns : List ℕ) (i : ℕ) (r : Option (Bor ℕ)) → is_some r ≡ ltb i (length ns) → IfSome r (λ x. x.now ≡ get_or ns i x.now)
+    → option_map (shape_at table) (option_copied r) ≡ place_at i (shapes_at table ns)
+place_got table ns i None e h = place_past table ns i (ltb-false i (length ns) (sym e))
+place_got table ns i (Some x) e h = ap (λ n. Some (shape_at table n)) h ∙ place_within table ns i x.now (ltb-true i (length ns) (sym e))
+
+below_at : (bound : ℕ) (ns : List ℕ) (i d : ℕ) → i < length ns → AreBelow bound ns → get_or ns i d < bound
+below_at bound [] i d h below = absurd (omega arith)
+below_at bound (n ∷ ns) zero d h below = below.0
+below_at bound (n ∷ ns) (suc i) d h below = below_at bound ns i d (omega arith) below.1
+
+pub place_below : (bound : ℕ) (ns : List ℕ) (i : ℕ) (r : Option (Bor ℕ)) → is_some r ≡ ltb i (length ns) → IfSome r (λ x. x.now ≡ get_or ns i x.now) → AreBelow bound ns
+    → IfSome (option_copied r) (λ n. n < bound)
+place_below bound ns i None e h below = tt
+place_below bound ns i (Some x) e h below = rw h (below_at bound ns i x.now (ltb-true i (length ns) (sym e)) below)
+
+-- ---- fields
+
+-- the mention of a field, as the map of a node has it
+pub mention_got : (table : List model.Shape) (k : String Global) (m : BTreeMap (String Global) NodeField) (r : Option NodeField) → r ≡ get_by (string_cmp k) m → mention_of (string_bytes k) (fields_at table m.entries) ≡ option_map (mentioned table) r
+mention_got table k m r got = mention_of_number table k m.entries ∙ rw (← got) refl
+
+pub field_below : (bound : ℕ) (k : String Global) (m : BTreeMap (String Global) NodeField) (r : Option NodeField) → r ≡ get_by (string_cmp k) m → AreBelow bound (numbers_in m.entries) → IfSome r (λ f. f.shape < bound)
+field_below bound k m None got below = tt
+field_below bound k m (Some f) got below = found-below bound _ m.entries f below (sym got)
+
+-- ---- the whole path
+
+-- a step that leads somewhere
+pub looks_on : (table : List model.Shape) (whole : Result model.Shape ℕ) (n : ℕ) (items : List code.Segment) (i : ℕ) (s : code.Segment) (r : Option ℕ) (m : ℕ)
+    → whole ≡ counted_on i (look_at (segments_view (drop i items)) (shape_at table n)) → i < length items → s ≡ get_or items i s
+    → option_map (shape_at table) r ≡ part_at (segment_view s) (shape_at table n) → r ≡ Some m → whole ≡ counted_on (suc i) (look_at (segments_view (drop (suc i) items)) (shape_at table m))
+looks_on table whole n items i s r m so_far within is step found =
+    let here : part_at (segment_view (get_or items i s)) (shape_at table n) ≡ Some (shape_at table m) = ap (λ x. part_at (segment_view x) (shape_at table n)) (sym is) ∙ sym step ∙ ap (option_map (shape_at table)) found in
+    so_far ∙ rw (drop-cons items i s within, here) (counted_one i (look_at (segments_view (drop (suc i) items)) (shape_at table m)))
+
+-- a step that leads nowhere
+pub looks_nowhere : (table : List model.Shape) (whole : Result model.Shape ℕ) (n : ℕ) (items : List code.Segment) (i : ℕ) (s : code.Segment) (r : Option ℕ)
+    → whole ≡ counted_on i (look_at (segments_view (drop i items)) (shape_at table n)) → i < length items → s ≡ get_or items i s
+    → option_map (shape_at table) r ≡ part_at (segment_view s) (shape_at table n) → r ≡ None → whole ≡ Err i
+looks_nowhere table whole n items i s r so_far within is step found =
+    let here : part_at (segment_view (get_or items i s)) (shape_at table n) ≡ None = ap (λ x. part_at (segment_view x) (shape_at table n)) (sym is) ∙ sym step ∙ ap (option_map (shape_at table)) found in
+    so_far ∙ rw (drop-cons items i s within, here) (ap Err (omega arith))
