@@ -6,19 +6,21 @@ use Rattle.asl_intrinsic.specs.View.{argument_view, arguments_view}
 use Rattle.asl_intrinsic.specs.declared.call.Arg.{Arg}
 use Rattle.asl_model.specs.Shape as model
 use Rattle.asl_model.specs.ShapeFlow.{Doubt as Why, argument_shape, argument_shapes, and_argument}
-use Rattle.asl_numbered.specs.Expansion.{shape_at, shapes_at, AreBelow, IsNumberOf, Keeps}
-use Rattle.asl_numbered.proofs.Expansions.{below-append, below-wider, keeps_longer, kept_shape}
+use Rattle.asl_numbered.specs.declared.node.Node.{Node}
+use Rattle.asl_numbered.specs.Expansion.{expansions, shape_at, shapes_at, AreBelow, Keeps}
+use Rattle.asl_numbered.proofs.Expansions.{as_many, below-append, below-wider, keeps_longer}
 use Rattle.asl_flow.specs.CallAnswer.{Answers, AnswersAll}
 use Rattle.asl_flow.specs.Sources.{doubt_view}
 use Rattle.asl_flow.specs.declared.references.Doubt.{Doubt}
+use Rattle.asl_flow.proofs.Numbered.{still_shown}
 
 -- the shapes of numbers, each of which there is
 abbrev pub each_shown : List model.Shape → List ℕ → List (Option model.Shape)
 each_shown table ns = map (λ n. Some (shape_at table n)) ns
 
-each-kept : (old new : List model.Shape) (ns : List ℕ) → Keeps old new → AreBelow (length old) ns → each_shown new ns ≡ each_shown old ns
+each-kept : (old new : List Node) (ns : List ℕ) → Keeps (expansions old) (expansions new) → AreBelow (length old) ns → each_shown (expansions new) ns ≡ each_shown (expansions old) ns
 each-kept old new [] keeps below = refl
-each-kept old new (n ∷ ns) keeps below = rw (kept_shape old new n keeps below.0, each-kept old new ns keeps below.1) refl
+each-kept old new (n ∷ ns) keeps below = rw (still_shown old new n keeps below.0, each-kept old new ns keeps below.1) refl
 
 module _ (input : model.Shape) (item : Option model.Shape) where
   -- the shapes of arguments, as far as there are some
@@ -26,22 +28,23 @@ module _ (input : model.Shape) (item : Option model.Shape) where
   each_shape arguments = map (λ a. argument_shape (argument_view a) input item) arguments
 
   -- the numbers are in the table, and their shapes are those of the arguments
-  pub record AreShapesOf (table : List model.Shape) (arguments : List Arg) (ns : List ℕ) : Type 0 where
-    pub within : AreBelow (length table) ns
-    pub same : each_shape arguments ≡ each_shown table ns
+  pub record AreShapesOf (nodes : List Node) (arguments : List Arg) (ns : List ℕ) : Type 0 where
+    pub within : AreBelow (length nodes) ns
+    pub same : each_shape arguments ≡ each_shown (expansions nodes) ns
 
   -- none so far
-  pub no_arguments : (table : List model.Shape) → AreShapesOf table [] []
-  no_arguments table = record { within = tt; same = refl }
+  pub no_arguments : (nodes : List Node) → AreShapesOf nodes [] []
+  no_arguments nodes = record { within = tt; same = refl }
 
   -- one more, in a table that has grown
-  pub argument_more : (old new : List model.Shape) (before after : List Arg) (a : Arg) (ns ms : List ℕ) (n : ℕ) → Keeps old new → AreShapesOf old before ns → argument_shape (argument_view a) input item ≡ Some (shape_at new n) → IsNumberOf new (shape_at new n) n → after ≡ before ++ a ∷ [] → ms ≡ ns ++ n ∷ [] → AreShapesOf new after ms
+  pub argument_more : (old new : List Node) (before after : List Arg) (a : Arg) (ns ms : List ℕ) (n : ℕ) → Keeps (expansions old) (expansions new) → AreShapesOf old before ns → argument_shape (argument_view a) input item ≡ Some (shape_at (expansions new) n) → n < length new → after ≡ before ++ a ∷ [] → ms ≡ ns ++ n ∷ [] → AreShapesOf new after ms
   argument_more old new before after a ns ms n keeps are own is more also =
-      let within : AreBelow (length new) ns = below-wider (length old) (length new) ns (keeps_longer old new keeps) are.within in
-      let now : each_shape before ≡ each_shown new ns = are.same ∙ sym (each-kept old new ns keeps are.within) in
+      let longer : length old ≤ length new = omega (arith, keeps_longer (expansions old) (expansions new) keeps, as_many old, as_many new) in
+      let within : AreBelow (length new) ns = below-wider (length old) (length new) ns longer are.within in
+      let now : each_shape before ≡ each_shown (expansions new) ns = are.same ∙ sym (each-kept old new ns keeps are.within) in
       rw (more, also) (record {
-        within = below-append (length new) ns (n ∷ []) within (is.within, tt);
-        same = map-append (λ x. argument_shape (argument_view x) input item) before (a ∷ []) ∙ rw (now, own) (sym (map-append (λ m. Some (shape_at new m)) ns (n ∷ [])));
+        within = below-append (length new) ns (n ∷ []) within (is, tt);
+        same = map-append (λ x. argument_shape (argument_view x) input item) before (a ∷ []) ∙ rw (now, own) (sym (map-append (λ m. Some (shape_at (expansions new) m)) ns (n ∷ [])));
       })
 
   shapes-given : (table : List model.Shape) (arguments : List Arg) (ns : List ℕ) → each_shape arguments ≡ each_shown table ns → argument_shapes (arguments_view arguments) input item ≡ Some (shapes_at table ns)
@@ -53,9 +56,10 @@ module _ (input : model.Shape) (item : Option model.Shape) where
       rw (first, shapes-given table arguments ns (cc)) refl
 
   -- the arguments gone through, to the end
-  pub arguments_end : (table : List model.Shape) (arguments : List Arg) (i : ℕ) (v : Vec ℕ Global) → length arguments ≤ i → AreShapesOf table (take i arguments) v.items → AnswersAll table (Ok v) (argument_shapes (arguments_view arguments) input item)
-  arguments_end table arguments i v end are = record {
-    give = (shapes-given table arguments v.items (ap each_shape (sym (take_all i arguments end)) ∙ are.same), are.within);
+  pub arguments_end : (nodes : List Node) (arguments : List Arg) (i : ℕ) (v : Vec ℕ Global) → length arguments ≤ i → AreShapesOf nodes (take i arguments) v.items → AnswersAll nodes (Ok v) (argument_shapes (arguments_view arguments) input item)
+  arguments_end nodes arguments i v end are = record {
+    within = are.within;
+    give = shapes-given (expansions nodes) arguments v.items (ap each_shape (sym (take_all i arguments end)) ∙ are.same);
     fail = tt;
   }
 
@@ -73,11 +77,12 @@ module _ (input : model.Shape) (item : Option model.Shape) where
   told-on (Some e) f h = f h
 
   -- where one argument may fail, the arguments have no shapes
-  pub arguments_refused : (table : List model.Shape) (given : Result (Vec ℕ Global) Doubt) (doubt : Doubt) (one : Result ℕ Doubt) (arguments : List Arg) (i : ℕ) (a : Arg) → given ≡ Err doubt → one ≡ Err doubt → i < length arguments → a ≡ get_or arguments i a → Answers table one (argument_shape (argument_view a) input item)
-      → AnswersAll table given (argument_shapes (arguments_view arguments) input item)
-  arguments_refused table given doubt one arguments i a is was within at h =
+  pub arguments_refused : (nodes : List Node) (given : Result (Vec ℕ Global) Doubt) (doubt : Doubt) (one : Result ℕ Doubt) (arguments : List Arg) (i : ℕ) (a : Arg) → given ≡ Err doubt → one ≡ Err doubt → i < length arguments → a ≡ get_or arguments i a → Answers nodes one (argument_shape (argument_view a) input item)
+      → AnswersAll nodes given (argument_shapes (arguments_view arguments) input item)
+  arguments_refused nodes given doubt one arguments i a is was within at h =
       let told : IfSome (doubt_view doubt) (λ e. argument_shape (argument_view a) input item ≡ None) = subst (λ r. IfErr r (λ d. IfSome (doubt_view d) (λ e. argument_shape (argument_view a) input item ≡ None))) was h.fails in
       rw is (record {
+        within = tt;
         give = tt;
         fail = told-on (doubt_view doubt) (λ none. none-at arguments i a within (ap (λ x. argument_shape (argument_view x) input item) (sym at) ∙ none)) told;
       })

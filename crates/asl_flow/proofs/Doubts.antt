@@ -12,11 +12,13 @@ use Rattle.asl_model.specs.ShapeFlow.{Doubt, doubts, doubts_at, element_doubts, 
 use Rattle.asl_model.specs.ShapeOrder.{set_mention}
 use Rattle.asl_model.specs.Template as template
 use Rattle.asl_numbered.specs.declared.node.NodeField.{NodeField}
-use Rattle.asl_numbered.specs.Expansion.{shape_at, IsNumberOf, AreNumbersOf, AreFieldsOf}
+use Rattle.asl_numbered.specs.declared.node.Node.{Node}
+use Rattle.asl_numbered.specs.Expansion.{expansions, shape_at, AreNumbersOf, AreFieldsOf}
 use Rattle.asl_template.proofs.Values.{Entry, next_element, no_element_left}
 use Rattle.asl_template.specs.View.{view, elements_view, entries_view}
 use Rattle.asl_template.specs.declared.template.Template.{Template, the_lemmas}
 use Rattle.asl_template.specs.declared.template.Template as code
+use Rattle.asl_flow.specs.Numbers.{Shows}
 use Rattle.asl_flow.specs.Sources.{doubt_view, IsPart}
 use Rattle.asl_flow.specs.TemplateAnswer.{IsToldAt, Tells, doubt_in, doubt_told}
 use Rattle.asl_flow.specs.declared.references.Doubt.{Doubt as Doubted}
@@ -98,13 +100,13 @@ module _ (input : model.Shape) (item : Option model.Shape) where
 
 -- ---- parts that a path names
 
-module _ (table : List model.Shape) (field : List ℕ) (part : Result ℕ Doubted) (found : Result model.Shape Doubt) (is : IsPart table part found) where
+module _ (nodes : List Node) (field : List ℕ) (part : Result ℕ Doubted) (found : Result model.Shape Doubt) (is : IsPart nodes part found) where
   -- the number of a part is that of its shape
-  pub part_number : (r : Result ℕ TemplateShapeRefusal) → IsToldAt field part r → IfOk r (IsNumberOf table (or_none found))
+  pub part_number : (r : Result ℕ TemplateShapeRefusal) → IsToldAt field part r → IfOk r (Shows nodes (or_none found))
   part_number (Err e) told = tt
   part_number (Ok n) told =
-      let at = subst (λ p. IfOk p (λ m. (found ≡ Ok (shape_at table m)) × IsNumberOf table (shape_at table m) m)) told.same is.found in
-      subst (λ f. IsNumberOf table (or_none f) n) (sym at.0) at.1
+      let at : found ≡ Ok (shape_at (expansions nodes) n) = subst (λ p. IfOk p (λ m. found ≡ Ok (shape_at (expansions nodes) m))) told.same is.found in
+      record { within = subst (λ p. IfOk p (λ m. m < length nodes)) told.same is.within; same = sym (ap or_none at) }
 
   doubt-found : (p : Result ℕ Doubted) (doubt : Doubt) → IfErr p (λ d. IfSome (doubt_view d) (λ e. found ≡ Err e)) → doubt_in p ≡ Some doubt → found ≡ Err doubt
   doubt-found (Ok n) doubt h e = absurd (cc)
@@ -117,18 +119,13 @@ module _ (table : List model.Shape) (field : List ℕ) (part : Result ℕ Doubte
   -- and where there is none, its doubt is told
   pub part_told : (r : Result ℕ TemplateShapeRefusal) → IsToldAt field part r → Tells r (doubts_at field found)
   part_told (Ok n) told =
-      let at = subst (λ p. IfOk p (λ m. (found ≡ Ok (shape_at table m)) × IsNumberOf table (shape_at table m) m)) told.same is.found in
-      record { none = ap (doubts_at field) at.0; listed = tt }
+      let at : found ≡ Ok (shape_at (expansions nodes) n) = subst (λ p. IfOk p (λ m. found ≡ Ok (shape_at (expansions nodes) m))) told.same is.found in
+      record { none = ap (doubts_at field) at; listed = tt }
   part_told (Err e) told = record { none = tt; listed = listed (doubt_told e) told.told }
 
 -- ---- the whole template
 
 -- the shape of an answer, where some tree has the input's
-pub filled_defined : (table : List model.Shape) (t : template.Template) (input : model.Shape) (item : Option model.Shape) (r : Result ℕ TemplateShapeRefusal) → true ≡ model.inhabited input → IfOk r (IsNumberOf table (filled_shape t input item)) → Tells r (doubts t [] input item) → IfOk r (λ n. template_shape t input item ≡ Ok (shape_at table n))
-filled_defined table t input item (Ok n) live filled told = rw (← live, told.none, filled.same) refl
-filled_defined table t input item (Err e) live filled told = tt
-
--- a number is that of its own shape
-pub number_of_own : (table : List model.Shape) (s : model.Shape) (r : Result ℕ TemplateShapeRefusal) → IfOk r (IsNumberOf table s) → IfOk r (λ n. IsNumberOf table (shape_at table n) n)
-number_of_own table s (Ok n) is = record { within = is.within; same = refl; alone = λ m h e. is.alone m h (e ∙ is.same) }
-number_of_own table s (Err e) is = tt
+pub filled_defined : (nodes : List Node) (t : template.Template) (input : model.Shape) (item : Option model.Shape) (r : Result ℕ TemplateShapeRefusal) → true ≡ model.inhabited input → IfOk r (Shows nodes (filled_shape t input item)) → Tells r (doubts t [] input item) → IfOk r (λ n. template_shape t input item ≡ Ok (shape_at (expansions nodes) n))
+filled_defined nodes t input item (Ok n) live filled told = rw (← live, told.none, filled.same) refl
+filled_defined nodes t input item (Err e) live filled told = tt

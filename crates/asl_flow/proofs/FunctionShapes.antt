@@ -4,14 +4,15 @@ use Rattle.std.specs.Prelude.{IfOk}
 use Rattle.asl_model.specs.Intrinsic.{Pieces}
 use Rattle.asl_model.specs.Shape as model
 use Rattle.asl_model.specs.ShapeFlow as flow
-use Rattle.asl_numbered.specs.Expansion.{shape_at, shapes_at, IsNumberOf}
+use Rattle.asl_numbered.specs.declared.node.Node.{Node}
+use Rattle.asl_numbered.specs.Expansion.{expansions, shape_at, shapes_at}
 use Rattle.asl_flow.specs.CallAnswer.{Answers}
+use Rattle.asl_flow.specs.Numbers.{Shows}
 use Rattle.asl_flow.specs.declared.references.Doubt.{Doubt}
 
--- the number of a shape answers where that is the one
-pub answered : (table : List model.Shape) (s : model.Shape) (n : ℕ) (shape : Option model.Shape) → shape ≡ Some s → IsNumberOf table s n → Answers table (Ok n) shape
-answered table s n shape is number =
-    record { gives = (is ∙ ap Some (sym number.same), record { within = number.within; same = refl; alone = λ m h e. number.alone m h (e ∙ number.same) }); fails = tt }
+-- what shows a shape answers where that is the one
+pub answered : (nodes : List Node) (s : model.Shape) (n : ℕ) (shape : Option model.Shape) → shape ≡ Some s → Shows nodes s n → Answers nodes (Ok n) shape
+answered nodes s n shape is shows = record { within = shows.within; gives = is ∙ ap Some (sym shows.same); fails = tt }
 
 -- how many shapes there are
 counted : (table : List model.Shape) (ns : List ℕ) → flow.how_many_shapes (shapes_at table ns) ≡ length ns

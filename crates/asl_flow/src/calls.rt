@@ -26,7 +26,7 @@ pub(crate) fn call_shape(
     sources: Sources,
 ) -> Result<usize, Doubt>
     requires within { IsWithin (length shapes.old) sources }
-    ensures answers { Answers (expansions shapes.new) result
+    ensures answers { Answers shapes.new result
         (flow.call_shape (calls.view call.now) (input_of (expansions shapes.old) sources)
         (item_of (expansions shapes.old) sources)) }
     ensures keeps { Keeps (expansions shapes.old) (expansions shapes.new) }
@@ -56,7 +56,7 @@ fn argument_shapes(
     sources: Sources,
 ) -> Result<Vec<usize>, Doubt>
     requires within { IsWithin (length shapes.old) sources }
-    ensures answers { AnswersAll (expansions shapes.new) result
+    ensures answers { AnswersAll shapes.new result
         (flow.argument_shapes (arguments_view arguments.now)
         (input_of (expansions shapes.old) sources) (item_of (expansions shapes.old) sources)) }
     ensures keeps { Keeps (expansions shapes.old) (expansions shapes.new) }
@@ -70,6 +70,7 @@ fn argument_shapes(
 }
 
 /// The number of the shape of the argument's value.
+#[tactic(auto, using(asl_numbered::proofs::Expansions::simple_refers, crate::proofs::FunctionShapes::answered))]
 #[cycle(call)]
 fn argument_shape(
     alloc: Global,
@@ -78,7 +79,7 @@ fn argument_shape(
     sources: Sources,
 ) -> Result<usize, Doubt>
     requires within { IsWithin (length shapes.old) sources }
-    ensures answers { Answers (expansions shapes.new) result
+    ensures answers { Answers shapes.new result
         (flow.argument_shape (argument_view argument.now)
         (input_of (expansions shapes.old) sources) (item_of (expansions shapes.old) sources)) }
     ensures keeps { Keeps (expansions shapes.old) (expansions shapes.new) }
@@ -96,9 +97,10 @@ fn argument_shape(
 }
 
 /// `States.Array`: the list of the arguments.
+#[tactic(auto, using(crate::proofs::FunctionShapes::answered))]
 fn array_shape(shapes: &mut Shapes, arguments: Vec<usize>) -> Result<usize, Doubt>
     requires arguments { AreBelow (length shapes.old) arguments.items }
-    ensures answers { Answers (expansions shapes.new) result
+    ensures answers { Answers shapes.new result
         (flow.array_of (Some (shapes_at (expansions shapes.old) arguments.items))) }
     ensures keeps { Keeps (expansions shapes.old) (expansions shapes.new) }
 {
@@ -106,9 +108,10 @@ fn array_shape(shapes: &mut Shapes, arguments: Vec<usize>) -> Result<usize, Doub
 }
 
 /// `States.ArrayLength`: the length of one argument, which is a list or never comes.
+#[tactic(auto, using(asl_numbered::proofs::Expansions::simple_refers, asl_numbered::proofs::Expansions::keeps_same))]
 fn array_length_shape(shapes: &mut Shapes, arguments: &[usize]) -> Result<usize, Doubt>
     requires arguments { AreBelow (length shapes.old) arguments.now }
-    ensures answers { Answers (expansions shapes.new) result
+    ensures answers { Answers shapes.new result
         (flow.array_length_of (Some (shapes_at (expansions shapes.old) arguments.now))) }
     ensures keeps { Keeps (expansions shapes.old) (expansions shapes.new) }
 {
@@ -141,9 +144,10 @@ fn is_list(node: &Node) -> bool
 }
 
 /// `States.Format`: a text and what fills its holes.
+#[tactic(auto, using(asl_numbered::proofs::Expansions::simple_refers, asl_numbered::proofs::Expansions::keeps_same, crate::proofs::FunctionShapes::answered))]
 fn format_shape(shapes: &mut Shapes, arguments: &[Arg], numbers: &[usize]) -> Result<usize, Doubt>
     requires numbers { AreBelow (length shapes.old) numbers.now }
-    ensures answers { Answers (expansions shapes.new) result
+    ensures answers { Answers shapes.new result
         (flow.format_of (literal_pieces (arguments_view arguments.now))
         (Some (shapes_at (expansions shapes.old) numbers.now))) }
     ensures keeps { Keeps (expansions shapes.old) (expansions shapes.new) }

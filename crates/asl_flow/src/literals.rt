@@ -1,5 +1,6 @@
 //! The shape of a value that stands for itself.
 ghost use Rattle.std.specs.Prelude.{◌≡◌, IfOk};
+ghost use Rattle.asl_flow.specs.Numbers.{Shows};
 ghost use Rattle.asl_model.specs.ShapeFlow.{literal, literals, literal_fields as fields_of_literal};
 ghost use Rattle.asl_numbered.specs.Expansion.{expansions, IsNumberOf, AreNumbersOf, AreFieldsOf, Keeps};
 ghost use Rattle.asl_shape.specs.View.{view};
@@ -20,13 +21,12 @@ pub fn literal_shape(alloc: Global, tree: &Tree) -> Result<Shape, OutOfMemory>
     ensures as_defined { IfOk result (λ s. view s ≡ literal (trees.view tree.now)) }
 {
     let mut shapes = Shapes::new(alloc);
-    let number = literal_shape_at(alloc, &mut shapes, tree)?;
+    let number = own_shape(alloc, &mut shapes, tree)?;
     expand(&shapes, number)
 }
 
 /// The number of the shape of a tree that stands for itself, as [`literal_shape`] tells it. Refuses only where an
 /// allocation was refused.
-#[cycle(literal)]
 pub fn literal_shape_at(
     alloc: Global,
     shapes: &mut Shapes,
@@ -34,6 +34,22 @@ pub fn literal_shape_at(
 ) -> Result<usize, OutOfMemory>
     ensures number { IfOk result
         (IsNumberOf (expansions shapes.new) (literal (trees.view tree.now))) }
+    ensures keeps { Keeps (expansions shapes.old) (expansions shapes.new) }
+{
+    let number = own_shape(alloc, shapes, tree)?;
+    shapes.are_distinct();
+    Ok(number)
+}
+
+/// A number of the shape of a tree that stands for itself.
+#[tactic(auto, using(asl_numbered::proofs::Expansions::simple_refers))]
+#[cycle(literal)]
+pub(crate) fn own_shape(
+    alloc: Global,
+    shapes: &mut Shapes,
+    tree: &Tree,
+) -> Result<usize, OutOfMemory>
+    ensures shown { IfOk result (Shows shapes.new (literal (trees.view tree.now))) }
     ensures keeps { Keeps (expansions shapes.old) (expansions shapes.new) }
 {
     match tree {
@@ -66,7 +82,7 @@ fn element_shapes(
 {
     let mut numbers = Vec::with_capacity(alloc, elements.len())?;
     for element in elements {
-        let number = literal_shape_at(alloc, shapes, element)?;
+        let number = own_shape(alloc, shapes, element)?;
         numbers.push(number)?;
     }
     Ok(numbers)
@@ -88,7 +104,7 @@ fn field_shapes(
     for (name, field) in fields.iter() {
         let mention = NodeField {
             needed: true,
-            shape: literal_shape_at(alloc, shapes, field)?,
+            shape: own_shape(alloc, shapes, field)?,
         };
         set_field(&mut mentions, name, mention)?;
     }

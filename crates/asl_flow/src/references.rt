@@ -84,7 +84,7 @@ impl Sources {
     /// The number of the shape of what a path names in the input.
     pub(crate) fn in_input(self, shapes: &mut Shapes, path: &RefPath) -> Result<usize, Doubt>
         requires within { IsWithin (length shapes.old) self }
-        ensures part { IsPart (expansions shapes.new) result
+        ensures part { IsPart shapes.new result
             (reference_shape (InInput path.now) (input_of (expansions shapes.old) self)
             (item_of (expansions shapes.old) self)) }
         ensures keeps { Keeps (expansions shapes.old) (expansions shapes.new) }
@@ -93,8 +93,9 @@ impl Sources {
     }
 
     /// The number of the shape of the item's number.
+    #[tactic(auto, using(asl_numbered::proofs::Expansions::simple_refers, asl_numbered::proofs::Expansions::keeps_same))]
     pub(crate) fn item_index(self, shapes: &mut Shapes) -> Result<usize, Doubt>
-        ensures part { IsPart (expansions shapes.new) result
+        ensures part { IsPart shapes.new result
             (reference_shape ItemIndex (input_of (expansions shapes.old) self)
             (item_of (expansions shapes.old) self)) }
         ensures keeps { Keeps (expansions shapes.old) (expansions shapes.new) }
@@ -106,9 +107,10 @@ impl Sources {
     }
 
     /// The number of the shape of what a path names in the item.
+    #[tactic(auto, using(asl_numbered::proofs::Expansions::keeps_same))]
     pub(crate) fn in_item(self, shapes: &mut Shapes, path: &RefPath) -> Result<usize, Doubt>
         requires within { IsWithin (length shapes.old) self }
-        ensures part { IsPart (expansions shapes.new) result
+        ensures part { IsPart shapes.new result
             (reference_shape (InItem path.now) (input_of (expansions shapes.old) self)
             (item_of (expansions shapes.old) self)) }
         ensures keeps { Keeps (expansions shapes.old) (expansions shapes.new) }
@@ -121,6 +123,7 @@ impl Sources {
 }
 
 /// The number of the item's shape, where there is one.
+#[tactic(auto, using(crate::proofs::Numbered::number_within))]
 fn add_item(shapes: &mut Shapes, item: Option<&Shape>) -> Result<Option<usize>, OutOfMemory>
     ensures within { IfOk result (λ r. IfSome r (λ n. n < length shapes.new)) }
     ensures shape { IfOk result
@@ -135,7 +138,7 @@ fn add_item(shapes: &mut Shapes, item: Option<&Shape>) -> Result<Option<usize>, 
 /// The number of the shape of what a path names in the trees of a shape.
 fn named_part(shapes: &mut Shapes, number: usize, path: &RefPath) -> Result<usize, Doubt>
     requires number { number < length shapes.old }
-    ensures part { IsPart (expansions shapes.new) result
+    ensures part { IsPart shapes.new result
         (or_missing (look path.now (shape_at (expansions shapes.old) number))) }
     ensures keeps { Keeps (expansions shapes.old) (expansions shapes.new) }
 {

@@ -2,6 +2,7 @@
 ghost use Rattle.std.specs.Prelude.{◌≡◌, ◌<◌, Option, Ok, Err, IfOk, IfSome, String, length, option_map, string_bytes};
 ghost use Rattle.std.specs.declared.alloc.Global.{Global};
 ghost use Rattle.asl_flow.specs.Items.{item_view};
+ghost use Rattle.asl_flow.specs.Numbers.{Shows};
 ghost use Rattle.asl_flow.specs.Sources.{input_of, item_of, IsWithin};
 ghost use Rattle.asl_flow.specs.TemplateAnswer.{IsDoubted, IsToldAt, Tells};
 ghost use Rattle.asl_flow.specs.declared.templates.TemplateShapeRefusal.TheVariants.{MayBeMissing, MayFail};
@@ -17,7 +18,7 @@ ghost use Rattle.asl_template.specs.View as templates;
 
 use crate::calls::call_shape;
 use crate::composing::{closed_list, closed_object, set_field};
-use crate::literals::literal_shape_at;
+use crate::literals::own_shape;
 use crate::numbers::{expand, is_inhabited, put_never};
 use crate::references::{Doubt, Sources};
 use asl_intrinsic::Call;
@@ -125,11 +126,14 @@ pub fn template_shape_at(
         (string_bytes field) model.MayFail }
     ensures keeps { Keeps (expansions shapes.old) (expansions shapes.new) }
 {
-    if is_inhabited(shapes, input) {
-        filled_shape(alloc, shapes, template, "", Sources { input, item })
-    } else {
-        Ok(put_never(shapes)?)
+    if !is_inhabited(shapes, input) {
+        let never = put_never(shapes)?;
+        shapes.are_distinct();
+        return Ok(never);
     }
+    let number = filled_shape(alloc, shapes, template, "", Sources { input, item })?;
+    shapes.are_distinct();
+    Ok(number)
 }
 
 /// The number of the shape of the template's value, or the first of its doubts, which stands at that field unless it
@@ -144,7 +148,7 @@ fn filled_shape(
 ) -> Result<usize, TemplateShapeRefusal>
     requires within { IsWithin (length shapes.old) sources }
     ensures filled { IfOk result
-        (IsNumberOf (expansions shapes.new)
+        (Shows shapes.new
         (model.filled_shape (templates.view template.now) (input_of (expansions shapes.old) sources)
         (item_of (expansions shapes.old) sources))) }
     ensures told { Tells result
@@ -153,7 +157,7 @@ fn filled_shape(
     ensures keeps { Keeps (expansions shapes.old) (expansions shapes.new) }
 {
     match template {
-        Template::Literal(tree) => Ok(literal_shape_at(alloc, shapes, tree)?),
+        Template::Literal(tree) => Ok(own_shape(alloc, shapes, tree)?),
         Template::Path(path) => told_at(alloc, field, sources.in_input(shapes, path)),
         Template::ItemIndex => told_at(alloc, field, sources.item_index(shapes)),
         Template::ItemValue(path) => told_at(alloc, field, sources.in_item(shapes, path)),
@@ -257,7 +261,7 @@ fn value_shape(
 ) -> Result<usize, TemplateShapeRefusal>
     requires within { IsWithin (length shapes.old) sources }
     ensures named { IfOk result
-        (IsNumberOf (expansions shapes.new)
+        (Shows shapes.new
         (model.or_none (model.or_may_fail (model.call_shape (calls.view call.now)
         (input_of (expansions shapes.old) sources) (item_of (expansions shapes.old) sources))))) }
     ensures told { Tells result

@@ -7,5 +7,5 @@ use Rattle.asl_flow.proofs.calls.+call.Given as goal
 abbrev pub invariant-argument_shapes-loop-argument : goal.invariant-argument_shapes-loop-argument
 invariant-argument_shapes-loop-argument l = record {
   keeps : Keeps (expansions l.initial.shapes) (expansions l.shapes);
-  shown : AreShapesOf (input_of (expansions l.initial.shapes) l.sources) (item_of (expansions l.initial.shapes) l.sources) (expansions l.shapes) (take l.argument-index l.arguments) l.numbers.items;
+  shown : AreShapesOf (input_of (expansions l.initial.shapes) l.sources) (item_of (expansions l.initial.shapes) l.sources) l.shapes (take l.argument-index l.arguments) l.numbers.items;
 }

@@ -5,7 +5,6 @@ use Rattle.std.specs.Map.{keys_of}
 use Rattle.asl_model.specs.Shape as model
 use Rattle.asl_model.specs.ShapeFlow.{literal}
 use Rattle.asl_numbered.proofs.Expansions.{keeps_trans}
-use Rattle.asl_numbered.proofs.Growing.{renumbered}
 use Rattle.asl_tree.specs.View.{view}
 use Rattle.asl_tree.specs.declared.Tree.{Tree}
 use Rattle.asl_flow.proofs.Composed.{number_more, field_more, numbers_below, fields_below}
@@ -21,7 +20,7 @@ element_shapes-loop-element-preserved t c =
     let more : take (i + 1) elements ≡ take i elements ++ element ∷ [] = grind (arith, common_steps) in
     record {
       keeps = keeps_trans _ _ _ l.invariant.keeps c.in_ok-number.ensures.keeps;
-      shown = number_more of_itself _ _ (take i elements) (take (i + 1) elements) element l.numbers.items c.push.new.self.items c.in_ok-number.number c.in_ok-number.ensures.keeps l.invariant.shown c.in_ok-number.ensures.number more c.in_ok-push.ensures.items;
+      shown = number_more of_itself l.shapes c.own_shape.new.shapes (take i elements) (take (i + 1) elements) element l.numbers.items c.push.new.self.items c.in_ok-number.number c.in_ok-number.ensures.keeps l.invariant.shown c.in_ok-number.ensures.shown more c.in_ok-push.ensures.items;
     }
 
 pub element_shapes-returns : goal.element_shapes-returns
@@ -41,8 +40,8 @@ field_shapes-loop-name-preserved t c =
     record {
       done = done ++ e ∷ [];
       whole = all ∙ sym (append_assoc done (e ∷ []) left);
-      keeps = keeps_trans _ _ _ l.invariant.keeps c.in_ok-literal_shape_at.ensures.keeps;
-      shown = field_more of_itself _ _ done left e l.mentions.entries c.set_field.new.fields.entries c.in_ok-set_field.ensures.0 _ sorted c.in_ok-literal_shape_at.ensures.keeps l.invariant.shown c.in_ok-set_field.ensures.1 refl c.in_ok-literal_shape_at.ensures.number c.in_ok-set_field.ensures.2;
+      keeps = keeps_trans _ _ _ l.invariant.keeps c.in_ok-own_shape.ensures.keeps;
+      shown = field_more of_itself l.shapes c.own_shape.new.shapes done left e l.mentions.entries c.set_field.new.fields.entries c.in_ok-set_field.ensures.0 _ sorted c.in_ok-own_shape.ensures.keeps l.invariant.shown c.in_ok-set_field.ensures.1 refl c.in_ok-own_shape.ensures.shown c.in_ok-set_field.ensures.2;
     }
 
 pub field_shapes-returns : goal.field_shapes-returns
