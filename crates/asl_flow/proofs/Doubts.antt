@@ -37,6 +37,10 @@ first_told e whole own further is told = record { none = tt; listed = subst (λ 
     at None h = h
     at (Some doubt) h = Contains-append_left own further doubt h
 
+-- so is a refusal that is handed on
+pub first_refused : {A B : Type 0} (given : Result B TemplateShapeRefusal) (e : TemplateShapeRefusal) (one : Result A TemplateShapeRefusal) (whole own further : Found) → given ≡ Err e → one ≡ Err e → whole ≡ own ++ further → Tells one own → Tells given whole
+first_refused given e one whole own further is was split told = rw is (first_told e whole own further split (subst (λ r. Tells r own) was told))
+
 -- where there is no doubt first, those behind are all
 pub none_told : {A : Type 0} (a : A) (whole own further : Found) → whole ≡ own ++ further → Tells (Ok a) own → whole ≡ further
 none_told a whole own further is told = is ∙ ap (λ found. found ++ further) told.none

@@ -10,11 +10,13 @@ use Rattle.asl_flow.specs.declared.references.Sources.{Sources}
 use Rattle.asl_flow.proofs.Numbered.{still_within, still_shown}
 
 module _ (old now : List Node) (keeps : Keeps (expansions old) (expansions now)) where
-  item-within : (item : Option ℕ) → IfSome item (λ n. n < length old) → IfSome item (λ n. n < length now)
+  -- an item's number is in the new table
+  pub item-within : (item : Option ℕ) → IfSome item (λ n. n < length old) → IfSome item (λ n. n < length now)
   item-within None h = tt
   item-within (Some n) h = still_within old now n keeps h
 
-  item-same : (item : Option ℕ) → IfSome item (λ n. n < length old) → option_map (shape_at (expansions now)) item ≡ option_map (shape_at (expansions old)) item
+  -- and its shape is the same
+  pub item-same : (item : Option ℕ) → IfSome item (λ n. n < length old) → option_map (shape_at (expansions now)) item ≡ option_map (shape_at (expansions old)) item
   item-same None h = refl
   item-same (Some n) h = ap Some (still_shown old now n keeps h)
 

@@ -49,3 +49,11 @@ field_shapes-returns t c = record {
   numbers = fields_end _ c.args.fields.now.entries c.loop-name.invariant.done _ _ c.loop-name.invariant.whole c.in-None.ensures.steps.0 c.iter-name-items.ensures.ordered c.loop-name.invariant.shown;
   keeps = c.loop-name.invariant.keeps;
 }
+
+pub own_shape-closed_list-requires : goal.own_shape-closed_list-requires
+own_shape-closed_list-requires t c =
+    record { first = numbers_below c.element_shapes.new.shapes _ c.in_ok-first-in-List.first.items c.in_ok-first-in-List.ensures.numbers }
+
+pub own_shape-closed_object-requires : goal.own_shape-closed_object-requires
+own_shape-closed_object-requires t c =
+    record { fields = fields_below c.field_shapes.new.shapes _ c.in_ok-mentions-in-Object.mentions.entries c.in_ok-mentions-in-Object.ensures.numbers }
