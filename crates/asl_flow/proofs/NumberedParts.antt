@@ -1,5 +1,5 @@
 -- What one segment, and then the segments behind it, lead to in a shape of a table, by number.
-use Rattle.std.proofs.Common.{◌≡◌, ℕ, zero, suc, ◌+◌, ◌<◌, ◌≤◌, Bool, List, [], ◌∷◌, Option, Some, None, Result, Ok, Err, option_map, is_some, Bor, String, Global, string_bytes, IfSome, length, get_or, drop, drop-cons, refl, ap, sym, ◌∙◌, arith, subst, Vec}
+use Rattle.std.proofs.Common.{◌≡◌, ℕ, zero, suc, ◌+◌, ◌<◌, ◌≤◌, Bool, List, [], ◌∷◌, Option, Some, None, Result, Ok, Err, option_map, is_some, is_ok, IfOk, IsErrAnd, MatchResult, Bor, String, Global, string_bytes, IfSome, length, get_or, drop, drop-cons, refl, ap, sym, ◌∙◌, arith, subst, Vec}
 use borrow.Author.Tests.{ltb-true, ltb-false}
 use lib.Dec.{ltb}
 use Rattle.std.specs.BTreeMap.{BTreeMap, get_by}
@@ -7,15 +7,17 @@ use Rattle.std.specs.Option.{option_copied}
 use Rattle.std.specs.String.{string_cmp}
 use Rattle.asl_model.specs.Path as path
 use Rattle.asl_model.specs.Shape as model
-use Rattle.asl_model.specs.ShapeFlow.{part_at, place_at, look_at}
+use Rattle.asl_model.specs.ShapeFlow.{part_at, place_at, look_at, if_needed}
 use Rattle.asl_model.specs.ShapeOrder.{mention_of}
 use Rattle.asl_flow.specs.Counting.{counted_on}
 use Rattle.asl_flow.specs.Putting.{mentioned}
+use Rattle.asl_flow.specs.declared.looking.LookRefusal.{LookRefusal}
+use Rattle.asl_flow.proofs.Numbered.{own_number}
 use Rattle.asl_flow.proofs.ShapeParts.{counted_one}
 use Rattle.asl_numbered.specs.declared.node.Node.{Node}
 use Rattle.asl_numbered.specs.declared.node.Node.TheVariants.{List as Elements, Object}
 use Rattle.asl_numbered.specs.declared.node.NodeField.{NodeField}
-use Rattle.asl_numbered.specs.Expansion.{shape_at, shapes_at, fields_at, shape_over, numbers_in, AreBelow, RefersBelow}
+use Rattle.asl_numbered.specs.Expansion.{expansions, shape_at, shapes_at, fields_at, shape_over, numbers_in, AreBelow, AreDistinct, IsNumberOf, RefersBelow}
 use Rattle.asl_numbered.proofs.Expansions.{below-wider}
 use Rattle.asl_numbered.proofs.Comparisons.{mention_of_number, found-below}
 use Rattle.asl_path.specs.View.{segment_view, segments_view}
@@ -77,6 +79,16 @@ pub field_below : (bound : ℕ) (k : String Global) (m : BTreeMap (String Global
 field_below bound k m None got below = tt
 field_below bound k m (Some f) got below = found-below bound _ m.entries f below (sym got)
 
+-- the needed field of a node of objects
+pub needed_part : (table : List model.Shape) (node : Node) (m : BTreeMap (String Global) NodeField) (extra : Bool) (k : String Global) (found : Option NodeField) (answer : Option ℕ) → node ≡ Object m extra → found ≡ get_by (string_cmp k) m → option_map (shape_at table) answer ≡ if_needed (option_map (mentioned table) found)
+    → option_map (shape_at table) answer ≡ part_at (path.Name (string_bytes k)) (shape_over table node)
+needed_part table node m extra k found answer is got h = h ∙ sym (ap (λ x. part_at (path.Name (string_bytes k)) (shape_over table x)) is ∙ ap if_needed (mention_got table k m found got))
+
+pub needed_below : (bound : ℕ) (node : Node) (m : BTreeMap (String Global) NodeField) (extra : Bool) (k : String Global) (f : NodeField) → node ≡ Object m extra → Some f ≡ get_by (string_cmp k) m → RefersBelow bound node → f.shape < bound
+needed_below bound node m extra k f is got refers =
+    let own = subst (RefersBelow bound) is refers in
+    field_below bound k m (Some f) got own.each
+
 -- the field of a node of objects is in the table
 pub field_within : (bound n : ℕ) (node : Node) (m : BTreeMap (String Global) NodeField) (extra : Bool) (k : String Global) (r : Option NodeField) → node ≡ Object m extra → RefersBelow n node → n < bound → r ≡ get_by (string_cmp k) m → IfSome r (λ f. f.shape < bound)
 field_within bound n node m extra k r is refers within got =
@@ -104,3 +116,10 @@ pub looks_nowhere : (table : List model.Shape) (whole : Result model.Shape ℕ) 
 looks_nowhere table whole n items i s r so_far within is step found =
     let here : part_at (segment_view (get_or items i s)) (shape_at table n) ≡ None = ap (λ x. part_at (segment_view x) (shape_at table n)) (sym is) ∙ sym step ∙ ap (option_map (shape_at table)) found in
     so_far ∙ rw (drop-cons items i s within, here) (ap Err (omega arith))
+
+-- the number that is found is that of its shape, whatever a refusal is told as
+pub found_number : (nodes : List Node) (r : Result ℕ ℕ) (answer : Result ℕ LookRefusal) (told : ℕ → LookRefusal → Type 0) → MatchResult r (λ n. answer ≡ Ok n) (λ at. IsErrAnd answer (told at)) → is_ok answer ≡ is_ok r → AreDistinct (expansions nodes) → IfOk r (λ n. n < length nodes)
+    → IfOk answer (λ n. IsNumberOf (expansions nodes) (shape_at (expansions nodes) n) n)
+found_number nodes (Ok n) answer told same as_well distinct within = rw same (own_number nodes n distinct within)
+found_number nodes (Err at) (Ok n) told same as_well distinct within = absurd (cc)
+found_number nodes (Err at) (Err refusal) told same as_well distinct within = tt
