@@ -1,10 +1,10 @@
 -- Numbers of a table: what stays as it grows, and what a shape's own number is.
-use Rattle.std.proofs.Common.{◌≡◌, ◌<◌, ◌≤◌, ℕ, zero, suc, List, [], ◌∷◌, Bool, length, get_or, refl, sym, ap, ◌∙◌, subst, arith}
-use Rattle.asl_model.specs.Shape.{Shape, inhabited}
+use Rattle.std.proofs.Common.{◌≡◌, ◌<◌, ◌≤◌, ℕ, List, Option, Some, IfSome, length, refl, sym, ◌∙◌, arith}
+use Rattle.asl_model.specs.Shape.{Shape}
 use Rattle.asl_flow.specs.Numbers.{Shows}
 use Rattle.asl_numbered.specs.declared.node.Node.{Node}
 use Rattle.asl_numbered.specs.declared.node.Node.TheVariants.{Never}
-use Rattle.asl_numbered.specs.Expansion.{expansions, shape_at, shape_over, AreDistinct, IsNumberOf, Keeps, RefersBelow}
+use Rattle.asl_numbered.specs.Expansion.{expansions, shape_at, AreDistinct, IsNumberOf, Keeps, RefersBelow}
 use Rattle.asl_numbered.proofs.Expansions.{as_many, keeps_longer, kept_shape}
 
 -- ---- a table that has grown
@@ -32,6 +32,10 @@ number_within nodes s n is = omega (arith, is.within, as_many nodes)
 -- and shows the shape
 pub number_shows : (nodes : List Node) (s : Shape) (n : ℕ) → IsNumberOf (expansions nodes) s n → Shows nodes s n
 number_shows nodes s n is = record { within = number_within nodes s n is; same = is.same }
+
+-- what was told as the number of a shape shows it
+pub told_shows : (nodes : List Node) (s : Shape) (told : Option ℕ) (n : ℕ) → IfSome told (IsNumberOf (expansions nodes) s) → told ≡ Some n → Shows nodes s n
+told_shows nodes s told n is there = number_shows nodes s n (rw there at is)
 
 -- a number that shows a shape is its number, where no shape stands under two
 pub its_number : (nodes : List Node) (s : Shape) (n : ℕ) → AreDistinct (expansions nodes) → n < length nodes → shape_at (expansions nodes) n ≡ s → IsNumberOf (expansions nodes) s n

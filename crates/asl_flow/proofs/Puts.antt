@@ -1,6 +1,8 @@
 -- What is put in the parts of a shape, with refusals counted from the first segment, and the numbers that answer it.
-use Rattle.std.proofs.Common.{◌≡◌, ◌<◌, ℕ, suc, ◌+◌, Bool, true, false, ◌&&◌, List, [], ◌∷◌, Option, Some, None, Result, Ok, Err, option_map, length, refl, ap, sym, ◌∙◌, subst, arith}
+use Rattle.std.proofs.Common.{◌≡◌, ◌<◌, ℕ, suc, ◌+◌, Bool, true, false, ◌&&◌, List, [], ◌∷◌, Option, Some, None, Result, Ok, Err, option_map, String, Global, string_bytes, length, refl, ap, sym, ◌∙◌, subst, arith}
+use Rattle.std.specs.BTreeMap.{BTreeMap, get_by}
 use Rattle.std.specs.Prelude.{IfOk}
+use Rattle.std.specs.String.{string_cmp}
 use Rattle.asl_model.specs.Path.{Segment, Name, Index}
 use Rattle.asl_model.specs.Shape as model
 use Rattle.asl_model.specs.Shape.{Shape, FieldShapes, NoFieldShapes, AndFieldShape, ArrayShape, ObjectShape, Any, Never, NullShape, BooleanShape, IntegerShape, StringShape, inhabited}
@@ -9,12 +11,15 @@ use Rattle.asl_model.specs.ShapeOrder.{mention_of, join}
 use Rattle.asl_flow.specs.Changing.{with_field, with_place}
 use Rattle.asl_flow.specs.Counting.{counted_on}
 use Rattle.asl_flow.specs.Numbers.{Shows}
-use Rattle.asl_flow.specs.Putting.{Answers, IsRefusal}
+use Rattle.asl_flow.specs.Putting.{Answers, mentioned}
 use Rattle.asl_flow.specs.declared.putting.PutRefusal.{PutRefusal}
 use Rattle.asl_flow.specs.declared.putting.PutRefusal.TheVariants.{MayNotFit, OutOfMemory}
+use Rattle.asl_flow.proofs.Numbered.{still_shown, number_within, own_number}
+use Rattle.asl_flow.proofs.NumberedParts.{mention_got}
 use Rattle.asl_flow.proofs.ShapeParts.{counted_none}
 use Rattle.asl_numbered.specs.declared.node.Node.{Node}
-use Rattle.asl_numbered.specs.Expansion.{expansions, shape_at}
+use Rattle.asl_numbered.specs.declared.node.NodeField.{NodeField}
+use Rattle.asl_numbered.specs.Expansion.{expansions, shape_at, fields_at, AreDistinct, IsNumberOf, Keeps}
 
 -- ---- refusals counted on
 
@@ -79,6 +84,23 @@ no_index nodes at go_on p w s i none = record { within = tt; shape = tt; refusal
     refused (ArrayShape first rest) e = rw (sym e) refl
     refused (ObjectShape shapes extra) e = refl
 
+pub refused_in_list : (old new : List Node) (at i : ℕ) (go_on : Shape → Result Shape ℕ) (p : List Segment) (w : Shape) (number : ℕ) (r : Option ℕ) (place : ℕ) (refusal : PutRefusal) (answer : Result ℕ PutRefusal)
+    → option_map (shape_at (expansions old)) r ≡ part_at (Index i) (shape_at (expansions old) number) → r ≡ Some place → Answers new (counted_on (at + 1) (go_on (shape_at (expansions old) place))) (Err refusal) → answer ≡ Err refusal
+    → Answers new (counted_on at (put_under go_on (Index i) p w (shape_at (expansions old) number))) answer
+refused_in_list old new at i go_on p w number r place refusal answer part found h e =
+    let table = expansions old in
+    let whole = put_at_index go_on p w (shape_at table number) i (option_map (shape_at table) r) (shape_at table place) part (ap (option_map (shape_at table)) found) in
+    rw e (refused_below new new at (λ u. with_place i u (shape_at table number)) _ (go_on (shape_at table place)) refusal whole h)
+
+pub answered_in_list : (old mid new : List Node) (at i : ℕ) (go_on : Shape → Result Shape ℕ) (p : List Segment) (w : Shape) (number : ℕ) (r : Option ℕ) (place n m : ℕ)
+    → number < length old → Keeps (expansions old) (expansions mid) → option_map (shape_at (expansions old)) r ≡ part_at (Index i) (shape_at (expansions old) number) → r ≡ Some place → Answers mid (counted_on (at + 1) (go_on (shape_at (expansions old) place))) (Ok n)
+    → Shows new (with_place i (shape_at (expansions mid) n) (shape_at (expansions mid) number)) m → Answers new (counted_on at (put_under go_on (Index i) p w (shape_at (expansions old) number))) (Ok m)
+answered_in_list old mid new at i go_on p w number r place n m within keeps part found h shows =
+    let table = expansions old in
+    let whole = put_at_index go_on p w (shape_at table number) i (option_map (shape_at table) r) (shape_at table place) part (ap (option_map (shape_at table)) found) in
+    let shown = subst (λ s. Shows new (with_place i (shape_at (expansions mid) n) s) m) (still_shown old mid number keeps within) shows in
+    changed_below mid new at (λ u. with_place i u (shape_at table number)) _ (go_on (shape_at table place)) n m whole h shown
+
 -- ---- objects
 
 -- putting under a name changes the field
@@ -88,6 +110,24 @@ put_at_name go_on p w s n shapes extra mention is found = rw (is, found) (change
     changed : (r : Result Shape ℕ) → object_with n shapes extra r ≡ changed_by (λ u. with_field n u (ObjectShape shapes extra)) r
     changed (Ok u) = refl
     changed (Err at) = refl
+
+pub refused_in_object : (new : List Node) (at : ℕ) (go_on : Shape → Result Shape ℕ) (p : List Segment) (w s : Shape) (table : List Shape) (k : String Global) (fields : BTreeMap (String Global) NodeField) (extra : Bool) (field : Option NodeField) (refusal : PutRefusal) (answer : Result ℕ PutRefusal)
+    → s ≡ ObjectShape (fields_at table fields.entries) extra → field ≡ get_by (string_cmp k) fields → Answers new (counted_on (at + 1) (put_mentioned go_on extra p w (option_map (mentioned table) field))) (Err refusal) → answer ≡ Err refusal
+    → Answers new (counted_on at (put_under go_on (Name (string_bytes k)) p w s)) answer
+refused_in_object new at go_on p w s table k fields extra field refusal answer is got h e =
+    let whole = put_at_name go_on p w s (string_bytes k) (fields_at table fields.entries) extra (option_map (mentioned table) field) is (mention_got table k fields field got) in
+    rw e (refused_below new new at (λ u. with_field (string_bytes k) u s) _ (put_mentioned go_on extra p w (option_map (mentioned table) field)) refusal whole h)
+
+pub answered_in_object : (old mid new : List Node) (at : ℕ) (go_on : Shape → Result Shape ℕ) (p : List Segment) (w : Shape) (number : ℕ) (k : String Global) (fields : BTreeMap (String Global) NodeField) (extra : Bool) (field : Option NodeField) (n m : ℕ)
+    → number < length old → Keeps (expansions old) (expansions mid) → shape_at (expansions old) number ≡ ObjectShape (fields_at (expansions old) fields.entries) extra → field ≡ get_by (string_cmp k) fields
+    → Answers mid (counted_on (at + 1) (put_mentioned go_on extra p w (option_map (mentioned (expansions old)) field))) (Ok n) → Shows new (with_field (string_bytes k) (shape_at (expansions mid) n) (shape_at (expansions mid) number)) m
+    → Answers new (counted_on at (put_under go_on (Name (string_bytes k)) p w (shape_at (expansions old) number))) (Ok m)
+answered_in_object old mid new at go_on p w number k fields extra field n m within keeps is got h shows =
+    let table = expansions old in
+    let s = shape_at table number in
+    let whole = put_at_name go_on p w s (string_bytes k) (fields_at table fields.entries) extra (option_map (mentioned table) field) is (mention_got table k fields field got) in
+    let shown = subst (λ t. Shows new (with_field (string_bytes k) (shape_at (expansions mid) n) t) m) (still_shown old mid number keeps within) shows in
+    changed_below mid new at (λ u. with_field (string_bytes k) u s) _ (put_mentioned go_on extra p w (option_map (mentioned table) field)) n m whole h shown
 
 -- where the shape isn't one of objects, nothing can be put
 pub no_object : (nodes : List Node) (at : ℕ) (whole : Result Shape ℕ) → whole ≡ Err 0 → Answers nodes (counted_on at whole) (Err (MayNotFit at))
@@ -102,18 +142,16 @@ nothing_put (segment ∷ p) w s h = rw h refl
 
 -- ---- an optional field
 
--- a refusal of the first
-pub first_refused : (old new : List Node) (at : ℕ) (first second : Result Shape ℕ) (refusal : PutRefusal) → Answers old (counted_on at first) (Err refusal) → Answers new (counted_on at (join_results first second)) (Err refusal)
-first_refused old new at (Ok s) second (MayNotFit k) h = absurd (let e = h.refusal in cc)
-first_refused old new at (Err j) second (MayNotFit k) h = record { within = tt; shape = tt; refusal = h.refusal }
-first_refused old new at first second OutOfMemory h = record { within = tt; shape = tt; refusal = tt }
-
 -- a refusal of the second, where the first is there
-pub second_refused : (old mid new : List Node) (at : ℕ) (first second : Result Shape ℕ) (n : ℕ) (refusal : PutRefusal) → Answers old (counted_on at first) (Ok n) → Answers mid (counted_on at second) (Err refusal) → Answers new (counted_on at (join_results first second)) (Err refusal)
-second_refused old mid new at (Ok s) (Ok t) n (MayNotFit k) h g = absurd (let e = g.refusal in cc)
-second_refused old mid new at (Ok s) (Err j) n (MayNotFit k) h g = record { within = tt; shape = tt; refusal = g.refusal }
-second_refused old mid new at (Err j) second n (MayNotFit k) h g = absurd (let e = h.shape in cc)
-second_refused old mid new at first second n OutOfMemory h g = record { within = tt; shape = tt; refusal = tt }
+pub second_refused : (old mid new : List Node) (at : ℕ) (first second : Result Shape ℕ) (n : ℕ) (refusal : PutRefusal) (answer : Result ℕ PutRefusal) → Answers old (counted_on at first) (Ok n) → Answers mid (counted_on at second) (Err refusal) → answer ≡ Err refusal → Answers new (counted_on at (join_results first second)) answer
+second_refused old mid new at (Ok s) (Ok t) n (MayNotFit k) answer h g e =
+    let told = g.refusal in
+    absurd (cc)
+second_refused old mid new at (Ok s) (Err j) n (MayNotFit k) answer h g e = rw e (record { within = tt; shape = tt; refusal = g.refusal })
+second_refused old mid new at (Err j) second n (MayNotFit k) answer h g e =
+    let told = h.shape in
+    absurd (cc)
+second_refused old mid new at first second n OutOfMemory answer h g e = rw e (record { within = tt; shape = tt; refusal = tt })
 
 join_counted : (at : ℕ) (first second : Result Shape ℕ) (s t : Shape) → counted_on at first ≡ Ok s → counted_on at second ≡ Ok t → counted_on at (join_results first second) ≡ Ok (join s t)
 join_counted at (Ok a) (Ok b) s t h g =
@@ -152,6 +190,26 @@ no_memory nodes r = record { within = tt; shape = tt; refusal = tt }
 pub whole_path : (nodes : List Node) (r : Result Shape ℕ) (answer : Result ℕ PutRefusal) → Answers nodes (counted_on 0 r) answer → IfOk answer (λ n. r ≡ Ok (shape_at (expansions nodes) n))
 whole_path nodes r (Ok n) h = sym (counted_none r) ∙ h.shape
 whole_path nodes r (Err refusal) h = tt
+
+-- its number
+pub own_answer : (nodes : List Node) (r : Result Shape ℕ) (answer : Result ℕ PutRefusal) → AreDistinct (expansions nodes) → Answers nodes r answer → IfOk answer (λ n. IsNumberOf (expansions nodes) (shape_at (expansions nodes) n) n)
+own_answer nodes r (Ok n) distinct h = own_number nodes n distinct h.within
+own_answer nodes r (Err refusal) distinct h = tt
+
+-- in a table of the two shapes
+pub put_through : (one two three : List Node) (p : List Segment) (w s r : Shape) (number placed changed : ℕ) → IsNumberOf (expansions one) s number → Keeps (expansions one) (expansions two) → IsNumberOf (expansions two) w placed
+    → put p (shape_at (expansions two) placed) (shape_at (expansions two) number) ≡ Ok (shape_at (expansions three) changed) → r ≡ shape_at (expansions three) changed → put p w s ≡ Ok r
+put_through one two three p w s r number placed changed is keeps also h shown =
+    let own : shape_at (expansions two) number ≡ s = still_shown one two number keeps (number_within one s number is) ∙ is.same in
+    let its : shape_at (expansions two) placed ≡ w = also.same in
+    ap (λ t. put p t s) (sym its) ∙ ap (put p (shape_at (expansions two) placed)) (sym own) ∙ h ∙ ap Ok (sym shown)
+
+pub refused_through : (one two : List Node) (p : List Segment) (w s : Shape) (number placed at : ℕ) → IsNumberOf (expansions one) s number → Keeps (expansions one) (expansions two) → IsNumberOf (expansions two) w placed
+    → put p (shape_at (expansions two) placed) (shape_at (expansions two) number) ≡ Err at → put p w s ≡ Err at
+refused_through one two p w s number placed at is keeps also h =
+    let own : shape_at (expansions two) number ≡ s = still_shown one two number keeps (number_within one s number is) ∙ is.same in
+    let its : shape_at (expansions two) placed ≡ w = also.same in
+    ap (λ t. put p t s) (sym its) ∙ ap (put p (shape_at (expansions two) placed)) (sym own) ∙ h
 
 pub whole_refusal : (nodes : List Node) (r : Result Shape ℕ) (answer : Result ℕ PutRefusal) (at : ℕ) → Answers nodes (counted_on 0 r) answer → answer ≡ Err (MayNotFit at) → r ≡ Err at
 whole_refusal nodes r answer at h is = let e = rw is at h in sym (counted_none r) ∙ e.refusal

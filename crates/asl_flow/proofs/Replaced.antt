@@ -1,9 +1,9 @@
 -- Fields and places of nodes of which one is replaced.
-use Rattle.std.proofs.Common.{◌≡◌, ◌<◌, ℕ, zero, suc, List, [], ◌∷◌, ◌++◌, Bool, true, false, bytes_eq, String, Global, Ordering, Less, Equal, Greater, string_bytes, string_cmp, nat_cmp, length, set, refl, sym, ap, ◌∙◌, subst, arith}
+use Rattle.std.proofs.Common.{◌≡◌, ◌<◌, ◌≤◌, ℕ, zero, suc, List, [], ◌∷◌, ◌++◌, Bool, true, false, bytes_eq, String, Global, Vec, Ordering, Less, Equal, Greater, string_bytes, string_cmp, nat_cmp, length, slice_set, refl, sym, ap, ◌∙◌, subst, arith}
 use Rattle.std.proofs.lemmas.Cmp.{nat_list_cmp_total}
 use Rattle.std.proofs.lemmas.Map.Text.{is_eq-slice_cmp}
 use Rattle.std.proofs.lemmas.Slice.Eq.{bytes_eq-Decides}
-use Rattle.std.specs.BTreeMap.{insert_entry}
+use Rattle.std.specs.BTreeMap.{BTreeMap, insert_entry}
 use Rattle.std.specs.Cmp.Lexicographic.{slice_cmp}
 use Rattle.std.specs.List.{AllByRecursion}
 use Rattle.std.specs.List.Sorted.{IsStrictlySortedBy}
@@ -16,7 +16,10 @@ use Rattle.asl_model.specs.ShapeOrder.{set_mention, without_mention}
 use Rattle.asl_flow.specs.Changing.{AreOthers, AreWithField, AreWithPlace}
 use Rattle.asl_shape.proofs.Spellings.{put}
 use Rattle.asl_numbered.specs.declared.node.NodeField.{NodeField}
-use Rattle.asl_numbered.specs.Expansion.{shape_at, shapes_at, fields_at, numbers_in, AreBelow}
+use Rattle.asl_numbered.specs.declared.node.Node.{Node}
+use Rattle.asl_numbered.specs.declared.node.Node.TheVariants.{List as Elements, Object}
+use Rattle.asl_numbered.specs.Expansion.{shape_at, shapes_at, fields_at, numbers_in, AreBelow, RefersBelow}
+use Rattle.asl_numbered.proofs.Expansions.{below-wider}
 use Rattle.asl_numbered.proofs.Parts.{Entry, put-shown, put-below}
 
 -- ---- fields
@@ -90,14 +93,20 @@ same_passed n done m copies same are = record {
   below = λ bound h. are.below bound (below_last bound done m h).0;
 }
 
+-- the node with the changed fields has numbers of the table alone
+pub field_refers : (bound n m : ℕ) (name : List ℕ) (node : Node) (old new : BTreeMap (String Global) NodeField) (extra : Bool) → node ≡ Object old extra → RefersBelow n node → n < bound → m < bound → AreWithField name m old.entries new.entries → RefersBelow bound (Object new extra)
+field_refers bound n m name node old new extra is refers within also are =
+    let own = subst (RefersBelow n) is refers in
+    record { each = are.below bound also (below-wider n bound (numbers_in old.entries) (omega arith) own.each) }
+
 -- ---- places
 
-set_shapes : (table : List model.Shape) (ns : List ℕ) (i n : ℕ) → i < length ns → shapes_at table (set ns i n) ≡ set_place i (shape_at table n) (shapes_at table ns)
+set_shapes : (table : List model.Shape) (ns : List ℕ) (i n : ℕ) → i < length ns → shapes_at table (slice_set ns i n) ≡ set_place i (shape_at table n) (shapes_at table ns)
 set_shapes table [] i n h = absurd (omega arith)
 set_shapes table (m ∷ ns) zero n h = refl
 set_shapes table (m ∷ ns) (suc i) n h = ap (AndShape (shape_at table m)) (set_shapes table ns i n (omega arith))
 
-set_below : (bound : ℕ) (ns : List ℕ) (i n : ℕ) → i < length ns → n < bound → AreBelow bound ns → AreBelow bound (set ns i n)
+set_below : (bound : ℕ) (ns : List ℕ) (i n : ℕ) → i < length ns → n < bound → AreBelow bound ns → AreBelow bound (slice_set ns i n)
 set_below bound [] i n h within below = absurd (omega arith)
 set_below bound (m ∷ ns) zero n h within below = (within, below.1)
 set_below bound (m ∷ ns) (suc i) n h within below = (below.0, set_below bound ns i n (omega arith) within below.1)
@@ -108,7 +117,7 @@ none_set s table (m ∷ ns) zero h = absurd (omega arith)
 none_set s table (m ∷ ns) (suc i) h = ap (AndShape (shape_at table m)) (none_set s table ns i (omega arith))
 
 -- the place at an index is set
-pub place_set : (ns new : List ℕ) (i n : ℕ) → i < length ns → new ≡ set ns i n → AreWithPlace i n ns new
+pub place_set : (ns new : List ℕ) (i n : ℕ) → i < length ns → new ≡ slice_set ns i n → AreWithPlace i n ns new
 place_set ns new i n h is = record {
   shapes = λ table. ap (shapes_at table) is ∙ set_shapes table ns i n h;
   below = λ bound within below. subst (AreBelow bound) (sym is) (set_below bound ns i n h within below);
@@ -120,3 +129,18 @@ no_place ns new i n h is = record {
   shapes = λ table. ap (shapes_at table) is ∙ none_set (shape_at table n) table ns i h;
   below = λ bound within below. subst (AreBelow bound) (sym is) below;
 }
+
+-- all places, copied behind none
+pub copied_all : (none copied ns : List ℕ) → none ≡ [] → copied ≡ none ++ ns → copied ≡ ns
+copied_all none copied ns empty h = h ∙ rw empty
+
+-- the places as they were copied, of which one was set
+pub copy_set : (ns copied new : List ℕ) (i n : ℕ) → copied ≡ ns → AreWithPlace i n copied new → AreWithPlace i n ns new
+copy_set ns copied new i n same are = subst (λ ms. AreWithPlace i n ms new) same are
+
+-- the node with the changed places has numbers of the table alone
+pub place_refers : (bound n m i : ℕ) (node : Node) (old new : Vec ℕ Global) (rest : ℕ) (places : List ℕ) → node ≡ Elements old rest → RefersBelow n node → n < bound → m < bound → places ≡ old.items → AreWithPlace i m places new.items → RefersBelow bound (Elements new rest)
+place_refers bound n m i node old new rest places is refers within also lent are =
+    let own = subst (RefersBelow n) is refers in
+    let below : AreBelow bound old.items = below-wider n bound old.items (omega arith) own.each.1 in
+    record { each = (omega (arith, own.each.0), are.below bound also (subst (AreBelow bound) (sym lent) below)) }

@@ -1,6 +1,6 @@
 //! Shapes by number, where the numbers are known to be in the table.
 
-ghost use Rattle.std.specs.Prelude.{◌≡◌, ◌<◌, IfOk, length};
+ghost use Rattle.std.specs.Prelude.{◌≡◌, ◌<◌, ◌&&◌, IfOk, length};
 ghost use Rattle.asl_model.specs.Shape as model;
 ghost use Rattle.asl_model.specs.ShapeOrder as order;
 ghost use Rattle.asl_flow.specs.Numbers.{Shows};
@@ -17,6 +17,17 @@ pub(crate) fn is_inhabited(shapes: &Shapes, number: usize) -> bool
     ensures as_defined { result ≡ model.inhabited (shape_at (expansions shapes.now) number) }
 {
     shapes.inhabited(number).unwrap()
+}
+
+/// Whether some tree has the first shape, and some tree the second.
+pub(crate) fn are_inhabited(shapes: &Shapes, first: usize, second: usize) -> bool
+    requires first { first < length shapes.now }
+    requires second { second < length shapes.now }
+    ensures as_defined { result
+        ≡ (model.inhabited (shape_at (expansions shapes.now) first)
+        && model.inhabited (shape_at (expansions shapes.now) second)) }
+{
+    is_inhabited(shapes, first) && is_inhabited(shapes, second)
 }
 
 /// The number of the shape whose first level is the node.

@@ -16,7 +16,7 @@ ghost use Rattle.asl_path.specs.View.{segments_view};
 ghost use Rattle.asl_shape.specs.View.{view};
 
 use crate::composing::set_field;
-use crate::numbers::{expand, is_inhabited, put_join, put_never, put_node};
+use crate::numbers::{are_inhabited, expand, put_join, put_never, put_node};
 use crate::parts::place_of;
 use crate::replacing::{put_field, put_place};
 use asl_model::shape_laws::put_means_placed;
@@ -128,7 +128,7 @@ fn put_segments(
         (shape_at (expansions shapes.old) number))) result }
     ensures keeps { Keeps (expansions shapes.old) (expansions shapes.new) }
 {
-    if !(is_inhabited(shapes, number) && is_inhabited(shapes, placed)) {
+    if !are_inhabited(shapes, number, placed) {
         return Ok(put_never(shapes)?);
     }
     let [segment, further @ ..] = segments else {

@@ -59,11 +59,9 @@ pub(crate) fn put_place(
     let Some(Node::List { first, rest }) = shapes.node(number) else {
         return Ok(number);
     };
-    let changed = Node::List {
-        first: with_place(alloc, first, index, place)?,
-        rest: *rest,
-    };
-    put_node(shapes, changed)
+    let first = with_place(alloc, first, index, place)?;
+    let rest = *rest;
+    put_node(shapes, Node::List { first, rest })
 }
 
 /// The fields, with one of that name that is needed and has that number in place of any other of its name.
@@ -113,8 +111,16 @@ fn with_place(
 {
     let mut changed = Vec::with_capacity(alloc, places.len())?;
     changed.extend_from_slice(places)?;
-    if let Some(place) = changed.get_mut(index) {
-        *place = number;
-    }
+    set_place(&mut changed, index, number);
     Ok(changed)
+}
+
+/// Writes the number at an index, where there is a place.
+fn set_place(places: &mut Vec<usize>, index: usize, number: usize)
+    ensures { AreWithPlace index number places.old.items places.new.items }
+{
+    match places.get_mut(index) {
+        Some(place) => *place = number,
+        None => {}
+    }
 }

@@ -6,8 +6,8 @@ use Rattle.asl_flow.proofs.Replaced.{other_copied, same_passed}
 use Rattle.asl_numbered.proofs.Parts.{Entry}
 use Rattle.asl_flow.proofs.replacing.copy_others.Goals as goal
 
-pub loop-other-preserved-in_ok-set_field : goal.loop-other-preserved-in_ok-set_field
-loop-other-preserved-in_ok-set_field c =
+pub loop-other-preserved-in-Continue-1 : goal.loop-other-preserved-in-Continue-1
+loop-other-preserved-in-Continue-1 c =
     let l = c.loop-other in
     let done = l.invariant.0 in
     let m : Entry = (c.in-Some.other.now, c.in-Some.field.now) in
