@@ -1,9 +1,12 @@
 pub mod ArgumentShapes
 pub mod Doubts
+pub mod ElementNumbers
+pub mod Enterings
 pub mod FunctionShapes
 pub mod Leavings
 pub mod LiteralFields
 pub mod Needed
+pub mod Numbered
 pub mod Presence
 pub mod Puts
 pub mod Replaced

@@ -1,5 +1,7 @@
 pub mod CallAnswer
 pub mod Counting
+pub mod Elements
+pub mod Entering
 pub mod Items
 pub mod Kept
 pub mod Leaving

@@ -9,19 +9,30 @@
 
 mod calls;
 mod composing;
+mod elements;
+mod entering;
+mod errors;
 mod leaving;
 mod literals;
 mod looking;
 mod narrowing;
+mod numbers;
 mod putting;
 mod references;
 mod replacing;
 mod rules;
+mod stand_ins;
 mod templates;
 
+pub use elements::{Elements, element_at, elements_of, list_at, outputs_at};
+pub use entering::{effective_at, item_input_at};
+pub use errors::error_output_at;
 pub use leaving::{FlowFault, leave};
 pub use literals::literal_shape;
 pub use looking::{LookRefusal, find_shape, look};
 pub use putting::{PutRefusal, put};
 pub use rules::{RuleShapeRefusal, rule_shape};
+pub use stand_ins::{
+    leave_at, literal_shape_at, look_at, put_at, rule_shape_at, template_shape_at,
+};
 pub use templates::{TemplateShapeRefusal, template_shape};

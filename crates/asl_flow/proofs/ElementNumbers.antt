@@ -1,0 +1,79 @@
+-- The numbers of the shapes of elements, and of lists that are made of them.
+use Rattle.std.proofs.Common.{◌≡◌, ◌<◌, ◌≤◌, ◌+◌, ℕ, zero, suc, List, [], ◌∷◌, length, get_or, drop, replicate, map, Vec, Global, Option, Some, None, option_map, refl, sym, ap, subst, ◌∙◌, drop-cons, add-one, arith}
+use Rattle.std.proofs.lemmas.List.{drop_all}
+use Rattle.std.specs.Prelude.{if◌then◌else◌}
+use Rattle.asl_model.specs.Finding.{array_parts, as_first_elements, at_each_place, element_shape, map_result}
+use Rattle.asl_model.specs.Shape.{Shape, Shapes, Never, NoShapes, AndShape, ArrayShape, inhabited}
+use Rattle.asl_model.specs.ShapeOrder.{join, joined_with_each}
+use Rattle.asl_shape.specs.View.{shapes_of}
+use Rattle.asl_numbered.specs.declared.node.Node.{Node}
+use Rattle.asl_numbered.specs.declared.node.Node.TheVariants.{List as Elements}
+use Rattle.asl_numbered.specs.Expansion.{expansions, shape_at, shapes_at, shape_over, AreBelow, RefersBelow, IsNumberOf, Keeps}
+use Rattle.asl_numbered.proofs.Expansions.{as_many, keeps_longer, shapes_at_stay}
+
+-- a number in a list is below its bound
+pub below_at : (bound : ℕ) (ns : List ℕ) (i n : ℕ) → i < length ns → n ≡ get_or ns i n → AreBelow bound ns → n < bound
+below_at bound [] i n within is h = absurd (omega arith)
+below_at bound (m ∷ ns) zero n within is h = subst (λ x. x < bound) (sym is) h.0
+below_at bound (m ∷ ns) (suc i) n within is h = below_at bound ns i n (omega arith) is h.1
+
+-- ---- the elements of an array
+
+-- a level of lists has them
+pub list_elements : (table : List Shape) (s : Shape) (node : Node) (first : Vec ℕ Global) (rest : ℕ) → shape_over table node ≡ s → node ≡ Elements first rest → Some (shapes_at table first.items, shape_at table rest) ≡ array_parts s
+list_elements table s node first rest over is = ap array_parts (sym (ap (shape_over table) is) ∙ over)
+
+-- ---- the join of all
+
+-- one more is joined
+pub one_joined : (all : Shape) (old a b : List Shape) (ns : List ℕ) (i place element more : ℕ) → i < length ns → place ≡ get_or ns i place → shape_at a place ≡ shape_at old place → IsNumberOf b (join (shape_at a element) (shape_at a place)) more
+    → all ≡ joined_with_each join (shape_at a element) (shapes_at old (drop i ns)) → all ≡ joined_with_each join (shape_at b more) (shapes_at old (drop (i + 1) ns))
+one_joined all old a b ns i place element more within is kept joined e =
+    let split : shapes_at old (drop i ns) ≡ AndShape (shape_at old place) (shapes_at old (drop (i + 1) ns)) = ap (shapes_at old) (drop-cons ns i place within) ∙ rw (← is, add-one) refl in
+    e ∙ ap (joined_with_each join (shape_at a element)) split ∙ ap (λ s. joined_with_each join s (shapes_at old (drop (i + 1) ns))) (ap (join (shape_at a element)) (sym kept) ∙ sym joined.same)
+
+-- all are joined, and the further ones with them
+pub all_joined : (old a b : List Shape) (ns : List ℕ) (i element rest n : ℕ) → length ns ≤ i → joined_with_each join Never (shapes_at old ns) ≡ joined_with_each join (shape_at a element) (shapes_at old (drop i ns)) → shape_at a rest ≡ shape_at old rest
+    → IsNumberOf b (join (shape_at a element) (shape_at a rest)) n → IsNumberOf b (element_shape (shapes_at old ns) (shape_at old rest)) n
+all_joined old a b ns i element rest n end e kept is =
+    let first : joined_with_each join Never (shapes_at old ns) ≡ shape_at a element = e ∙ ap (λ left. joined_with_each join (shape_at a element) (shapes_at old left)) (drop_all i ns end) in
+    subst (λ s. IsNumberOf b s n) (sym (ap (λ s. join s (shape_at old rest)) first ∙ ap (join (shape_at a element)) (sym kept))) is
+
+-- ---- lists that are made
+
+-- one number for each place
+replicated_below : (bound k n : ℕ) → n < bound → AreBelow bound (replicate k n)
+replicated_below bound zero n h = tt
+replicated_below bound (suc k) n h = (h, replicated_below bound k n h)
+
+at_each : (table : List Shape) (n : ℕ) (ns : List ℕ) → shapes_at table (replicate (length ns) n) ≡ at_each_place (shape_at table n) (shapes_at table ns)
+at_each table n [] = refl
+at_each table n (m ∷ ns) = ap (AndShape (shape_at table n)) (at_each table n ns)
+
+each_alike : (s : Shape) (a b : List Shape) (ns : List ℕ) → at_each_place s (shapes_at a ns) ≡ at_each_place s (shapes_at b ns)
+each_alike s a b [] = refl
+each_alike s a b (n ∷ ns) = ap (AndShape s) (each_alike s a b ns)
+
+pub outputs_refer : (bound k output : ℕ) (first : Vec ℕ Global) (rest : ℕ) → output < bound → rest < bound → first.items ≡ replicate k output → RefersBelow bound (Elements first rest)
+outputs_refer bound k output first rest within below is = record { each = (below, rw is (replicated_below bound k output within)) }
+
+pub outputs_shape : (old now : List Shape) (output : ℕ) (ns : List ℕ) (further : ℕ) (first : Vec ℕ Global) (rest : ℕ) → first.items ≡ replicate (length ns) output → shape_at now output ≡ shape_at old output
+    → IsNumberOf now (if inhabited (shape_at old further) then shape_at old output else Never) rest → shape_over now (Elements first rest) ≡ map_result (shape_at old output) (shapes_at old ns) (shape_at old further)
+outputs_shape old now output ns further first rest is kept number =
+    let places : shapes_at now first.items ≡ at_each_place (shape_at old output) (shapes_at old ns) =
+    ap (shapes_at now) is ∙ at_each now output ns ∙ ap (λ s. at_each_place s (shapes_at now ns)) kept ∙ each_alike (shape_at old output) now old ns in
+    rw (places, number.same) refl
+
+-- the shapes of numbers, as those of first elements
+listed : (table : List Shape) (ns : List ℕ) → shapes_at table ns ≡ as_first_elements (map (shape_at table) ns)
+listed table [] = refl
+listed table (n ∷ ns) = ap (AndShape (shape_at table n)) (listed table ns)
+
+pub list_refers : (bound : ℕ) (ns : List ℕ) (first : Vec ℕ Global) (rest : ℕ) → AreBelow bound ns → rest < bound → first.items ≡ ns → RefersBelow bound (Elements first rest)
+list_refers bound ns first rest within below is = record { each = (below, rw is within) }
+
+pub list_shape : (old now : List Shape) (ns : List ℕ) (first : Vec ℕ Global) (rest : ℕ) → Keeps old now → AreBelow (length old) ns → first.items ≡ ns → IsNumberOf now Never rest → shape_over now (Elements first rest) ≡ ArrayShape (as_first_elements (map (shape_at old) ns)) Never
+list_shape old now ns first rest keeps within is number =
+    let places : shapes_at now first.items ≡ as_first_elements (map (shape_at old) ns) =
+    ap (shapes_at now) is ∙ ap (λ t. shapes_at t ns) keeps.whole ∙ shapes_at_stay old keeps.added ns within ∙ listed old ns in
+    rw (places, number.same) refl
