@@ -1,0 +1,10 @@
+pub mod Adding
+pub mod CatcherWalks
+pub mod Choices
+pub mod ItemWalks
+pub mod Kept
+pub mod KeptSteps
+pub mod KindSteps
+pub mod NamedSteps
+pub mod Pushing
+pub mod Walking
