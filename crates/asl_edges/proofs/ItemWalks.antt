@@ -22,6 +22,7 @@ use Rattle.asl_edges.specs.declared.found.Edge.{Edge}
 use Rattle.asl_edges.specs.declared.items.Children.{Children}
 use Rattle.asl_edges.specs.declared.walking.Walk.{Walk}
 use Rattle.asl_edges.proofs.Kept.{among_list, entry_shown, longer, shown}
+use Rattle.asl_edges.proofs.Settled.{settled_walked}
 use Rattle.asl_edges.proofs.Walking.{walks_later, walks_on, walks_stopped}
 
 -- ---- elements in a table that has grown
@@ -58,7 +59,7 @@ outputs_kept a b walk elements keeps entry below =
 pub outputs_walked : (a b : List Node) (c : List Shape) (e0 e1 : List Edge) (walk : Walk) (item : ℕ) (elements : Shapes × Shape) (n : ℕ) (r : Result (Unit {0}) Stopped) → walk.entry.item ≡ Some item → walk.entry.input < length a → Keeps (expansions a) (expansions b) → IsNumberOf (expansions b) (map_result (shape_at (expansions a) item) elements.0 elements.1) n
     → Walks (expansions b) c e0 e1 (result_steps (expansions b) walk n) r → Walks (expansions a) c e0 e1 (outputs_steps (expansions a) walk elements) r
 outputs_walked a b c e0 e1 walk item elements n r is input keeps number w =
-    rw (is, ← shown a b walk.entry.input keeps input, ← number.same) (walks_later (expansions a) (expansions b) c e0 e1 (result_steps (expansions b) walk n) r keeps w)
+    rw is (settled_walked a b c e0 e1 walk (map_result (shape_at (expansions a) item) elements.0 elements.1) n r keeps input number w)
 
 pub no_outputs : (table : List Shape) (walk : Walk) (elements : Shapes × Shape) → walk.entry.item ≡ None → outputs_steps table walk elements ≡ []
 no_outputs table walk elements is = rw is refl

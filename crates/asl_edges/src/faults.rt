@@ -54,7 +54,7 @@ pub struct Broken {
 
 /// Why a walk goes no further: a broken rule, or an allocation that was refused.
 #[derive(Clone, Copy, Drop)]
-pub enum Stopped {
+pub(crate) enum Stopped {
     Broken(Broken),
     OutOfMemory,
 }

@@ -5,8 +5,6 @@
 //! each edge with the shape that stands there; an inferrer takes it in there.
 #![tactic(auto)]
 
-ghost use Rattle.std.specs.Prelude.{◌≡◌};
-
 mod catching;
 mod choosing;
 mod faults;
@@ -16,5 +14,5 @@ mod pushing;
 mod walking;
 mod working;
 
-pub use faults::{Broken, FindingFault, Stopped};
+pub use faults::{Broken, FindingFault};
 pub use found::{Destination, Edge, Edges, Entry, edges_of};

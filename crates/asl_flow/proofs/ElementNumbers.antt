@@ -1,15 +1,18 @@
 -- The numbers of the shapes of elements, and of lists that are made of them.
-use Rattle.std.proofs.Common.{◌≡◌, ◌<◌, ◌≤◌, ◌+◌, ℕ, zero, suc, List, [], ◌∷◌, length, get_or, drop, replicate, map, Vec, Global, Option, Some, None, option_map, refl, sym, ap, subst, ◌∙◌, drop-cons, add-one, arith}
+use Rattle.std.proofs.Common.{◌≡◌, ◌<◌, ◌≤◌, ◌+◌, ℕ, zero, suc, List, [], ◌∷◌, length, get_or, drop, replicate, map, Vec, Global, true, false, Option, Some, None, option_map, Result, refl, sym, ap, subst, ◌∙◌, drop-cons, add-one, arith}
 use Rattle.std.proofs.lemmas.List.{drop_all}
-use Rattle.std.specs.Prelude.{if◌then◌else◌}
+use Rattle.std.specs.Prelude.{IfOk, if◌then◌else◌}
 use Rattle.asl_model.specs.Finding.{array_parts, as_first_elements, at_each_place, element_shape, map_result}
 use Rattle.asl_model.specs.Shape.{Shape, Shapes, Never, NoShapes, AndShape, ArrayShape, inhabited}
 use Rattle.asl_model.specs.ShapeOrder.{join, joined_with_each}
 use Rattle.asl_shape.specs.View.{shapes_of}
 use Rattle.asl_numbered.specs.declared.node.Node.{Node}
 use Rattle.asl_numbered.specs.declared.node.Node.TheVariants.{List as Elements}
-use Rattle.asl_numbered.specs.Expansion.{expansions, shape_at, shapes_at, shape_over, AreBelow, RefersBelow, IsNumberOf, Keeps}
-use Rattle.asl_numbered.proofs.Expansions.{as_many, keeps_longer, shapes_at_stay}
+use Rattle.asl_numbered.specs.Expansion.{expansions, shape_at, shapes_at, shape_over, AreBelow, AreDistinct, RefersBelow, IsNumberOf, Keeps}
+use Rattle.asl_tree.specs.declared.OutOfMemory.{OutOfMemory}
+use Rattle.asl_flow.specs.Numbers.{Shows}
+use Rattle.asl_flow.proofs.Numbered.{its_number}
+use Rattle.asl_numbered.proofs.Expansions.{shapes_at_stay}
 
 -- a number in a list is below its bound
 pub below_at : (bound : ℕ) (ns : List ℕ) (i n : ℕ) → i < length ns → n ≡ get_or ns i n → AreBelow bound ns → n < bound
@@ -26,18 +29,18 @@ list_elements table s node first rest over is = ap array_parts (sym (ap (shape_o
 -- ---- the join of all
 
 -- one more is joined
-pub one_joined : (all : Shape) (old a b : List Shape) (ns : List ℕ) (i place element more : ℕ) → i < length ns → place ≡ get_or ns i place → shape_at a place ≡ shape_at old place → IsNumberOf b (join (shape_at a element) (shape_at a place)) more
+pub one_joined : (all : Shape) (old a b : List Shape) (ns : List ℕ) (i place element more : ℕ) → i < length ns → place ≡ get_or ns i place → shape_at a place ≡ shape_at old place → shape_at b more ≡ join (shape_at a element) (shape_at a place)
     → all ≡ joined_with_each join (shape_at a element) (shapes_at old (drop i ns)) → all ≡ joined_with_each join (shape_at b more) (shapes_at old (drop (i + 1) ns))
 one_joined all old a b ns i place element more within is kept joined e =
     let split : shapes_at old (drop i ns) ≡ AndShape (shape_at old place) (shapes_at old (drop (i + 1) ns)) = ap (shapes_at old) (drop-cons ns i place within) ∙ rw (← is, add-one) refl in
-    e ∙ ap (joined_with_each join (shape_at a element)) split ∙ ap (λ s. joined_with_each join s (shapes_at old (drop (i + 1) ns))) (ap (join (shape_at a element)) (sym kept) ∙ sym joined.same)
+    e ∙ ap (joined_with_each join (shape_at a element)) split ∙ ap (λ s. joined_with_each join s (shapes_at old (drop (i + 1) ns))) (ap (join (shape_at a element)) (sym kept) ∙ sym joined)
 
 -- all are joined, and the further ones with them
 pub all_joined : (old a b : List Shape) (ns : List ℕ) (i element rest n : ℕ) → length ns ≤ i → joined_with_each join Never (shapes_at old ns) ≡ joined_with_each join (shape_at a element) (shapes_at old (drop i ns)) → shape_at a rest ≡ shape_at old rest
-    → IsNumberOf b (join (shape_at a element) (shape_at a rest)) n → IsNumberOf b (element_shape (shapes_at old ns) (shape_at old rest)) n
+    → shape_at b n ≡ join (shape_at a element) (shape_at a rest) → shape_at b n ≡ element_shape (shapes_at old ns) (shape_at old rest)
 all_joined old a b ns i element rest n end e kept is =
     let first : joined_with_each join Never (shapes_at old ns) ≡ shape_at a element = e ∙ ap (λ left. joined_with_each join (shape_at a element) (shapes_at old left)) (drop_all i ns end) in
-    subst (λ s. IsNumberOf b s n) (sym (ap (λ s. join s (shape_at old rest)) first ∙ ap (join (shape_at a element)) (sym kept))) is
+    is ∙ ap (join (shape_at a element)) kept ∙ sym (ap (λ s. join s (shape_at old rest)) first)
 
 -- ---- lists that are made
 
@@ -58,11 +61,11 @@ pub outputs_refer : (bound k output : ℕ) (first : Vec ℕ Global) (rest : ℕ)
 outputs_refer bound k output first rest within below is = record { each = (below, rw is (replicated_below bound k output within)) }
 
 pub outputs_shape : (old now : List Shape) (output : ℕ) (ns : List ℕ) (further : ℕ) (first : Vec ℕ Global) (rest : ℕ) → first.items ≡ replicate (length ns) output → shape_at now output ≡ shape_at old output
-    → IsNumberOf now (if inhabited (shape_at old further) then shape_at old output else Never) rest → shape_over now (Elements first rest) ≡ map_result (shape_at old output) (shapes_at old ns) (shape_at old further)
+    → shape_at now rest ≡ (if inhabited (shape_at old further) then shape_at old output else Never) → shape_over now (Elements first rest) ≡ map_result (shape_at old output) (shapes_at old ns) (shape_at old further)
 outputs_shape old now output ns further first rest is kept number =
     let places : shapes_at now first.items ≡ at_each_place (shape_at old output) (shapes_at old ns) =
     ap (shapes_at now) is ∙ at_each now output ns ∙ ap (λ s. at_each_place s (shapes_at now ns)) kept ∙ each_alike (shape_at old output) now old ns in
-    rw (places, number.same) refl
+    rw (places, number) refl
 
 -- the shapes of numbers, as those of first elements
 listed : (table : List Shape) (ns : List ℕ) → shapes_at table ns ≡ as_first_elements (map (shape_at table) ns)
@@ -72,8 +75,20 @@ listed table (n ∷ ns) = ap (AndShape (shape_at table n)) (listed table ns)
 pub list_refers : (bound : ℕ) (ns : List ℕ) (first : Vec ℕ Global) (rest : ℕ) → AreBelow bound ns → rest < bound → first.items ≡ ns → RefersBelow bound (Elements first rest)
 list_refers bound ns first rest within below is = record { each = (below, rw is within) }
 
-pub list_shape : (old now : List Shape) (ns : List ℕ) (first : Vec ℕ Global) (rest : ℕ) → Keeps old now → AreBelow (length old) ns → first.items ≡ ns → IsNumberOf now Never rest → shape_over now (Elements first rest) ≡ ArrayShape (as_first_elements (map (shape_at old) ns)) Never
+pub list_shape : (old now : List Shape) (ns : List ℕ) (first : Vec ℕ Global) (rest : ℕ) → Keeps old now → AreBelow (length old) ns → first.items ≡ ns → shape_at now rest ≡ Never → shape_over now (Elements first rest) ≡ ArrayShape (as_first_elements (map (shape_at old) ns)) Never
 list_shape old now ns first rest keeps within is number =
     let places : shapes_at now first.items ≡ as_first_elements (map (shape_at old) ns) =
     ap (shapes_at now) is ∙ ap (λ t. shapes_at t ns) keeps.whole ∙ shapes_at_stay old keeps.added ns within ∙ listed old ns in
-    rw (places, number.same) refl
+    rw (places, number) refl
+
+-- the number of what is shown
+pub shown_number : (nodes : List Node) (s t : Shape) (n : ℕ) → AreDistinct (expansions nodes) → Shows nodes s n → s ≡ t → IsNumberOf (expansions nodes) t n
+shown_number nodes s t n distinct shows e = its_number nodes t n distinct shows.within (shows.same ∙ e)
+
+-- ---- the outputs for further items
+
+pub further_there : (nodes : List Node) (s : Shape) (n : ℕ) → inhabited s ≡ true → n < length nodes → Shows nodes (if inhabited s then shape_at (expansions nodes) n else Never) n
+further_there nodes s n h within = rw h (record { within = within; same = refl })
+
+pub further_none : (nodes : List Node) (s t : Shape) (r : Result ℕ OutOfMemory) → inhabited s ≡ false → IfOk r (Shows nodes Never) → IfOk r (Shows nodes (if inhabited s then t else Never))
+further_none nodes s t r h shown = rw h shown

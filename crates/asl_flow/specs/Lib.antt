@@ -6,6 +6,7 @@ pub mod Items
 pub mod Kept
 pub mod Leaving
 pub mod Looking
+pub mod Numbers
 pub mod Putting
 pub mod Sources
 pub mod TemplateAnswer

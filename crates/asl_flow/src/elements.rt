@@ -2,6 +2,7 @@
 
 ghost use Rattle.std.specs.Prelude.{◌≡◌, ◌<◌, IfOk, IfSome, if◌then◌else◌, length, map, option_map};
 ghost use Rattle.asl_flow.specs.Elements.{elements_view, AreElementsBelow};
+ghost use Rattle.asl_flow.specs.Numbers.{Shows};
 ghost use Rattle.asl_model.specs.Finding as model;
 ghost use Rattle.asl_model.specs.Shape as kinds;
 ghost use Rattle.asl_numbered.specs.Expansion.{expansions, shape_at, shapes_at, AreBelow, IsNumberOf, Keeps};
@@ -63,7 +64,9 @@ pub fn element_at(shapes: &mut Shapes, elements: &Elements) -> Result<usize, Out
     for place in &elements.first {
         element = put_join(shapes, element, *place)?;
     }
-    put_join(shapes, element, elements.rest)
+    let number = put_join(shapes, element, elements.rest)?;
+    shapes.are_distinct();
+    Ok(number)
 }
 
 /// The number of the shape of the list of the outputs of a Map's children, each of the shape of that number, for the
@@ -85,20 +88,21 @@ pub fn outputs_at(
 {
     let first = Vec::from_elem(alloc, output, items.first.len())?;
     let rest = further_output(shapes, output, items.rest)?;
-    put_node(shapes, Node::List { first, rest })
+    let number = put_node(shapes, Node::List { first, rest })?;
+    shapes.are_distinct();
+    Ok(number)
 }
 
 /// The number of the shape of the outputs for further items: none comes where there is no further item.
 fn further_output(shapes: &mut Shapes, output: usize, rest: usize) -> Result<usize, OutOfMemory>
     requires output { output < length shapes.old }
     requires rest { rest < length shapes.old }
-    ensures number { IfOk result
-        (IsNumberOf (expansions shapes.new)
+    ensures shown { IfOk result
+        (Shows shapes.new
         (if kinds.inhabited (shape_at (expansions shapes.old) rest)
         then shape_at (expansions shapes.old) output else kinds.Never)) }
     ensures keeps { Keeps (expansions shapes.old) (expansions shapes.new) }
 {
-    shapes.are_distinct();
     if is_inhabited(shapes, rest) {
         Ok(output)
     } else {
@@ -118,5 +122,7 @@ pub fn list_at(alloc: Global, shapes: &mut Shapes, elements: &[usize]) -> Result
 {
     let first = Vec::from_slice(alloc, elements)?;
     let rest = put_never(shapes)?;
-    put_node(shapes, Node::List { first, rest })
+    let number = put_node(shapes, Node::List { first, rest })?;
+    shapes.are_distinct();
+    Ok(number)
 }

@@ -3,6 +3,7 @@
 ghost use Rattle.std.specs.Prelude.{◌≡◌, ◌<◌, Ok, IfOk, IfErr, IfSome, Some, codes, if◌then◌else◌, length, option_map};
 ghost use Rattle.asl_flow.specs.Entering.{FlowsAt};
 ghost use Rattle.asl_flow.specs.Leaving.{IsStopped, fault_view};
+ghost use Rattle.asl_flow.specs.Numbers.{Shows};
 ghost use Rattle.asl_flow.specs.TemplateAnswer.{doubt_told};
 ghost use Rattle.asl_machine.specs.Machine.{settings_view};
 ghost use Rattle.asl_model.specs.Finding.{effective_flow, item_flow};
@@ -44,10 +45,9 @@ pub fn effective_at(
         (shape_at (expansions shapes.old) input))) }
     ensures keeps { Keeps (expansions shapes.old) (expansions shapes.new) }
 {
-    match taken_at(alloc, shapes, &settings.input_path, input) {
-        Ok(taken) => payload_at(alloc, shapes, &settings.parameters, taken),
-        Err(fault) => Err(fault),
-    }
+    let answer = enter(alloc, shapes, settings, input);
+    shapes.are_distinct();
+    answer
 }
 
 /// The number of the shape of the input of a Map's children, for those of the Map's effective input and of all items:
@@ -95,6 +95,58 @@ pub fn item_input_at(
     }
 }
 
+/// What `InputPath` and `Parameters` make of an input.
+fn enter(
+    alloc: Global,
+    shapes: &mut Shapes,
+    settings: &Settings,
+    input: usize,
+) -> Result<usize, FlowFault>
+    requires number { input < length shapes.old }
+    ensures { FlowsAt (effective_flow (settings_view settings.now)
+        (shape_at (expansions shapes.old) input))
+        shapes.old shapes.new result }
+{
+    match taken_at(alloc, shapes, &settings.input_path, input) {
+        Ok(taken) => payload_at(alloc, shapes, &settings.parameters, taken),
+        Err(fault) => Err(fault),
+    }
+}
+
+/// What `ItemSelector` makes of the effective input and of an item; without it the item goes through.
+fn selected_at(
+    alloc: Global,
+    shapes: &mut Shapes,
+    selector: &Option<Template>,
+    effective: usize,
+    element: usize,
+) -> Result<usize, FlowFault>
+    requires effective { effective < length shapes.old }
+    requires element { element < length shapes.old }
+    ensures { FlowsAt (item_flow (option_map templates.view selector.now)
+        (shape_at (expansions shapes.old) effective) (shape_at (expansions shapes.old) element))
+        shapes.old shapes.new result }
+{
+    match selector {
+        None => Ok(element),
+        Some(selector) => {
+            if is_inhabited(shapes, element) {
+                made_at(
+                    alloc,
+                    shapes,
+                    "ItemSelector",
+                    selector,
+                    effective,
+                    Some(element),
+                )
+            } else {
+                let never = put_never(shapes)?;
+                Ok(never)
+            }
+        }
+    }
+}
+
 /// What `InputPath` takes of an input; where it is null, `{}`.
 fn taken_at(
     alloc: Global,
@@ -105,7 +157,7 @@ fn taken_at(
     requires number { input < length shapes.old }
     ensures { FlowsAt (model.through_path (codes "InputPath") path.now
         (shape_at (expansions shapes.old) input))
-        (expansions shapes.old) (expansions shapes.new) result }
+        shapes.old shapes.new result }
 {
     match path {
         None => Ok(put_empty(alloc, shapes, input)?),
@@ -120,8 +172,8 @@ fn taken_at(
 /// The number of the shape of `{}`; of that of no tree, where no tree has the shape at hand.
 fn put_empty(alloc: Global, shapes: &mut Shapes, number: usize) -> Result<usize, OutOfMemory>
     requires within { number < length shapes.old }
-    ensures number { IfOk result
-        (IsNumberOf (expansions shapes.new)
+    ensures shown { IfOk result
+        (Shows shapes.new
         (if kinds.inhabited (shape_at (expansions shapes.old) number)
         then model.empty_object else kinds.Never)) }
     ensures keeps { Keeps (expansions shapes.old) (expansions shapes.new) }
@@ -149,9 +201,8 @@ fn payload_at(
     requires number { taken < length shapes.old }
     ensures { FlowsAt (model.through_template (codes "Parameters")
         (option_map templates.view parameters.now) (shape_at (expansions shapes.old) taken))
-        (expansions shapes.old) (expansions shapes.new) result }
+        shapes.old shapes.new result }
 {
-    shapes.are_distinct();
     match parameters {
         None => Ok(taken),
         Some(template) => made_at(alloc, shapes, "Parameters", template, taken, None),
@@ -172,7 +223,7 @@ fn made_at(
     ensures { FlowsAt (model.template_flow field.now
         (model.template_shape (templates.view template.now) (shape_at (expansions shapes.old) input)
         (option_map (shape_at (expansions shapes.old)) item)))
-        (expansions shapes.old) (expansions shapes.new) result }
+        shapes.old shapes.new result }
 {
     match template_shape_at(alloc, shapes, template, input, item) {
         Ok(made) => Ok(made),

@@ -5,12 +5,12 @@ use Rattle.asl_edges.proofs.Kept.{among_shapes}
 use Rattle.asl_edges.proofs.Walking.{walks_out}
 use Rattle.asl_edges.proofs.walking.Walk.walk_catcher.Goals as goal
 
-pub returns-in-None : goal.returns-in-None
-returns-in-None c =
-    input_caught (expansions c.args.shapes.now) c.args.self.now c.args.catcher.now _ _ _ c.in-None.is (among_shapes c.args.shapes.now c.args.self.now.entry.input c.requires.input) (rw c.deref.ensures at c.in_ok-push_caught.ensures)
+pub returns-in_ok-push_caught-in-None : goal.returns-in_ok-push_caught-in-None
+returns-in_ok-push_caught-in-None c =
+    input_caught (expansions c.args.shapes.now) c.args.self.now c.args.catcher.now _ _ _ c.in-None.is (among_shapes c.args.shapes.now c.args.self.now.entry.input c.requires.input) (rw c.deref.ensures at c.in_ok-push_caught-in-None.ensures)
 
-pub returns-in-Ok : goal.returns-in-Ok
-returns-in-Ok c =
+pub returns-in_ok-push_caught-in-Ok : goal.returns-in_ok-push_caught-in-Ok
+returns-in_ok-push_caught-in-Ok c =
     placed_caught (expansions c.args.shapes.now) c.args.self.now c.args.catcher.now _ _ _ _ c.in-Some.path c.args.error c.in-Ok.placed c.in-Some.is c.requires.error_output c.in-Ok.ensures.keeps c.in-Ok.ensures.number.within c.in-Ok.ensures.as_defined (rw c.deref-in-Ok.ensures at c.in_ok-push_caught-in-Ok.ensures)
 
 pub returns-in-Err-MayNotFit : goal.returns-in-Err-MayNotFit

@@ -14,7 +14,7 @@ pub loop-catcher-init : goal.loop-catcher-init
 loop-catcher-init c = (goes_on_none _ _ _ _ c.in_ok-error.ensures.keeps, among _ _ c.in_ok-error.ensures.number.within, c.in_ok-error.ensures.number.same)
 
 pub walk_catcher-requires-clause-input : goal.walk_catcher-requires-clause-input
-walk_catcher-requires-clause-input c = within _ _ _ c.loop-catcher.invariant.0.keeps c.requires
+walk_catcher-requires-clause-input c = within _ _ _ c.loop-catcher.invariant.0.keeps c.requires.input
 
 pub walk_catcher-requires-clause-error : goal.walk_catcher-requires-clause-error
 walk_catcher-requires-clause-error c = c.loop-catcher.invariant.1
@@ -29,7 +29,7 @@ returns-in_err-walk_catcher c =
     let walk = c.args.self.now in
     let p = err_from_is_err_and c.from_residual-in_err-walk_catcher.result c.from_residual-in_err-walk_catcher.ensures.1 in
     let left = catcher_left (expansions a) walk c.args.catchers.now l.catcher-index c.catcher-item.result c.loop-catcher-test.true c.catcher-item.is in
-    let same = catcher_kept a l.shapes walk l.invariant.0.keeps c.catcher-item.result c.requires in
+    let same = catcher_kept a l.shapes walk l.invariant.0.keeps c.catcher-item.result c.requires.input in
     let going = subst (λ (steps : List Walked). GoesOn (expansions a) (expansions l.shapes) c.args.edges.now.items l.edges.items (catchers_steps (expansions a) walk c.args.catchers.now) steps) left l.invariant.0 in
     rw (p.1, p.2) (stops_then _ _ _ _ _ _ _ _ _ c.in_err-walk_catcher.field-0.0 going (walks_same _ _ _ _ _ _ _ same c.in_err-walk_catcher.ensures))
 
@@ -39,7 +39,7 @@ loop-catcher-preserved c =
     let a = c.args.shapes.now in
     let walk = c.args.self.now in
     let left = catcher_left (expansions a) walk c.args.catchers.now l.catcher-index c.catcher-item.result c.loop-catcher-test.true c.catcher-item.is in
-    let same = catcher_kept a l.shapes walk l.invariant.0.keeps c.catcher-item.result c.requires in
+    let same = catcher_kept a l.shapes walk l.invariant.0.keeps c.catcher-item.result c.requires.input in
     let going = subst (λ (steps : List Walked). GoesOn (expansions a) (expansions l.shapes) c.args.edges.now.items l.edges.items (catchers_steps (expansions a) walk c.args.catchers.now) steps) left l.invariant.0 in
     let keeps = c.in_ok-walk_catcher.ensures.keeps in (
       goes_on_then _ _ _ _ _ _ _ _ _ _ going (walks_same _ _ _ _ _ _ _ same c.in_ok-walk_catcher.ensures),

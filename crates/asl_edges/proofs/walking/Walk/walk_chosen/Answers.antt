@@ -3,8 +3,8 @@ use Rattle.asl_model.specs.Edges.{to_next}
 use Rattle.asl_edges.proofs.Walking.{walks_on, walks_pushed, walks_stopped}
 use Rattle.asl_edges.proofs.walking.Walk.walk_chosen.Goals as goal
 
-pub returns-in-Ok : goal.returns-in-Ok
-returns-in-Ok c =
+pub returns-in_ok-push_next-in-Ok : goal.returns-in_ok-push_next-in-Ok
+returns-in_ok-push_next-in-Ok c =
     let next = to_next c.args.field.now c.args.next.now in
     walks_on _ _ _ _ next _ _ _ c.in-Ok.ensures.as_defined (walks_pushed _ _ _ _ c.in-Ok.output next _ _ c.in-Ok.ensures.keeps c.in-Ok.ensures.number.within refl c.in_ok-push_next-in-Ok.ensures)
 

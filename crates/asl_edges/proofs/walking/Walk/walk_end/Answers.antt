@@ -3,8 +3,8 @@ use Rattle.asl_model.specs.Edges.{to_end}
 use Rattle.asl_edges.proofs.Walking.{walks_on, walks_pushed, walks_stopped}
 use Rattle.asl_edges.proofs.walking.Walk.walk_end.Goals as goal
 
-pub returns-in-Ok : goal.returns-in-Ok
-returns-in-Ok c =
+pub returns-in_ok-push_end-in-Ok : goal.returns-in_ok-push_end-in-Ok
+returns-in_ok-push_end-in-Ok c =
     let next = to_end (codes "Type") in
     walks_on _ _ _ _ next _ _ _ c.in-Ok.ensures.as_defined (walks_pushed _ _ _ _ c.in-Ok.output next _ _ c.in-Ok.ensures.keeps c.in-Ok.ensures.number.within refl c.in_ok-push_end-in-Ok.ensures)
 

@@ -8,7 +8,7 @@ use Rattle.asl_edges.proofs.Walking.{walks_later, walks_on, walks_same, walks_st
 use Rattle.asl_edges.proofs.walking.Walk.walk_input.Goals as goal
 
 pub walk_work-requires-clause-entry : goal.walk_work-requires-clause-entry
-walk_work-requires-clause-entry c = entry_within _ _ _ c.in-Ok.ensures.keeps c.requires
+walk_work-requires-clause-entry c = entry_within _ _ _ c.in-Ok.ensures.keeps c.requires.entry
 
 pub walk_work-requires-clause-effective : goal.walk_work-requires-clause-effective
 walk_work-requires-clause-effective c = among _ _ c.in-Ok.ensures.number.within
@@ -19,7 +19,7 @@ returns-in-Ok c =
     let a = c.args.shapes.now in
     let b = c.effective_at.new.shapes in
     let go_on = walk_work (settings_of walk) (kind_of walk) (entry_view (expansions a) walk.entry) in
-    let same = work_kept a b walk c.in-Ok.ensures.keeps (shape_at (expansions b) c.in-Ok.effective) c.requires in
+    let same = work_kept a b walk c.in-Ok.ensures.keeps (shape_at (expansions b) c.in-Ok.effective) c.requires.entry in
     walks_on _ _ _ _ go_on _ _ _ c.in-Ok.ensures.as_defined (walks_later _ _ _ _ _ _ _ c.in-Ok.ensures.keeps (walks_same _ _ _ _ _ _ _ same c.walk_work.ensures))
 
 pub returns-in-Err : goal.returns-in-Err

@@ -14,8 +14,8 @@ item_input_at-requires-clause-effective c = within _ _ _ c.in_ok-element.ensures
 pub item_input_at-requires-clause-element : goal.item_input_at-requires-clause-element
 item_input_at-requires-clause-element c = among _ _ c.in_ok-element.ensures.number.within
 
-pub returns-in-Ok : goal.returns-in-Ok
-returns-in-Ok c =
+pub returns-in_ok-push_child-in-Ok : goal.returns-in_ok-push_child-in-Ok
+returns-in_ok-push_child-in-Ok c =
     let next = to_child (codes "ItemProcessor") (processor_of c.args.children) in
     item_walked c.args.shapes.now c.element_at-element.new.shapes _ _ _ c.args.children (elements_view (expansions c.args.shapes.now) c.args.elements.now) c.in_ok-element.element _ _ c.in_ok-element.ensures.keeps c.requires.effective c.in_ok-element.ensures.number c.in-Ok.ensures.as_defined
     (walks_pushed _ _ _ _ c.in-Ok.input next _ _ c.in-Ok.ensures.keeps c.in-Ok.ensures.number.within refl c.in_ok-push_child-in-Ok.ensures)

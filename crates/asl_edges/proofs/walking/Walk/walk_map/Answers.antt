@@ -10,7 +10,7 @@ use Rattle.asl_edges.proofs.Walking.{walks_same}
 use Rattle.asl_edges.proofs.walking.Walk.walk_map.Goals as goal
 
 pub elements_of-requires : goal.elements_of-requires
-elements_of-requires c = among _ _ c.in_ok-items.ensures.comes.within
+elements_of-requires c = record { number = among _ _ c.in_ok-items.ensures.comes.within }
 
 pub walk_elements-requires-clause-entry : goal.walk_elements-requires-clause-entry
 walk_elements-requires-clause-entry c = entry_within _ _ _ c.in_ok-items.ensures.keeps c.requires.entry

@@ -15,8 +15,7 @@ pub walk_settled-requires-clause-gives : goal.walk_settled-requires-clause-gives
 walk_settled-requires-clause-gives c = within _ _ _ c.in_ok-walk_input.ensures.keeps c.requires.gives
 
 pub walk_catchers-requires : goal.walk_catchers-requires
-walk_catchers-requires c =
-    within _ _ _ (keeps_trans _ _ _ c.in_ok-walk_input.ensures.keeps c.in_ok-walk_settled.ensures.keeps) c.requires.entry.input
+walk_catchers-requires c = record { input = within _ _ _ (keeps_trans _ _ _ c.in_ok-walk_input.ensures.keeps c.in_ok-walk_settled.ensures.keeps) c.requires.entry.input }
 
 pub returns-in_err-walk_input : goal.returns-in_err-walk_input
 returns-in_err-walk_input c =

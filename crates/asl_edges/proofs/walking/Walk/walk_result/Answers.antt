@@ -3,8 +3,8 @@ use Rattle.asl_model.specs.Edges.{onward}
 use Rattle.asl_edges.proofs.Walking.{walks_on, walks_pushed, walks_stopped}
 use Rattle.asl_edges.proofs.walking.Walk.walk_result.Goals as goal
 
-pub returns-in-Ok : goal.returns-in-Ok
-returns-in-Ok c =
+pub returns-in_ok-push_onward-in-Ok : goal.returns-in_ok-push_onward-in-Ok
+returns-in_ok-push_onward-in-Ok c =
     let next = onward (option_map string_bytes c.args.self.now.state.now.settings.next) in
     walks_on _ _ _ _ next _ _ _ c.in-Ok.ensures.as_defined (walks_pushed _ _ _ _ c.in-Ok.output next _ _ c.in-Ok.ensures.keeps c.in-Ok.ensures.number.within refl c.in_ok-push_onward-in-Ok.ensures)
 
