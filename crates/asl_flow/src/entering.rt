@@ -74,25 +74,9 @@ pub fn item_input_at(
         (shape_at (expansions shapes.old) element))) }
     ensures keeps { Keeps (expansions shapes.old) (expansions shapes.new) }
 {
+    let answer = selected_at(alloc, shapes, selector, effective, element);
     shapes.are_distinct();
-    match selector {
-        None => Ok(element),
-        Some(selector) => {
-            if is_inhabited(shapes, element) {
-                made_at(
-                    alloc,
-                    shapes,
-                    "ItemSelector",
-                    selector,
-                    effective,
-                    Some(element),
-                )
-            } else {
-                let never = put_never(shapes)?;
-                Ok(never)
-            }
-        }
-    }
+    answer
 }
 
 /// What `InputPath` and `Parameters` make of an input.
