@@ -14,7 +14,7 @@ use Rattle.asl_edges.specs.Walks.{caught_step, none_left, Pushes, Walks}
 use Rattle.asl_edges.specs.declared.faults.Stopped.{Stopped}
 use Rattle.asl_edges.specs.declared.found.Edge.{Edge}
 use Rattle.asl_edges.specs.declared.walking.Walk.{Walk}
-use Rattle.asl_edges.proofs.Walking.{walks_broken, walks_pushed}
+use Rattle.asl_edges.proofs.WalkSteps.{walks_broken, walks_pushed}
 
 module _ (a : List Shape) (walk : Walk) (catcher : Catcher) where
   -- the input itself is handed on

@@ -16,7 +16,7 @@ use Rattle.asl_edges.specs.declared.faults.Stopped.{Stopped}
 use Rattle.asl_edges.specs.declared.found.Edge.{Edge}
 use Rattle.asl_edges.specs.declared.walking.Walk.{Walk}
 use Rattle.asl_edges.proofs.Kept.{shown}
-use Rattle.asl_edges.proofs.Walking.{walks_broken, walks_later, walks_same}
+use Rattle.asl_edges.proofs.WalkSteps.{walks_broken, walks_later, walks_same}
 
 -- a rule lets a shape through
 pub rule_walked : (a b : List Node) (c : List Shape) (e0 e1 : List Edge) (walk : Walk) (rule : Rule) (n m : ℕ) (r : Result (Unit {0}) Stopped) → Keeps (expansions a) (expansions b) → walk.entry.input < length a → rule_shape (test_view rule.test) (shape_at (expansions a) n) ≡ Some (shape_at (expansions b) m)

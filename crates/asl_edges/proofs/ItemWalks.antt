@@ -23,7 +23,7 @@ use Rattle.asl_edges.specs.declared.items.Children.{Children}
 use Rattle.asl_edges.specs.declared.walking.Walk.{Walk}
 use Rattle.asl_edges.proofs.Kept.{among_list, entry_shown, longer, shown}
 use Rattle.asl_edges.proofs.Settled.{settled_walked}
-use Rattle.asl_edges.proofs.Walking.{walks_later, walks_on, walks_stopped}
+use Rattle.asl_edges.proofs.WalkSteps.{walks_later, walks_on, walks_stopped}
 
 -- ---- elements in a table that has grown
 

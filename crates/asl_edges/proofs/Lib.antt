@@ -7,6 +7,6 @@ pub mod Kept
 pub mod KeptSteps
 pub mod KindSteps
 pub mod NamedSteps
-pub mod Pushing
+pub mod PushedEdges
 pub mod Settled
-pub mod Walking
+pub mod WalkSteps

@@ -14,12 +14,12 @@ use Rattle.asl_edges.specs.Walks.{Halts, Walks}
 use Rattle.asl_edges.specs.declared.faults.Stopped.{Stopped}
 use Rattle.asl_edges.specs.declared.found.Edge.{Edge}
 use Rattle.asl_edges.proofs.Adding.{adds_none}
-use Rattle.asl_edges.proofs.Walking.{first, walks_broken, walks_later}
+use Rattle.asl_edges.proofs.WalkSteps.{first, walks_broken, walks_later}
 
 -- ---- what is answered
 
 pub named_there : (field : List ℕ) (found : Result Shape ℕ) (a b : List Shape) (n : ℕ) → Keeps a b → found ≡ Ok (shape_at b n) → n < length b → Named field found a b (Ok n)
-named_there field found a b n keeps is within = record { keeps = keeps; comes = record { within = within; found = is } }
+named_there field found a b n keeps is within = record { keeps = keeps; comes = record { within = within; is = is } }
 
 pub named_missing : (field : List ℕ) (found : Result Shape ℕ) (a b : List Shape) (at : ℕ) (s : Stopped) → Keeps a b → found ≡ Err at → stopped_view s ≡ Some (record { field = field; fault = PathMayBeMissing }) → Named field found a b (Err s)
 named_missing field found a b at s keeps missing told =
@@ -51,11 +51,11 @@ module _ (a b : List Shape) (edges : List Edge) (delay : Delay) (path : List Seg
 
   pub seconds_named : (n : ℕ) (right : Bool) (r : Result (Unit {0}) Stopped) → delay ≡ SecondsPath path → Named (codes "SecondsPath") (look path s) a b (Ok n) → right ≡ is_integer_shape (shape_at b n) → Walks b b edges edges (breaks_unless right (codes "SecondsPath") WrongKind) r → Walks a b edges edges (walk_delay delay s) r
   seconds_named n right r is named kind w =
-      rw (is, named.comes.found) (walks_later a b b edges edges (breaks_unless (is_integer_shape (shape_at b n)) (codes "SecondsPath") WrongKind) r named.keeps (subst (λ h. Walks b b edges edges (breaks_unless h (codes "SecondsPath") WrongKind) r) kind w))
+      rw (is, named.comes.is) (walks_later a b b edges edges (breaks_unless (is_integer_shape (shape_at b n)) (codes "SecondsPath") WrongKind) r named.keeps (subst (λ h. Walks b b edges edges (breaks_unless h (codes "SecondsPath") WrongKind) r) kind w))
 
   pub timestamp_named : (n : ℕ) (right : Bool) (r : Result (Unit {0}) Stopped) → delay ≡ TimestampPath path → Named (codes "TimestampPath") (look path s) a b (Ok n) → right ≡ is_string_shape (shape_at b n) → Walks b b edges edges (breaks_unless right (codes "TimestampPath") WrongKind) r → Walks a b edges edges (walk_delay delay s) r
   timestamp_named n right r is named kind w =
-      rw (is, named.comes.found) (walks_later a b b edges edges (breaks_unless (is_string_shape (shape_at b n)) (codes "TimestampPath") WrongKind) r named.keeps (subst (λ h. Walks b b edges edges (breaks_unless h (codes "TimestampPath") WrongKind) r) kind w))
+      rw (is, named.comes.is) (walks_later a b b edges edges (breaks_unless (is_string_shape (shape_at b n)) (codes "TimestampPath") WrongKind) r named.keeps (subst (λ h. Walks b b edges edges (breaks_unless h (codes "TimestampPath") WrongKind) r) kind w))
 
 -- a time that is given
 pub seconds_given : (delay : Delay) (n : ℕ) (s : Shape) → delay ≡ Seconds n → walk_delay delay s ≡ []
@@ -74,8 +74,8 @@ module _ (a b : List Shape) (edges : List Edge) (go_on : Shapes × Shape → Lis
   -- they have no elements
   pub items_wrong : (n : ℕ) (stopped : Stopped) → Named (codes "ItemsPath") found a b (Ok n) → None ≡ array_parts (shape_at b n) → stopped_view stopped ≡ Some (record { field = codes "ItemsPath"; fault = WrongKind }) → Walks a b edges edges (walk_items go_on found) (Err stopped)
   items_wrong n stopped named none told =
-      walks_broken a b edges (walk_items go_on found) stopped (record { field = codes "ItemsPath"; fault = WrongKind }) named.keeps told (rw (named.comes.found, ← none) refl)
+      walks_broken a b edges (walk_items go_on found) stopped (record { field = codes "ItemsPath"; fault = WrongKind }) named.keeps told (rw (named.comes.is, ← none) refl)
 
 -- they have
 pub items_walked : (a b c : List Shape) (e0 e1 : List Edge) (go_on : Shapes × Shape → List Walked) (found : Result Shape ℕ) (n : ℕ) (elements : Shapes × Shape) (r : Result (Unit {0}) Stopped) → Named (codes "ItemsPath") found a b (Ok n) → Some elements ≡ array_parts (shape_at b n) → Walks b c e0 e1 (go_on elements) r → Walks a c e0 e1 (walk_items go_on found) r
-items_walked a b c e0 e1 go_on found n elements r named some w = rw (named.comes.found, ← some) (walks_later a b c e0 e1 (go_on elements) r named.keeps w)
+items_walked a b c e0 e1 go_on found n elements r named some w = rw (named.comes.is, ← some) (walks_later a b c e0 e1 (go_on elements) r named.keeps w)

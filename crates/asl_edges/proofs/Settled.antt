@@ -10,7 +10,7 @@ use Rattle.asl_edges.specs.declared.faults.Stopped.{Stopped}
 use Rattle.asl_edges.specs.declared.found.Edge.{Edge}
 use Rattle.asl_edges.specs.declared.walking.Walk.{Walk}
 use Rattle.asl_edges.proofs.Kept.{shown}
-use Rattle.asl_edges.proofs.Walking.{walks_later, walks_same}
+use Rattle.asl_edges.proofs.WalkSteps.{walks_later, walks_same}
 
 -- a result whose number is new
 pub settled_walked : (a b : List Node) (c : List Shape) (e0 e1 : List Edge) (walk : Walk) (s : Shape) (n : ℕ) (r : Result (Unit {0}) Stopped) → Keeps (expansions a) (expansions b) → walk.entry.input < length a → IsNumberOf (expansions b) s n

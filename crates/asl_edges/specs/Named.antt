@@ -15,7 +15,7 @@ pub record IsUnnamed (field : List ℕ) (found : Result Shape ℕ) (b : Breach) 
 -- the shape that is found has that number in the table
 pub record IsNamed (found : Result Shape ℕ) (table : List Shape) (n : ℕ) : Type 0 where
   pub within : n < length table
-  pub found : found ≡ Ok (shape_at table n)
+  pub is : found ≡ Ok (shape_at table n)
 
 -- nothing is found, or memory is out
 abbrev pub StopsUnnamed : List ℕ → Result Shape ℕ → Option Breach → Type 0

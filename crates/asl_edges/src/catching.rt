@@ -6,7 +6,7 @@ ghost use Rattle.asl_edges.specs.Walks.{Walks};
 ghost use Rattle.asl_model.specs.Finding.{error_output_shape};
 ghost use Rattle.asl_numbered.specs.Expansion.{expansions, shape_at};
 
-use crate::faults::{FindingFault, Stopped, broken};
+use crate::faults::{FindingFault, Stopped, broken_at};
 use crate::found::Edge;
 use crate::pushing::push_caught;
 use crate::walking::Walk;
@@ -60,7 +60,7 @@ impl<'m> Walk<'_, 'm> {
                     Ok(())
                 }
                 Err(PutRefusal::MayNotFit(_)) => {
-                    Err(broken("Catch", FindingFault::ResultMayNotFit))
+                    Err(broken_at("Catch", FindingFault::ResultMayNotFit))
                 }
                 Err(PutRefusal::OutOfMemory) => Err(Stopped::OutOfMemory),
             },

@@ -5,7 +5,7 @@ ghost use Rattle.asl_edges.specs.Steps.{default_steps, rule_steps, rules_steps};
 ghost use Rattle.asl_edges.specs.Walks.{Walks};
 ghost use Rattle.asl_numbered.specs.Expansion.{expansions};
 
-use crate::faults::{FindingFault, Stopped, broken};
+use crate::faults::{FindingFault, Stopped, broken_at};
 use crate::found::Edge;
 use crate::walking::Walk;
 use asl_choice::Rule;
@@ -70,7 +70,7 @@ impl<'m> Walk<'_, 'm> {
         match rule_shape_at(shapes, &rule.test, effective) {
             Ok(shape) => self.walk_chosen(shapes, edges, "Choices", &rule.next, shape),
             Err(RuleShapeRefusal::MayBeMissing) => {
-                Err(broken("Choices", FindingFault::PathMayBeMissing))
+                Err(broken_at("Choices", FindingFault::PathMayBeMissing))
             }
             Err(RuleShapeRefusal::OutOfMemory) => Err(Stopped::OutOfMemory),
         }

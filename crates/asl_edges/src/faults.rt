@@ -70,7 +70,7 @@ impl From<OutOfMemory> for Stopped {
 }
 
 /// The broken rule with that field and that fault stops a walk.
-pub(crate) fn broken(field: &'static str, fault: FindingFault) -> Stopped
+pub(crate) fn broken_at(field: &'static str, fault: FindingFault) -> Stopped
     ensures { stopped_view result
         ≡ Some (record { field = field.now; fault = finding_fault_view fault }) }
 {
@@ -82,9 +82,9 @@ pub(crate) fn stopped_by(fault: FlowFault) -> Stopped
     ensures { stopped_view result ≡ option_map breach_of (fault_view fault) }
 {
     match fault {
-        FlowFault::MayBeMissing(field) => broken(field, FindingFault::PathMayBeMissing),
-        FlowFault::MayFail(field) => broken(field, FindingFault::IntrinsicMayFail),
-        FlowFault::MayNotFit(field) => broken(field, FindingFault::ResultMayNotFit),
+        FlowFault::MayBeMissing(field) => broken_at(field, FindingFault::PathMayBeMissing),
+        FlowFault::MayFail(field) => broken_at(field, FindingFault::IntrinsicMayFail),
+        FlowFault::MayNotFit(field) => broken_at(field, FindingFault::ResultMayNotFit),
         FlowFault::OutOfMemory => Stopped::OutOfMemory,
     }
 }

@@ -7,7 +7,7 @@ ghost use Rattle.asl_edges.specs.Walks.{Walks};
 ghost use Rattle.asl_flow.specs.Elements.{elements_view, AreElementsBelow};
 ghost use Rattle.asl_numbered.specs.Expansion.{expansions};
 
-use crate::faults::{FindingFault, Stopped, broken, stopped_by};
+use crate::faults::{FindingFault, Stopped, broken_at, stopped_by};
 use crate::found::Edge;
 use crate::pushing::push_child;
 use crate::walking::Walk;
@@ -43,7 +43,7 @@ impl<'m> Walk<'_, 'm> {
         let items = named_in(shapes, children.effective, items_path, "ItemsPath")?;
         match elements_of(self.alloc, shapes, items)? {
             Some(elements) => self.walk_elements(shapes, edges, children, &elements),
-            None => Err(broken("ItemsPath", FindingFault::WrongKind)),
+            None => Err(broken_at("ItemsPath", FindingFault::WrongKind)),
         }
     }
 

@@ -14,7 +14,7 @@ ghost use Rattle.asl_model.specs.ShapeFlow.{look};
 ghost use Rattle.asl_model.specs.ShapeOrder.{is_integer_shape, is_string_shape};
 ghost use Rattle.asl_numbered.specs.Expansion.{expansions, shape_at};
 
-use crate::faults::{FindingFault, Stopped, broken};
+use crate::faults::{FindingFault, Stopped, broken_at};
 use crate::found::Edge;
 use crate::items::Children;
 use crate::pushing::{push_branches, push_payload};
@@ -88,7 +88,7 @@ impl<'m> Walk<'_, 'm> {
             }
             Kind::Task { .. } => self.walk_result(shapes, edges, gives),
             Kind::Choice { default: None, .. } => {
-                Err(broken("Default", FindingFault::NoDefault))
+                Err(broken_at("Default", FindingFault::NoDefault))
             }
             Kind::Parallel { .. } => {
                 let ends = list_at(self.alloc, shapes, self.entry.branches)?;
@@ -155,7 +155,7 @@ fn check_kind(is_right: bool, field: &'static str) -> Result<(), Stopped>
     if is_right {
         Ok(())
     } else {
-        Err(broken(field, FindingFault::WrongKind))
+        Err(broken_at(field, FindingFault::WrongKind))
     }
 }
 
@@ -172,7 +172,7 @@ pub(crate) fn named_in(
 {
     match look_at(shapes, number, path) {
         Ok(named) => Ok(named),
-        Err(LookRefusal::MayBeMissing(_)) => Err(broken(field, FindingFault::PathMayBeMissing)),
+        Err(LookRefusal::MayBeMissing(_)) => Err(broken_at(field, FindingFault::PathMayBeMissing)),
         Err(LookRefusal::OutOfMemory) => Err(Stopped::OutOfMemory),
     }
 }

@@ -4,7 +4,7 @@ use Rattle.asl_model.specs.Machine.{ScopeOf, NoStates}
 use Rattle.asl_machine.specs.Machine.{branches_view}
 use Rattle.asl_edges.specs.Walks.{none_left, Pushes}
 use Rattle.asl_edges.proofs.Adding.{none_pushed}
-use Rattle.asl_edges.proofs.Pushing.{branch_pushed, branches_pushed}
+use Rattle.asl_edges.proofs.PushedEdges.{branch_pushed, branches_pushed}
 use Rattle.asl_edges.proofs.pushing.push_branches.Goals as goal
 
 pub loop-start-init : goal.loop-start-init

@@ -4,7 +4,7 @@ use Rattle.asl_machine.specs.Machine.{delay_view}
 use Rattle.asl_numbered.specs.Expansion.{expansions, shape_at}
 use Rattle.asl_edges.proofs.Kept.{among}
 use Rattle.asl_edges.proofs.NamedSteps.{seconds_given, seconds_named, seconds_unnamed, timestamp_given, timestamp_named, timestamp_unnamed}
-use Rattle.asl_edges.proofs.Walking.{walks_nowhere}
+use Rattle.asl_edges.proofs.WalkSteps.{walks_nowhere}
 use Rattle.asl_edges.proofs.working.check_delay.Goals as goal
 
 pub is_int-requires : goal.is_int-requires

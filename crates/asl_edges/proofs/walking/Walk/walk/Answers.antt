@@ -3,7 +3,7 @@ use Rattle.asl_numbered.specs.Expansion.{expansions, shape_at}
 use Rattle.asl_edges.specs.Entry.{entry_view}
 use Rattle.asl_edges.specs.Steps.{settings_of, kind_of}
 use Rattle.asl_edges.proofs.KindSteps.{all_steps, no_steps}
-use Rattle.asl_edges.proofs.Walking.{walks_nowhere, walks_same}
+use Rattle.asl_edges.proofs.WalkSteps.{walks_nowhere, walks_same}
 use Rattle.asl_edges.proofs.walking.Walk.walk.Goals as goal
 
 pub returns-then-is_inhabited : goal.returns-then-is_inhabited

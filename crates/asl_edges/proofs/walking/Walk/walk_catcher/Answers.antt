@@ -2,7 +2,7 @@ use Rattle.std.proofs.Common.{Err, string_bytes, ap, refl}
 use Rattle.asl_numbered.specs.Expansion.{expansions}
 use Rattle.asl_edges.proofs.CatcherWalks.{input_caught, misfit_caught, placed_caught}
 use Rattle.asl_edges.proofs.Kept.{among_shapes}
-use Rattle.asl_edges.proofs.Walking.{walks_out}
+use Rattle.asl_edges.proofs.WalkSteps.{walks_out}
 use Rattle.asl_edges.proofs.walking.Walk.walk_catcher.Goals as goal
 
 pub returns-in_ok-push_caught-in-None : goal.returns-in_ok-push_caught-in-None
@@ -15,7 +15,7 @@ returns-in_ok-push_caught-in-Ok c =
 
 pub returns-in-Err-MayNotFit : goal.returns-in-Err-MayNotFit
 returns-in-Err-MayNotFit c =
-    misfit_caught (expansions c.args.shapes.now) c.args.self.now c.args.catcher.now _ _ _ c.in-Some.path c.args.error c.in-Err-MayNotFit.field-0-0 c.in-Some.is c.requires.error_output c.in-Err-MayNotFit.ensures.keeps (c.in-Err-MayNotFit.ensures.may_not_fit c.in-Err-MayNotFit.field-0-0 (ap Err c.in-Err-MayNotFit.field-0-is)) c.broken.ensures
+    misfit_caught (expansions c.args.shapes.now) c.args.self.now c.args.catcher.now _ _ _ c.in-Some.path c.args.error c.in-Err-MayNotFit.field-0-0 c.in-Some.is c.requires.error_output c.in-Err-MayNotFit.ensures.keeps (c.in-Err-MayNotFit.ensures.may_not_fit c.in-Err-MayNotFit.field-0-0 (ap Err c.in-Err-MayNotFit.field-0-is)) c.broken_at.ensures
 
 pub returns-in-Err-OutOfMemory : goal.returns-in-Err-OutOfMemory
 returns-in-Err-OutOfMemory c = walks_out _ _ _ _ _ _ c.in-Err-OutOfMemory.ensures.keeps refl

@@ -7,7 +7,7 @@ use Rattle.asl_edges.specs.Steps.{catchers_steps}
 use Rattle.asl_edges.specs.Walks.{GoesOn}
 use Rattle.asl_edges.proofs.Kept.{among, shown, within}
 use Rattle.asl_edges.proofs.KeptSteps.{catcher_kept, catcher_left}
-use Rattle.asl_edges.proofs.Walking.{goes_on_none, goes_on_then, goes_through, stops_then, walks_same}
+use Rattle.asl_edges.proofs.WalkSteps.{goes_on_none, goes_on_then, goes_through, stops_then, walks_same}
 use Rattle.asl_edges.proofs.walking.Walk.walk_catchers.Goals as goal
 
 pub loop-catcher-init : goal.loop-catcher-init

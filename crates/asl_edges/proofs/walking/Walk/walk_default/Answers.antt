@@ -1,5 +1,5 @@
 use Rattle.asl_edges.proofs.Choices.{default_walked, no_default}
-use Rattle.asl_edges.proofs.Walking.{walks_nowhere}
+use Rattle.asl_edges.proofs.WalkSteps.{walks_nowhere}
 use Rattle.asl_edges.proofs.walking.Walk.walk_default.Goals as goal
 use Rattle.asl_numbered.specs.Expansion.{expansions}
 

@@ -1,7 +1,7 @@
 use Rattle.std.proofs.lemmas.Result.{err_from_is_err_and}
 use Rattle.asl_edges.proofs.ItemWalks.{elements_within, outputs_kept}
 use Rattle.asl_edges.proofs.Kept.{entry_within}
-use Rattle.asl_edges.proofs.Walking.{walks_first, walks_same, walks_then}
+use Rattle.asl_edges.proofs.WalkSteps.{walks_first, walks_same, walks_then}
 use Rattle.asl_edges.proofs.walking.Walk.walk_elements.Goals as goal
 
 pub walk_outputs-requires-clause-entry : goal.walk_outputs-requires-clause-entry

@@ -1,6 +1,6 @@
 use Rattle.std.proofs.Common.{codes, refl}
 use Rattle.asl_model.specs.Edges.{to_end}
-use Rattle.asl_edges.proofs.Walking.{walks_on, walks_pushed, walks_stopped}
+use Rattle.asl_edges.proofs.WalkSteps.{walks_on, walks_pushed, walks_stopped}
 use Rattle.asl_edges.proofs.walking.Walk.walk_end.Goals as goal
 
 pub returns-in_ok-push_end-in-Ok : goal.returns-in_ok-push_end-in-Ok

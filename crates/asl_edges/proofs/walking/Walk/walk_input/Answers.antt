@@ -4,7 +4,7 @@ use Rattle.asl_edges.specs.Steps.{settings_of, kind_of}
 use Rattle.asl_model.specs.Edges.{walk_work}
 use Rattle.asl_edges.proofs.Kept.{among, entry_within}
 use Rattle.asl_edges.proofs.KeptSteps.{work_kept}
-use Rattle.asl_edges.proofs.Walking.{walks_later, walks_on, walks_same, walks_stopped}
+use Rattle.asl_edges.proofs.WalkSteps.{walks_later, walks_on, walks_same, walks_stopped}
 use Rattle.asl_edges.proofs.walking.Walk.walk_input.Goals as goal
 
 pub walk_work-requires-clause-entry : goal.walk_work-requires-clause-entry

@@ -5,7 +5,7 @@ use Rattle.asl_numbered.specs.Expansion.{expansions}
 use Rattle.asl_edges.specs.Items.{processor_of}
 use Rattle.asl_edges.proofs.ItemWalks.{item_stopped, item_walked}
 use Rattle.asl_edges.proofs.Kept.{among, within}
-use Rattle.asl_edges.proofs.Walking.{walks_pushed}
+use Rattle.asl_edges.proofs.WalkSteps.{walks_pushed}
 use Rattle.asl_edges.proofs.walking.Walk.walk_item.Goals as goal
 
 pub item_input_at-requires-clause-effective : goal.item_input_at-requires-clause-effective

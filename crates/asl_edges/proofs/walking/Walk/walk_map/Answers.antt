@@ -6,7 +6,7 @@ use Rattle.asl_edges.specs.Items.{elements_steps}
 use Rattle.asl_edges.proofs.ItemWalks.{elements_kept}
 use Rattle.asl_edges.proofs.Kept.{among, entry_within, within}
 use Rattle.asl_edges.proofs.NamedSteps.{items_unnamed, items_walked, items_wrong}
-use Rattle.asl_edges.proofs.Walking.{walks_same}
+use Rattle.asl_edges.proofs.WalkSteps.{walks_same}
 use Rattle.asl_edges.proofs.walking.Walk.walk_map.Goals as goal
 
 pub elements_of-requires : goal.elements_of-requires
@@ -40,4 +40,4 @@ returns-in-None c =
     let a = c.args.shapes.now in
     let b = c.named_in-items.new.shapes in
     let none = sym (ap (option_map (elements_view (expansions b))) c.in-None.is) ∙ c.in_ok-elements_of.ensures.as_defined in
-    items_wrong _ _ _ (elements_steps (expansions a) walk c.args.children) _ c.in_ok-items.items _ c.in_ok-items.ensures none c.broken.ensures
+    items_wrong _ _ _ (elements_steps (expansions a) walk c.args.children) _ c.in_ok-items.items _ c.in_ok-items.ensures none c.broken_at.ensures

@@ -2,7 +2,7 @@ use Rattle.asl_flow.specs.Elements.{elements_view}
 use Rattle.asl_numbered.specs.Expansion.{expansions}
 use Rattle.asl_edges.proofs.ItemWalks.{item_within, no_outputs, outputs_walked}
 use Rattle.asl_edges.proofs.Kept.{among, within}
-use Rattle.asl_edges.proofs.Walking.{walks_nowhere}
+use Rattle.asl_edges.proofs.WalkSteps.{walks_nowhere}
 use Rattle.asl_edges.proofs.walking.Walk.walk_outputs.Goals as goal
 
 pub outputs_at-requires-clause-output : goal.outputs_at-requires-clause-output

@@ -5,7 +5,7 @@ use Rattle.asl_numbered.proofs.Expansions.{keeps_trans}
 use Rattle.asl_edges.specs.Steps.{input_steps, settled_steps, catchers_steps}
 use Rattle.asl_edges.proofs.Kept.{entry_within, within}
 use Rattle.asl_edges.proofs.KeptSteps.{catchers_kept, settled_kept}
-use Rattle.asl_edges.proofs.Walking.{walks_first, walks_same, walks_then}
+use Rattle.asl_edges.proofs.WalkSteps.{walks_first, walks_same, walks_then}
 use Rattle.asl_edges.proofs.walking.Walk.walk_parts.Goals as goal
 
 pub walk_settled-requires-clause-entry : goal.walk_settled-requires-clause-entry

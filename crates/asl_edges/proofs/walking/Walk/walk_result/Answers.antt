@@ -1,6 +1,6 @@
 use Rattle.std.proofs.Common.{option_map, string_bytes, refl}
 use Rattle.asl_model.specs.Edges.{onward}
-use Rattle.asl_edges.proofs.Walking.{walks_on, walks_pushed, walks_stopped}
+use Rattle.asl_edges.proofs.WalkSteps.{walks_on, walks_pushed, walks_stopped}
 use Rattle.asl_edges.proofs.walking.Walk.walk_result.Goals as goal
 
 pub returns-in_ok-push_onward-in-Ok : goal.returns-in_ok-push_onward-in-Ok

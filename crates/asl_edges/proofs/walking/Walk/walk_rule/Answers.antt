@@ -2,7 +2,7 @@ use Rattle.std.proofs.Common.{◌≡◌, Err, Ok, Some, None, refl, ap, sym}
 use Rattle.asl_numbered.specs.Expansion.{expansions}
 use Rattle.asl_edges.proofs.Choices.{rule_missing, rule_walked}
 use Rattle.asl_edges.proofs.Kept.{among, within}
-use Rattle.asl_edges.proofs.Walking.{walks_out}
+use Rattle.asl_edges.proofs.WalkSteps.{walks_out}
 use Rattle.asl_edges.proofs.walking.Walk.walk_rule.Goals as goal
 
 pub walk_chosen-requires-clause-input : goal.walk_chosen-requires-clause-input
@@ -17,7 +17,7 @@ returns-in-Ok c =
 
 pub returns-in-Err-MayBeMissing : goal.returns-in-Err-MayBeMissing
 returns-in-Err-MayBeMissing c =
-    rule_missing _ _ _ c.args.self.now c.args.rule.now c.args.effective _ c.in-Err-MayBeMissing.ensures.keeps (c.in-Err-MayBeMissing.ensures.may_be_missing (ap Err c.in-Err-MayBeMissing.field-0-is)) c.broken.ensures
+    rule_missing _ _ _ c.args.self.now c.args.rule.now c.args.effective _ c.in-Err-MayBeMissing.ensures.keeps (c.in-Err-MayBeMissing.ensures.may_be_missing (ap Err c.in-Err-MayBeMissing.field-0-is)) c.broken_at.ensures
 
 pub returns-in-Err-OutOfMemory : goal.returns-in-Err-OutOfMemory
 returns-in-Err-OutOfMemory c = walks_out _ _ _ _ _ _ c.in-Err-OutOfMemory.ensures.keeps refl

@@ -8,7 +8,7 @@ use Rattle.asl_edges.specs.Steps.{rules_steps, rule_steps}
 use Rattle.asl_edges.specs.Walks.{GoesOn}
 use Rattle.asl_edges.proofs.Kept.{within}
 use Rattle.asl_edges.proofs.KeptSteps.{rule_kept, rule_left}
-use Rattle.asl_edges.proofs.Walking.{goes_on_none, goes_on_then, goes_through, stops_then, walks_same}
+use Rattle.asl_edges.proofs.WalkSteps.{goes_on_none, goes_on_then, goes_through, stops_then, walks_same}
 use Rattle.asl_edges.proofs.walking.Walk.walk_rules.Goals as goal
 
 pub loop-rule-init : goal.loop-rule-init

@@ -11,7 +11,7 @@ use Rattle.asl_edges.specs.Steps.{settings_of, kind_of}
 use Rattle.asl_edges.proofs.Kept.{among, within}
 use Rattle.asl_edges.proofs.KindSteps.{answer_steps, choice_without_default, ends_steps, literal_steps}
 use Rattle.asl_edges.proofs.Settled.{settled_walked}
-use Rattle.asl_edges.proofs.Walking.{walks_broken, walks_same}
+use Rattle.asl_edges.proofs.WalkSteps.{walks_broken, walks_same}
 use Rattle.asl_edges.proofs.walking.Walk.walk_settled.Goals as goal
 
 pub walk_result-requires-clause-input : goal.walk_result-requires-clause-input
@@ -46,4 +46,4 @@ pub returns-in-Choice-None : goal.returns-in-Choice-None
 returns-in-Choice-None c =
     let walk = c.args.self.now in
     let table = expansions c.args.shapes.now in
-    walks_broken table table _ _ _ (record { field = codes "Default"; fault = NoDefault }) (keeps_same table) c.broken.ensures (choice_without_default (settings_of walk) (kind_of walk) (entry_view table walk.entry) (map rule_view c.in-Choice-None.choices.items) (shape_at table c.args.gives) (ap kind_view c.in-Choice-None.is))
+    walks_broken table table _ _ _ (record { field = codes "Default"; fault = NoDefault }) (keeps_same table) c.broken_at.ensures (choice_without_default (settings_of walk) (kind_of walk) (entry_view table walk.entry) (map rule_view c.in-Choice-None.choices.items) (shape_at table c.args.gives) (ap kind_view c.in-Choice-None.is))

@@ -1,7 +1,7 @@
 use Rattle.std.proofs.lemmas.Result.{err_from_is_err_and}
 use Rattle.asl_edges.proofs.Kept.{within}
 use Rattle.asl_edges.proofs.KeptSteps.{result_kept}
-use Rattle.asl_edges.proofs.Walking.{walks_first, walks_same, walks_then}
+use Rattle.asl_edges.proofs.WalkSteps.{walks_first, walks_same, walks_then}
 use Rattle.asl_edges.proofs.walking.Walk.walk_wait.Goals as goal
 
 pub walk_result-requires-clause-input : goal.walk_result-requires-clause-input

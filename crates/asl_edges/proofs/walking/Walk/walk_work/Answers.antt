@@ -11,7 +11,7 @@ use Rattle.asl_edges.specs.Steps.{settings_of, kind_of, rules_steps, default_ste
 use Rattle.asl_edges.specs.Walks.{payload_step}
 use Rattle.asl_edges.proofs.Kept.{among_shapes}
 use Rattle.asl_edges.proofs.KindSteps.{choice_steps, fail_steps, literal_passed, map_steps, parallel_steps, pass_steps, succeed_steps, task_steps, wait_steps}
-use Rattle.asl_edges.proofs.Walking.{walks_nowhere, walks_pushed, walks_same}
+use Rattle.asl_edges.proofs.WalkSteps.{walks_nowhere, walks_pushed, walks_same}
 use Rattle.asl_edges.proofs.walking.Walk.walk_work.Goals as goal
 
 pub returns-in_ok-push_payload-in-Task : goal.returns-in_ok-push_payload-in-Task
