@@ -2,6 +2,7 @@
 
 ghost use Rattle.std.specs.Prelude.{◌≡◌, ◌++◌, ◌∷◌, ℕ, List, Some, map, IfOk, OnOk, codes};
 ghost use Rattle.json.specs.Token.{key};
+ghost use Rattle.asl_model.specs.Json.{compact_text};
 ghost use Rattle.asl_model.specs.Run as model;
 ghost use Rattle.asl_model.specs.Tree.{Text, Object, NoFields, AndField};
 ghost use Rattle.asl_model.specs.TracePrinted.{trace_text};
@@ -14,6 +15,10 @@ ghost use Rattle.asl_tool.specs.Tracing.{AddsEntry, AddsTree, place_tree, shown_
 use asl_run::{Entry, Outcome};
 use asl_tree::{OutOfMemory, Tree, write};
 use json::Writer;
+use std::alloc::Global;
+
+/// How many bytes a line has room for before it grows.
+const LINE_ROOM: usize = 256;
 
 /// What a field of a line shows.
 #[derive(Clone, Copy)]
@@ -245,15 +250,25 @@ fn add_object(bytes: Vec<u8>, fields: &[(&str, Shown<'_>)]) -> Result<Vec<u8>, O
     ensures { IfOk result (λ longer. AddsTree (Object (shown_fields fields.now))
         bytes.items longer.items) }
 {
-    let mut writer = Writer::new(bytes);
+    let line = object_text(*bytes.allocator(), fields)?;
+    let mut longer = bytes;
+    longer.extend_from_slice(&line)?;
+    longer.push(b'\n')?;
+    Ok(longer)
+}
+
+/// The compact text of an object of these fields. It has a writer of its own: one that goes on behind a long text first
+/// fills up to 16 KiB there with zeros, which takes longer than a short line.
+fn object_text(alloc: Global, fields: &[(&str, Shown<'_>)]) -> Result<Vec<u8>, OutOfMemory>
+    ensures { IfOk result (λ text. text.items ≡ compact_text (Object (shown_fields fields.now))) }
+{
+    let mut writer = Writer::new(Vec::with_capacity(alloc, LINE_ROOM)?);
     writer.begin_object()?;
     for field in fields {
         add_field(&mut writer, field.0, field.1)?;
     }
     writer.end_object()?;
-    let mut longer = writer.into_inner();
-    longer.push(b'\n')?;
-    Ok(longer)
+    Ok(writer.into_inner())
 }
 
 /// Writes a field.
