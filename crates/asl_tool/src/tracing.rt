@@ -18,7 +18,7 @@ use json::Writer;
 use std::alloc::Global;
 
 /// How many bytes a line has room for before it grows.
-const LINE_ROOM: usize = 256;
+const LINE_ROOM: usize = 1024;
 
 /// What a field of a line shows.
 #[derive(Clone, Copy)]
