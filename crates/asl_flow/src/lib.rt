@@ -2,7 +2,7 @@
 //! and what its rules let through (States Language, "Input and Output Processing", "Payload Template", "Choice State").
 //!
 //! [`look`] gives the shape of what a path names in every tree of a shape, and [`find_shape`] lends it; [`put`] gives the
-//! shape of the trees with another placed in them. [`template_shape`] gives the shape of a template's values, of which
+//! shape of the trees with another placed in them. [`look_at`] and [`put_at`] give the same by the numbers of a table. [`template_shape`] gives the shape of a template's values, of which
 //! [`literal_shape`] is a part, [`rule_shape`] that of the trees for which a rule is true, and [`leave`] that of a state's
 //! output.
 #![tactic(auto)]
@@ -13,6 +13,8 @@ mod leaving;
 mod literals;
 mod looking;
 mod narrowing;
+mod numbers;
+mod parts;
 mod putting;
 mod references;
 mod replacing;
@@ -20,8 +22,8 @@ mod rules;
 mod templates;
 
 pub use leaving::{FlowFault, leave};
-pub use literals::literal_shape;
-pub use looking::{LookRefusal, find_shape, look};
-pub use putting::{PutRefusal, put};
+pub use literals::{literal_shape, literal_shape_at};
+pub use looking::{LookRefusal, find_shape, look, look_at};
+pub use putting::{PutRefusal, put, put_at};
 pub use rules::{RuleShapeRefusal, rule_shape};
-pub use templates::{TemplateShapeRefusal, template_shape};
+pub use templates::{TemplateShapeRefusal, template_shape, template_shape_at};
