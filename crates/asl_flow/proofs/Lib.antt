@@ -4,11 +4,11 @@ pub mod Doubts
 pub mod FunctionShapes
 pub mod Leavings
 pub mod LiteralFields
-pub mod Narrowings
+pub mod NarrowedParts
+pub mod NarrowedTests
 pub mod Needed
 pub mod Numbered
 pub mod NumberedParts
-pub mod Presence
 pub mod Puts
 pub mod Replaced
 pub mod ShapeParts

@@ -2,9 +2,10 @@
 //! and what its rules let through (States Language, "Input and Output Processing", "Payload Template", "Choice State").
 //!
 //! [`look`] gives the shape of what a path names in every tree of a shape, and [`find_shape`] lends it; [`put`] gives the
-//! shape of the trees with another placed in them. [`look_at`] and [`put_at`] give the same by the numbers of a table. [`template_shape`] gives the shape of a template's values, of which
+//! shape of the trees with another placed in them. [`template_shape`] gives the shape of a template's values, of which
 //! [`literal_shape`] is a part, [`rule_shape`] that of the trees for which a rule is true, and [`leave`] that of a state's
-//! output.
+//! output. [`look_at`], [`put_at`], [`template_shape_at`], [`literal_shape_at`] and [`rule_shape_at`] give the same by the
+//! numbers of a table of shapes.
 #![tactic(auto)]
 
 mod calls;
@@ -25,5 +26,5 @@ pub use leaving::{FlowFault, leave};
 pub use literals::{literal_shape, literal_shape_at};
 pub use looking::{LookRefusal, find_shape, look, look_at};
 pub use putting::{PutRefusal, put, put_at};
-pub use rules::{RuleShapeRefusal, rule_shape};
+pub use rules::{RuleShapeRefusal, rule_shape, rule_shape_at};
 pub use templates::{TemplateShapeRefusal, template_shape, template_shape_at};
