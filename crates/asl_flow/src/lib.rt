@@ -4,8 +4,8 @@
 //! [`look`] gives the shape of what a path names in every tree of a shape, and [`find_shape`] lends it; [`put`] gives the
 //! shape of the trees with another placed in them. [`template_shape`] gives the shape of a template's values, of which
 //! [`literal_shape`] is a part, [`rule_shape`] that of the trees for which a rule is true, and [`leave`] that of a state's
-//! output. [`look_at`], [`put_at`], [`template_shape_at`], [`literal_shape_at`] and [`rule_shape_at`] give the same by the
-//! numbers of a table of shapes.
+//! output. [`look_at`], [`put_at`], [`template_shape_at`], [`literal_shape_at`], [`rule_shape_at`] and [`leave_at`] give
+//! the same by the numbers of a table of shapes.
 #![tactic(auto)]
 
 mod calls;
@@ -22,7 +22,7 @@ mod replacing;
 mod rules;
 mod templates;
 
-pub use leaving::{FlowFault, leave};
+pub use leaving::{FlowFault, leave, leave_at};
 pub use literals::{literal_shape, literal_shape_at};
 pub use looking::{LookRefusal, find_shape, look, look_at};
 pub use putting::{PutRefusal, put, put_at};
