@@ -83,9 +83,16 @@ flows_where nodes b way answer is h = rw is h
 -- ---- the way of a result
 
 module _ (settings : Settings) (old : List Node) (raw work : ℕ) (there : (shapes.inhabited (shape_at (expansions old) raw) && shapes.inhabited (shape_at (expansions old) work)) ≡ true) where
+  abbrev v : shapes.Shape
   v = shape_at (expansions old) raw
+
+  abbrev x : shapes.Shape
   x = shape_at (expansions old) work
+
+  abbrev selecting : model.Flow
   selecting = model.through_template (codes "ResultSelector") settings.result_selector x
+
+  abbrev placing : shapes.Shape → shapes.Shape → model.Flow
   placing = model.through_placing (codes "ResultPath") settings.result_path
 
   -- a fault of `ResultSelector`

@@ -4,6 +4,7 @@ use Rattle.asl_numbered.specs.Expansion.{expansions, shape_at}
 use Rattle.asl_template.specs.View as templates
 use Rattle.asl_flow.specs.Leaving.{fault_view}
 use Rattle.asl_flow.proofs.Leavings.{refusal_stops}
+use Rattle.asl_flow.proofs.Numbered.{number_within}
 use Rattle.asl_flow.proofs.leaving.selected.Goals as goal
 
 pub returns-in-Err-clause-flows : goal.returns-in-Err-clause-flows
@@ -13,4 +14,12 @@ returns-in-Err-clause-flows c =
       within = tt;
       shape = tt;
       stopped = refusal_stops (codes "ResultSelector") answer c.in-Err.refusal (fault_view c.selecting_fault.result) c.selecting_fault.ensures (λ inner e. c.in-Err.ensures.may_be_missing inner (ap Err e)) (λ inner e. c.in-Err.ensures.may_fail inner (ap Err e));
+    }
+
+pub returns-in-Ok-clause-flows : goal.returns-in-Ok-clause-flows
+returns-in-Ok-clause-flows c =
+    rw c.in-Some.is record {
+      within = number_within c.template_shape_at.new.shapes _ c.in-Ok.number c.in-Ok.ensures.number;
+      shape = ap (model.template_flow (codes "ResultSelector")) c.in-Ok.ensures.as_defined;
+      stopped = tt;
     }
