@@ -5,6 +5,7 @@ pub mod CallReading
 pub mod CallWriting
 pub mod ClosedScopes
 pub mod DefinitionFields
+pub mod EdgesBreached
 pub mod ExamplesAnswers
 pub mod ExamplesCalls
 pub mod ExamplesClosed

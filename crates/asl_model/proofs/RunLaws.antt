@@ -3,7 +3,7 @@ use Rattle.std.proofs.Common.{◌≡◌, refl, ℕ, List, [], ◌∷◌, ◌++�
 use Rattle.asl_model.specs.Tree.{Tree}
 use Rattle.asl_model.specs.Machine.{Scope, own_scope, LeadsInside}
 use Rattle.asl_model.specs.Run.{Activity, Event, Entry, Step, Turn, start, step, after_step, run, run_of, entries_of, trace, last_activity}
-use Rattle.asl_model.specs.Certificate.{Declared, Certificate, IsClosed, TakenObeys, AnswersObey, Obeys, RunIsAsCertified, ActivityFits, EachActivityFits, TypeGroup, IsKeptBy, ActivitiesAreAsCertified, NoneRaises, NoTurnRaises, TellsNoFault}
+use Rattle.asl_model.specs.Certificate.{Declared, Certificate, IsClosed, TakenObeys, AnswersObey, Obeys, RunIsAsCertified, ActivityFits, EachActivityFits, DataFits, EachHasFittingData, TypeGroup, IsKeptBy, KeepsData, ActivitiesAreAsCertified, DataAreAsCertified, NoneRaises, NoTurnRaises, TellsNoFault}
 use Rattle.asl_model.proofs.RunFits.{event_fits, turns_fit, start_fits}
 use Rattle.asl_model.proofs.RunStands.{step_stands, start_stands}
 
@@ -12,13 +12,34 @@ never_fault declared certificate machine closed input events obeys =
     let fits = turns_fit declared certificate machine closed (start machine input) events (start_fits declared certificate machine closed input obeys.has_input) obeys.answers in
     record { raises_nothing = fits.0; as_certified = fits.1 }
 
+module _ (declared : Declared) (certificate : Certificate) (machine : Scope) (closed : IsClosed declared certificate machine) where
+  -- an event leaves the data of the machine's activity as certified
+  data_kept : (a : Activity) (event : Event) → DataFits declared certificate a machine certificate.output → (taken : Option Step) → step machine a event ≡ taken → TakenObeys declared event.place a event.action taken → DataFits declared certificate (after_step a taken) machine certificate.output
+  data_kept a event before taken e obeys = (event_fits declared certificate machine closed a event before taken e obeys).2
+
+  -- the data of all activities from one on
+  data_fit : (a : Activity) (events : List Event) → DataFits declared certificate a machine certificate.output → AnswersObey declared (run machine a events) → EachHasFittingData declared certificate machine (run machine a events) × DataFits declared certificate (last_activity a (run machine a events)) machine certificate.output
+  data_fit a [] before obeys = (tt, before)
+  data_fit a (event ∷ events) before obeys =
+      let first = data_kept a event before (step machine a event) refl obeys.0 in
+      let further = data_fit (after_step a (step machine a event)) events first obeys.1 in
+      ((before, further.0), further.1)
+
+  pub every_activitys_data : (input : Tree) (events : List Event) → Obeys declared machine input events → DataAreAsCertified declared certificate machine input events
+  every_activitys_data input events obeys =
+      let fits = data_fit (start machine input) events (start_fits declared certificate machine closed input obeys.has_input) obeys.answers in
+      record { before_each = fits.0; after_all = fits.1 }
+
+  pub keeps_data : (group : TypeGroup) → KeepsData group declared certificate machine
+  keeps_data group = record { kept = λ a event taken before at_group e obeys. data_kept a event before (Some taken) e obeys }
+
 module _ (declared : Declared) (certificate : Certificate) (machine : Scope) (closed : IsClosed declared certificate machine) (leads : LeadsInside machine) where
   -- an event leaves the machine's activity as certified
   activity_kept : (a : Activity) (event : Event) → ActivityFits declared certificate a machine certificate.output → (taken : Option Step) → step machine a event ≡ taken → TakenObeys declared event.place a event.action taken → ActivityFits declared certificate (after_step a taken) machine certificate.output
   activity_kept a event before None e obeys = before
   activity_kept a event before (Some s) e obeys = record {
     stands = step_stands machine leads event.place machine own_scope a event.action s before.stands e;
-    fits = (event_fits declared certificate machine closed a event before.fits (Some s) e obeys).2;
+    fits = data_kept declared certificate machine closed a event before.fits (Some s) e obeys;
   }
 
   -- all activities from one on

@@ -18,7 +18,10 @@ behind (b ∷ bs) text = option_and_then (behind bs) (after b text)
 
 -- a context path: the item's number, or the item and segments into it
 abbrev pub context_of : List ℕ → Option Reference
-context_of text = if bytes_eq text (codes "$$.Map.Item.Index") then Some ItemIndex else option_map InItem (option_and_then (λ rest. segments_of (length rest) rest) (behind (codes "$$.Map.Item.Value") text))
+context_of text =
+    if bytes_eq text (codes "$$.Map.Item.Index") then Some ItemIndex
+    else option_map InItem (option_and_then (λ rest. segments_of (length rest) rest) (behind (codes "$$.Map.Item.Value")
+    text))
 
 -- the text begins as a context path does
 abbrev pub is_context : List ℕ → Bool
@@ -86,7 +89,8 @@ cut_pieces (x ∷ y ∷ rest) =
     elim (x == 39) [
       | true ↦ Some (end_of_text (y ∷ rest))
       | false ↦ elim (x == 92) [
-        | true ↦ elim (is_one_of (codes "'{}\\") y) [ true ↦ option_map (byte_in_front y) (cut_pieces rest) | false ↦ None ]
+        | true ↦ elim (is_one_of (codes "'{}\\") y)
+            [ true ↦ option_map (byte_in_front y) (cut_pieces rest) | false ↦ None ]
         | false ↦ elim (x == 123 && y == 125) [
           | true ↦ option_map hole_in_front (cut_pieces rest)
           | false ↦ option_map (byte_in_front x) (cut_pieces (y ∷ rest))
@@ -114,7 +118,9 @@ number_of digits =
 
 -- the number that digits behind a minus sign spell, where it is in range
 abbrev pub negative_of : List ℕ → Option ℤ
-negative_of digits = if is_whole digits && nat_le (digits_value 10 digits) (2 ^ 63) then Some (negated (digits_value 10 digits)) else None
+negative_of digits =
+    if is_whole digits && nat_le (digits_value 10 digits) (2 ^ 63) then Some (negated (digits_value 10 digits))
+    else None
 
 -- null, a truth value, or a number that isn't negative
 abbrev pub word_of : List ℕ → Option WrittenArgument
@@ -130,7 +136,9 @@ followed_by rest a = (a, rest)
 
 -- a number behind its minus sign
 abbrev pub cut_negative : List ℕ → Cut WrittenArgument
-cut_negative text = let n = front_length is_ascii_digit text in option_map (λ z. followed_by (drop n text) (WrittenInteger z)) (negative_of (take n text))
+cut_negative text =
+    let n = front_length is_ascii_digit text in option_map (λ z. followed_by (drop n text) (WrittenInteger z))
+    (negative_of (take n text))
 
 -- ---- paths
 
@@ -190,7 +198,9 @@ after_argument further argument (x ∷ rest) =
 -- arguments, at least one, up to `)`; there are at most as many as the number
 abbrev pub cut_arguments : (List ℕ → Cut WrittenCall) → ℕ → List ℕ → Cut WrittenArguments
 cut_arguments nested zero text = None
-cut_arguments nested (suc n) text = option_and_then (λ c. after_argument (λ rest. cut_arguments nested n rest) c.0 (without_spaces c.1)) (cut_argument nested (without_spaces text))
+cut_arguments nested (suc n) text =
+    option_and_then (λ c. after_argument (λ rest. cut_arguments nested n rest) c.0 (without_spaces c.1))
+    (cut_argument nested (without_spaces text))
 
 -- what stands behind `(`
 abbrev pub cut_parentheses : (List ℕ → Cut WrittenCall) → List ℕ → Cut WrittenArguments

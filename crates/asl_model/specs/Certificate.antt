@@ -170,10 +170,13 @@ WorkFits declared certificate end n state v (Leaves next u) =
     OutputFits certificate end n next (at_output_path (settings_of state) u)
 WorkFits declared certificate end n state v (FailsWith error cause) = Unit {0}
 WorkFits declared certificate end n state v (Asks payload) = Has (takes_of declared n) payload
-    × ((answer : Tree) → Has (gives_of declared n) answer → OutputFits certificate end n (settings_of state).next (output_of (settings_of state) v answer))
+    × ((answer : Tree) → Has (gives_of declared n) answer
+        → OutputFits certificate end n (settings_of state).next (output_of (settings_of state) v answer))
 WorkFits declared certificate end n state v (Splits inputs) =
     EachHas (λ i. certified_input certificate (start_of (child_scope (kind_of state) i))) inputs
-    × ((outputs : Trees) → count outputs ≡ count inputs → EachHas (λ i. or_never (child_end (kind_of state) (certified certificate n) i)) outputs → OutputFits certificate end n (settings_of state).next (output_of (settings_of state) v (Array outputs)))
+    × ((outputs : Trees) → count outputs ≡ count inputs
+        → EachHas (λ i. or_never (child_end (kind_of state) (certified certificate n) i)) outputs
+        → OutputFits certificate end n (settings_of state).next (output_of (settings_of state) v (Array outputs)))
 WorkFits declared certificate end n state v (Raises fault) = ⊥
 
 -- what a catcher hands on is there, and has the certified input of its next state
@@ -260,7 +263,9 @@ abbrev pub end_at : Certificate → List ℕ → Scope → Shape → Activity �
 end_at certificate [] scope end a = end
 end_at certificate (i ∷ p) scope end (Ready n raw counts) = Never
 end_at certificate (i ∷ p) scope end (Waiting n raw counts payload) = Never
-end_at certificate (i ∷ p) scope end (Split n raw counts children) = end_of_child (λ child. end_at certificate p (scope_below scope n i) (end_under certificate n (state_named n scope) i) child) (child_at i children)
+end_at certificate (i ∷ p) scope end (Split n raw counts children) =
+    end_of_child (λ child. end_at certificate p (scope_below scope n i) (end_under certificate n (state_named n scope)
+    i) child) (child_at i children)
 end_at certificate (i ∷ p) scope end (Done output) = Never
 end_at certificate (i ∷ p) scope end (Failed error cause) = Never
 
@@ -346,10 +351,9 @@ pub record HasSplit (scope : Scope) (n : List ℕ) (raw : Tree) (children : Acti
 
 abbrev mutual
   -- The data of an activity are as certified, which stands in a scope with that end: what is Ready, Waiting or Split
-  -- has
-  -- a raw input of its state's certified input; a Waiting has the payload that its state asks with, one that its task
-  -- takes; a Split has a child for each input that its state splits into; what is Done has an output of the scope's
-  -- end.
+  -- has a raw input of its state's certified input; a Waiting has the payload that its state asks with, one that its
+  -- task takes; a Split has a child for each input that its state splits into; what is Done has an output of the
+  -- scope's end.
   pub DataFits : Declared → Certificate → Activity → Scope → Shape → Type 0
   DataFits declared certificate (Ready n raw counts) scope end = Has (certified_input certificate n) raw
   DataFits declared certificate (Waiting n raw counts payload) scope end =
@@ -369,8 +373,7 @@ abbrev mutual
       × EachDataFits declared certificate others (λ i. scopes (suc i)) (λ i. ends (suc i))
 
 -- An activity is as certified, which stands in a scope with that end: at every depth each state that is Ready, Waiting
--- or
--- Split is one of the scope in which it stands, and the data are as certified.
+-- or Split is one of the scope in which it stands, and the data are as certified.
 pub record ActivityFits (declared : Declared) (certificate : Certificate) (a : Activity) (scope : Scope) (end : Shape) :
     Type 0 where
   pub stands : StandsIn a scope
@@ -421,19 +424,42 @@ EachActivityFits declared certificate machine (turn ∷ turns) =
     ActivityFits declared certificate turn.before machine certificate.output × EachActivityFits declared certificate
     machine turns
 
+-- the data of each activity of a run are as certified: of that before each turn
+abbrev pub EachHasFittingData : Declared → Certificate → Scope → List Turn → Type 0
+EachHasFittingData declared certificate machine [] = Unit {0}
+EachHasFittingData declared certificate machine (turn ∷ turns) =
+    DataFits declared certificate turn.before machine certificate.output
+    × EachHasFittingData declared certificate machine turns
+
 -- each event at a state of that group, which is taken and whose answer obeys, leaves an activity as certified that was
 -- so
-pub record IsKeptBy (group : TypeGroup) (declared : Declared) (certificate : Certificate) (machine : Scope) : Type 0
-  where
-    pub kept : (a : Activity) (event : Event) (taken : Step)
-        → ActivityFits declared certificate a machine certificate.output
-        → group_at event.place machine a ≡ Some group → step machine a event ≡ Some taken
-        → ActionObeys declared event.place a event.action → ActivityFits declared certificate taken.after machine
-        certificate.output
+pub record IsKeptBy (group : TypeGroup) (declared : Declared) (certificate : Certificate) (machine : Scope) :
+    Type 0 where
+  pub kept : (a : Activity) (event : Event) (taken : Step)
+      → ActivityFits declared certificate a machine certificate.output
+      → group_at event.place machine a ≡ Some group → step machine a event ≡ Some taken
+      → ActionObeys declared event.place a event.action
+      → ActivityFits declared certificate taken.after machine certificate.output
+
+-- each event at a state of that group, which is taken and whose answer obeys, leaves data as certified that were so
+pub record KeepsData (group : TypeGroup) (declared : Declared) (certificate : Certificate) (machine : Scope) :
+    Type 0 where
+  pub kept : (a : Activity) (event : Event) (taken : Step)
+      → DataFits declared certificate a machine certificate.output
+      → group_at event.place machine a ≡ Some group → step machine a event ≡ Some taken
+      → ActionObeys declared event.place a event.action
+      → DataFits declared certificate taken.after machine certificate.output
 
 -- the activities of a run that obeys are as certified, before each turn and after the last
 pub record ActivitiesAreAsCertified (declared : Declared) (certificate : Certificate) (machine : Scope) (input : Tree)
     (events : List Event) : Type 0 where
   pub before_each : EachActivityFits declared certificate machine (run_of machine input events)
   pub after_all : ActivityFits declared certificate (last_activity (start machine input) (run_of machine input events))
+      machine certificate.output
+
+-- the data of a run's activities that obey are as certified, before each turn and after the last
+pub record DataAreAsCertified (declared : Declared) (certificate : Certificate) (machine : Scope) (input : Tree)
+    (events : List Event) : Type 0 where
+  pub before_each : EachHasFittingData declared certificate machine (run_of machine input events)
+  pub after_all : DataFits declared certificate (last_activity (start machine input) (run_of machine input events))
       machine certificate.output

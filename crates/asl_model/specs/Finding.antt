@@ -111,7 +111,9 @@ input_to_compare machine certificate n = input_of_entry (names_state machine n) 
 
 -- what stands after `InputPath` and `Parameters`
 abbrev pub effective_flow : Settings → Shape → Flow
-effective_flow settings input = flow_then (through_template (codes "Parameters") settings.parameters) (through_path (codes "InputPath") settings.input_path input)
+effective_flow settings input =
+    flow_then (through_template (codes "Parameters") settings.parameters)
+    (through_path (codes "InputPath") settings.input_path input)
 
 -- the output, compared with the state's own and with the input of the state that follows
 abbrev pub next_breaches : (List ℕ → Option Shape) → Shape → List ℕ → List ℕ → Shape → List Breach
@@ -167,7 +169,9 @@ element_shape first rest = join (joined_with_each join Never first) rest
 -- the shape of a child's input; for an element that never comes `ItemSelector` isn't looked at
 abbrev pub item_flow : Option Template → Shape → Shape → Flow
 item_flow None effective element = Ok element
-item_flow (Some selector) effective element = if inhabited element then template_flow (codes "ItemSelector") (template_shape selector effective (Some element)) else Ok Never
+item_flow (Some selector) effective element =
+    if inhabited element then template_flow (codes "ItemSelector") (template_shape selector effective (Some element))
+    else Ok Never
 
 -- one shape for each place
 abbrev pub at_each_place : Shape → Shapes → Shapes
@@ -231,7 +235,9 @@ default_breaches inputs entry settings kind (Some next) s =
 
 -- the shape of what a catcher places: the error's name and its cause
 abbrev pub error_output_shape : Shape
-error_output_shape = ObjectShape (AndFieldShape (codes "Cause") true StringShape (AndFieldShape (codes "Error") true StringShape NoFieldShapes)) false
+error_output_shape =
+    ObjectShape (AndFieldShape (codes "Cause") true StringShape
+    (AndFieldShape (codes "Error") true StringShape NoFieldShapes)) false
 
 -- the shape of the state's input with the error output placed at a catcher's `ResultPath`; where that is null, that
 -- input
@@ -283,7 +289,10 @@ work_breaches declared inputs end n entry settings Succeed s =
     breaches_then (end_breaches entry.output (codes "Type") end) (leave settings Succeed entry.input s)
 work_breaches declared inputs end n entry settings (Fail error cause) s = []
 work_breaches declared inputs end n entry settings (Parallel branches) s = branch_breaches inputs branches s
-work_breaches declared inputs end n entry settings (Map items selector processor) s = with_items (λ elements. breaches_then (child_breaches inputs (codes "ItemProcessor") processor) (item_flow selector s (element_shape elements.0 elements.1)) ++ map_breaches inputs end entry settings (Map items selector processor) entry.item elements) (look items s)
+work_breaches declared inputs end n entry settings (Map items selector processor) s =
+    with_items (λ elements. breaches_then (child_breaches inputs (codes "ItemProcessor") processor)
+    (item_flow selector s (element_shape elements.0 elements.1))
+    ++ map_breaches inputs end entry settings (Map items selector processor) entry.item elements) (look items s)
 
 -- the rules that need no effective input, by the state's type: on a result that is a literal, declared of the task or
 -- certified of the branches, and on a Choice without `Default`
@@ -309,7 +318,12 @@ settled_breaches declared inputs end n entry settings (Map items selector proces
 abbrev pub flow_breaches : Declared → (List ℕ → Option Shape) → Option Shape → List ℕ → Settings → Kind
     → Option StateShapes → List Breach
 flow_breaches declared inputs end n settings kind None = []
-flow_breaches declared inputs end n settings kind (Some entry) = if inhabited entry.input then breaches_then (work_breaches declared inputs end n entry settings kind) (effective_flow settings entry.input) ++ (settled_breaches declared inputs end n entry settings kind ++ catcher_breaches inputs entry.input settings.catchers) else []
+flow_breaches declared inputs end n settings kind (Some entry) =
+    if inhabited entry.input
+    then breaches_then (work_breaches declared inputs end n entry settings kind) (effective_flow settings entry.input)
+        ++ (settled_breaches declared inputs end n entry settings kind
+        ++ catcher_breaches inputs entry.input settings.catchers)
+    else []
 
 -- every rule that is broken at a state, by its name, in a scope with that shape of its end
 abbrev pub state_breaches : Scope → Declared → Certificate → Option Shape → List ℕ → Settings → Kind → List Breach
@@ -373,13 +387,17 @@ unknown_tasks machine (task ∷ tasks) =
 
 -- the declared input, compared with that of the machine's start state
 abbrev pub start_findings : Scope → Declared → Certificate → List Finding
-start_findings machine declared certificate = found_at (start_of machine) (breach_unless_sub (codes "StartAt") StartInput declared.input (input_to_compare machine certificate (start_of machine)))
+start_findings machine declared certificate =
+    found_at (start_of machine) (breach_unless_sub (codes "StartAt") StartInput declared.input
+    (input_to_compare machine certificate (start_of machine)))
 
 -- every rule that is broken
 abbrev pub findings : Scope → Declared → Certificate → List Finding
 findings machine declared certificate =
     unknown_entries machine certificate.states
-    ++ (unknown_tasks machine declared.tasks ++ (start_findings machine declared certificate ++ scope_findings machine machine declared certificate (Some certificate.output)))
+    ++ (unknown_tasks machine declared.tasks
+        ++ (start_findings machine declared certificate
+        ++ scope_findings machine machine declared certificate (Some certificate.output)))
 
 -- the rule with the finding's fault is broken at its state and field
 abbrev pub Stands : Scope → Declared → Certificate → Finding → Type 0

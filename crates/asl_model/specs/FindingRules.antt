@@ -1,7 +1,6 @@
 -- The rules of a certificate, one by one, and what breaks each: a finding stands where the rule with its fault is
--- broken
--- at its state and field, whatever other findings stand. The rules are the profile's own; the shapes are those of
--- ShapeFlow and ShapeOrder. The list of all findings that a checker computes is in Finding, and holds exactly these.
+-- broken at its state and field, whatever other findings stand. The rules are the profile's own; the shapes are those
+-- of ShapeFlow and ShapeOrder. The list of all findings that a checker computes is in Finding, and holds exactly these.
 use Rattle.std.specs.Prelude.{◌≡◌, ℕ, zero, suc, List, Bool, IsTrue, IsFalse, Option, Some, None, Ok, Err, Contains, codes}
 use Rattle.asl_model.specs.Path.{Segment}
 use Rattle.asl_model.specs.Tree.{Tree}
@@ -56,7 +55,8 @@ pub data IsCompared (machine : Scope) (certificate : Certificate) (n : List ℕ)
   compared_with_entry : {entry : StateShapes} → certified certificate n ≡ Some entry
       → IsCompared machine certificate n entry.input
   compared_with_never : certified certificate n ≡ None
-      → ((settings : Settings) (kind : Kind) (end : Option Shape) → HasState machine certificate n settings kind end → ⊥)
+      → ((settings : Settings) (kind : Kind) (end : Option Shape) → HasState machine certificate n settings kind end
+          → ⊥)
       → IsCompared machine certificate n Never
 
 -- ---- what flows through a state
@@ -272,7 +272,8 @@ pub data IsBroken (machine : Scope) (declared : Declared) (certificate : Certifi
       → IsBroken machine declared certificate (record { state = n; field = codes "states"; fault = NotCertified })
   -- an entry names no state
   is_not_a_state : {entry : List ℕ × StateShapes} → Contains certificate.states entry
-      → ((settings : Settings) (kind : Kind) (end : Option Shape) → HasState machine certificate entry.0 settings kind end → ⊥)
+      → ((settings : Settings) (kind : Kind) (end : Option Shape)
+          → HasState machine certificate entry.0 settings kind end → ⊥)
       → IsBroken machine declared certificate (record { state = entry.0; field = codes "states"; fault = NotAState })
   -- a Task isn't declared
   is_undeclared : {n resource : List ℕ} {settings : Settings} {end : Option Shape}
@@ -280,7 +281,8 @@ pub data IsBroken (machine : Scope) (declared : Declared) (certificate : Certifi
       → IsBroken machine declared certificate (record { state = n; field = codes "Resource"; fault = TaskUndeclared })
   -- a declared task names no Task state
   is_unknown : {task : List ℕ × TaskShapes} → Contains declared.tasks task
-      → ((settings : Settings) (resource : List ℕ) (end : Option Shape) → HasState machine certificate task.0 settings (Task resource) end → ⊥)
+      → ((settings : Settings) (resource : List ℕ) (end : Option Shape)
+          → HasState machine certificate task.0 settings (Task resource) end → ⊥)
       → IsBroken machine declared certificate (record { state = task.0; field = codes "tasks"; fault = TaskUnknown })
   -- the declared input isn't inside the start state's
   is_no_start_input : {expected : Shape} → IsCompared machine certificate (start_of machine) expected

@@ -28,7 +28,9 @@ by_template field (Some template) v = met_in field (template_value template v No
 
 -- what stands after `InputPath` and `Parameters`
 abbrev pub effective_input : Settings → Tree → Result Tree Fault
-effective_input settings raw = and_then (by_template (codes "Parameters") settings.parameters) (at_path (codes "InputPath") settings.input_path raw)
+effective_input settings raw =
+    and_then (by_template (codes "Parameters") settings.parameters)
+    (at_path (codes "InputPath") settings.input_path raw)
 
 -- the result placed in the raw input; with `ResultPath` null the raw input itself
 abbrev pub result_placed : Option (List Segment) → Tree → Tree → Result Tree Fault
@@ -41,7 +43,9 @@ at_output_path settings v = at_path (codes "OutputPath") settings.output_path v
 
 -- the output of a state with that raw input and that result: `ResultSelector`, `ResultPath`, `OutputPath`
 abbrev pub output_of : Settings → Tree → Tree → Result Tree Fault
-output_of settings raw result = and_then (at_output_path settings) (and_then (result_placed settings.result_path raw) (by_template (codes "ResultSelector") settings.result_selector result))
+output_of settings raw result =
+    and_then (at_output_path settings) (and_then (result_placed settings.result_path raw)
+    (by_template (codes "ResultSelector") settings.result_selector result))
 
 -- what a state's first move comes to
 pub data Work : Type 0 where
@@ -149,7 +153,9 @@ work_of Succeed settings raw = works_on (Leaves None) (effective_input settings 
 work_of (Fail error cause) settings raw = FailsWith error cause
 work_of (Parallel branches) settings raw =
     works_on (λ v. Splits (branch_inputs branches v)) (effective_input settings raw)
-work_of (Map items selector processor) settings raw = works_on (λ v. works_on Splits (and_then (item_inputs selector v 0) (map_items items v))) (effective_input settings raw)
+work_of (Map items selector processor) settings raw =
+    works_on (λ v. works_on Splits (and_then (item_inputs selector v 0) (map_items items v)))
+    (effective_input settings raw)
 
 -- what a state's first move comes to for a raw input
 abbrev pub first_move : State → Tree → Work

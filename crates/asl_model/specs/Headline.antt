@@ -33,8 +33,7 @@ pub record AreClosed (definition declared certificate : List ℕ) : Type 0 where
   pub closed : IsClosed shapes certified machine
 
 -- The three texts read, and for every input of the declared shape and every list of moves and task answers, branches
--- and
--- iterations interleaved in any way, each answer a failure or of its declared shape, the run raises none of the six
+-- and iterations interleaved in any way, each answer a failure or of its declared shape, the run raises none of the six
 -- data-flow faults, and every state's input, every task's payload and every output has its certified shape.
 pub record NeverFaults (definition declared certificate : List ℕ) : Type 0 where
   pub machine : Scope

@@ -125,7 +125,9 @@ abbrev pub holes_filled : List ℕ → List (List ℕ) → Trees → Option (Lis
 holes_filled first [] NoTrees = Some first
 holes_filled first [] (AndTree t ts) = None
 holes_filled first (piece ∷ pieces) NoTrees = None
-holes_filled first (piece ∷ pieces) (AndTree t ts) = option_and_then (λ word. option_map (λ further. first ++ (word ++ further)) (holes_filled piece pieces ts)) (word_of t)
+holes_filled first (piece ∷ pieces) (AndTree t ts) =
+    option_and_then (λ word. option_map (λ further. first ++ (word ++ further)) (holes_filled piece pieces ts))
+    (word_of t)
 
 -- the pieces of the text that is a call's first argument, where it is a literal one
 abbrev pub literal_pieces : Arguments → Option Pieces
@@ -192,4 +194,6 @@ abbrev mutual
   -- the values of all arguments
   pub argument_values : Arguments → Tree → Option Item → Option Trees
   argument_values NoArguments input item = Some NoTrees
-  argument_values (AndArgument argument others) input item = option_and_then (λ t. option_map (AndTree t) (argument_values others input item)) (argument_value argument input item)
+  argument_values (AndArgument argument others) input item =
+      option_and_then (λ t. option_map (AndTree t) (argument_values others input item))
+      (argument_value argument input item)

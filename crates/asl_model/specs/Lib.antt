@@ -3,6 +3,7 @@ pub mod CallGrammar
 pub mod CallSpelling
 pub mod Certificate
 pub mod DefinitionTable
+pub mod Edges
 pub mod Faults
 pub mod Finding
 pub mod FindingRules

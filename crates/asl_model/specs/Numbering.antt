@@ -26,7 +26,9 @@ abbrev mutual
   -- so for the states of a scope with that start
   pub standing_among : List ℕ → Option (List ℕ × ℕ) → States → List Standing
   standing_among start owner NoStates = []
-  standing_among start owner (AndState n state others) = record { name = n; state = state; start = start; owner = owner } ∷ (standing_inside n state ++ standing_among start owner others)
+  standing_among start owner (AndState n state others) =
+      record { name = n; state = state; start = start; owner = owner }
+      ∷ (standing_inside n state ++ standing_among start owner others)
 
   -- in the scopes of the state of that name
   pub standing_inside : List ℕ → State → List Standing
@@ -96,7 +98,8 @@ number_or_0 states n = unwrap_or (number_of states n) 0
 
 -- where a state among those stands, by their numbers
 abbrev pub placement_of : List Standing → Standing → Placement
-placement_of states s = record { start = number_or_0 states s.start; owner = option_map (λ o. (number_or_0 states o.0, o.1)) s.owner }
+placement_of states s =
+    record { start = number_or_0 states s.start; owner = option_map (λ o. (number_or_0 states o.0, o.1)) s.owner }
 
 -- A machine as one table of its states: by number the name of each, the state itself, and where it stands.
 pub record Table : Type 0 where
@@ -106,7 +109,9 @@ pub record Table : Type 0 where
 
 -- the table of those states
 abbrev pub table_among : List Standing → Table
-table_among states = record { names = map (λ s. s.name) states; states = map (λ s. s.state) states; placements = map (placement_of states) states }
+table_among states =
+    record { names = map (λ s. s.name) states; states = map (λ s. s.state) states;
+             placements = map (placement_of states) states }
 
 -- the table of a machine: each state without the states of its scopes, which have numbers of their own
 abbrev pub table_of : Scope → Table

@@ -52,7 +52,8 @@ cut_quoted_name quote text =
 abbrev pub cut_index : List ℕ → Option (Segment × List ℕ)
 cut_index text =
     let n = front_length is_ascii_digit text in
-    if is_index (take n text) then option_map (λ rest. (Index (digits_value 10 (take n text)), rest)) (after 93 (drop n text)) else None
+    if is_index (take n text)
+    then option_map (λ rest. (Index (digits_value 10 (take n text)), rest)) (after 93 (drop n text)) else None
 
 -- what stands behind `[`: a name in apostrophes or in quotes, or an index
 abbrev pub cut_bracket : List ℕ → Option (Segment × List ℕ)
@@ -131,7 +132,9 @@ has_byte b (x ∷ rest) = x == b || has_byte b rest
 
 -- `.name` where the name is a dot name, else `['name']` where it has no apostrophe, else `["name"]`
 abbrev pub printed_segment : Segment → List ℕ
-printed_segment (Name n) = if is_dot_name n then codes "." ++ n else (if has_byte 39 n then codes "[\"" ++ (n ++ codes "\"]") else codes "['" ++ (n ++ codes "']"))
+printed_segment (Name n) =
+    if is_dot_name n then codes "." ++ n
+    else (if has_byte 39 n then codes "[\"" ++ (n ++ codes "\"]") else codes "['" ++ (n ++ codes "']"))
 printed_segment (Index i) = codes "[" ++ (decimal i ++ codes "]")
 
 -- the printed form of each segment, in order

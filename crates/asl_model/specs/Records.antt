@@ -129,11 +129,15 @@ has_row n (row ∷ rows) = bytes_eq row.field n || has_row n rows
 -- a complaint for each field that has no row
 abbrev pub unknown_complaints : List ℕ → List RecordRow → Members → List RecordComplaint
 unknown_complaints name rows json.no_members = []
-unknown_complaints name rows (json.member n v ms) = if has_row n rows then unknown_complaints name rows ms else complaint name n UnknownField ∷ unknown_complaints name rows ms
+unknown_complaints name rows (json.member n v ms) =
+    if has_row n rows then unknown_complaints name rows ms
+    else complaint name n UnknownField ∷ unknown_complaints name rows ms
 
 -- what is wrong with an object of those fields
 abbrev pub object_complaints : List ℕ → List RecordRow → Data → List RecordComplaint
-object_complaints name rows v = unwrap_or (option_map (λ ms. rows_complaints name rows ms ++ unknown_complaints name rows ms) (as_object v)) (complaint name [] NotObject ∷ [])
+object_complaints name rows v =
+    unwrap_or (option_map (λ ms. rows_complaints name rows ms ++ unknown_complaints name rows ms) (as_object v))
+    (complaint name [] NotObject ∷ [])
 
 -- the members of an object, none of anything else; and of the field of that name
 abbrev pub members_in : Data → Members
@@ -194,11 +198,13 @@ entries_from f (json.member n v ms) = (n, f v) ∷ entries_from f ms
 
 -- the declared shapes that a value without a fault stands for
 abbrev pub declared_from : Data → Declared
-declared_from v = record { input = shape_at (codes "input") v; tasks = entries_from task_from (members_under (codes "tasks") v) }
+declared_from v =
+    record { input = shape_at (codes "input") v; tasks = entries_from task_from (members_under (codes "tasks") v) }
 
 -- the certificate that one stands for
 abbrev pub certificate_from : Data → Certificate
-certificate_from v = record { output = shape_at (codes "output") v; states = entries_from state_from (members_under (codes "states") v) }
+certificate_from v =
+    record { output = shape_at (codes "output") v; states = entries_from state_from (members_under (codes "states") v) }
 
 -- ---- the value stands for the record
 

@@ -82,8 +82,7 @@ pub data HasOnly (n : List ℕ) (t : Tree) : Fields → Type 0 where
 
 mutual
   -- the fields stand for a test: `And` or `Or` with a list of rules, or `Not` with one, without `Variable`; or
-  -- `Variable`
-  -- with a path, and one operator
+  -- `Variable` with a path, and one operator
   pub data StandsForTest : Fields → Test → Type 0 where
     stands_for_and : {fs : Fields} {ts : Trees} {tests : Tests} → field_named (codes "Variable") fs ≡ None
         → HasOnly (codes "And") (Array ts) fs → StandForTests ts tests → StandsForTest fs (And tests)

@@ -1,8 +1,7 @@
--- How the rules of a Choice are spelled (States Language, "Choice State").
--- A rule is `And` or `Or` with a list of rules, `Not` with one, or `Variable` with exactly one operator. At the top it
--- has `Next`, and may have a `Comment`. The profile chooses: an escape in a pattern other than `\*` and `\\` is
--- refused.
--- Every tree has here a test, with defaults where something is wrong, and a list of all that is wrong with it.
+-- How the rules of a Choice are spelled (States Language, "Choice State"). A rule is `And` or `Or` with a list of
+-- rules, `Not` with one, or `Variable` with exactly one operator. At the top it has `Next`, and may have a `Comment`.
+-- The profile chooses: an escape in a pattern other than `\*` and `\\` is refused. Every tree has here a test, with
+-- defaults where something is wrong, and a list of all that is wrong with it.
 use Rattle.std.specs.Prelude.{◌≡◌, ◌-◌, ℕ, List, [], ◌∷◌, ◌++◌, length, take, drop, ◌==◌, ◌||◌, Bool, true, false, is_some, if◌then◌else◌, Option, Some, None, option_map, option_and_then, Result, Ok, Err, bytes_eq, codes}
 use Rattle.std.specs.Option.{unwrap_or}
 use Rattle.std.specs.List.{Contains}
@@ -86,7 +85,8 @@ pattern_of [] = Some []
 pattern_of (x ∷ []) = if x == 92 then None else (if x == 42 then Some (Star ∷ []) else Some (ByteOf x ∷ []))
 pattern_of (x ∷ y ∷ rest) =
     elim (x == 92) [
-      | true ↦ elim (y == 42 || y == 92) [ true ↦ option_map (λ parts. ByteOf y ∷ parts) (pattern_of rest) | false ↦ None ]
+      | true ↦ elim (y == 42 || y == 92)
+          [ true ↦ option_map (λ parts. ByteOf y ∷ parts) (pattern_of rest) | false ↦ None ]
       | false ↦ option_map (λ parts. (if x == 42 then Star else ByteOf x) ∷ parts) (pattern_of (y ∷ rest))
     ]
 
@@ -121,7 +121,9 @@ named_test p n t = given_or UnknownOperator (λ operator. operator_test p operat
 -- the fields but `Variable`, `Next` and `Comment`
 abbrev pub main_fields : Fields → List (List ℕ × Tree)
 main_fields NoFields = []
-main_fields (AndField n t fs) = if bytes_eq n (codes "Variable") || (bytes_eq n (codes "Next") || bytes_eq n (codes "Comment")) then main_fields fs else (n, t) ∷ main_fields fs
+main_fields (AndField n t fs) =
+    if bytes_eq n (codes "Variable") || (bytes_eq n (codes "Next") || bytes_eq n (codes "Comment")) then main_fields fs
+    else (n, t) ∷ main_fields fs
 
 -- the path in `Variable`
 abbrev pub variable_in : Fields → Option (List Segment)

@@ -102,7 +102,10 @@ one_higher (suc i) (c ∷ cs) = c ∷ one_higher i cs
 -- decides, and retries while its count is below its `MaxAttempts`.
 abbrev pub retrying : ℕ → List Retrier → List ℕ → List ℕ → Option ℕ
 retrying i [] counts error = None
-retrying i (retrier ∷ others) counts error = if takes_error error retrier.error_equals then (if nat_lt (count_at i counts) retrier.max_attempts then Some i else None) else retrying (suc i) others counts error
+retrying i (retrier ∷ others) counts error =
+    if takes_error error retrier.error_equals
+    then (if nat_lt (count_at i counts) retrier.max_attempts then Some i else None)
+    else retrying (suc i) others counts error
 
 -- the first catcher that takes the error, with its number, where the catchers are numbered from i on
 abbrev pub catching : ℕ → List Catcher → List ℕ → Option (ℕ × Catcher)
@@ -152,7 +155,9 @@ unless_retrying (Some i) otherwise = Retries i
 
 -- what comes of an error: a retrier that retries, else the first catcher that takes it, else the state fails
 abbrev pub trouble_of : Settings → Tree → List ℕ → List ℕ → List ℕ → Trouble
-trouble_of settings raw counts error cause = unless_retrying (retrying 0 settings.retriers counts error) (caught_by (catching 0 settings.catchers error) raw error cause)
+trouble_of settings raw counts error cause =
+    unless_retrying (retrying 0 settings.retriers counts error)
+    (caught_by (catching 0 settings.catchers error) raw error cause)
 
 -- the error's name appears in an `ErrorEquals`: as itself, or by `States.ALL`, which stands for every name
 pub data AppearsIn : List ℕ → List (List ℕ) → Type 0 where
@@ -211,9 +216,13 @@ pub data ComesTo (settings : Settings) (raw : Tree) (counts : List ℕ) (error c
 
 -- the step that comes of an error in state n
 abbrev pub by_trouble : List ℕ → Tree → List ℕ → List ℕ → List ℕ → Trouble → Step
-by_trouble n raw counts error cause (Retries i) = record { entries = Retried n i ∷ []; after = Ready n raw (one_higher i counts) }
-by_trouble n raw counts error cause (Catches i next input) = record { entries = Caught n i next ∷ []; after = Ready next input [] }
-by_trouble n raw counts error cause Misfits = entry_then (Raised n (record { error = ResultPathMatchFailure; field = codes "Catch" })) (ends_failing (error_name ResultPathMatchFailure) (codes "Catch"))
+by_trouble n raw counts error cause (Retries i) =
+    record { entries = Retried n i ∷ []; after = Ready n raw (one_higher i counts) }
+by_trouble n raw counts error cause (Catches i next input) =
+    record { entries = Caught n i next ∷ []; after = Ready next input [] }
+by_trouble n raw counts error cause Misfits =
+    entry_then (Raised n (record { error = ResultPathMatchFailure; field = codes "Catch" }))
+    (ends_failing (error_name ResultPathMatchFailure) (codes "Catch"))
 by_trouble n raw counts error cause Escapes = ends_failing error cause
 
 -- state n is in trouble with an error and a cause
@@ -252,8 +261,10 @@ by_work n state raw counts (Finishes result) = finishes n (settings_of state) ra
 by_work n state raw counts (Leaves next v) =
     leaves_with n (settings_of state) raw counts next (at_output_path (settings_of state) v)
 by_work n state raw counts (FailsWith error cause) = ends_failing error cause
-by_work n state raw counts (Asks payload) = record { entries = Asked n payload ∷ []; after = Waiting n raw counts payload }
-by_work n state raw counts (Splits inputs) = record { entries = []; after = Split n raw counts (started (child_scope (kind_of state)) inputs) }
+by_work n state raw counts (Asks payload) =
+    record { entries = Asked n payload ∷ []; after = Waiting n raw counts payload }
+by_work n state raw counts (Splits inputs) =
+    record { entries = []; after = Split n raw counts (started (child_scope (kind_of state)) inputs) }
 by_work n state raw counts (Raises fault) = faulted n (settings_of state) raw counts fault
 
 -- state n is entered
@@ -307,7 +318,9 @@ join_error (Map items selector processor) error = error
 -- the move of a Split, where its children are far enough: they are gone then
 abbrev pub joins : List ℕ → State → Tree → List ℕ → Joining → Option Step
 joins n state raw counts (AllDone outputs) = Some (finishes n (settings_of state) raw counts (Array outputs))
-joins n state raw counts (OneFailed i error cause) = Some (entry_then (BranchFailed n i error cause) (troubled n (settings_of state) raw counts (join_error (kind_of state) error) cause))
+joins n state raw counts (OneFailed i error cause) =
+    Some (entry_then (BranchFailed n i error cause)
+    (troubled n (settings_of state) raw counts (join_error (kind_of state) error) cause))
 joins n state raw counts StillRunning = None
 
 -- what a state that is Ready does: it is entered; None where the action isn't enabled
@@ -385,14 +398,17 @@ set_child (suc i) a (AndActivity child others) = AndActivity child (set_child i 
 
 -- a step of the child of that number, as one of the whole
 abbrev pub within : List ℕ → Tree → List ℕ → Activities → ℕ → Step → Step
-within n raw counts children i step = record { entries = step.entries; after = Split n raw counts (set_child i step.after children) }
+within n raw counts children i step =
+    record { entries = step.entries; after = Split n raw counts (set_child i step.after children) }
 
 -- one step at a place of an activity, which stands in a scope; None where the action isn't enabled there
 abbrev pub step_at : List ℕ → Scope → Activity → Action → Option Step
 step_at [] scope a action = acts scope a action
 step_at (i ∷ p) scope (Ready n raw counts) action = None
 step_at (i ∷ p) scope (Waiting n raw counts payload) action = None
-step_at (i ∷ p) scope (Split n raw counts children) action = option_map (within n raw counts children i) (option_and_then (λ child. step_at p (scope_below scope n i) child action) (child_at i children))
+step_at (i ∷ p) scope (Split n raw counts children) action =
+    option_map (within n raw counts children i)
+    (option_and_then (λ child. step_at p (scope_below scope n i) child action) (child_at i children))
 step_at (i ∷ p) scope (Done output) action = None
 step_at (i ∷ p) scope (Failed error cause) action = None
 
@@ -414,7 +430,9 @@ after_step a (Some taken) = taken.after
 -- the turns that the events make, one after the other, from an activity on
 abbrev pub run : Scope → Activity → List Event → List Turn
 run machine a [] = []
-run machine a (event ∷ events) = let taken = step machine a event in record { before = a; event = event; taken = taken } ∷ run machine (after_step a taken) events
+run machine a (event ∷ events) =
+    let taken = step machine a event in
+    record { before = a; event = event; taken = taken } ∷ run machine (after_step a taken) events
 
 -- a run begins Ready at the start state, all counts 0
 abbrev pub start : Scope → Tree → Activity

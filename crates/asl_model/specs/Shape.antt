@@ -187,7 +187,9 @@ before_mentions n (AndFieldShape m needed s shapes) = comes_before n m
 -- the mentions with one more, in front of the first whose name comes behind
 abbrev pub insert_mention : List ℕ → Bool → Shape → FieldShapes → FieldShapes
 insert_mention n needed s NoFieldShapes = AndFieldShape n needed s NoFieldShapes
-insert_mention n needed s (AndFieldShape m other t shapes) = if comes_before n m then AndFieldShape n needed s (AndFieldShape m other t shapes) else AndFieldShape m other t (insert_mention n needed s shapes)
+insert_mention n needed s (AndFieldShape m other t shapes) =
+    if comes_before n m then AndFieldShape n needed s (AndFieldShape m other t shapes)
+    else AndFieldShape m other t (insert_mention n needed s shapes)
 
 abbrev mutual
   -- its names are UTF-8, and each object mentions its names once, in byte order; depth has no limit here

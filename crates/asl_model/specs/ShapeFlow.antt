@@ -334,7 +334,9 @@ unless_doubts (doubt ∷ others) s = Err (doubt ∷ others)
 
 -- the shape of the values that a template has for the trees of a shape and the items of another, or all its doubts
 abbrev pub template_shape : Template → Shape → Option Shape → Result Shape (List (List ℕ × Doubt))
-template_shape template input item = if inhabited input then unless_doubts (doubts template [] input item) (filled_shape template input item) else Ok Never
+template_shape template input item =
+    if inhabited input then unless_doubts (doubts template [] input item) (filled_shape template input item)
+    else Ok Never
 
 -- Rules
 
@@ -487,7 +489,9 @@ output_flow settings s = through_path (codes "OutputPath") settings.output_path 
 
 -- `ResultSelector`, `ResultPath`, `OutputPath`
 abbrev pub result_flow : Settings → Shape → Shape → Flow
-result_flow settings raw result = flow_then (output_flow settings) (flow_then (through_placing (codes "ResultPath") settings.result_path raw) (through_template (codes "ResultSelector") settings.result_selector result))
+result_flow settings raw result =
+    flow_then (output_flow settings) (flow_then (through_placing (codes "ResultPath") settings.result_path raw)
+    (through_template (codes "ResultSelector") settings.result_selector result))
 
 -- the same, Never where the raw input or the result isn't inhabited
 abbrev pub result_leaves : Settings → Shape → Shape → Flow

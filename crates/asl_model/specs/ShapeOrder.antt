@@ -225,7 +225,9 @@ join_array joined first rest NullShape = Any
 join_array joined first rest BooleanShape = Any
 join_array joined first rest IntegerShape = Any
 join_array joined first rest StringShape = Any
-join_array joined first rest (ArrayShape others further) = ArrayShape (common_joins joined first others) (joined (joined (joined_with_each joined Never (further_places first others)) rest) further)
+join_array joined first rest (ArrayShape others further) =
+    ArrayShape (common_joins joined first others)
+    (joined (joined (joined_with_each joined Never (further_places first others)) rest) further)
 join_array joined first rest (ObjectShape shapes extra) = Any
 
 -- an object shape joined with another shape

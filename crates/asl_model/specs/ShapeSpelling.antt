@@ -71,7 +71,9 @@ type_word_of fs = type_in (field_named (codes "type") fs)
 
 -- read past, of any kind
 abbrev pub annotations : List (List ℕ)
-annotations = codes "$schema" ∷ codes "$id" ∷ codes "$comment" ∷ codes "title" ∷ codes "description" ∷ codes "default" ∷ codes "examples" ∷ []
+annotations =
+    codes "$schema" ∷ codes "$id" ∷ codes "$comment" ∷ codes "title" ∷ codes "description" ∷ codes "default"
+    ∷ codes "examples" ∷ []
 
 -- the keywords of an object shape
 abbrev pub object_keywords : List (List ℕ)
@@ -230,7 +232,8 @@ abbrev mutual
       let extra = extra_in (field_named (codes "additionalProperties") fs) in
       typed_shape (type_word_of fs)
       (ArrayShape (shapes_under (codes "prefixItems") fs) (shape_under (codes "items") fs))
-      (ObjectShape (with_all_needed extra (required_in (field_named (codes "required") fs)) (properties_under (codes "properties") fs)) extra)
+      (ObjectShape (with_all_needed extra (required_in (field_named (codes "required") fs))
+          (properties_under (codes "properties") fs)) extra)
 
   -- the shape that the field of that name spells; Any where there is none
   pub shape_under : List ℕ → Fields → Shape
@@ -300,8 +303,11 @@ abbrev mutual
   shape_faults (Object fs) =
       let prefix = element_count (field_named (codes "prefixItems") fs) in
       typed_faults (type_word_of fs) fs
-      (shapes_faults_under (codes "prefixItems") fs ++ (shape_faults_under (codes "items") fs ++ min_items_faults (field_named (codes "minItems") fs) prefix))
-      (properties_faults_under (codes "properties") fs ++ (required_faults (field_named (codes "required") fs) ++ extra_faults (field_named (codes "additionalProperties") fs)))
+      (shapes_faults_under (codes "prefixItems") fs
+          ++ (shape_faults_under (codes "items") fs ++ min_items_faults (field_named (codes "minItems") fs) prefix))
+      (properties_faults_under (codes "properties") fs
+          ++ (required_faults (field_named (codes "required") fs)
+          ++ extra_faults (field_named (codes "additionalProperties") fs)))
 
   -- what is wrong with the field of that name, where there is one, as the spelling of a shape
   pub shape_faults_under : List ℕ → Fields → List ShapeFault

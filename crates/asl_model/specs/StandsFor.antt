@@ -86,7 +86,9 @@ error_names ms = filter_map as_str (listed (items_at (codes "ErrorEquals") ms))
 
 -- an element of `Retry`; without `MaxAttempts` it retries three times
 abbrev pub retrier_of : Data → Retrier
-retrier_of v = record { error_equals = error_names (members_in v); max_attempts = natural_at (codes "MaxAttempts") 3 (members_in v) }
+retrier_of v =
+    record { error_equals = error_names (members_in v);
+             max_attempts = natural_at (codes "MaxAttempts") 3 (members_in v) }
 
 -- an element of `Catch`; without `ResultPath` the error output replaces the input
 abbrev pub catcher_of : Data → Catcher
@@ -123,18 +125,26 @@ rules_of ms = filter_map (λ v. option_and_then rule_of (tree_of v)) (listed (it
 
 -- the `ItemSelector`, or `Parameters` as its older name
 abbrev pub selector_of : Members → Option Template
-selector_of ms = if is_given (codes "ItemSelector") ms then template_at true (codes "ItemSelector") ms else template_at true (codes "Parameters") ms
+selector_of ms =
+    if is_given (codes "ItemSelector") ms then template_at true (codes "ItemSelector") ms
+    else template_at true (codes "Parameters") ms
 
 -- the state of that type, for what its branches and its processor are
 abbrev pub state_by : Option StateType → Members → Scopes → Scope → State
 state_by None ms branches processor = StateOf (settings_in None ms) Succeed
-state_by (Some PassState) ms branches processor = StateOf (settings_in (template_at false (codes "Parameters") ms) ms) (Pass (option_and_then tree_of (get_member (codes "Result") ms)))
-state_by (Some TaskState) ms branches processor = StateOf (settings_in (template_at false (codes "Parameters") ms) ms) (Task (unwrap_or (text_at (codes "Resource") ms) []))
+state_by (Some PassState) ms branches processor =
+    StateOf (settings_in (template_at false (codes "Parameters") ms) ms)
+    (Pass (option_and_then tree_of (get_member (codes "Result") ms)))
+state_by (Some TaskState) ms branches processor =
+    StateOf (settings_in (template_at false (codes "Parameters") ms) ms)
+    (Task (unwrap_or (text_at (codes "Resource") ms) []))
 state_by (Some ChoiceState) ms branches processor =
     StateOf (settings_in None ms) (Choice (rules_of ms) (text_at (codes "Default") ms))
 state_by (Some WaitState) ms branches processor = StateOf (settings_in None ms) (Wait (delay_of ms))
 state_by (Some SucceedState) ms branches processor = StateOf (settings_in None ms) Succeed
-state_by (Some FailState) ms branches processor = StateOf (settings_in None ms) (Fail (unwrap_or (text_at (codes "Error") ms) []) (unwrap_or (text_at (codes "Cause") ms) []))
+state_by (Some FailState) ms branches processor =
+    StateOf (settings_in None ms)
+    (Fail (unwrap_or (text_at (codes "Error") ms) []) (unwrap_or (text_at (codes "Cause") ms) []))
 state_by (Some ParallelState) ms branches processor =
     StateOf (settings_in (template_at false (codes "Parameters") ms) ms) (Parallel branches)
 state_by (Some MapState) ms branches processor =
@@ -288,7 +298,8 @@ told_field (Some own) field fault = if is_told_by_name fault then field else own
 
 -- a fault of a field of the object that stands there
 abbrev pub complaint_at : Place → List ℕ → DefFault → Complaint
-complaint_at place field fault = record { fault = fault; state = place.state; field = told_field place.within field fault }
+complaint_at place field fault =
+    record { fault = fault; state = place.state; field = told_field place.within field fault }
 
 -- that complaint, unless the test holds
 abbrev pub complain_unless : Bool → Place → List ℕ → DefFault → List Complaint
@@ -317,7 +328,8 @@ abbrev pub foreign_complaints : Place → List Row → Members → List Complain
 foreign_complaints place rows json.no_members = []
 foreign_complaints place rows (json.member n v ms) =
     if has_row n rows then foreign_complaints place rows ms else
-    complaint_at place n (if is_among n left_out_fields then LeftOut else UnknownField) ∷ foreign_complaints place rows ms
+    complaint_at place n (if is_among n left_out_fields then LeftOut else UnknownField)
+        ∷ foreign_complaints place rows ms
 
 -- what is wrong with the fields of an object, those that it may not have included
 abbrev pub fields_complaints : Place → List Row → Members → List Complaint
@@ -347,7 +359,9 @@ has_proper_end ms = not (is_given (codes "End") ms) || is_some (option_and_then 
 -- exactly one of `Next` and `"End": true`, and `Next` names a state of the scope
 abbrev pub next_complaints : Place → List (List ℕ) → Members → List Complaint
 next_complaints place names ms =
-    complain_unless (not (has_proper_end ms && same_truth (is_given (codes "Next") ms) (ends (option_and_then as_bool (get_member (codes "End") ms))))) place (codes "Next") NextOrEnd
+    complain_unless (not (has_proper_end ms
+        && same_truth (is_given (codes "Next") ms) (ends (option_and_then as_bool (get_member (codes "End") ms)))))
+        place (codes "Next") NextOrEnd
     ++ target_complaints place names (codes "Next") (text_at (codes "Next") ms)
 
 -- where both are given the heartbeat is smaller
@@ -359,7 +373,8 @@ smaller (Some heartbeat) (Some timeout) = int_lt heartbeat timeout
 -- `HeartbeatSeconds` is smaller than `TimeoutSeconds` where both are whole numbers
 abbrev pub heartbeat_complaints : Place → Members → List Complaint
 heartbeat_complaints place ms =
-    complain_unless (smaller (option_and_then as_whole (get_member (codes "HeartbeatSeconds") ms)) (option_and_then as_whole (get_member (codes "TimeoutSeconds") ms)))
+    complain_unless (smaller (option_and_then as_whole (get_member (codes "HeartbeatSeconds") ms))
+        (option_and_then as_whole (get_member (codes "TimeoutSeconds") ms)))
     place (codes "HeartbeatSeconds") HeartbeatNotSmaller
 
 -- the last of the names, the first argument counted in front
@@ -380,7 +395,9 @@ one_of_complaints place first (n ∷ m ∷ ns) = complaint_at place (last_of m n
 
 -- exactly one of what a Wait waits for; of a Map's processor and its older name
 abbrev pub wait_complaints : Place → Members → List Complaint
-wait_complaints place ms = one_of_complaints place (codes "Seconds") (given_among (codes "Seconds" ∷ codes "SecondsPath" ∷ codes "Timestamp" ∷ codes "TimestampPath" ∷ []) ms)
+wait_complaints place ms =
+    one_of_complaints place (codes "Seconds")
+    (given_among (codes "Seconds" ∷ codes "SecondsPath" ∷ codes "Timestamp" ∷ codes "TimestampPath" ∷ []) ms)
 
 -- exactly one of a Map's `ItemProcessor` and its older name
 abbrev pub processor_complaints : Place → Members → List Complaint
@@ -389,7 +406,9 @@ processor_complaints place ms =
 
 -- at most one of a Map's `ItemSelector` and its older name
 abbrev pub selector_complaints : Place → Members → List Complaint
-selector_complaints place ms = complain_unless (not (is_given (codes "ItemSelector") ms && is_given (codes "Parameters") ms)) place (codes "Parameters") WrongKind
+selector_complaints place ms =
+    complain_unless (not (is_given (codes "ItemSelector") ms && is_given (codes "Parameters") ms))
+    place (codes "Parameters") WrongKind
 
 -- each rule goes on to a state of the scope
 abbrev pub rules_complaints : Place → List (List ℕ) → List Rule → List Complaint
@@ -538,12 +557,16 @@ abbrev mutual
   state_complaints names state (json.number n) = complaint_at (place_of_state state) [] NotObject ∷ []
   state_complaints names state (json.string s) = complaint_at (place_of_state state) [] NotObject ∷ []
   state_complaints names state (json.array vs) = complaint_at (place_of_state state) [] NotObject ∷ []
-  state_complaints names state (json.object ms) = state_complaints_by (type_of ms) state names ms (branches_complaints_under state ms) (processor_complaints_under state ms)
+  state_complaints names state (json.object ms) =
+      state_complaints_by (type_of ms) state names ms (branches_complaints_under state ms)
+      (processor_complaints_under state ms)
 
   -- with the scopes in `Branches`
   pub branches_complaints_under : List ℕ → Members → List Complaint
   branches_complaints_under state json.no_members = []
-  branches_complaints_under state (json.member n v ms) = elim (bytes_eq (codes "Branches") n) [ true ↦ branches_complaints state v | false ↦ branches_complaints_under state ms ]
+  branches_complaints_under state (json.member n v ms) =
+      elim (bytes_eq (codes "Branches") n)
+      [ true ↦ branches_complaints state v | false ↦ branches_complaints_under state ms ]
 
   -- with the scopes in a list
   pub branches_complaints : List ℕ → Data → List Complaint
@@ -565,14 +588,18 @@ abbrev mutual
   -- with the scope in `ItemProcessor` or `Iterator`
   pub processor_complaints_under : List ℕ → Members → List Complaint
   processor_complaints_under state json.no_members = []
-  processor_complaints_under state (json.member n v ms) = elim (is_processor n) [ true ↦ scope_complaints (place_within state n) processor_rows v | false ↦ processor_complaints_under state ms ]
+  processor_complaints_under state (json.member n v ms) =
+      elim (is_processor n)
+      [ true ↦ scope_complaints (place_within state n) processor_rows v | false ↦ processor_complaints_under state ms ]
 
 -- ---- the machine
 
 -- a name that stands again further on
 abbrev pub duplicate_complaints : List (List ℕ) → List Complaint
 duplicate_complaints [] = []
-duplicate_complaints (n ∷ ns) = if is_among n ns then complaint_at (place_of_state n) (codes "States") DuplicateName ∷ duplicate_complaints ns else duplicate_complaints ns
+duplicate_complaints (n ∷ ns) =
+    if is_among n ns then complaint_at (place_of_state n) (codes "States") DuplicateName ∷ duplicate_complaints ns
+    else duplicate_complaints ns
 
 -- a machine has at most 10,000 states
 abbrev pub number_complaints : List (List ℕ) → List Complaint

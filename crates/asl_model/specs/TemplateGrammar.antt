@@ -7,15 +7,13 @@ use Rattle.asl_model.specs.Template.{Template, Literal, FromPath, FromCall, Arra
 use Rattle.asl_model.specs.CallGrammar.{SpellsReference, SpellsCall}
 
 -- the text of a field whose name ends in `.$` stands for what the path names that it spells, or for the value of a
--- call;
--- the first argument says whether paths to a Map's item are allowed
+-- call; the first argument says whether paths to a Map's item are allowed
 pub data StandsForMarked (item : Bool) : List ℕ → Template → Type 0 where
   stands_for_path : {s : List ℕ} {r : Reference} → SpellsReference item s r → StandsForMarked item s (FromPath r)
   stands_for_call : {s : List ℕ} {c : Call} → SpellsCall item s c → StandsForMarked item s (FromCall c)
 
 -- Fields with one more, put in byte order of names: behind those whose names are lesser, in front of the first whose
--- name
--- is greater. There is no place for a name that is there.
+-- name is greater. There is no place for a name that is there.
 pub data PutsField (n : List ℕ) (p : Template) : FieldTemplates → FieldTemplates → Type 0 where
   puts_last : PutsField n p NoFieldTemplates (AndFieldTemplate n p NoFieldTemplates)
   puts_in_front : {m : List ℕ} {q : Template} {fields : FieldTemplates} → IsTrue (comes_before n m)

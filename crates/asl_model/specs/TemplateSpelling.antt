@@ -44,7 +44,9 @@ call_or_null (Err fault) = Literal Null
 
 -- what the text of a field whose name ends in `.$` stands for: a path or a call
 abbrev pub marked_text : Bool → List ℕ → Template
-marked_text item s = if begins_path s then unwrap_or (option_map FromPath (reference_of item s)) (Literal Null) else call_or_null (call_from item s)
+marked_text item s =
+    if begins_path s then unwrap_or (option_map FromPath (reference_of item s)) (Literal Null)
+    else call_or_null (call_from item s)
 
 -- what the value of such a field stands for
 abbrev pub marked_value : Bool → Tree → Template
@@ -81,7 +83,9 @@ marked_faults item (Object fs) = NotText ∷ []
 -- the fields with one more, in byte order of names
 abbrev pub with_field : List ℕ → Template → FieldTemplates → FieldTemplates
 with_field n p NoFieldTemplates = AndFieldTemplate n p NoFieldTemplates
-with_field n p (AndFieldTemplate m q fields) = if comes_before m n then AndFieldTemplate m q (with_field n p fields) else AndFieldTemplate n p (AndFieldTemplate m q fields)
+with_field n p (AndFieldTemplate m q fields) =
+    if comes_before m n then AndFieldTemplate m q (with_field n p fields)
+    else AndFieldTemplate n p (AndFieldTemplate m q fields)
 
 abbrev mutual
   -- the template that a value inside a template spells
@@ -101,7 +105,9 @@ abbrev mutual
   -- so for the fields, each under its name without `.$`
   pub field_templates_of : Bool → Fields → FieldTemplates
   field_templates_of item NoFields = NoFieldTemplates
-  field_templates_of item (AndField n t fs) = with_field (renamed n) (elim (is_marked n) [ true ↦ marked_value item t | false ↦ part_of item t ]) (field_templates_of item fs)
+  field_templates_of item (AndField n t fs) =
+      with_field (renamed n) (elim (is_marked n) [ true ↦ marked_value item t | false ↦ part_of item t ])
+      (field_templates_of item fs)
 
 -- the names of the fields, renamed
 abbrev pub renamed_names : Fields → List (List ℕ)

@@ -35,7 +35,9 @@ of_state n = with_text (codes "state") n NoFields
 abbrev pub outcome_tree : List ℕ → Outcome → Tree
 outcome_tree place (Output output) =
     at_place place (kind_of_entry (codes "Ended") (AndField (codes "output") output NoFields))
-outcome_tree place (FailedWith error cause) = at_place place (with_text (codes "cause") cause (kind_of_entry (codes "Ended") (with_text (codes "error") error NoFields)))
+outcome_tree place (FailedWith error cause) =
+    at_place place (with_text (codes "cause") cause (kind_of_entry (codes "Ended") (with_text (codes "error") error
+    NoFields)))
 
 -- an entry as an object, its names in byte order
 abbrev pub entry_tree : List ℕ → Entry → Tree
@@ -45,12 +47,20 @@ entry_tree place (Asked n payload) =
     at_place place (kind_of_entry (codes "Task") (AndField (codes "payload") payload (of_state n)))
 entry_tree place (Left n output) =
     at_place place (kind_of_entry (codes "Leave") (AndField (codes "output") output (of_state n)))
-entry_tree place (Raised n fault) = at_place place (kind_of_entry (codes "Raise") (with_text (codes "error") (error_name fault.error) (with_text (codes "field") fault.field (of_state n))))
-entry_tree place (TaskFailed n error cause) = at_place place (with_text (codes "cause") cause (kind_of_entry (codes "TaskFailed") (with_text (codes "error") error (of_state n))))
-entry_tree place (BranchFailed n child error cause) = at_place place (with_text (codes "cause") cause (with_number (codes "child") child (kind_of_entry (codes "BranchFailed") (with_text (codes "error") error (of_state n)))))
+entry_tree place (Raised n fault) =
+    at_place place (kind_of_entry (codes "Raise") (with_text (codes "error") (error_name fault.error) (with_text (codes
+    "field") fault.field (of_state n))))
+entry_tree place (TaskFailed n error cause) =
+    at_place place (with_text (codes "cause") cause (kind_of_entry (codes "TaskFailed") (with_text (codes "error") error
+    (of_state n))))
+entry_tree place (BranchFailed n child error cause) =
+    at_place place (with_text (codes "cause") cause (with_number (codes "child") child (kind_of_entry (codes
+    "BranchFailed") (with_text (codes "error") error (of_state n)))))
 entry_tree place (Retried n retrier) =
     at_place place (kind_of_entry (codes "Retried") (with_number (codes "retrier") retrier (of_state n)))
-entry_tree place (Caught n catcher next) = at_place place (with_number (codes "catcher") catcher (kind_of_entry (codes "Caught") (with_text (codes "next") next (of_state n))))
+entry_tree place (Caught n catcher next) =
+    at_place place (with_number (codes "catcher") catcher (kind_of_entry (codes "Caught") (with_text (codes "next") next
+    (of_state n))))
 entry_tree place (Ended outcome) = outcome_tree place outcome
 
 -- the line of an entry

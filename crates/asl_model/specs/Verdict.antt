@@ -1,6 +1,5 @@
 -- Which verdict is right for a machine, declared shapes and a certificate (the profile's own): yes exactly where no
--- rule
--- is broken, and else one finding for each name that has one.
+-- rule is broken, and else one finding for each name that has one.
 use Rattle.std.specs.Prelude.{◌≡◌, ◌≢◌, ℕ, List, [], ◌∷◌, Bool, true, IsTrue, ⊤, Contains}
 use Rattle.asl_model.specs.Tree.{comes_before}
 use Rattle.asl_model.specs.Machine.{Scope}

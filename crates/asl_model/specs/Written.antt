@@ -65,8 +65,12 @@ abbrev mutual
   written_shape BooleanShape = Object (type_field (codes "boolean"))
   written_shape IntegerShape = Object (type_field (codes "integer"))
   written_shape StringShape = Object (type_field (codes "string"))
-  written_shape (ArrayShape first rest) = Object (array_fields (not (is_any_shape rest)) (some_shapes first) (written_shape rest) (how_many_shapes first) (Array (written_shapes first)))
-  written_shape (ObjectShape shapes extra) = Object (object_fields extra (some_fields shapes) (some_names (needed_names shapes)) (Object (written_fields shapes)) (as_texts (needed_names shapes)))
+  written_shape (ArrayShape first rest) =
+      Object (array_fields (not (is_any_shape rest)) (some_shapes first) (written_shape rest) (how_many_shapes first)
+      (Array (written_shapes first)))
+  written_shape (ObjectShape shapes extra) =
+      Object (object_fields extra (some_fields shapes) (some_names (needed_names shapes))
+      (Object (written_fields shapes)) (as_texts (needed_names shapes)))
 
   -- for each of the shapes
   pub written_shapes : Shapes → Trees
@@ -92,11 +96,15 @@ written_entries f (entry ∷ entries) = AndField entry.0 (f entry.1) (written_en
 
 -- the entry of a declared task
 abbrev pub written_task : TaskShapes → Tree
-written_task task = Object (AndField (codes "gives") (written_shape task.gives) (AndField (codes "takes") (written_shape task.takes) NoFields))
+written_task task =
+    Object (AndField (codes "gives") (written_shape task.gives)
+    (AndField (codes "takes") (written_shape task.takes) NoFields))
 
 -- the tree of declared shapes
 abbrev pub written_declared : Declared → Tree
-written_declared declared = Object (AndField (codes "input") (written_shape declared.input) (AndField (codes "tasks") (Object (written_entries written_task declared.tasks)) NoFields))
+written_declared declared =
+    Object (AndField (codes "input") (written_shape declared.input)
+    (AndField (codes "tasks") (Object (written_entries written_task declared.tasks)) NoFields))
 
 -- `branches` where there are any, and `item` where there is one
 abbrev pub with_branches : List Shape → Fields → Fields
@@ -110,8 +118,14 @@ with_item (Some s) fs = AndField (codes "item") (written_shape s) fs
 
 -- a state's entry in a certificate
 abbrev pub written_state : StateShapes → Tree
-written_state shapes = Object (with_branches shapes.branches (AndField (codes "input") (written_shape shapes.input) (with_item shapes.item (AndField (codes "output") (written_shape shapes.output) NoFields))))
+written_state shapes =
+    Object (with_branches shapes.branches
+    (AndField (codes "input") (written_shape shapes.input)
+    (with_item shapes.item (AndField (codes "output") (written_shape shapes.output) NoFields))))
 
 -- the tree of a certificate
 abbrev pub written_certificate : Certificate → Tree
-written_certificate certificate = Object (AndField (codes "output") (written_shape certificate.output) (AndField (codes "states") (Object (written_entries written_state certificate.states)) (AndField (codes "version") (Integer (pos 1)) NoFields)))
+written_certificate certificate =
+    Object (AndField (codes "output") (written_shape certificate.output)
+    (AndField (codes "states") (Object (written_entries written_state certificate.states))
+    (AndField (codes "version") (Integer (pos 1)) NoFields)))

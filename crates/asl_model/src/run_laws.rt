@@ -10,7 +10,7 @@ ghost use Rattle.asl_model.specs.Test.{PatternPart, is_cut_by, IsCutBy};
 ghost use Rattle.asl_model.specs.Machine.{Scope, Settings, LeadsInside};
 ghost use Rattle.asl_model.specs.Run.{Activity, Action, Entry, Event, Step, activity_at, step_at, run_of, trace, want_of, enabled, count_at, one_higher, Trouble, trouble_of, ComesTo, AreApart, HasChildReplaced, Commute, Enables, AreInLexicographicOrder};
 ghost use Rattle.asl_model.specs.TracePrinted.{HasNoRaiseLine, trace_text};
-ghost use Rattle.asl_model.specs.Certificate.{Declared, Certificate, IsClosed, Obeys, TellsNoFault, RunIsAsCertified, ActivitiesAreAsCertified, MovesOn, Works, Nests, IsKeptBy};
+ghost use Rattle.asl_model.specs.Certificate.{Declared, Certificate, IsClosed, Obeys, TellsNoFault, RunIsAsCertified, ActivitiesAreAsCertified, DataAreAsCertified, MovesOn, Works, Nests, IsKeptBy, KeepsData};
 
 /// Closed runs never fault: where a certificate is closed for a machine and declared shapes, then for every input and
 /// every list of events that obey them, no turn raises a data-flow fault, and each state's input, each payload, each
@@ -34,34 +34,46 @@ pub fn faultless_traces_have_no_raise_line()
     ensures { (told : List (List ℕ × Entry)) → TellsNoFault told → HasNoRaiseLine (trace_text told) }
 {}
 
-/// Every activity of an obeying run is as certified, at every nesting depth, where the machine's names lead inside its
-/// scopes: the state of each Ready, Waiting and Split is one of the scope in which it stands, and its raw input is of the
-/// state's certified input; each Waiting has the payload that its state asks with, one that its task takes; each Split
-/// one child a branch, or one an element of the list found for its raw input, each in its own scope; each Done an output
-/// of its scope's end.
+/// Every activity of an obeying run is as certified, at every nesting depth. Its data are, for every machine: the raw input
+/// of each Ready, Waiting and Split is of its state's certified input; each Waiting has the payload that its state asks
+/// with, one that its task takes; each Split one child a branch, or one an element of the list found for its raw input,
+/// each in its own scope; each Done an output of its scope's end. Where the machine's names lead inside its scopes, the
+/// state of each Ready, Waiting and Split is one of the scope in which it stands.
 pub fn every_activity_is_as_certified()
-    ensures { (declared : Declared) (certificate : Certificate) (machine : Scope) → IsClosed declared certificate machine
-        → LeadsInside machine → (input : Tree) (events : List Event) → Obeys declared machine input events
-        → ActivitiesAreAsCertified declared certificate machine input events }
+    ensures data_fit { (declared : Declared) (certificate : Certificate) (machine : Scope)
+        → IsClosed declared certificate machine → (input : Tree) (events : List Event)
+        → Obeys declared machine input events → DataAreAsCertified declared certificate machine input events }
+    ensures activities_fit { (declared : Declared) (certificate : Certificate) (machine : Scope)
+        → IsClosed declared certificate machine → LeadsInside machine → (input : Tree) (events : List Event)
+        → Obeys declared machine input events → ActivitiesAreAsCertified declared certificate machine input events }
 {}
 
-/// An event at a Pass, a Succeed or a Fail, wherever it is nested, leaves every activity as certified, where the machine's
-/// names lead inside its scopes. So it is for the machine of every definition.
+/// An event at a Pass, a Succeed or a Fail, wherever it is nested, leaves every activity's data as certified; and every
+/// activity, where the machine's names lead inside its scopes, as those of every definition do.
 pub fn moving_on_keeps_activities_as_certified()
-    ensures { (declared : Declared) (certificate : Certificate) (machine : Scope) → IsClosed declared certificate machine
-        → LeadsInside machine → IsKeptBy MovesOn declared certificate machine }
+    ensures data_fit { (declared : Declared) (certificate : Certificate) (machine : Scope)
+        → IsClosed declared certificate machine → KeepsData MovesOn declared certificate machine }
+    ensures activities_fit { (declared : Declared) (certificate : Certificate) (machine : Scope)
+        → IsClosed declared certificate machine → LeadsInside machine
+        → IsKeptBy MovesOn declared certificate machine }
 {}
 
 /// So does an event at a Wait, a Choice or a Task, with retry and catch.
 pub fn working_keeps_activities_as_certified()
-    ensures { (declared : Declared) (certificate : Certificate) (machine : Scope) → IsClosed declared certificate machine
-        → LeadsInside machine → IsKeptBy Works declared certificate machine }
+    ensures data_fit { (declared : Declared) (certificate : Certificate) (machine : Scope)
+        → IsClosed declared certificate machine → KeepsData Works declared certificate machine }
+    ensures activities_fit { (declared : Declared) (certificate : Certificate) (machine : Scope)
+        → IsClosed declared certificate machine → LeadsInside machine
+        → IsKeptBy Works declared certificate machine }
 {}
 
 /// So does an event at a Parallel or a Map, which splits, joins or abandons its children.
 pub fn nesting_keeps_activities_as_certified()
-    ensures { (declared : Declared) (certificate : Certificate) (machine : Scope) → IsClosed declared certificate machine
-        → LeadsInside machine → IsKeptBy Nests declared certificate machine }
+    ensures data_fit { (declared : Declared) (certificate : Certificate) (machine : Scope)
+        → IsClosed declared certificate machine → KeepsData Nests declared certificate machine }
+    ensures activities_fit { (declared : Declared) (certificate : Certificate) (machine : Scope)
+        → IsClosed declared certificate machine → LeadsInside machine
+        → IsKeptBy Nests declared certificate machine }
 {}
 
 /// What stands apart from an event's place stays as it was. What stands above it is a Split, and stays the Split of the

@@ -1,6 +1,6 @@
 //! Laws about shapes: each is the contract of a public function with an empty body.
 
-ghost use Rattle.std.specs.Prelude.{◌≡◌, ◌↔◌, Bool, IsTrue, List, [], Ok, Option, Some, not};
+ghost use Rattle.std.specs.Prelude.{◌≡◌, ◌↔◌, ℕ, Bool, IsTrue, List, [], Ok, Option, Some, not};
 ghost use Rattle.asl_model.specs.Tree.{Tree, IsProper};
 ghost use Rattle.asl_model.specs.Path.{Segment, Names};
 ghost use Rattle.asl_model.specs.Placing.{Places};
@@ -12,8 +12,9 @@ ghost use Rattle.asl_model.specs.Flow.{at_output_path, output_of};
 ghost use Rattle.asl_model.specs.Shape.{Shape, has, IsValid, Has, Inside, IsProperShape, inhabited};
 ghost use Rattle.asl_model.specs.ShapeOrder.{sub, join};
 ghost use Rattle.asl_model.specs.ShapeFlow.{look, put, ItemHas, template_shape, rule_shape, leave, leaving, WithInput, WithResult};
-ghost use Rattle.asl_model.specs.Certificate.{Certificate, Declared, IsClosed};
-ghost use Rattle.asl_model.specs.Finding.{Finding, findings, Stands};
+ghost use Rattle.asl_model.specs.Certificate.{Certificate, Declared, StateShapes, IsClosed, gives_of};
+ghost use Rattle.asl_model.specs.Edges.{breaches_along, standing_at, walk};
+ghost use Rattle.asl_model.specs.Finding.{Finding, findings, flow_breaches, Stands};
 ghost use Rattle.asl_model.specs.FindingRules.{IsBroken};
 
 /// The test of membership in a shape is true exactly where the tree is valid against it.
@@ -92,4 +93,12 @@ pub fn no_broken_rule_means_closed()
 pub fn findings_are_exactly_the_broken_rules()
     ensures exactly { (machine : Scope) (declared : Declared) (certificate : Certificate) (finding : Finding)
         → IsBroken machine declared certificate finding ↔ Stands machine declared certificate finding }
+{}
+
+/// The rules that are broken along the walk through a state are those that a checker may tell of what flows through it.
+pub fn walk_breaks_what_flow_breaks()
+    ensures breaches { (declared : Declared) (inputs : List ℕ → Option Shape) (end : Option Shape) (n : List ℕ)
+        (entry : StateShapes) (settings : Settings) (kind : Kind)
+        → breaches_along (standing_at declared inputs end n entry) (walk (gives_of declared n) settings kind entry)
+        ≡ flow_breaches declared inputs end n settings kind (Some entry) }
 {}
