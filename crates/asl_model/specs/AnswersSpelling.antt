@@ -31,7 +31,7 @@ failing (Array ts) = None
 failing (Object fs) =
     if only_fields (codes "Error" ∷ codes "Cause" ∷ []) fs
     then option_and_then (λ error. option_map (FailsTask error) (optional_text (field_named (codes "Cause") fs)))
-        (option_and_then as_text (field_named (codes "Error") fs))
+    (option_and_then as_text (field_named (codes "Error") fs))
     else None
 
 -- the answer that an element is; it has one field

@@ -171,12 +171,12 @@ WorkFits declared certificate end n state v (Leaves next u) =
 WorkFits declared certificate end n state v (FailsWith error cause) = Unit {0}
 WorkFits declared certificate end n state v (Asks payload) = Has (takes_of declared n) payload
     × ((answer : Tree) → Has (gives_of declared n) answer
-        → OutputFits certificate end n (settings_of state).next (output_of (settings_of state) v answer))
+    → OutputFits certificate end n (settings_of state).next (output_of (settings_of state) v answer))
 WorkFits declared certificate end n state v (Splits inputs) =
     EachHas (λ i. certified_input certificate (start_of (child_scope (kind_of state) i))) inputs
     × ((outputs : Trees) → count outputs ≡ count inputs
-        → EachHas (λ i. or_never (child_end (kind_of state) (certified certificate n) i)) outputs
-        → OutputFits certificate end n (settings_of state).next (output_of (settings_of state) v (Array outputs)))
+    → EachHas (λ i. or_never (child_end (kind_of state) (certified certificate n) i)) outputs
+    → OutputFits certificate end n (settings_of state).next (output_of (settings_of state) v (Array outputs)))
 WorkFits declared certificate end n state v (Raises fault) = ⊥
 
 -- what a catcher hands on is there, and has the certified input of its next state

@@ -183,7 +183,7 @@ abbrev pub walk : Shape → Settings → Kind → StateShapes → List Walked
 walk gives settings kind entry =
     if inhabited entry.input
     then walk_then (walk_work settings kind entry) (effective_flow settings entry.input)
-        ++ (walk_settled gives settings kind entry ++ walk_catchers entry.input settings.catchers)
+    ++ (walk_settled gives settings kind entry ++ walk_catchers entry.input settings.catchers)
     else []
 
 -- What stands at the destinations of a state's edges: the inputs of states by their names, the state's output, the

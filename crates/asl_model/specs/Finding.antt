@@ -321,8 +321,8 @@ flow_breaches declared inputs end n settings kind None = []
 flow_breaches declared inputs end n settings kind (Some entry) =
     if inhabited entry.input
     then breaches_then (work_breaches declared inputs end n entry settings kind) (effective_flow settings entry.input)
-        ++ (settled_breaches declared inputs end n entry settings kind
-        ++ catcher_breaches inputs entry.input settings.catchers)
+    ++ (settled_breaches declared inputs end n entry settings kind
+    ++ catcher_breaches inputs entry.input settings.catchers)
     else []
 
 -- every rule that is broken at a state, by its name, in a scope with that shape of its end
@@ -396,8 +396,8 @@ abbrev pub findings : Scope → Declared → Certificate → List Finding
 findings machine declared certificate =
     unknown_entries machine certificate.states
     ++ (unknown_tasks machine declared.tasks
-        ++ (start_findings machine declared certificate
-        ++ scope_findings machine machine declared certificate (Some certificate.output)))
+    ++ (start_findings machine declared certificate
+    ++ scope_findings machine machine declared certificate (Some certificate.output)))
 
 -- the rule with the finding's fault is broken at its state and field
 abbrev pub Stands : Scope → Declared → Certificate → Finding → Type 0

@@ -56,7 +56,7 @@ pub data IsCompared (machine : Scope) (certificate : Certificate) (n : List ℕ)
       → IsCompared machine certificate n entry.input
   compared_with_never : certified certificate n ≡ None
       → ((settings : Settings) (kind : Kind) (end : Option Shape) → HasState machine certificate n settings kind end
-          → ⊥)
+      → ⊥)
       → IsCompared machine certificate n Never
 
 -- ---- what flows through a state
@@ -273,7 +273,7 @@ pub data IsBroken (machine : Scope) (declared : Declared) (certificate : Certifi
   -- an entry names no state
   is_not_a_state : {entry : List ℕ × StateShapes} → Contains certificate.states entry
       → ((settings : Settings) (kind : Kind) (end : Option Shape)
-          → HasState machine certificate entry.0 settings kind end → ⊥)
+      → HasState machine certificate entry.0 settings kind end → ⊥)
       → IsBroken machine declared certificate (record { state = entry.0; field = codes "states"; fault = NotAState })
   -- a Task isn't declared
   is_undeclared : {n resource : List ℕ} {settings : Settings} {end : Option Shape}
@@ -282,7 +282,7 @@ pub data IsBroken (machine : Scope) (declared : Declared) (certificate : Certifi
   -- a declared task names no Task state
   is_unknown : {task : List ℕ × TaskShapes} → Contains declared.tasks task
       → ((settings : Settings) (resource : List ℕ) (end : Option Shape)
-          → HasState machine certificate task.0 settings (Task resource) end → ⊥)
+      → HasState machine certificate task.0 settings (Task resource) end → ⊥)
       → IsBroken machine declared certificate (record { state = task.0; field = codes "tasks"; fault = TaskUnknown })
   -- the declared input isn't inside the start state's
   is_no_start_input : {expected : Shape} → IsCompared machine certificate (start_of machine) expected

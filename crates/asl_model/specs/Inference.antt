@@ -33,8 +33,12 @@ is_of_machine CatchInput = false
 -- too
 abbrev pub widest_entry : Kind → StateShapes
 widest_entry kind =
-    record { input = Any; output = Any; branches = replicate (branches_in kind) Any;
-             item = if is_map kind then Some Any else None }
+    record {
+      input = Any;
+      output = Any;
+      branches = replicate (branches_in kind) Any;
+      item = if is_map kind then Some Any else None;
+    }
 
 -- the widest certificate of a machine with that table: the widest entry of each of its states, and no other entry
 pub record IsWidest (table : Table) (certificate : Certificate) : Type 0 where

@@ -110,8 +110,11 @@ pub record Table : Type 0 where
 -- the table of those states
 abbrev pub table_among : List Standing → Table
 table_among states =
-    record { names = map (λ s. s.name) states; states = map (λ s. s.state) states;
-             placements = map (placement_of states) states }
+    record {
+      names = map (λ s. s.name) states;
+      states = map (λ s. s.state) states;
+      placements = map (placement_of states) states;
+    }
 
 -- the table of a machine: each state without the states of its scopes, which have numbers of their own
 abbrev pub table_of : Scope → Table

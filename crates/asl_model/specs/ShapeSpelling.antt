@@ -233,7 +233,7 @@ abbrev mutual
       typed_shape (type_word_of fs)
       (ArrayShape (shapes_under (codes "prefixItems") fs) (shape_under (codes "items") fs))
       (ObjectShape (with_all_needed extra (required_in (field_named (codes "required") fs))
-          (properties_under (codes "properties") fs)) extra)
+      (properties_under (codes "properties") fs)) extra)
 
   -- the shape that the field of that name spells; Any where there is none
   pub shape_under : List ℕ → Fields → Shape
@@ -304,10 +304,10 @@ abbrev mutual
       let prefix = element_count (field_named (codes "prefixItems") fs) in
       typed_faults (type_word_of fs) fs
       (shapes_faults_under (codes "prefixItems") fs
-          ++ (shape_faults_under (codes "items") fs ++ min_items_faults (field_named (codes "minItems") fs) prefix))
+      ++ (shape_faults_under (codes "items") fs ++ min_items_faults (field_named (codes "minItems") fs) prefix))
       (properties_faults_under (codes "properties") fs
-          ++ (required_faults (field_named (codes "required") fs)
-          ++ extra_faults (field_named (codes "additionalProperties") fs)))
+      ++ (required_faults (field_named (codes "required") fs)
+      ++ extra_faults (field_named (codes "additionalProperties") fs)))
 
   -- what is wrong with the field of that name, where there is one, as the spelling of a shape
   pub shape_faults_under : List ℕ → Fields → List ShapeFault

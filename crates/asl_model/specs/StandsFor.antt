@@ -87,8 +87,10 @@ error_names ms = filter_map as_str (listed (items_at (codes "ErrorEquals") ms))
 -- an element of `Retry`; without `MaxAttempts` it retries three times
 abbrev pub retrier_of : Data → Retrier
 retrier_of v =
-    record { error_equals = error_names (members_in v);
-             max_attempts = natural_at (codes "MaxAttempts") 3 (members_in v) }
+    record {
+      error_equals = error_names (members_in v);
+      max_attempts = natural_at (codes "MaxAttempts") 3 (members_in v);
+    }
 
 -- an element of `Catch`; without `ResultPath` the error output replaces the input
 abbrev pub catcher_of : Data → Catcher
@@ -329,7 +331,7 @@ foreign_complaints place rows json.no_members = []
 foreign_complaints place rows (json.member n v ms) =
     if has_row n rows then foreign_complaints place rows ms else
     complaint_at place n (if is_among n left_out_fields then LeftOut else UnknownField)
-        ∷ foreign_complaints place rows ms
+    ∷ foreign_complaints place rows ms
 
 -- what is wrong with the fields of an object, those that it may not have included
 abbrev pub fields_complaints : Place → List Row → Members → List Complaint
@@ -360,8 +362,8 @@ has_proper_end ms = not (is_given (codes "End") ms) || is_some (option_and_then 
 abbrev pub next_complaints : Place → List (List ℕ) → Members → List Complaint
 next_complaints place names ms =
     complain_unless (not (has_proper_end ms
-        && same_truth (is_given (codes "Next") ms) (ends (option_and_then as_bool (get_member (codes "End") ms)))))
-        place (codes "Next") NextOrEnd
+    && same_truth (is_given (codes "Next") ms) (ends (option_and_then as_bool (get_member (codes "End") ms)))))
+    place (codes "Next") NextOrEnd
     ++ target_complaints place names (codes "Next") (text_at (codes "Next") ms)
 
 -- where both are given the heartbeat is smaller
@@ -374,7 +376,7 @@ smaller (Some heartbeat) (Some timeout) = int_lt heartbeat timeout
 abbrev pub heartbeat_complaints : Place → Members → List Complaint
 heartbeat_complaints place ms =
     complain_unless (smaller (option_and_then as_whole (get_member (codes "HeartbeatSeconds") ms))
-        (option_and_then as_whole (get_member (codes "TimeoutSeconds") ms)))
+    (option_and_then as_whole (get_member (codes "TimeoutSeconds") ms)))
     place (codes "HeartbeatSeconds") HeartbeatNotSmaller
 
 -- the last of the names, the first argument counted in front

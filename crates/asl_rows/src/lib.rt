@@ -1,4 +1,5 @@
-//! Tests of the libraries by tables of vectors: each call with what it must answer, and once with ample memory.
+//! Tests of trees, paths, rules, calls, templates, shapes and records by tables of vectors: each call with what it must
+//! answer, and once with ample memory.
 //!
 //! They stand apart from the crates they test, since a crate with tests is proved twice.
 #![tactic(auto)]
@@ -6,23 +7,13 @@
 #[cfg(test)]
 mod choices;
 #[cfg(test)]
-mod drives;
-#[cfg(test)]
-mod flows;
-#[cfg(test)]
-mod inferring;
-#[cfg(test)]
 mod intrinsics;
-#[cfg(test)]
-mod machines;
 #[cfg(test)]
 mod numbered;
 #[cfg(test)]
 mod paths;
 #[cfg(test)]
 mod records;
-#[cfg(test)]
-mod runs;
 #[cfg(test)]
 mod shapes;
 #[cfg(test)]
