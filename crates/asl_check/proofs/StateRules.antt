@@ -1,7 +1,7 @@
 -- What is told of one state's rules, part by part.
 use Rattle.std.proofs.Common.{◌≡◌, suc, List, [], ◌∷◌, ◌++◌, Contains, Bool, true, false, not, ◌||◌, length, String, Option, Some, option_to_list, Ok, Err, codes, refl, sym, ap, subst}
 use Rattle.std.specs.declared.alloc.Global.{Global}
-use Rattle.asl_machine.specs.Machine.{branches_view}
+use Rattle.asl_states.specs.Machine.{branches_view}
 use Rattle.asl_model.specs.Machine.{how_many}
 use Rattle.asl_model.specs.Shape.{Shape}
 use Rattle.asl_model.specs.ShapeFlow.{Flow}

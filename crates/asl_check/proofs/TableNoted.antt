@@ -7,8 +7,8 @@ use Rattle.std.proofs.lemmas.List.Elements.{Contains-append_left, Contains-appen
 use Rattle.asl_model.specs.Machine.{Scope, names_state, names_task}
 use Rattle.asl_model.specs.Numbering.{Table, table_of, IsWellNamed}
 use Rattle.asl_model.specs.Finding.{Finding, NotAState, TaskUnknown, found_at, breach_unless, unknown_entries, unknown_tasks, start_findings, scope_findings, findings}
-use Rattle.asl_machine.specs.Table.{Shows, table_view}
-use Rattle.asl_machine.specs.declared.machine.Machine.{Machine}
+use Rattle.asl_states.specs.Table.{Shows, table_view}
+use Rattle.asl_states.specs.declared.machine.Machine.{Machine}
 use Rattle.asl_records.specs.View.{declared_view, certificate_view, entries_view, tasks_view}
 use Rattle.asl_records.specs.declared.records.Declared.{Declared}
 use Rattle.asl_records.specs.declared.records.TaskShapes.{TaskShapes}

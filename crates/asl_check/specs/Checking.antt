@@ -5,7 +5,7 @@ use Rattle.asl_model.specs.Shape as model
 use Rattle.asl_model.specs.ShapeFlow as flows
 use Rattle.asl_model.specs.Numbering.{Table}
 use Rattle.asl_model.specs.Finding as finding
-use Rattle.asl_machine.specs.Machine.{state_view, scope_view}
+use Rattle.asl_states.specs.Machine.{state_view, scope_view}
 use Rattle.asl_shape.specs.View.{view}
 use Rattle.asl_check.specs.declared.lookups.Row.{Row}
 use Rattle.asl_check.specs.declared.flowing.Flowing.{Flowing}

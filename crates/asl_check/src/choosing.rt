@@ -5,8 +5,8 @@ ghost use Rattle.asl_model.specs.Finding as finding;
 ghost use Rattle.asl_model.specs.Shape as model;
 ghost use Rattle.asl_model.specs.ShapeFlow as flow;
 ghost use Rattle.asl_choice.specs.View.{rule_view, view as test_view};
-ghost use Rattle.asl_machine.specs.Machine.{kind_view, settings_view};
-ghost use Rattle.asl_machine.specs.Table.{table_view};
+ghost use Rattle.asl_states.specs.Machine.{kind_view, settings_view};
+ghost use Rattle.asl_states.specs.Table.{table_view};
 ghost use Rattle.asl_records.specs.View.{certificate_view, entry_view};
 ghost use Rattle.asl_shape.specs.View.{view};
 ghost use Rattle.asl_check.specs.Checking.{Told};
@@ -18,9 +18,9 @@ use crate::noting::{Broken, breach};
 use crate::verdicts::FindingFault;
 use asl_choice::Rule;
 use asl_flow::{RuleShapeRefusal, rule_shape};
-use asl_machine::State;
 use asl_records::StateShapes;
 use asl_shape::Shape;
+use asl_states::State;
 use asl_tree::OutOfMemory;
 
 impl Checker<'_> {

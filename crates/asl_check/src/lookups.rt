@@ -5,15 +5,15 @@ ghost use Rattle.asl_model.specs.Certificate.{certified, child_end};
 ghost use Rattle.asl_model.specs.Machine as machine;
 ghost use Rattle.asl_model.specs.Shape as model;
 ghost use Rattle.asl_shape.specs.View.{view};
-ghost use Rattle.asl_machine.specs.Machine.{kind_view, scope_view};
-ghost use Rattle.asl_machine.specs.Table.{table_view};
+ghost use Rattle.asl_states.specs.Machine.{kind_view, scope_view};
+ghost use Rattle.asl_states.specs.Table.{table_view};
 ghost use Rattle.asl_records.specs.View.{certificate_view};
 ghost use Rattle.asl_check.specs.Checking.{row_view};
 ghost use Rattle.asl_check.specs.Rules.{end_in, inputs_in, names_task_in, row_at, start_in};
 
 use crate::checker::Checker;
-use asl_machine::{Kind, Machine, Scope, State};
 use asl_shape::Shape;
+use asl_states::{Kind, Machine, Scope, State};
 
 /// A state of the machine: its name, itself, and the scope that it stands in.
 #[derive(Clone, Copy)]

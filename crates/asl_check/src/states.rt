@@ -5,8 +5,8 @@ ghost use Rattle.asl_model.specs.Certificate as certificates;
 ghost use Rattle.asl_model.specs.Finding as rules;
 ghost use Rattle.asl_model.specs.Shape as model;
 ghost use Rattle.asl_shape.specs.View.{view};
-ghost use Rattle.asl_machine.specs.Machine.{kind_view, settings_view};
-ghost use Rattle.asl_machine.specs.Table.{table_view};
+ghost use Rattle.asl_states.specs.Machine.{kind_view, settings_view};
+ghost use Rattle.asl_states.specs.Table.{table_view};
 ghost use Rattle.asl_records.specs.View.{declared_view, certificate_view, entry_view};
 ghost use Rattle.asl_check.specs.Checking.{Told, row_view};
 ghost use Rattle.asl_check.specs.Noting.{broken_view};
@@ -17,9 +17,9 @@ use crate::flowing::{Stopped, effective};
 use crate::lookups::{Row, is_task};
 use crate::noting::{Broken, breach, breach_unless};
 use crate::verdicts::FindingFault;
-use asl_machine::{Kind, State};
 use asl_records::StateShapes;
 use asl_shape::{Shape, inhabited};
+use asl_states::{Kind, State};
 use asl_tree::OutOfMemory;
 
 impl Checker<'_> {

@@ -2,9 +2,9 @@
 //! state, each call once with ample memory.
 use asl_choice::{Test, from_tree};
 use asl_flow::{leave, literal_shape, look, put, rule_shape, template_shape};
-use asl_machine::{Kind, Settings, State};
 use asl_path::{RefPath, parse};
 use asl_shape::{Shape, read, write};
+use asl_states::{Kind, Settings, State};
 use asl_tree::to_text;
 use std::alloc::Global;
 use std::process::Abort;

@@ -12,8 +12,8 @@ use Rattle.asl_model.specs.Verdict.{IsTelling}
 use Rattle.asl_model.proofs.StandingStates.{IsNamed, is_named}
 use Rattle.asl_model.specs.Shape.{Never}
 use Rattle.asl_model.specs.Numbering.{outline}
-use Rattle.asl_machine.specs.Table.{Shows, table_view}
-use Rattle.asl_machine.specs.declared.machine.Machine.{Machine}
+use Rattle.asl_states.specs.Table.{Shows, table_view}
+use Rattle.asl_states.specs.declared.machine.Machine.{Machine}
 use Rattle.asl_check.specs.Noting.{broken_view}
 use Rattle.asl_check.specs.View.{finding_view, findings_view}
 use Rattle.asl_check.specs.declared.verdicts.Finding.{Finding}

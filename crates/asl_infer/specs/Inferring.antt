@@ -6,8 +6,8 @@ use Rattle.asl_model.specs.Finding as finding
 use Rattle.asl_model.specs.Inference.{StandsForSome, is_of_machine}
 use Rattle.asl_model.specs.Machine.{Scope, Kind, kind_of}
 use Rattle.asl_model.specs.Numbering.{Table, table_of}
-use Rattle.asl_machine.specs.Table.{Shows}
-use Rattle.asl_machine.specs.declared.machine.Machine.{Machine}
+use Rattle.asl_states.specs.Table.{Shows}
+use Rattle.asl_states.specs.declared.machine.Machine.{Machine}
 use Rattle.asl_check.specs.View.{finding_view}
 use Rattle.asl_infer.specs.declared.inferring.InferRefusal.{InferRefusal}
 use Rattle.asl_infer.specs.declared.inferring.InferRefusal.TheVariants.{Finding, NotSettled, OutOfMemory}

@@ -10,7 +10,7 @@ use Rattle.asl_model.specs.Shape.{Shape, Shapes}
 use Rattle.asl_model.specs.ShapeFlow.{Flow, leave, look, rule_shape}
 use Rattle.asl_model.specs.Template.{Template}
 use Rattle.asl_model.specs.Test.{Rule}
-use Rattle.asl_machine.specs.Machine.{kind_view, settings_view}
+use Rattle.asl_states.specs.Machine.{kind_view, settings_view}
 use Rattle.asl_records.specs.View.{declared_view}
 use Rattle.asl_shape.specs.View.{shapes_view, view}
 use Rattle.asl_check.specs.Checking.{StopsWith}

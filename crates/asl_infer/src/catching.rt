@@ -2,7 +2,7 @@
 
 ghost use Rattle.std.specs.Prelude.{◌≡◌, map};
 ghost use Rattle.asl_model.specs.Finding.{error_output_shape};
-ghost use Rattle.asl_machine.specs.Machine.{catcher_view};
+ghost use Rattle.asl_states.specs.Machine.{catcher_view};
 ghost use Rattle.asl_shape.specs.View.{view};
 ghost use Rattle.asl_infer.specs.Walking.{Stops, catcher_rules, catchers_rules, walked_view};
 
@@ -10,8 +10,8 @@ use crate::draft::Inflow;
 use crate::walking::{Walk, broken, pass_into};
 use asl_check::{FindingFault, Stopped, error_output};
 use asl_flow::{PutRefusal, put};
-use asl_machine::Catcher;
 use asl_shape::{Shape, copy};
+use asl_states::Catcher;
 
 impl Walk<'_> {
     /// Adds what the catchers hand on.

@@ -2,8 +2,8 @@
 
 ghost use Rattle.std.specs.Prelude.{◌≡◌, ◌*◌, IfOk, IfSome, OnOk, option_map};
 ghost use Rattle.asl_model.specs.RecordShapes.{HoldsForState, HoldsForCertificate};
-ghost use Rattle.asl_machine.specs.Machine.{kind_view};
-ghost use Rattle.asl_machine.specs.Table.{table_view};
+ghost use Rattle.asl_states.specs.Machine.{kind_view};
+ghost use Rattle.asl_states.specs.Table.{table_view};
 ghost use Rattle.asl_records.specs.View.{certificate_view, entries_view, entry_view};
 ghost use Rattle.asl_shape.specs.View.{view};
 ghost use Rattle.asl_infer.specs.Cutting.{AreShallow, IsShallow};
@@ -12,9 +12,9 @@ ghost use Rattle.asl_infer.specs.Inferring.{certified_shapes, entry_shapes};
 
 use crate::growing::Growing;
 use asl_check::{branches_in, is_map};
-use asl_machine::{Kind, Machine};
 use asl_records::{Certificate, StateShapes};
 use asl_shape::Shape;
+use asl_states::{Kind, Machine};
 use asl_tree::OutOfMemory;
 use std::alloc::Global;
 use std::collections::BTreeMap;

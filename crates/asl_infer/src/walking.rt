@@ -2,7 +2,7 @@
 
 ghost use Rattle.std.specs.Prelude.{◌≡◌, IsTrue};
 ghost use Rattle.asl_model.specs.Shape as model;
-ghost use Rattle.asl_machine.specs.Table.{table_view};
+ghost use Rattle.asl_states.specs.Table.{table_view};
 ghost use Rattle.asl_records.specs.View.{declared_view};
 ghost use Rattle.asl_shape.specs.View.{view};
 ghost use Rattle.asl_check.specs.Noting.{broken_view};
@@ -13,9 +13,9 @@ ghost use Rattle.asl_infer.specs.Walking.{Stops, StopsAt, StopsOnWay, leaving, s
 use crate::draft::{GrowingState, Inflow, Target};
 use asl_check::{Broken, FindingFault, Row, Stopped, broken_by_fault, row_of};
 use asl_flow::leave;
-use asl_machine::{Kind, Machine};
 use asl_records::Declared;
 use asl_shape::{Shape, copy};
+use asl_states::{Kind, Machine};
 use asl_tree::OutOfMemory;
 use std::alloc::Global;
 

@@ -3,7 +3,7 @@
 ghost use Rattle.std.specs.Prelude.{◌≡◌, IfOk, map};
 ghost use Rattle.asl_model.specs.Finding.{as_first_elements};
 ghost use Rattle.asl_model.specs.Shape as model;
-ghost use Rattle.asl_machine.specs.Machine.{delay_view};
+ghost use Rattle.asl_states.specs.Machine.{delay_view};
 ghost use Rattle.asl_shape.specs.View.{shapes_view, view};
 ghost use Rattle.asl_infer.specs.Walking.{Stops, StopsOnWay, answer_way, input_rules, payload_rules, settled_rules, wait_rules, walked_view, work_rules};
 
@@ -14,8 +14,8 @@ use asl_check::{
     FindingFault, Stopped, broken_by_delay, broken_by_payload, declared_task, effective_shape,
 };
 use asl_flow::literal_shape;
-use asl_machine::{Delay, Kind};
 use asl_shape::{Shape, copy};
+use asl_states::{Delay, Kind};
 use asl_tree::OutOfMemory;
 use std::alloc::Global;
 

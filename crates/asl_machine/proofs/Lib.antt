@@ -9,7 +9,6 @@ pub mod Nesting
 pub mod Numbers
 pub mod Objects
 pub mod Outlines
-pub mod Positions
 pub mod Refused
 pub mod RuleTargets
 pub mod Starts

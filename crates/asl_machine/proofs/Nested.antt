@@ -12,7 +12,7 @@ use Rattle.asl_model.specs.Machine.{NoStates, NoScopes}
 use Rattle.asl_model.specs.Numbering.{Standing, outline, standing_in, standing_among, standing_inside, standing_each, outlined}
 use Rattle.asl_model.specs.StandsFor.{members_in, text_at, scope_of, states_in, states_under, state_of, each_state, scopes_in, each_scope, branches_under}
 use Rattle.asl_machine.specs.Built.{built_view, owner_view, Adds}
-use Rattle.asl_machine.specs.Machine.{state_view}
+use Rattle.asl_states.specs.Machine.{state_view}
 use Rattle.asl_machine.specs.declared.building.BuiltState.{BuiltState}
 use Rattle.asl_machine.proofs.Added.{AddsBefore, adds_one, adds_then, some_more}
 use Rattle.asl_machine.proofs.Walks.{states_under_get, branches_under_get}

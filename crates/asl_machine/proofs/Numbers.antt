@@ -14,9 +14,9 @@ use Rattle.asl_model.proofs.ShapeWitness.{bytes_eq-comm}
 use Rattle.asl_machine.specs.declared.building.BuiltState.{BuiltState}
 use Rattle.asl_machine.specs.declared.numbering.Home.{Home}
 use Rattle.asl_machine.specs.declared.numbering.Numbered.{Numbered}
-use Rattle.asl_machine.specs.declared.states.State.{State}
+use Rattle.asl_states.specs.declared.states.State.{State}
 use Rattle.asl_machine.specs.Definition.{IsAmong}
-use Rattle.asl_machine.specs.Machine.{state_view}
+use Rattle.asl_states.specs.Machine.{state_view}
 use Rattle.asl_machine.specs.Numbered.{Holds, home_view, home_of, names_of_all, placed_in}
 use Rattle.asl_machine.specs.Built.{built_view}
 use Rattle.asl_machine.specs.View.{complaint_of}

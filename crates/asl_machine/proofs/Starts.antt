@@ -6,7 +6,7 @@ use Rattle.serde_json.specs.declared.value.Value.{Value}
 use Rattle.asl_model.specs.Machine.{Scopes, NoScopes, AndScope, ScopeOf, NoStates, start_of}
 use Rattle.asl_model.specs.Numbering.{scopes_outline}
 use Rattle.asl_model.specs.StandsFor.{scope_of, each_scope}
-use Rattle.asl_machine.specs.Machine.{branches_view}
+use Rattle.asl_states.specs.Machine.{branches_view}
 
 -- the scopes with those starts
 abbrev outlines : List (List ℕ) → Scopes

@@ -3,7 +3,7 @@ use Rattle.std.specs.Prelude.{◌≡◌, ℕ, List, ◌++◌, map, Option, optio
 use Rattle.std.specs.Borrow.{Bor}
 use Rattle.asl_model.specs.Numbering.{Standing, outlined}
 use Rattle.asl_machine.specs.declared.building.BuiltState.{BuiltState}
-use Rattle.asl_machine.specs.Machine.{state_view}
+use Rattle.asl_states.specs.Machine.{state_view}
 
 -- the name of a state and the number of a branch
 abbrev pub owner_view : Option (Bor (List ℕ) × ℕ) → Option (List ℕ × ℕ)

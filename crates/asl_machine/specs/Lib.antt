@@ -1,8 +1,6 @@
 pub mod Built
 pub mod Definition
-pub mod Machine
 pub mod Numbered
 pub mod Refusal
 pub mod Rows
-pub mod Table
 pub mod View

@@ -6,7 +6,7 @@ use Rattle.asl_model.specs.Numbering.{Standing, Placement, Table}
 use Rattle.asl_model.specs.StandsFor.{duplicate_complaints}
 use Rattle.asl_machine.specs.declared.numbering.Home.{Home}
 use Rattle.asl_machine.specs.declared.numbering.Numbered.{Numbered}
-use Rattle.asl_machine.specs.Machine.{state_view}
+use Rattle.asl_states.specs.Machine.{state_view}
 
 -- where a state stands, by names: its scope's start, and the state that the scope belongs to
 abbrev pub home_view : Home → List ℕ × Option (List ℕ × ℕ)

@@ -5,14 +5,14 @@ ghost use Rattle.serde_json.specs.View.{view, items_view, members_view};
 ghost use Rattle.asl_model.specs.Numbering.{outline, standing_in, standing_among, standing_inside, standing_each, outlined};
 ghost use Rattle.asl_model.specs.StandsFor.{scope_of, states_in, each_state, state_of, scopes_in, each_scope, branches_under, processor_under};
 ghost use Rattle.asl_machine.specs.Built.{built_view, owner_view, Adds};
-ghost use Rattle.asl_machine.specs.Machine.{state_view};
+ghost use Rattle.asl_states.specs.Machine.{state_view};
 
 use crate::fields::text_or_empty;
 use crate::kinds::{build_kind, build_parameters, type_of};
 use crate::rows::StateType;
 use crate::scopes::processor_of;
 use crate::settings::build_settings;
-use crate::states::State;
+use asl_states::State;
 use asl_tree::OutOfMemory;
 use serde_json::{Map, Value};
 use std::alloc::Global;

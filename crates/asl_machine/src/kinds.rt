@@ -7,7 +7,7 @@ ghost use Rattle.asl_model.specs.Machine.{NoScopes, Choice, Fail, Map, empty_sco
 ghost use Rattle.asl_model.specs.Numbering.{kind_outline};
 ghost use Rattle.asl_model.specs.StandsFor.{members_in, type_of as model_type_of, text_at, path_at, rules_of, delay_of, selector_of, state_by, branches_under, processor_under};
 ghost use Rattle.asl_template.specs.View as templates;
-ghost use Rattle.asl_machine.specs.Machine.{delay_view, kind_view};
+ghost use Rattle.asl_states.specs.Machine.{delay_view, kind_view};
 ghost use Rattle.asl_machine.specs.Rows.{type_view};
 
 use crate::choices::build_rules;
@@ -17,7 +17,7 @@ use crate::fields::{
 };
 use crate::rows::StateType;
 use crate::scopes::{build_branch_starts, build_processor_start};
-use crate::states::{Delay, Kind};
+use asl_states::{Delay, Kind};
 use asl_template::Template;
 use asl_tree::OutOfMemory;
 use serde_json::Value;

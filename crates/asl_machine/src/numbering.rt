@@ -6,15 +6,14 @@ ghost use Rattle.asl_model.specs.Numbering.{Standing, table_among};
 ghost use Rattle.asl_model.specs.StandsFor.{duplicate_complaints, number_complaints};
 ghost use Rattle.asl_machine.specs.Definition.{IsAmong};
 ghost use Rattle.asl_machine.specs.Numbered.{home_view, number_in, placed_in, names_of_all, Holds};
-ghost use Rattle.asl_machine.specs.Machine.{scope_view};
+ghost use Rattle.asl_states.specs.Machine.{scope_view};
 ghost use Rattle.asl_machine.specs.Built.{built_view};
-ghost use Rattle.asl_machine.specs.Table.{table_view};
+ghost use Rattle.asl_states.specs.Table.{table_view};
 ghost use Rattle.asl_machine.specs.View.{refusal_view};
 
 use crate::building::BuiltState;
-use crate::machine::Machine;
 use crate::refusals::{DefFault, DefRefusal};
-use crate::states::{Scope, State};
+use asl_states::{Machine, Scope, State};
 use asl_tree::OutOfMemory;
 use indexmap::IndexSet;
 use std::alloc::Global;

@@ -5,14 +5,14 @@ ghost use Rattle.serde_json.specs.View.{view};
 ghost use Rattle.asl_model.specs.Numbering.{table_of};
 ghost use Rattle.asl_model.specs.StandsFor.{StandsFor, scope_of};
 ghost use Rattle.asl_machine.specs.Refusal.{IsRefused};
-ghost use Rattle.asl_machine.specs.Table.{table_view, Shows};
+ghost use Rattle.asl_states.specs.Table.{table_view, Shows};
 ghost use Rattle.asl_machine.specs.View.{refusal_view};
 
 use crate::building::build_scope;
-use crate::machine::Machine;
 use crate::numbering::number;
 use crate::refusals::DefRefusal;
 use crate::scope_checking::check_rules;
+use asl_states::Machine;
 use serde_json::Value;
 use std::alloc::Global;
 

@@ -9,7 +9,7 @@ ghost use Rattle.serde_json.specs.View.{view, items_view, members_view};
 ghost use Rattle.asl_model.specs.Machine.{empty_scope, start_of};
 ghost use Rattle.asl_model.specs.Numbering.{scopes_outline};
 ghost use Rattle.asl_model.specs.StandsFor.{members_in, scope_of, each_scope, branches_under, processor_under, is_processor as model_is_processor};
-ghost use Rattle.asl_machine.specs.Machine.{branches_view};
+ghost use Rattle.asl_states.specs.Machine.{branches_view};
 
 use crate::fields::{build_text_or_empty, elements_of};
 use asl_tree::OutOfMemory;

@@ -6,13 +6,13 @@ ghost use Rattle.serde_json.specs.Find.{as_str};
 ghost use Rattle.serde_json.specs.View.{view, items_view};
 ghost use Rattle.asl_model.specs.StandsFor.{members_in, listed, items_at, text_at, path_or_null_at, template_at, error_names, retrier_of, catcher_of, settings_in};
 ghost use Rattle.asl_template.specs.View as templates;
-ghost use Rattle.asl_machine.specs.Machine.{retrier_view, catcher_view, settings_view};
+ghost use Rattle.asl_states.specs.Machine.{retrier_view, catcher_view, settings_view};
 
 use crate::fields::{
     build_path_or_null, build_template, build_text, build_text_or_empty, elements_of, natural_of,
 };
-use crate::states::{Catcher, Retrier, Settings};
 use asl_path::RefPath;
+use asl_states::{Catcher, Retrier, Settings};
 use asl_template::Template;
 use asl_tree::OutOfMemory;
 use serde_json::Value;

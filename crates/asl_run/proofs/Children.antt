@@ -3,7 +3,7 @@ use Rattle.std.proofs.Common.{◌≡◌, ◌<◌, ◌≤◌, refl, sym, ap, ◌�
 use Rattle.std.proofs.lemmas.List.{length-append, map-append}
 use Rattle.std.specs.declared.alloc.Global.{Global}
 use Rattle.std.specs.declared.rc.Rc.{Rc}
-use Rattle.asl_machine.specs.Machine.{branches_view}
+use Rattle.asl_states.specs.Machine.{branches_view}
 use Rattle.asl_model.specs.Machine.{Scope, scope_at, start_of}
 use Rattle.asl_model.specs.Run.{Activity, AndActivity, Ready, started}
 use Rattle.asl_model.specs.Tree.{Tree, trees_of}

@@ -2,7 +2,7 @@
 use Rattle.std.proofs.Common.{◌≡◌, ℕ, suc, ◌+◌, ◌<◌, ◌≤◌, List, [], ◌∷◌, ◌++◌, length, get_or, drop, take, map, Option, Result, Ok, Err, String, Global, refl, sym, ap, ◌∙◌, subst, drop-cons, add-one, arith}
 use Rattle.std.proofs.lemmas.List.{take_all, drop_all, map-append}
 use Rattle.std.specs.declared.rc.Rc.{Rc}
-use Rattle.asl_machine.specs.Machine.{branches_view}
+use Rattle.asl_states.specs.Machine.{branches_view}
 use Rattle.asl_model.specs.Faults.{Fault, and_then}
 use Rattle.asl_model.specs.Flow.{branch_inputs, item_input, item_inputs}
 use Rattle.asl_model.specs.Template.{Template}

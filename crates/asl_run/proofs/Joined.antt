@@ -2,7 +2,7 @@
 use Rattle.std.proofs.Common.{◌≡◌, refl, sym, ap, ◌∙◌, subst, ℕ, suc, ◌+◌, ◌<◌, ◌≤◌, List, [], ◌∷◌, ◌++◌, length, get_or, drop, append_assoc, append-nil, Bool, true, false, ◌&&◌, map, Option, Some, None, Result, IfOk, IsOkAnd, Vec, Global, arith, rules}
 use Rattle.std.proofs.lemmas.List.{map-append}
 use Rattle.std.specs.Option.{option_to_list}
-use Rattle.asl_machine.specs.Machine.{kind_view}
+use Rattle.asl_states.specs.Machine.{kind_view}
 use Rattle.asl_model.specs.Run as model
 use Rattle.asl_model.specs.Run.{Activity, Ready, Waiting, Split, Done, Failed, Joining, AllDone, OneFailed, StillRunning, done_before, running_before, child_before, joining}
 use Rattle.asl_model.specs.Tree.{Tree, Trees, NoTrees, AndTree, Array, trees_of}

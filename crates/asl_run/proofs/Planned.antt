@@ -1,7 +1,7 @@
 -- Plans from their parts.
 use Rattle.std.proofs.Common.{◌≡◌, refl, ap, ◌∙◌, ℕ, List, Vec, Global, [], ◌∷◌, map, subst, sym, Option, Some, None, option_map, string_bytes, Result, Ok, Err, IfOk, IsOkAnd, codes}
 use Rattle.std.specs.declared.rc.Rc.{Rc}
-use Rattle.asl_machine.specs.Machine.{kind_view, settings_view}
+use Rattle.asl_states.specs.Machine.{kind_view, settings_view}
 use Rattle.asl_model.specs.Faults as faults
 use Rattle.asl_model.specs.Faults.{ResultPathMatchFailure, error_name}
 use Rattle.asl_model.specs.Flow as flow

@@ -1,7 +1,7 @@
 -- A run's start, in the machine's table.
 use Rattle.std.proofs.Common.{◌≡◌, refl, sym, ap, ◌∙◌, subst, ℕ, List, [], ◌∷◌, slice_get, Option, Some, None, option_map}
-use Rattle.asl_machine.specs.Table.{Shows, table_view}
-use Rattle.asl_machine.specs.declared.machine.Machine.{Machine}
+use Rattle.asl_states.specs.Table.{Shows, table_view}
+use Rattle.asl_states.specs.declared.machine.Machine.{Machine}
 use Rattle.asl_model.specs.Machine.{Scope, ScopeOf, NoStates, AndState, start_of}
 use Rattle.asl_model.specs.Numbering.{Placement, Table, table_of, own_scope, HasNamed, IsWellNamed}
 use Rattle.asl_model.specs.Run as model

@@ -1,8 +1,8 @@
 -- The step of an activity itself, from what is planned there.
 use Rattle.std.proofs.Common.{◌≡◌, ◌≢◌, ◌↔◌, Bool, true, false, Bor, IsTrue, is_some, not, option_map, refl, sym, ap, ◌∙◌, subst, ℕ, List, [], map, slice_get, IfSome, Option, Some, None, option_and_then, Result, Ok, Err, IfOk, Vec, Global}
 use Rattle.std.specs.Option.{unwrap_or}
-use Rattle.asl_machine.specs.Table.{Shows, table_view}
-use Rattle.asl_machine.specs.declared.machine.Machine.{Machine}
+use Rattle.asl_states.specs.Table.{Shows, table_view}
+use Rattle.asl_states.specs.declared.machine.Machine.{Machine}
 use Rattle.asl_model.specs.Machine.{Scope, State, state_named}
 use Rattle.asl_model.specs.Numbering.{HasNamed, IsScopeOf, Table, outline, table_of}
 use Rattle.asl_model.specs.Run as model

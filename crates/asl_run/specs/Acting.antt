@@ -1,8 +1,8 @@
 -- What is to be done in one step at one place.
 use Rattle.std.specs.Prelude.{◌≡◌, ℕ, List, map, Option, Some, None, IfSome, slice_get}
-use Rattle.asl_machine.specs.Machine.{settings_view, state_view}
-use Rattle.asl_machine.specs.Table.{table_view}
-use Rattle.asl_machine.specs.declared.machine.Machine.{Machine}
+use Rattle.asl_states.specs.Machine.{settings_view, state_view}
+use Rattle.asl_states.specs.Table.{table_view}
+use Rattle.asl_states.specs.declared.machine.Machine.{Machine}
 use Rattle.asl_model.specs.Machine.{State, Settings}
 use Rattle.asl_model.specs.Run as model
 use Rattle.asl_model.specs.Tree.{Tree}

@@ -2,7 +2,7 @@
 
 ghost use Rattle.std.specs.Prelude.{◌≡◌, List, IfOk, IfSome, None, option_map};
 ghost use Rattle.std.specs.Option.{unwrap_or};
-ghost use Rattle.asl_machine.specs.Table.{table_view};
+ghost use Rattle.asl_states.specs.Table.{table_view};
 ghost use Rattle.asl_model.specs.Run as model;
 ghost use Rattle.asl_run.specs.Acting.{Acts, DoesNothing, HasNoVisit, IsFoundBy, IsVisitOf, Plans, PlansAs, PlansOne, by_settings, moves_at, names_at, takes_at};
 ghost use Rattle.asl_run.specs.Entries.{answer_view};
@@ -18,7 +18,7 @@ use crate::leaving::finish;
 use crate::nodes::Node;
 use crate::planning::{Here, Plan};
 use crate::troubling::in_trouble;
-use asl_machine::Machine;
+use asl_states::Machine;
 use asl_tree::OutOfMemory;
 use std::alloc::Global;
 

@@ -1,13 +1,13 @@
 //! What a Wait looks at before it waits (States Language, "Wait State").
 
-ghost use Rattle.asl_machine.specs.Machine.{delay_view};
+ghost use Rattle.asl_states.specs.Machine.{delay_view};
 ghost use Rattle.asl_model.specs.Flow as model;
 ghost use Rattle.asl_run.specs.Flowing.{Finds};
 ghost use Rattle.asl_tree.specs.View.{view};
 
 use crate::faults::{DataFlowError, Fault};
 use crate::flowing::named_in;
-use asl_machine::Delay;
+use asl_states::Delay;
 use asl_tree::Tree;
 
 /// What the delay's path names in the input, a whole number or a text; the input itself where there is no path.

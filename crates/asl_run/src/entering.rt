@@ -1,7 +1,7 @@
 //! Entering a state (States Language, "State Types").
 
 ghost use Rattle.std.specs.Prelude.{◌≡◌, IfOk};
-ghost use Rattle.asl_machine.specs.Machine.{kind_view};
+ghost use Rattle.asl_states.specs.Machine.{kind_view};
 ghost use Rattle.asl_model.specs.Flow as flow;
 ghost use Rattle.asl_model.specs.Machine as machine;
 ghost use Rattle.asl_model.specs.Run as model;
@@ -21,7 +21,7 @@ use crate::leaving::{finish, leave_with};
 use crate::planning::{Here, Plan};
 use crate::troubling::raise;
 use crate::working::{Work, first_move};
-use asl_machine::Kind;
+use asl_states::Kind;
 use asl_tree::OutOfMemory;
 
 /// The state is entered.

@@ -3,7 +3,7 @@
 
 ghost use Rattle.std.specs.Prelude.{◌≡◌, IsTrue, ◌↔◌, [], Some, codes};
 ghost use Rattle.asl_intrinsic.specs.View.{at_hand};
-ghost use Rattle.asl_machine.specs.Machine.{settings_view};
+ghost use Rattle.asl_states.specs.Machine.{settings_view};
 ghost use Rattle.asl_model.specs.Flow as model;
 ghost use Rattle.asl_model.specs.Template.{template_value};
 ghost use Rattle.asl_run.specs.Data.{data_view, datum_view};
@@ -15,8 +15,8 @@ use crate::data::Data;
 use crate::entries::Datum;
 use crate::faults::{DataFlowError, Fault, Stop};
 use asl_intrinsic::Item;
-use asl_machine::Settings;
 use asl_path::{PlaceRefusal, RefPath, find, place};
+use asl_states::Settings;
 use asl_template::{Template, TemplateRefusal, eval};
 use asl_tree::{Tree, copy};
 use std::alloc::Global;

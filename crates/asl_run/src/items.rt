@@ -1,7 +1,7 @@
 //! The inputs of the children of a Parallel and of a Map (States Language, "Parallel State", "Map State").
 
 ghost use Rattle.std.specs.Prelude.{◌≡◌, ◌<◌, ◌^◌, IfOk, option_map};
-ghost use Rattle.asl_machine.specs.Machine.{branches_view};
+ghost use Rattle.asl_states.specs.Machine.{branches_view};
 ghost use Rattle.asl_model.specs.Flow as model;
 ghost use Rattle.asl_run.specs.Data.{data_of, datum_view};
 ghost use Rattle.asl_run.specs.Flowing.{Finds, Flows};

@@ -2,7 +2,7 @@
 
 ghost use Rattle.std.specs.Prelude.{◌≡◌, ◌++◌, ℕ, List, IfOk, map, option_map};
 ghost use Rattle.std.specs.Option.{option_to_list};
-ghost use Rattle.asl_machine.specs.Machine.{kind_view};
+ghost use Rattle.asl_states.specs.Machine.{kind_view};
 ghost use Rattle.asl_model.specs.Run as model;
 ghost use Rattle.asl_run.specs.Acting.{Plans, PlansAs, by_settings, by_state, names_at};
 ghost use Rattle.asl_run.specs.Joining.{failure_in, far_view, output_in, outputs_among, without_outputs};
@@ -17,7 +17,7 @@ use crate::leaving::finish;
 use crate::nodes::Node;
 use crate::planning::{Here, Plan};
 use crate::troubling::in_trouble;
-use asl_machine::Kind;
+use asl_states::Kind;
 use asl_tree::{OutOfMemory, Tree, copy};
 use std::alloc::Global;
 

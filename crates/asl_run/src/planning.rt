@@ -13,7 +13,7 @@ use crate::activities::Visit;
 use crate::changing::Change;
 use crate::entries::{Datum, Entry, Outcome, Place};
 use crate::faults::Fault;
-use asl_machine::{Machine, State};
+use asl_states::{Machine, State};
 use asl_tree::OutOfMemory;
 use std::alloc::Global;
 

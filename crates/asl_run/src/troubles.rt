@@ -1,7 +1,7 @@
 //! What comes of an error in a state (States Language, "Retrying after error", "Fallback States").
 
 ghost use Rattle.std.specs.Prelude.{◌≡◌, ◌<◌, ◌+◌, ◌^◌, ℕ, Ok, IfOk, IfErr, IfSome, Some, map, string_bytes, option_map};
-ghost use Rattle.asl_machine.specs.Machine.{catcher_view, retrier_view, settings_view};
+ghost use Rattle.asl_states.specs.Machine.{catcher_view, retrier_view, settings_view};
 ghost use Rattle.asl_model.specs.Run as model;
 ghost use Rattle.asl_run.specs.Data.{datum_view};
 ghost use Rattle.asl_run.specs.Troubles.{CanRise, Reaches, trouble_view};
@@ -9,8 +9,8 @@ ghost use Rattle.asl_run.specs.declared.troubles.Trouble.TheVariants.{Retries};
 ghost use Rattle.asl_tree.specs.View.{view};
 
 use crate::entries::Datum;
-use asl_machine::{Catcher, Retrier, Settings};
 use asl_path::{PlaceRefusal, RefPath, place};
+use asl_states::{Catcher, Retrier, Settings};
 use asl_tree::{OutOfMemory, Tree, copy};
 use std::alloc::Global;
 use std::collections::BTreeMap;

@@ -2,7 +2,7 @@
 
 ghost use Rattle.std.specs.Prelude.{◌≡◌, IfOk, map, option_map, string_bytes};
 ghost use Rattle.asl_choice.specs.View.{rule_view};
-ghost use Rattle.asl_machine.specs.Machine.{branches_view, delay_view, kind_view, settings_view, state_view};
+ghost use Rattle.asl_states.specs.Machine.{branches_view, delay_view, kind_view, settings_view, state_view};
 ghost use Rattle.asl_model.specs.Flow as model;
 ghost use Rattle.asl_model.specs.Machine as machine;
 ghost use Rattle.asl_run.specs.Working.{Works, work_view};
@@ -17,8 +17,8 @@ use crate::faults::{Fault, Stop};
 use crate::flowing::effective_input;
 use crate::items::{branch_inputs, find_items, item_inputs};
 use asl_choice::Rule;
-use asl_machine::{Delay, Kind, Settings, State};
 use asl_path::RefPath;
+use asl_states::{Delay, Kind, Settings, State};
 use asl_template::Template;
 use asl_tree::{OutOfMemory, Tree};
 use std::alloc::Global;

@@ -6,15 +6,15 @@ use Rattle.asl_model.specs.Numbering.{Placement}
 use Rattle.asl_tree.specs.View as trees
 use Rattle.asl_template.specs.View as templates
 use Rattle.asl_choice.specs.View as rules
-use Rattle.asl_machine.specs.declared.states.State.{State}
-use Rattle.asl_machine.specs.declared.states.Settings.{Settings}
-use Rattle.asl_machine.specs.declared.states.Retrier.{Retrier}
-use Rattle.asl_machine.specs.declared.states.Catcher.{Catcher}
-use Rattle.asl_machine.specs.declared.states.Kind.{Kind}
-use Rattle.asl_machine.specs.declared.states.Kind.TheVariants as kinds
-use Rattle.asl_machine.specs.declared.states.Delay.{Delay}
-use Rattle.asl_machine.specs.declared.states.Delay.TheVariants as delays
-use Rattle.asl_machine.specs.declared.states.Scope.{Scope}
+use Rattle.asl_states.specs.declared.states.State.{State}
+use Rattle.asl_states.specs.declared.states.Settings.{Settings}
+use Rattle.asl_states.specs.declared.states.Retrier.{Retrier}
+use Rattle.asl_states.specs.declared.states.Catcher.{Catcher}
+use Rattle.asl_states.specs.declared.states.Kind.{Kind}
+use Rattle.asl_states.specs.declared.states.Kind.TheVariants as kinds
+use Rattle.asl_states.specs.declared.states.Delay.{Delay}
+use Rattle.asl_states.specs.declared.states.Delay.TheVariants as delays
+use Rattle.asl_states.specs.declared.states.Scope.{Scope}
 
 -- an element of `Retry`
 abbrev pub retrier_view : Retrier → model.Retrier

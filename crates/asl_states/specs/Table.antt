@@ -2,8 +2,8 @@
 use Rattle.std.specs.Prelude.{◌≡◌, map, string_bytes}
 use Rattle.asl_model.specs.Machine.{Scope}
 use Rattle.asl_model.specs.Numbering.{Table, table_of, IsWellNamed}
-use Rattle.asl_machine.specs.declared.machine.Machine.{Machine}
-use Rattle.asl_machine.specs.Machine.{state_view, scope_view}
+use Rattle.asl_states.specs.declared.machine.Machine.{Machine}
+use Rattle.asl_states.specs.Machine.{state_view, scope_view}
 
 -- the names, the states without the states of their scopes, and where each stands
 abbrev pub table_view : Machine → Table

@@ -17,11 +17,11 @@ pub struct Machine {
 }
 
 impl Machine {
-    ghost use Rattle.asl_machine.specs.Machine.{state_view, scope_view};
-    ghost use Rattle.asl_machine.specs.Table.{table_view};
+    ghost use Rattle.asl_states.specs.Machine.{state_view, scope_view};
+    ghost use Rattle.asl_states.specs.Table.{table_view};
 
     /// A machine of those names and states by number, each with the scope that it stands in.
-    pub(crate) fn new(names: IndexSet<String>, states: Vec<State>, scopes: Vec<Scope>) -> Machine
+    pub fn new(names: IndexSet<String>, states: Vec<State>, scopes: Vec<Scope>) -> Machine
         ensures { table_view result ≡ record { names = map string_bytes names.keys; states = map state_view states.items; placements = map scope_view scopes.items } }
     {
         Machine {

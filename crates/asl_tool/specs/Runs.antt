@@ -13,7 +13,7 @@ use Rattle.asl_model.specs.Shape.{Shape, Any, has}
 use Rattle.asl_model.specs.Texts.{Which, DefinitionText, DeclaredText, CertificateText, InputText, AnswersText, TextFault, NotJson, NotWhole, NoMemory, IsNoJson, ReadsAsMachine, ReadsAsDeclared}
 use Rattle.asl_model.specs.TracePrinted.{trace_text}
 use Rattle.asl_model.specs.Tree.{Tree}
-use Rattle.asl_machine.specs.Table.{Shows}
+use Rattle.asl_states.specs.Table.{Shows}
 use Rattle.asl_records.specs.View.{declared_view}
 use Rattle.asl_run.specs.Driving.{answers_among}
 use Rattle.asl_run.specs.Entries.{answer_view}

@@ -1,7 +1,7 @@
 //! From the texts of a run to its trace.
 
 ghost use Rattle.std.specs.Prelude.{◌≡◌, ℕ, List, map, option_map, IsTrue, IfOk, IfErr, OnOk};
-ghost use Rattle.asl_machine.specs.Table.{Shows, table_view};
+ghost use Rattle.asl_states.specs.Table.{Shows, table_view};
 ghost use Rattle.asl_model.specs.Machine.{Scope};
 ghost use Rattle.asl_model.specs.Run as model;
 ghost use Rattle.asl_model.specs.Tree as trees;

@@ -1,6 +1,6 @@
 use Rattle.std.proofs.Common.{◌≡◌, Ok, sym, ap, ◌∙◌, rules}
 use Rattle.asl_model.specs.Shape as model
-use Rattle.asl_machine.specs.Machine.{settings_view}
+use Rattle.asl_states.specs.Machine.{settings_view}
 use Rattle.asl_shape.specs.View.{view}
 use Rattle.asl_shape.specs.declared.shape.Shape.{Never, the_lemmas}
 use Rattle.asl_check.proofs.Stops.{no_tree_flows}

@@ -1,5 +1,5 @@
 use Rattle.std.proofs.Common.{ap}
-use Rattle.asl_machine.specs.Machine.{delay_view}
+use Rattle.asl_states.specs.Machine.{delay_view}
 use Rattle.asl_shape.specs.View.{view}
 use Rattle.asl_check.proofs.KindRules.{seconds_told, seconds_missing, timestamp_told, timestamp_missing}
 use Rattle.asl_check.proofs.working.broken_by_delay.Goals as goal

@@ -1,5 +1,5 @@
 use Rattle.std.proofs.Common.{◌≡◌, Ok}
-use Rattle.asl_machine.specs.Machine.{settings_view, kind_view}
+use Rattle.asl_states.specs.Machine.{settings_view, kind_view}
 use Rattle.asl_model.specs.Flow.{at_output_path, output_of}
 use Rattle.asl_model.specs.Shape.{Has}
 use Rattle.asl_model.specs.ShapeFlow as model

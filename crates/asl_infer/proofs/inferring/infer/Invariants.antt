@@ -1,5 +1,5 @@
 use Rattle.std.proofs.Common.{◌+◌, ◌*◌, ◌≤◌}
-use Rattle.asl_machine.specs.Table.{table_view}
+use Rattle.asl_states.specs.Table.{table_view}
 use Rattle.asl_infer.specs.Growing.{room}
 use Rattle.asl_infer.specs.Inferring.{certified_shapes}
 use Rattle.asl_infer.proofs.inferring.infer.Given as goal

@@ -1,4 +1,4 @@
-use Rattle.asl_machine.specs.Table.{table_view}
+use Rattle.asl_states.specs.Table.{table_view}
 use Rattle.asl_records.specs.View.{declared_view}
 use Rattle.asl_check.specs.Checking.{row_view}
 use Rattle.asl_infer.specs.Growing.{growing_view}

@@ -1,9 +1,9 @@
 use Rattle.std.proofs.Common.{sym, ap, ◌∙◌, subst}
 use Rattle.asl_model.specs.RecordShapes.{HoldsForState}
-use Rattle.asl_machine.specs.Machine.{state_view}
-use Rattle.asl_machine.specs.Table.{table_view}
+use Rattle.asl_states.specs.Machine.{state_view}
+use Rattle.asl_states.specs.Table.{table_view}
 use Rattle.asl_records.specs.View.{entries_view}
-use Rattle.asl_machine.specs.Machine.{kind_view}
+use Rattle.asl_states.specs.Machine.{kind_view}
 use Rattle.asl_infer.specs.Cutting.{AreShallow, IsShallow}
 use Rattle.asl_infer.proofs.Levels.{entry_shallow, widest_shallow}
 use Rattle.asl_infer.proofs.Widening.{adds_widest, entry_added}

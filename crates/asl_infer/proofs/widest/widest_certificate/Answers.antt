@@ -1,5 +1,5 @@
 use Rattle.std.proofs.Common.{◌≡◌, refl, sym, ap, ◌∙◌, subst, length, arith}
-use Rattle.asl_machine.specs.Table.{table_view}
+use Rattle.asl_states.specs.Table.{table_view}
 use Rattle.asl_model.specs.Certificate as model
 use Rattle.asl_model.specs.Inference.{IsWidest}
 use Rattle.asl_records.specs.View.{entries_view}

@@ -1,5 +1,5 @@
 use Rattle.asl_model.specs.Machine.{Scope}
-use Rattle.asl_machine.specs.Table.{Shows, table_view}
+use Rattle.asl_states.specs.Table.{Shows, table_view}
 use Rattle.asl_records.specs.View.{entries_view}
 use Rattle.asl_infer.specs.Cutting.{AreShallow}
 use Rattle.asl_infer.specs.Widest.{AreWidestTo}

@@ -1,7 +1,7 @@
 use Rattle.std.proofs.Common.{option_map}
 use Rattle.serde_json.specs.View.{view}
 use Rattle.asl_template.specs.View as templates
-use Rattle.asl_machine.specs.Machine.{settings_view, kind_view}
+use Rattle.asl_states.specs.Machine.{settings_view, kind_view}
 use Rattle.asl_machine.specs.Rows.{type_view}
 use Rattle.asl_machine.proofs.Outlines.{state_built}
 use Rattle.asl_machine.proofs.building.build_state.Goals as goal

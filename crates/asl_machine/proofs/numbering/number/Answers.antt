@@ -1,7 +1,7 @@
 use Rattle.std.proofs.Common.{map, string_bytes, subst, sym, ap, ◌∙◌, ◌<◌, arith}
 use Rattle.std.proofs.lemmas.List.{length-map}
 use Rattle.asl_model.specs.StandsFor.{duplicate_complaints, number_complaints}
-use Rattle.asl_machine.specs.Machine.{scope_view}
+use Rattle.asl_states.specs.Machine.{scope_view}
 use Rattle.asl_machine.specs.Numbered.{names_of_all, placed_in, home_view}
 use Rattle.asl_machine.specs.Built.{built_view}
 use Rattle.asl_machine.specs.View.{refusal_view}

@@ -1,6 +1,6 @@
 use Rattle.std.proofs.Common.{◌∙◌, sym, ap, bytes_eq, string_bytes}
 use Rattle.std.specs.Option.{unwrap_or}
-use Rattle.asl_machine.proofs.Positions.{position-map}
+use Rattle.asl_states.proofs.Positions.{position-map}
 use Rattle.asl_machine.proofs.numbering.number_of.Goals as goal
 
 pub returns : goal.returns

@@ -1,5 +1,5 @@
 use Rattle.std.proofs.Common.{◌≡◌, take, map, string_bytes}
-use Rattle.asl_machine.specs.Machine.{scope_view}
+use Rattle.asl_states.specs.Machine.{scope_view}
 use Rattle.asl_machine.specs.Numbered.{home_view, placed_in}
 use Rattle.asl_machine.proofs.numbering.place_all.Given as goal
 

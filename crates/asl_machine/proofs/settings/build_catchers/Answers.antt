@@ -1,6 +1,6 @@
 use Rattle.std.proofs.Common.{map, arith}
 use Rattle.asl_model.specs.StandsFor.{catcher_of}
-use Rattle.asl_machine.specs.Machine.{catcher_view}
+use Rattle.asl_states.specs.Machine.{catcher_view}
 use Rattle.asl_machine.proofs.Elements.{mapped_all}
 use Rattle.asl_machine.proofs.settings.build_catchers.Goals as goal
 

@@ -1,6 +1,6 @@
 use Rattle.std.proofs.Common.{map, arith}
 use Rattle.asl_model.specs.StandsFor.{retrier_of}
-use Rattle.asl_machine.specs.Machine.{retrier_view}
+use Rattle.asl_states.specs.Machine.{retrier_view}
 use Rattle.asl_machine.proofs.Elements.{mapped_all}
 use Rattle.asl_machine.proofs.settings.build_retriers.Goals as goal
 

@@ -1,7 +1,7 @@
 use Rattle.std.proofs.Common.{◌≡◌, map, take}
 use Rattle.serde_json.specs.View.{view}
 use Rattle.asl_model.specs.StandsFor.{retrier_of}
-use Rattle.asl_machine.specs.Machine.{retrier_view}
+use Rattle.asl_states.specs.Machine.{retrier_view}
 use Rattle.asl_machine.proofs.settings.build_retriers.Given as goal
 
 abbrev pub invariant-loop-element : goal.invariant-loop-element

@@ -1,7 +1,7 @@
 use Rattle.std.proofs.Common.{arith, ap}
 use Rattle.asl_run.proofs.Driven.{one_turn_more}
 use Rattle.asl_run.proofs.Stopping.{broken_off_there, stopped_at_end, stopped_unanswered, stopped_when_spent}
-use Rattle.asl_machine.specs.Table.{table_view}
+use Rattle.asl_states.specs.Table.{table_view}
 use Rattle.asl_run.proofs.driving.drive.Goals as goal
 
 pub turns-preserved : goal.turns-preserved

@@ -1,5 +1,5 @@
 use Rattle.std.proofs.Common.{List, map, ◌++◌, ap, sym, ◌∙◌, subst}
-use Rattle.asl_machine.specs.Table.{table_view}
+use Rattle.asl_states.specs.Table.{table_view}
 use Rattle.asl_model.specs.Run.{activity_at}
 use Rattle.asl_run.specs.Driving.{ComesNext, IsPicked, Suits}
 use Rattle.asl_run.specs.Entries.{entry_view, event_view}

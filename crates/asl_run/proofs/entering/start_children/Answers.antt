@@ -1,6 +1,6 @@
 use Rattle.std.proofs.Common.{◌≡◌, ◌∷◌, [], ◌∙◌, ap, arith, length, sym}
 use Rattle.std.specs.Vec.Iter.{into_iter_items}
-use Rattle.asl_machine.specs.Machine.{kind_view}
+use Rattle.asl_states.specs.Machine.{kind_view}
 use Rattle.asl_model.specs.Machine.{child_scope}
 use Rattle.asl_run.specs.Acting.{names_at}
 use Rattle.asl_run.proofs.Children.{all_there, nothing_left, one_started}

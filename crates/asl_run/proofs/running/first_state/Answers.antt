@@ -1,5 +1,5 @@
 use Rattle.std.proofs.Common.{sym}
-use Rattle.asl_machine.specs.Machine.{scope_view}
+use Rattle.asl_states.specs.Machine.{scope_view}
 use Rattle.asl_run.proofs.Started.{start_found, start_missing}
 use Rattle.asl_run.proofs.running.first_state.Goals as goal
 

@@ -1,5 +1,5 @@
 use Rattle.std.proofs.Common.{◌≡◌, drop, map}
-use Rattle.asl_machine.specs.Machine.{catcher_view}
+use Rattle.asl_states.specs.Machine.{catcher_view}
 use Rattle.asl_model.specs.Run as model
 use Rattle.asl_run.proofs.troubles.catching.Given as goal
 

@@ -1,4 +1,4 @@
-use Rattle.asl_machine.specs.Machine.{started_at}
+use Rattle.asl_states.specs.Machine.{started_at}
 use Rattle.asl_run.proofs.working.work_of.Goals as goal
 
 pub returns-in-Map : goal.returns-in-Map

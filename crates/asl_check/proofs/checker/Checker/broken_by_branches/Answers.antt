@@ -1,8 +1,8 @@
 use Rattle.std.proofs.Common.{List, Some, codes, string_bytes, refl, ap, ◌∙◌, String}
 use Rattle.std.specs.declared.alloc.Global.{Global}
 use Rattle.asl_model.specs.Finding.{BranchInput, breach_unless_sub, branch_breaches}
-use Rattle.asl_machine.specs.Machine.{branches_view}
-use Rattle.asl_machine.specs.Table.{table_view}
+use Rattle.asl_states.specs.Machine.{branches_view}
+use Rattle.asl_states.specs.Table.{table_view}
 use Rattle.asl_records.specs.View.{certificate_view}
 use Rattle.asl_shape.specs.View.{view}
 use Rattle.asl_check.specs.Rules.{inputs_in}

@@ -1,7 +1,7 @@
 use Rattle.std.proofs.Common.{◌≡◌, drop, map}
 use Rattle.asl_model.specs.Finding.{catcher_breaches, error_output_shape}
-use Rattle.asl_machine.specs.Machine.{catcher_view}
-use Rattle.asl_machine.specs.Table.{table_view}
+use Rattle.asl_states.specs.Machine.{catcher_view}
+use Rattle.asl_states.specs.Table.{table_view}
 use Rattle.asl_records.specs.View.{certificate_view}
 use Rattle.asl_shape.specs.View.{view}
 use Rattle.asl_check.specs.Rules.{inputs_in}

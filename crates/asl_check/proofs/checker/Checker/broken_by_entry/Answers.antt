@@ -2,7 +2,7 @@ use Rattle.std.proofs.Common.{◌≡◌, not, ◌||◌, is_some, codes, option_m
 use Rattle.asl_model.specs.Certificate.{certified, under}
 use Rattle.asl_model.specs.Finding.{TaskUndeclared, breach_unless, is_certified}
 use Rattle.asl_model.specs.Machine.{is_task}
-use Rattle.asl_machine.specs.Machine.{kind_view}
+use Rattle.asl_states.specs.Machine.{kind_view}
 use Rattle.asl_records.specs.View.{certificate_view, declared_view}
 use Rattle.asl_check.specs.Noting.{broken_view}
 use Rattle.asl_check.proofs.LookedUp.{certified_lent}

@@ -1,7 +1,7 @@
 use Rattle.std.proofs.Common.{[], Some, None, refl, sym, ap, ◌∙◌}
 use Rattle.asl_model.specs.Finding.{flow_breaches}
-use Rattle.asl_machine.specs.Machine.{kind_view, scope_view, settings_view}
-use Rattle.asl_machine.specs.Table.{table_view}
+use Rattle.asl_states.specs.Machine.{kind_view, scope_view, settings_view}
+use Rattle.asl_states.specs.Table.{table_view}
 use Rattle.asl_records.specs.View.{certificate_view, declared_view, entry_view}
 use Rattle.asl_check.specs.Rules.{end_in, inputs_in}
 use Rattle.asl_check.proofs.KindRules.{same_told, same_answered}

@@ -1,7 +1,7 @@
 use Rattle.std.proofs.Common.{codes, option_map, ap, sym, ◌∙◌}
 use Rattle.asl_model.specs.Finding.{child_breaches, item_flow}
 use Rattle.asl_model.specs.Machine.{ScopeOf, NoStates}
-use Rattle.asl_machine.specs.Table.{table_view}
+use Rattle.asl_states.specs.Table.{table_view}
 use Rattle.asl_records.specs.View.{certificate_view}
 use Rattle.asl_shape.specs.View.{view}
 use Rattle.asl_template.specs.View as templates

@@ -1,7 +1,7 @@
 use Rattle.std.proofs.Common.{Some, None, option_map, ap, sym, refl, ◌∷◌, [], ◌∙◌}
 use Rattle.std.specs.Borrow.{Bor}
-use Rattle.asl_machine.specs.Machine.{kind_view, settings_view}
-use Rattle.asl_machine.specs.Table.{table_view}
+use Rattle.asl_states.specs.Machine.{kind_view, settings_view}
+use Rattle.asl_states.specs.Table.{table_view}
 use Rattle.asl_records.specs.View.{certificate_view, entry_view}
 use Rattle.asl_shape.specs.View.{view, shapes_view}
 use Rattle.asl_shape.specs.declared.shape.Shape.{Shape}

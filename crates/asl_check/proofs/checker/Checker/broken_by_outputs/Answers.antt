@@ -1,8 +1,8 @@
 use Rattle.std.proofs.Common.{option_map, map, ap, sym, ◌∙◌}
 use Rattle.std.specs.Borrow.{Bor}
 use Rattle.asl_model.specs.Finding.{result_breaches}
-use Rattle.asl_machine.specs.Machine.{kind_view, settings_view}
-use Rattle.asl_machine.specs.Table.{table_view}
+use Rattle.asl_states.specs.Machine.{kind_view, settings_view}
+use Rattle.asl_states.specs.Table.{table_view}
 use Rattle.asl_records.specs.View.{certificate_view, declared_view, entry_view, task_view}
 use Rattle.asl_shape.specs.View.{view}
 use Rattle.asl_shape.specs.declared.shape.Shape.{Shape}

@@ -3,8 +3,8 @@ use Rattle.asl_model.specs.Finding.{rule_breaches, rules_breaches}
 use Rattle.asl_model.specs.ShapeFlow.{rule_shape}
 use Rattle.asl_choice.specs.View.{rule_view, view as test_view}
 use Rattle.asl_choice.specs.declared.rule.Rule.{Rule}
-use Rattle.asl_machine.specs.Machine.{kind_view, settings_view}
-use Rattle.asl_machine.specs.Table.{table_view}
+use Rattle.asl_states.specs.Machine.{kind_view, settings_view}
+use Rattle.asl_states.specs.Table.{table_view}
 use Rattle.asl_records.specs.View.{certificate_view, entry_view}
 use Rattle.asl_shape.specs.View.{view}
 use Rattle.asl_check.specs.Rules.{inputs_in}

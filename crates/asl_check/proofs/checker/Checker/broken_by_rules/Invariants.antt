@@ -1,8 +1,8 @@
 use Rattle.std.proofs.Common.{◌≡◌, drop, map}
 use Rattle.asl_model.specs.Finding.{rules_breaches}
 use Rattle.asl_choice.specs.View.{rule_view}
-use Rattle.asl_machine.specs.Machine.{kind_view, settings_view}
-use Rattle.asl_machine.specs.Table.{table_view}
+use Rattle.asl_states.specs.Machine.{kind_view, settings_view}
+use Rattle.asl_states.specs.Table.{table_view}
 use Rattle.asl_records.specs.View.{certificate_view, entry_view}
 use Rattle.asl_shape.specs.View.{view}
 use Rattle.asl_check.specs.Rules.{inputs_in}

@@ -4,8 +4,8 @@ use Rattle.asl_model.specs.Finding.{branch_breaches, breaches_then, child_breach
 use Rattle.asl_model.specs.Machine.{ScopeOf, NoStates}
 use Rattle.asl_model.specs.ShapeFlow.{look}
 use Rattle.asl_choice.specs.View.{rule_view}
-use Rattle.asl_machine.specs.Machine.{branches_view, delay_view, kind_view, settings_view, started_at}
-use Rattle.asl_machine.specs.Table.{table_view}
+use Rattle.asl_states.specs.Machine.{branches_view, delay_view, kind_view, settings_view, started_at}
+use Rattle.asl_states.specs.Table.{table_view}
 use Rattle.asl_records.specs.View.{certificate_view, declared_view, entry_view}
 use Rattle.asl_shape.specs.View.{view}
 use Rattle.asl_shape.specs.declared.shape.Shape.{Shape}

@@ -1,7 +1,7 @@
 use Rattle.std.proofs.Common.{option_map, sym, ap, ◌∙◌, slice_get}
 use Rattle.std.specs.Borrow.{Bor}
 use Rattle.asl_model.specs.Certificate.{certified, child_end}
-use Rattle.asl_machine.specs.Machine.{branches_view, kind_view, started_at}
+use Rattle.asl_states.specs.Machine.{branches_view, kind_view, started_at}
 use Rattle.asl_records.specs.View.{certificate_view}
 use Rattle.asl_shape.specs.View.{view}
 use Rattle.asl_shape.specs.declared.shape.Shape.{Shape}

@@ -1,5 +1,5 @@
 use Rattle.std.proofs.Common.{◌-◌, length}
-use Rattle.asl_machine.specs.Table.{table_view}
+use Rattle.asl_states.specs.Table.{table_view}
 use Rattle.asl_records.specs.View.{declared_view, certificate_view}
 use Rattle.asl_check.specs.Noting.{notes_view}
 use Rattle.asl_check.specs.Rules.{entry_rules, found_in, found_from, found_in_all, row_at}

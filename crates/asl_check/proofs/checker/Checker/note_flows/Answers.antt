@@ -1,5 +1,5 @@
 use Rattle.std.proofs.Common.{◌<◌, length, option_map, subst}
-use Rattle.asl_machine.specs.Table.{table_view}
+use Rattle.asl_states.specs.Table.{table_view}
 use Rattle.asl_records.specs.View.{declared_view, certificate_view}
 use Rattle.asl_check.specs.Checking.{row_view}
 use Rattle.asl_check.specs.Noting.{AreNoted, broken_view, notes_view}

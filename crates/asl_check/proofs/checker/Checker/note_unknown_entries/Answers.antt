@@ -1,6 +1,6 @@
 use Rattle.std.proofs.Common.{codes, is_some, ap, ◌∙◌}
 use Rattle.asl_model.specs.Finding.{NotAState, breach_unless}
-use Rattle.asl_machine.specs.Table.{table_view}
+use Rattle.asl_states.specs.Table.{table_view}
 use Rattle.asl_check.specs.Checking.{state_rule}
 use Rattle.asl_check.proofs.Passes.{left_named}
 use Rattle.asl_check.proofs.checker.Checker.note_unknown_entries.Goals as goal

@@ -1,5 +1,5 @@
 use Rattle.std.specs.BTreeMap.{keys}
-use Rattle.asl_machine.specs.Table.{table_view}
+use Rattle.asl_states.specs.Table.{table_view}
 use Rattle.asl_check.specs.Checking.{state_rule, found_by}
 use Rattle.asl_check.specs.Noting.{notes_view}
 use Rattle.asl_check.proofs.Passes.{AreLeft}

@@ -1,6 +1,6 @@
 use Rattle.std.proofs.Common.{codes, ap, ◌∙◌}
 use Rattle.asl_model.specs.Finding.{TaskUnknown, breach_unless}
-use Rattle.asl_machine.specs.Table.{table_view}
+use Rattle.asl_states.specs.Table.{table_view}
 use Rattle.asl_check.specs.Checking.{task_rule}
 use Rattle.asl_check.proofs.Passes.{left_named}
 use Rattle.asl_check.proofs.checker.Checker.note_unknown_tasks.Goals as goal

@@ -1,6 +1,6 @@
 use Rattle.std.proofs.Common.{sym, ap, ◌∙◌}
-use Rattle.asl_machine.specs.Machine.{state_view}
-use Rattle.asl_machine.specs.Table.{table_view}
+use Rattle.asl_states.specs.Machine.{state_view}
+use Rattle.asl_states.specs.Table.{table_view}
 use Rattle.asl_infer.specs.Growing.{states_room}
 use Rattle.asl_infer.proofs.Rooms.{room_next, room_same}
 use Rattle.asl_infer.proofs.draft.Draft.new.Goals as goal

@@ -1,6 +1,6 @@
 use Rattle.std.proofs.Common.{◌≡◌, ◌*◌, sum_by, take}
 use Rattle.asl_model.specs.Machine.{State, kind_of}
-use Rattle.asl_machine.specs.Table.{table_view}
+use Rattle.asl_states.specs.Table.{table_view}
 use Rattle.asl_infer.specs.Growing.{states_room}
 use Rattle.asl_infer.specs.Inferring.{entry_shapes}
 use Rattle.asl_infer.proofs.draft.Draft.new.Given as goal

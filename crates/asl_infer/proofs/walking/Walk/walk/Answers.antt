@@ -1,5 +1,5 @@
 use Rattle.std.proofs.Common.{map, subst}
-use Rattle.asl_machine.specs.Machine.{catcher_view}
+use Rattle.asl_states.specs.Machine.{catcher_view}
 use Rattle.asl_infer.specs.Walking.{Stops, catchers_rules, walked_view}
 use Rattle.asl_infer.proofs.KindWalks.{input_stops_state, settled_stops_state, catchers_stop_state}
 use Rattle.asl_infer.proofs.walking.Walk.walk.Goals as goal

@@ -1,5 +1,5 @@
 use Rattle.std.proofs.Common.{Err, ap}
-use Rattle.asl_machine.specs.Machine.{catcher_view}
+use Rattle.asl_states.specs.Machine.{catcher_view}
 use Rattle.asl_shape.specs.View.{view}
 use Rattle.asl_infer.specs.Walking.{walked_view}
 use Rattle.asl_infer.proofs.KindWalks.{misfit_stops}

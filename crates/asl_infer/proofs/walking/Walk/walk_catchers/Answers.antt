@@ -1,6 +1,6 @@
 use Rattle.std.proofs.Common.{List, map, refl}
-use Rattle.asl_machine.specs.Machine.{catcher_view}
-use Rattle.asl_machine.specs.declared.states.Catcher.{Catcher}
+use Rattle.asl_states.specs.Machine.{catcher_view}
+use Rattle.asl_states.specs.declared.states.Catcher.{Catcher}
 use Rattle.asl_infer.specs.Walking.{catcher_rules, catchers_rules, walked_view}
 use Rattle.asl_infer.proofs.Stopping.{one_stops}
 use Rattle.asl_infer.proofs.walking.Walk.walk_catchers.Goals as goal

@@ -2,7 +2,7 @@ use Rattle.std.proofs.Common.{option_map, map, string_bytes, ap, ◌∙◌}
 use Rattle.asl_model.specs.Finding.{as_first_elements}
 use Rattle.asl_model.specs.Machine.{Pass}
 use Rattle.asl_model.specs.Shape.{ArrayShape, Never}
-use Rattle.asl_machine.specs.Machine.{branches_view, kind_view}
+use Rattle.asl_states.specs.Machine.{branches_view, kind_view}
 use Rattle.asl_shape.specs.View.{view}
 use Rattle.asl_tree.specs.View as trees
 use Rattle.asl_infer.specs.Walking.{walked_view}

@@ -1,4 +1,4 @@
-use Rattle.asl_machine.specs.Machine.{delay_view}
+use Rattle.asl_states.specs.Machine.{delay_view}
 use Rattle.asl_shape.specs.View.{view}
 use Rattle.asl_infer.specs.Walking.{walked_view}
 use Rattle.asl_infer.proofs.KindWalks.{delay_stops, waited_stops}

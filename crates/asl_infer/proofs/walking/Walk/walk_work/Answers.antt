@@ -1,7 +1,7 @@
 use Rattle.std.proofs.Common.{option_map, map, string_bytes, ap, subst, ◌∙◌}
 use Rattle.asl_model.specs.Machine.{Pass}
 use Rattle.asl_choice.specs.View.{rule_view}
-use Rattle.asl_machine.specs.Machine.{delay_view, kind_view, started_at}
+use Rattle.asl_states.specs.Machine.{delay_view, kind_view, started_at}
 use Rattle.asl_shape.specs.View.{view}
 use Rattle.asl_template.specs.View as templates
 use Rattle.asl_tree.specs.View as trees

@@ -1,6 +1,6 @@
 use Rattle.std.proofs.Common.{map}
 use Rattle.std.proofs.lemmas.Result.{IfOk-weaker}
-use Rattle.asl_machine.specs.Table.{table_view}
+use Rattle.asl_states.specs.Table.{table_view}
 use Rattle.asl_model.specs.Run.{enabled}
 use Rattle.asl_run.specs.Enabling.{found_view}
 use Rattle.asl_run.specs.Running.{run_view}
