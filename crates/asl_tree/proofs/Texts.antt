@@ -1,5 +1,5 @@
 -- JSON values beside the trees that they are.
-use Rattle.std.proofs.Common.{◌≡◌, ℕ, zero, suc, ◌<◌, List, [], ◌∷◌, ◌++◌, length, get_or, map, take, ◌≤◌, Option, Some, None, option_map, option_and_then, String, Global, Less, Greater, string_bytes, string_cmp, nat_cmp, refl, sym, ap, ◌∙◌, arith}
+use Rattle.std.proofs.Common.{◌≡◌, ℕ, zero, suc, ◌<◌, List, [], ◌∷◌, ◌++◌, length, get_or, map, take, ◌≤◌, Option, Some, None, option_map, option_and_then, String, Global, Less, Greater, string_bytes, string_cmp, nat_cmp, refl, sym, ap, ◌∙◌, append-nil, arith}
 use Rattle.std.proofs.lemmas.List.{take_all}
 use Rattle.std.proofs.lemmas.Cmp.{nat_list_cmp_total}
 use Rattle.std.specs.Cmp.Lexicographic.{slice_cmp}
@@ -22,7 +22,7 @@ Member = String Global × Value
 
 -- ---- elements
 
-elements_given : (vs : List Value) (ts : List Tree) → map (λ v. tree_of (json_view v)) vs ≡ map (λ t. Some (view t)) ts → elements_of (items_view vs) ≡ Some (elements_view ts)
+pub elements_given : (vs : List Value) (ts : List Tree) → map (λ v. tree_of (json_view v)) vs ≡ map (λ t. Some (view t)) ts → elements_of (items_view vs) ≡ Some (elements_view ts)
 elements_given [] [] e = refl
 elements_given [] (t ∷ ts) e = absurd (cc)
 elements_given (v ∷ vs) [] e = absurd (cc)
@@ -46,6 +46,27 @@ none_at (v ∷ vs) (suc i) d h e = no_rest model.AndTree (tree_of (json_view v))
 -- where one element is no tree, the array is none
 pub elements_none : (vs ws : List Value) (i : ℕ) (v : Value) → ws ≡ vs → i < length ws → v ≡ get_or ws i v → tree_of (json_view v) ≡ None → elements_of (items_view vs) ≡ None
 elements_none vs ws i v same within is none = rw (← same) (none_at ws i v within (ap (λ x. tree_of (json_view x)) (sym is) ∙ none))
+
+-- the elements so far and one more
+pub elements_more : (done : List Value) (v : Value) (ts : List Tree) (t : Tree) → map (λ v. tree_of (json_view v)) done ≡ map (λ t. Some (view t)) ts
+    → tree_of (json_view v) ≡ Some (view t) → map (λ v. tree_of (json_view v)) (done ++ v ∷ []) ≡ map (λ t. Some (view t)) (ts ++ t ∷ [])
+elements_more [] v [] t e is = rw is refl
+elements_more [] v (x ∷ ts) t e is = absurd (cc)
+elements_more (d ∷ done) v [] t e is = absurd (cc)
+elements_more (d ∷ done) v (x ∷ ts) t e is =
+    let first : tree_of (json_view d) ≡ Some (view x) = cc in
+    rw (first, elements_more done v ts t (cc) is) refl
+
+-- the elements so far, where none are left
+pub elements_ended : (vs done left : List Value) (ts : List Tree) → vs ≡ done ++ left → length left ≡ 0 → map (λ v. tree_of (json_view v)) done ≡ map (λ t. Some (view t)) ts
+    → elements_of (items_view vs) ≡ Some (elements_view ts)
+elements_ended vs done [] ts all end e = rw (all ∙ append-nil done) (elements_given done ts e)
+elements_ended vs done (v ∷ left) ts all end e = absurd (cc)
+
+-- where one element is no tree, whatever stands in front of it and behind it
+pub elements_lost : (done : List Value) (v : Value) (rest : List Value) → tree_of (json_view v) ≡ None → elements_of (items_view (done ++ v ∷ rest)) ≡ None
+elements_lost [] v rest none = rw none refl
+elements_lost (d ∷ done) v rest none = no_rest model.AndTree (tree_of (json_view d)) _ (elements_lost done v rest none)
 
 items_given : (ts : List Tree) (vs : List Value) → map json_view vs ≡ map (λ t. value_of (view t)) ts → items_view vs ≡ items_of (elements_view ts)
 items_given [] [] e = refl

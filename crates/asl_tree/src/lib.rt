@@ -18,7 +18,7 @@ mod writing;
 
 pub use comparing::same;
 pub use copying::copy;
-pub use reading::{from_value, read, read_value};
+pub use reading::{from_value, into_tree, read, read_value};
 pub use wholeness::is_whole;
 pub use writing::{to_text, to_value, write};
 

@@ -1,13 +1,13 @@
 //! Reading trees from JSON texts (RFC 8259).
 ghost use Rattle.std.specs.Prelude.{◌≡◌, IfOk, Err, None, Some};
-ghost use Rattle.serde_json.specs.Data.{Data};
-ghost use Rattle.serde_json.specs.View.{view as json_view, items_view, members_view};
+ghost use Rattle.serde_json.specs.Data.{Data, number};
+ghost use Rattle.serde_json.specs.View.{view as json_view, number_view, items_view, members_view};
 ghost use Rattle.asl_model.specs.Json.{ReadsAsValue, ReadsAsTree, tree_of, elements_of, members_of};
 ghost use Rattle.asl_tree.specs.View.{view, elements_view, entries_view};
 ghost use Rattle.asl_tree.specs.declared.TreeRefusal.TheVariants.{NotJson, NotWhole};
 
 use crate::{Tree, TreeRefusal};
-use serde_json::{Map, Value};
+use serde_json::{Map, Number, Value};
 use std::alloc::Global;
 use std::collections::BTreeMap;
 
@@ -47,13 +47,22 @@ pub fn from_value(alloc: Global, value: &Value) -> Result<Tree, TreeRefusal>
     match value {
         Value::Null => Ok(Tree::Null),
         Value::Bool(b) => Ok(Tree::Bool(*b)),
-        Value::Number(number) => match number.as_i64() {
-            Some(n) => Ok(Tree::Int(n)),
-            None => Err(TreeRefusal::NotWhole),
-        },
+        Value::Number(number) => integer_from(number),
         Value::String(text) => Ok(Tree::Text(text.clone()?)),
         Value::Array(items) => Ok(Tree::List(elements_from(alloc, items)?)),
         Value::Object(members) => Ok(Tree::Object(fields_from(alloc, members)?)),
+    }
+}
+
+/// The integer that a JSON number is.
+fn integer_from(found: &Number) -> Result<Tree, TreeRefusal>
+    ensures integer { IfOk result (λ t. tree_of (number (number_view found.now)) ≡ Some (view t)) }
+    ensures no_integer { result ≡ Err NotWhole → tree_of (number (number_view found.now)) ≡ None }
+    ensures of_value { ¬ (result ≡ Err NotJson) }
+{
+    match found.as_i64() {
+        Some(n) => Ok(Tree::Int(n)),
+        None => Err(TreeRefusal::NotWhole),
     }
 }
 
@@ -87,12 +96,60 @@ fn fields_from(
     Ok(fields)
 }
 
-/// The tree that the bytes of `text` are: [`read_value`], then [`from_value`].
+/// The tree that a JSON value is: [`from_value`], of the value's own names and texts.
+///
+/// Refuses as [`TreeRefusal::NotWhole`] a value with a number that isn't whole or is out of an `i64`'s range.
+#[cycle(take_apart)]
+pub fn into_tree(alloc: Global, value: Value) -> Result<Tree, TreeRefusal>
+    ensures tree { IfOk result (λ t. tree_of (json_view value) ≡ Some (view t)) }
+    ensures no_tree { result ≡ Err NotWhole → tree_of (json_view value) ≡ None }
+    ensures of_value { ¬ (result ≡ Err NotJson) }
+{
+    match value {
+        Value::Null => Ok(Tree::Null),
+        Value::Bool(b) => Ok(Tree::Bool(b)),
+        Value::Number(number) => integer_from(&number),
+        Value::String(text) => Ok(Tree::Text(text)),
+        Value::Array(items) => Ok(Tree::List(into_elements(alloc, items)?)),
+        Value::Object(members) => Ok(Tree::Object(into_fields(alloc, members)?)),
+    }
+}
+
+#[cycle(take_apart)]
+fn into_elements(alloc: Global, items: Vec<Value>) -> Result<Vec<Tree>, TreeRefusal>
+    ensures elements { IfOk result (λ v. elements_of (items_view items.items) ≡ Some (elements_view v.items)) }
+    ensures no_elements { result ≡ Err NotWhole → elements_of (items_view items.items) ≡ None }
+    ensures of_value { ¬ (result ≡ Err NotJson) }
+{
+    let mut elements = Vec::with_capacity(alloc, items.len())?;
+    for item in items {
+        elements.push(into_tree(alloc, item)?)?;
+    }
+    Ok(elements)
+}
+
+#[cycle(take_apart)]
+fn into_fields(
+    alloc: Global,
+    members: Map<String, Value>,
+) -> Result<BTreeMap<String, Tree>, TreeRefusal>
+    ensures fields { IfOk result (λ m. members_of (members_view members.entries) ≡ Some (entries_view m.entries)) }
+    ensures no_fields { result ≡ Err NotWhole → members_of (members_view members.entries) ≡ None }
+    ensures of_value { ¬ (result ≡ Err NotJson) }
+{
+    let mut fields = BTreeMap::new(alloc);
+    for (name, member) in members {
+        drop(fields.insert(name, into_tree(alloc, member)?)?);
+    }
+    Ok(fields)
+}
+
+/// The tree that the bytes of `text` are: [`read_value`], then [`into_tree`].
 pub fn read(alloc: Global, text: &[u8]) -> Result<Tree, TreeRefusal>
     ensures tree { IfOk result (λ t. ReadsAsTree text.now (view t)) }
     ensures no_value { result ≡ Err NotJson → (v : Data) → ¬ ReadsAsValue text.now v }
     ensures no_tree { result ≡ Err NotWhole → (v : Data) × ReadsAsValue text.now v × (tree_of v ≡ None) }
 {
     let value = read_value(alloc, text)?;
-    from_value(alloc, &value)
+    into_tree(alloc, value)
 }
