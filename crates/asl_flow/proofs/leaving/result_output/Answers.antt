@@ -1,7 +1,6 @@
-use Rattle.std.proofs.Common.{◌≡◌, Err, true, ◌&&◌, rules}
+use Rattle.std.proofs.Common.{◌≡◌, true, ◌&&◌, rules}
 use Rattle.asl_machine.specs.Machine.{settings_view}
 use Rattle.asl_model.specs.Shape.{inhabited}
-use Rattle.asl_numbered.proofs.Expansions.{keeps_trans}
 use Rattle.asl_numbered.specs.Expansion.{expansions, shape_at}
 use Rattle.asl_flow.proofs.Leavings.{stopped_selecting, stopped_placing, flows_out}
 use Rattle.asl_flow.proofs.Numbered.{still_within}
