@@ -1,11 +1,15 @@
 pub mod ArgumentShapes
+pub mod Composed
 pub mod Doubts
 pub mod FunctionShapes
 pub mod Leavings
 pub mod LiteralFields
-pub mod Narrowings
+pub mod NarrowedParts
+pub mod NarrowedTests
 pub mod Needed
-pub mod Presence
+pub mod Numbered
+pub mod NumberedParts
 pub mod Puts
 pub mod Replaced
 pub mod ShapeParts
+pub mod SourcesKept
