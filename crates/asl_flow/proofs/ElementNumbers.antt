@@ -1,32 +1,32 @@
 -- The numbers of the shapes of elements, and of lists that are made of them.
-use Rattle.std.proofs.Common.{◌≡◌, ◌<◌, ◌≤◌, ◌+◌, ℕ, zero, suc, List, [], ◌∷◌, length, get_or, drop, replicate, map, Vec, Global, true, false, Option, Some, None, option_map, Result, refl, sym, ap, subst, ◌∙◌, drop-cons, add-one, arith}
+use Rattle.std.proofs.Common.{◌≡◌, ◌<◌, ◌≤◌, ◌+◌, ℕ, zero, suc, List, [], ◌∷◌, length, get_or, drop, replicate, map, Vec, Global, refl, sym, ap, subst, ◌∙◌, drop-cons, add-one, arith}
 use Rattle.std.proofs.lemmas.List.{drop_all}
 use Rattle.std.specs.Prelude.{if◌then◌else◌}
-use Rattle.asl_model.specs.Finding.{array_parts, as_first_elements, at_each_place, element_shape, map_result}
+use Rattle.asl_model.specs.Finding.{as_first_elements, at_each_place, element_shape, map_result}
 use Rattle.asl_model.specs.Shape.{Shape, Never, AndShape, ArrayShape, inhabited}
 use Rattle.asl_model.specs.ShapeOrder.{join, joined_with_each}
 use Rattle.asl_numbered.specs.declared.node.Node.{Node}
 use Rattle.asl_numbered.specs.declared.node.Node.TheVariants.{List as Elements}
 use Rattle.asl_numbered.specs.Expansion.{shape_at, shapes_at, shape_over, AreBelow, RefersBelow}
-use Rattle.asl_flow.proofs.NumberedParts.{below_at}
+use Rattle.asl_numbered.proofs.Expansions.{below-wider}
+use Rattle.asl_flow.specs.Elements.{AreElementsBelow}
 
 -- ---- the elements of an array
 
--- a level of lists has them
-pub list_elements : (table : List Shape) (s : Shape) (node : Node) (first : Vec ℕ Global) (rest : ℕ) → shape_over table node ≡ s → node ≡ Elements first rest → Some (shapes_at table first.items, shape_at table rest) ≡ array_parts s
-list_elements table s node first rest over is = ap array_parts (sym (ap (shape_over table) is) ∙ over)
-
--- the number at a place is below the bound of all
-pub place_within : (bound : ℕ) (ns : List ℕ) (i place : ℕ) → i < length ns → place ≡ get_or ns i place → AreBelow bound ns → place < bound
-place_within bound ns i place within is below = subst (λ n. n < bound) (sym is) (below_at bound ns i place within below)
+-- their numbers are in the table, as that of the array is
+pub elements_below : (bound number : ℕ) (node : Node) (first copied : Vec ℕ Global) (rest : ℕ) → number < bound → RefersBelow number node → node ≡ Elements first rest → copied.items ≡ first.items → AreElementsBelow bound (record { first = copied; rest = rest })
+elements_below bound number node first copied rest within refers is same =
+    let own = subst (RefersBelow number) is refers in
+    let below : AreBelow number copied.items = rw same own.each.1 in
+    record { first = below-wider number bound copied.items (omega arith) below; rest = omega (arith, own.each.0) }
 
 -- ---- the join of all
 
 -- one more is joined
-pub one_joined : (all : Shape) (old a b : List Shape) (ns : List ℕ) (i place element more : ℕ) → i < length ns → place ≡ get_or ns i place → shape_at a place ≡ shape_at old place → shape_at b more ≡ join (shape_at a element) (shape_at a place)
+pub one_joined : (all : Shape) (old a b : List Shape) (ns : List ℕ) (i d element more : ℕ) → i < length ns → shape_at a (get_or ns i d) ≡ shape_at old (get_or ns i d) → shape_at b more ≡ join (shape_at a element) (shape_at a (get_or ns i d))
     → all ≡ joined_with_each join (shape_at a element) (shapes_at old (drop i ns)) → all ≡ joined_with_each join (shape_at b more) (shapes_at old (drop (i + 1) ns))
-one_joined all old a b ns i place element more within is kept joined e =
-    let split : shapes_at old (drop i ns) ≡ AndShape (shape_at old place) (shapes_at old (drop (i + 1) ns)) = ap (shapes_at old) (drop-cons ns i place within) ∙ rw (← is, add-one) refl in
+one_joined all old a b ns i d element more within kept joined e =
+    let split : shapes_at old (drop i ns) ≡ AndShape (shape_at old (get_or ns i d)) (shapes_at old (drop (i + 1) ns)) = ap (shapes_at old) (drop-cons ns i d within) ∙ rw add-one refl in
     e ∙ ap (joined_with_each join (shape_at a element)) split ∙ ap (λ s. joined_with_each join s (shapes_at old (drop (i + 1) ns))) (ap (join (shape_at a element)) (sym kept) ∙ sym joined)
 
 -- all are joined, and the further ones with them

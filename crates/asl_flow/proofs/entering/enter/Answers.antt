@@ -8,7 +8,7 @@ use Rattle.asl_flow.proofs.entering.enter.Goals as goal
 pub returns-in_err-taken-clause-flows : goal.returns-in_err-taken-clause-flows
 returns-in_err-taken-clause-flows c =
     let go_on = model.through_template (codes "Parameters") (settings_view c.args.settings.now).parameters in
-    stopped_early c.take_input.new.shapes _ go_on _ c.in_err-taken.field-0.0 c.from_residual-in_err-taken.result (search rules) c.in_err-taken.ensures.flows
+    stopped_early c.take_input.new.shapes _ go_on _ c.in_err-taken.field-0.0 c.from_residual.result (search rules) c.in_err-taken.ensures.flows
 
 pub returns-clause-flows : goal.returns-clause-flows
 returns-clause-flows c =
