@@ -111,8 +111,8 @@ fn further_output(shapes: &mut Shapes, output: usize, rest: usize) -> Result<usi
     }
 }
 
-/// The number of the shape of the lists with just the elements of those shapes, as a Parallel gives one of its branches'
-/// ends. Refuses only where an allocation was refused.
+/// The number of the shape of the lists with just the elements of those shapes, as a Parallel gives one of what its
+/// branches end with. Refuses only where an allocation was refused.
 pub fn list_at(alloc: Global, shapes: &mut Shapes, elements: &[usize]) -> Result<usize, OutOfMemory>
     requires elements { AreBelow (length shapes.old) elements.now }
     ensures number { IfOk result

@@ -23,7 +23,7 @@ use std::collections::BTreeMap;
 
 /// The number of the shape of a state's effective input, for that of its raw input: what `InputPath` and `Parameters`
 /// make of it (States Language, "Input and Output Processing"). Of several faults one is told, with its field;
-/// `OutOfMemory` comes only where an allocation was refused.
+/// `OutOfMemory` comes only where an allocation was refused. What is refused may leave further shapes in the table.
 pub fn effective_at(
     alloc: Global,
     shapes: &mut Shapes,
@@ -47,8 +47,8 @@ pub fn effective_at(
 }
 
 /// The number of the shape of the input of a Map's children, for those of the Map's effective input and of all items:
-/// what `ItemSelector`, if any, makes of the two. For an item that never comes it isn't looked at. Of several faults one
-/// is told, with its field; `OutOfMemory` comes only where an allocation was refused.
+/// what `ItemSelector`, if any, makes of the two. For an item that never comes it isn't looked at. It refuses as
+/// [`effective_at`] does.
 pub fn item_input_at(
     alloc: Global,
     shapes: &mut Shapes,

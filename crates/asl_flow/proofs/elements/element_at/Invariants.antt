@@ -10,4 +10,6 @@ invariant-loop-place l =
     let old = expansions l.fn.shapes in
     Keeps old (expansions l.shapes)
     × (l.element < length l.shapes)
-    × (joined_with_each join Never (shapes_at old l.elements.first.items) ≡ joined_with_each join (shape_at (expansions l.shapes) l.element) (shapes_at old (drop l.place-index l.elements.first.items)))
+    × (joined_with_each join Never (shapes_at old l.elements.first.items)
+    ≡ joined_with_each join (shape_at (expansions l.shapes) l.element)
+    (shapes_at old (drop l.place-index l.elements.first.items)))

@@ -18,5 +18,6 @@ returns-in-Err-MayBeMissing-clause-flows c =
     rw c.in-Some.is record {
       within = tt;
       shape = tt;
-      stopped = missing_stops (codes "InputPath") _ missing.field-0-0 ((missing.ensures.may_be_missing missing.field-0-0).0 (ap Err missing.field-0-is));
+      stopped = missing_stops (codes "InputPath") _ missing.field-0-0
+        ((missing.ensures.may_be_missing missing.field-0-0).0 (ap Err missing.field-0-is));
     }
