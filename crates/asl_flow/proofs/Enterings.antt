@@ -1,5 +1,5 @@
 -- The way of a shape into a state, by number.
-use Rattle.std.proofs.Common.{◌≡◌, ℕ, List, Option, Some, Result, Err, refl, arith}
+use Rattle.std.proofs.Common.{◌≡◌, ℕ, List, Some, Result, Err, refl, arith}
 use Rattle.asl_model.specs.Shape.{Shape}
 use Rattle.asl_model.specs.ShapeFlow as model
 use Rattle.asl_numbered.specs.declared.node.Node.{Node}

@@ -1,14 +1,12 @@
 -- The shapes of the functions' values, for the numbers of the shapes of their arguments.
-use Rattle.std.proofs.Common.{◌≡◌, ◌<◌, ℕ, suc, List, [], ◌∷◌, length, get_or, Bool, true, false, ◌&&◌, ◌||◌, not, nat_eq, Option, Some, None, option_map, Result, Ok, Err, refl, sym, ap, ◌∙◌, arith}
-use Rattle.std.specs.Prelude.{IfOk}
+use Rattle.std.proofs.Common.{◌≡◌, ℕ, suc, List, [], ◌∷◌, length, get_or, Bool, true, false, ◌||◌, not, nat_eq, Option, Some, None, option_map, Ok, refl, sym, ap, ◌∙◌, arith}
 use Rattle.asl_model.specs.Intrinsic.{Pieces}
 use Rattle.asl_model.specs.Shape as model
 use Rattle.asl_model.specs.ShapeFlow as flow
 use Rattle.asl_numbered.specs.declared.node.Node.{Node}
-use Rattle.asl_numbered.specs.Expansion.{expansions, shape_at, shapes_at}
+use Rattle.asl_numbered.specs.Expansion.{shape_at, shapes_at}
 use Rattle.asl_flow.specs.CallAnswer.{Answers}
 use Rattle.asl_flow.specs.Numbers.{Shows}
-use Rattle.asl_flow.specs.declared.references.Doubt.{Doubt}
 
 -- what shows a shape answers where that is the one
 pub answered : (nodes : List Node) (s : model.Shape) (n : ℕ) (shape : Option model.Shape) → shape ≡ Some s → Shows nodes s n → Answers nodes (Ok n) shape

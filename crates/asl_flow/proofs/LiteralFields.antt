@@ -1,5 +1,5 @@
 -- The shapes of the elements and fields of a value that stands for itself.
-use Rattle.std.proofs.Common.{◌≡◌, ℕ, ◌≤◌, List, [], ◌∷◌, ◌++◌, length, map, take, Vec, String, Global, false, string_bytes, string_cmp, true, refl, sym, ap, ◌∙◌, subst, rules}
+use Rattle.std.proofs.Common.{◌≡◌, ℕ, ◌≤◌, List, [], ◌∷◌, ◌++◌, length, take, Vec, String, Global, false, string_bytes, string_cmp, true, refl, sym, ap, ◌∙◌, subst, rules}
 use Rattle.std.proofs.lemmas.List.{append-nil, take_all}
 use Rattle.std.specs.BTreeMap.{BTreeMap}
 use Rattle.std.specs.List.Sorted.{IsStrictlySortedBy}
@@ -7,7 +7,6 @@ use Rattle.std.specs.Map.{keys_of}
 use Rattle.asl_model.specs.Shape as model
 use Rattle.asl_model.specs.ShapeFlow.{literal, literals, literal_fields}
 use Rattle.asl_model.specs.ShapeOrder.{set_mention}
-use Rattle.asl_model.specs.Tree as json
 use Rattle.asl_numbered.specs.declared.node.NodeField.{NodeField}
 use Rattle.asl_numbered.specs.Expansion.{AreNumbersOf, AreFieldsOf}
 use Rattle.asl_tree.specs.View as trees

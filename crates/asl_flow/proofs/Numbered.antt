@@ -1,5 +1,5 @@
 -- Numbers of a table: what stays as it grows, and what a shape's own number is.
-use Rattle.std.proofs.Common.{◌≡◌, ◌<◌, ◌≤◌, ℕ, List, Option, Some, IfSome, length, refl, sym, ◌∙◌, arith}
+use Rattle.std.proofs.Common.{◌≡◌, ◌<◌, ℕ, List, Option, Some, IfSome, length, refl, sym, ◌∙◌, arith}
 use Rattle.asl_model.specs.Shape.{Shape}
 use Rattle.asl_flow.specs.Numbers.{Shows}
 use Rattle.asl_numbered.specs.declared.node.Node.{Node}

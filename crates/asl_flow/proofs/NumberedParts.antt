@@ -1,5 +1,5 @@
 -- What one segment, and then the segments behind it, lead to in a shape of a table, by number.
-use Rattle.std.proofs.Common.{◌≡◌, ℕ, zero, suc, ◌+◌, ◌<◌, ◌≤◌, Bool, List, [], ◌∷◌, Option, Some, None, Result, Ok, Err, option_map, is_some, is_ok, IfOk, IsErrAnd, MatchResult, Bor, String, Global, string_bytes, IfSome, length, get_or, drop, drop-cons, refl, ap, sym, ◌∙◌, arith, subst, Vec}
+use Rattle.std.proofs.Common.{◌≡◌, ℕ, zero, suc, ◌<◌, ◌≤◌, Bool, List, [], ◌∷◌, Option, Some, None, Result, Ok, Err, option_map, is_some, is_ok, IfOk, IsErrAnd, MatchResult, Bor, String, Global, string_bytes, IfSome, length, get_or, drop, drop-cons, refl, ap, sym, ◌∙◌, arith, subst, Vec}
 use borrow.Author.Tests.{ltb-true, ltb-false}
 use lib.Dec.{ltb}
 use Rattle.std.specs.BTreeMap.{BTreeMap, get_by}

@@ -4,7 +4,6 @@ use Rattle.std.specs.BTreeMap.{BTreeMap, get_by}
 use Rattle.std.specs.Prelude.{IfOk}
 use Rattle.std.specs.String.{string_cmp}
 use Rattle.asl_model.specs.Path.{Segment, Name, Index}
-use Rattle.asl_model.specs.Shape as model
 use Rattle.asl_model.specs.Shape.{Shape, FieldShapes, NoFieldShapes, AndFieldShape, ArrayShape, ObjectShape, Any, Never, NullShape, BooleanShape, IntegerShape, StringShape, inhabited}
 use Rattle.asl_model.specs.ShapeFlow.{part_at, place_at, put, put_under, put_mentioned, array_with, object_with, around, join_results}
 use Rattle.asl_model.specs.ShapeOrder.{mention_of, join}

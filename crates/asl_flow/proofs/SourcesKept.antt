@@ -1,10 +1,9 @@
 -- What paths go into, in a table that has grown.
-use Rattle.std.proofs.Common.{◌≡◌, ◌<◌, ℕ, List, length, Option, Some, None, option_map, Result, Ok, Err, refl, ap, subst}
-use Rattle.std.specs.Prelude.{IfOk, IfErr, IfSome}
+use Rattle.std.proofs.Common.{◌≡◌, ◌<◌, ℕ, List, length, Option, Some, None, option_map, refl, ap, subst}
+use Rattle.std.specs.Prelude.{IfSome}
 use Rattle.asl_model.specs.Shape.{Shape}
-use Rattle.asl_model.specs.ShapeFlow as flow
 use Rattle.asl_numbered.specs.declared.node.Node.{Node}
-use Rattle.asl_numbered.specs.Expansion.{expansions, shape_at, IsNumberOf, Keeps}
+use Rattle.asl_numbered.specs.Expansion.{expansions, shape_at, Keeps}
 use Rattle.asl_flow.specs.Sources.{input_of, item_of, IsWithin}
 use Rattle.asl_flow.specs.declared.references.Sources.{Sources}
 use Rattle.asl_flow.proofs.Numbered.{still_within, still_shown}

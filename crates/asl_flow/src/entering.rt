@@ -106,9 +106,7 @@ fn take_input(
     ensures keeps { Keeps (expansions shapes.old) (expansions shapes.new) }
 {
     match path {
-        None if is_inhabited(shapes, input) => {
-            Ok(closed_object(shapes, BTreeMap::new(alloc))?)
-        }
+        None if is_inhabited(shapes, input) => Ok(closed_object(shapes, BTreeMap::new(alloc))?),
         None => Ok(put_never(shapes)?),
         Some(path) => match look_at(shapes, input, path) {
             Ok(part) => Ok(part),
@@ -156,7 +154,14 @@ fn select(
     match selector {
         None => Ok(element),
         Some(template) if is_inhabited(shapes, element) => {
-            fill(alloc, shapes, "ItemSelector", template, effective, Some(element))
+            fill(
+                alloc,
+                shapes,
+                "ItemSelector",
+                template,
+                effective,
+                Some(element),
+            )
         }
         Some(_) => Ok(put_never(shapes)?),
     }

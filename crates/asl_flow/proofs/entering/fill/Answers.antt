@@ -18,11 +18,11 @@ pub returns-in-Err-clause-flows : goal.returns-in-Err-clause-flows
 returns-in-Err-clause-flows c =
     let table = expansions c.args.shapes.now in
     let answer = model.template_shape (templates.view c.args.template.now) (shape_at table c.args.input)
-      (option_map (shape_at table) c.args.item) in
+    (option_map (shape_at table) c.args.item) in
     record {
       within = tt;
       shape = tt;
       stopped = refusal_stops c.args.field.now answer c.in-Err.refusal (fault_view c.fault_in.result)
-        c.fault_in.ensures (λ inner e. c.in-Err.ensures.may_be_missing inner (ap Err e))
-        (λ inner e. c.in-Err.ensures.may_fail inner (ap Err e));
+          c.fault_in.ensures (λ inner e. c.in-Err.ensures.may_be_missing inner (ap Err e))
+          (λ inner e. c.in-Err.ensures.may_fail inner (ap Err e));
     }

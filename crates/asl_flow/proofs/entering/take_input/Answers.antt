@@ -19,5 +19,5 @@ returns-in-Err-MayBeMissing-clause-flows c =
       within = tt;
       shape = tt;
       stopped = missing_stops (codes "InputPath") _ missing.field-0-0
-        ((missing.ensures.may_be_missing missing.field-0-0).0 (ap Err missing.field-0-is));
+          ((missing.ensures.may_be_missing missing.field-0-0).0 (ap Err missing.field-0-is));
     }

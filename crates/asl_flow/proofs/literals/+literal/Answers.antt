@@ -2,13 +2,10 @@ use Rattle.std.proofs.Common.{◌≡◌, ◌+◌, [], ◌∷◌, ◌++◌, take,
 use Rattle.std.proofs.lemmas.Grind.{common_steps}
 use Rattle.std.specs.List.Sorted.{IsStrictlySortedBy}
 use Rattle.std.specs.Map.{keys_of}
-use Rattle.asl_model.specs.Shape as model
-use Rattle.asl_model.specs.ShapeFlow.{literal}
 use Rattle.asl_numbered.proofs.Expansions.{keeps_trans}
-use Rattle.asl_tree.specs.View.{view}
 use Rattle.asl_tree.specs.declared.Tree.{Tree}
 use Rattle.asl_flow.proofs.Composed.{number_more, field_more, numbers_below, fields_below}
-use Rattle.asl_flow.proofs.LiteralFields.{of_itself, elements_end, fields_end, list_shown, object_shown}
+use Rattle.asl_flow.proofs.LiteralFields.{of_itself, elements_end, fields_end}
 use Rattle.asl_flow.proofs.literals.+literal.Goals as goal
 
 pub element_shapes-loop-element-preserved : goal.element_shapes-loop-element-preserved
