@@ -1,6 +1,8 @@
 pub mod ArgumentShapes
 pub mod Composed
 pub mod Doubts
+pub mod ElementNumbers
+pub mod Enterings
 pub mod FunctionShapes
 pub mod Leavings
 pub mod LiteralFields

@@ -41,7 +41,8 @@ pub place_got : (table : List model.Shape) (ns : List ℕ) (i : ℕ) (r : Option
 place_got table ns i None e h = place_past table ns i (ltb-false i (length ns) (sym e))
 place_got table ns i (Some x) e h = ap (λ n. Some (shape_at table n)) h ∙ place_within table ns i x.now (ltb-true i (length ns) (sym e))
 
-below_at : (bound : ℕ) (ns : List ℕ) (i d : ℕ) → i < length ns → AreBelow bound ns → get_or ns i d < bound
+-- a number in a list is below its bound
+pub below_at : (bound : ℕ) (ns : List ℕ) (i d : ℕ) → i < length ns → AreBelow bound ns → get_or ns i d < bound
 below_at bound [] i d h below = absurd (omega arith)
 below_at bound (n ∷ ns) zero d h below = below.0
 below_at bound (n ∷ ns) (suc i) d h below = below_at bound ns i d (omega arith) below.1

@@ -1,6 +1,7 @@
 pub mod CallAnswer
 pub mod Changing
 pub mod Counting
+pub mod Elements
 pub mod Items
 pub mod Leaving
 pub mod Looking
