@@ -1,5 +1,5 @@
 use Rattle.std.proofs.Common.{codes, rules}
-use Rattle.asl_machine.specs.Machine.{settings_view}
+use Rattle.asl_states.specs.Machine.{settings_view}
 use Rattle.asl_model.specs.ShapeFlow as model
 use Rattle.asl_flow.proofs.Enterings.{stopped_early}
 use Rattle.asl_flow.proofs.Leavings.{goes_on}
