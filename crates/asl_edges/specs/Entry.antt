@@ -11,7 +11,12 @@ use Rattle.asl_edges.specs.declared.found.Entry.{Entry}
 
 -- the shapes of a state
 abbrev pub entry_view : List Shape → Entry → StateShapes
-entry_view table e = record { input = shape_at table e.input; output = shape_at table e.output; branches = map (shape_at table) e.branches.now; item = option_map (shape_at table) e.item }
+entry_view table e = record {
+  input = shape_at table e.input;
+  output = shape_at table e.output;
+  branches = map (shape_at table) e.branches.now;
+  item = option_map (shape_at table) e.item;
+}
 
 -- their numbers are below that bound
 pub record IsEntryBelow (bound : ℕ) (e : Entry) : Type 0 where

@@ -19,16 +19,24 @@ processor_of children = ScopeOf children.processor.now NoStates
 
 -- a child's input for the elements
 abbrev pub item_steps : List Shape → Children → Shapes × Shape → List model.Walked
-item_steps table children elements = model.walk_then (model.to_child (codes "ItemProcessor") (processor_of children)) (item_flow (option_map templates.view children.selector.now) (shape_at table children.effective) (element_shape elements.0 elements.1))
+item_steps table children elements =
+    model.walk_then (model.to_child (codes "ItemProcessor") (processor_of children))
+    (item_flow (option_map templates.view children.selector.now) (shape_at table children.effective)
+    (element_shape elements.0 elements.1))
 
 -- the list of what the children give
 abbrev pub outputs_steps : List Shape → Walk → Shapes × Shape → List model.Walked
-outputs_steps table walk elements = model.walk_items_result (settings_of walk) (kind_of walk) (input_of table walk) (option_map (shape_at table) walk.entry.item) elements
+outputs_steps table walk elements =
+    model.walk_items_result (settings_of walk) (kind_of walk) (input_of table walk)
+    (option_map (shape_at table) walk.entry.item) elements
 
 -- both
 abbrev pub elements_steps : List Shape → Walk → Children → Shapes × Shape → List model.Walked
-elements_steps table walk children = model.walk_elements (settings_of walk) (kind_of walk) (entry_view table walk.entry) (option_map templates.view children.selector.now) (processor_of children) (shape_at table children.effective)
+elements_steps table walk children =
+    model.walk_elements (settings_of walk) (kind_of walk) (entry_view table walk.entry)
+    (option_map templates.view children.selector.now) (processor_of children) (shape_at table children.effective)
 
 -- for what the path names
 abbrev pub items_steps : List Shape → Walk → List Segment → Children → List model.Walked
-items_steps table walk path children = model.walk_items (elements_steps table walk children) (look path (shape_at table children.effective))
+items_steps table walk path children =
+    model.walk_items (elements_steps table walk children) (look path (shape_at table children.effective))

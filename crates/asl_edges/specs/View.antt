@@ -50,7 +50,8 @@ destination_view to.Task = model.ToTask
 
 -- an edge, with the shape of its number in a table
 abbrev pub edge_view : List Shape → Edge → model.Walked
-edge_view table e = model.flows_to (destination_view e.destination) e.field.now (finding_fault_view e.fault) (shape_at table e.flowing)
+edge_view table e =
+    model.flows_to (destination_view e.destination) e.field.now (finding_fault_view e.fault) (shape_at table e.flowing)
 
 -- so for each edge of a list
 abbrev pub steps_of : List Shape → List Edge → List model.Walked

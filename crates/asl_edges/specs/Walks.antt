@@ -22,8 +22,8 @@ payload_step s = flows_to ToTask (codes "Parameters") PayloadNotTaken s ∷ []
 abbrev pub caught_step : List ℕ → Shape → List Walked
 caught_step next s = flows_to (ToInput next) (codes "Catch") CatchInput s ∷ []
 
--- Edges of the shape of that number are added, whatever the table: they are the first of the steps on that shape, and the
--- further ones are left.
+-- Edges of the shape of that number are added, whatever the table: they are the first of the steps on that shape, and
+-- the further ones are left.
 pub record Pushes (before after : List Edge) (n : ℕ) (steps further : Shape → List Walked) : Type 0 where
   pub added : List Edge
   pub whole : after ≡ before ++ added
@@ -59,6 +59,7 @@ Goes table before after steps (Ok _) = Adds table before after steps []
 Goes table before after steps (Err s) = Halts table before after steps (stopped_view s)
 
 -- what a walk over these steps does to the table and to the edges
-pub record Walks (old new : List Shape) (before after : List Edge) (steps : List Walked) (answer : Result (Unit {0}) Stopped) : Type 0 where
+pub record Walks (old new : List Shape) (before after : List Edge) (steps : List Walked)
+    (answer : Result (Unit {0}) Stopped) : Type 0 where
   pub keeps : Keeps old new
   pub goes : Goes new before after steps answer

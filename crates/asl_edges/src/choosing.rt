@@ -67,7 +67,7 @@ impl<'m> Walk<'_, 'm> {
             edges.new.items
             (rule_steps (expansions shapes.old) self.now rule.now effective) result }
     {
-        match rule_shape_at(shapes, &rule.test, effective) {
+        match rule_shape_at(self.alloc, shapes, &rule.test, effective) {
             Ok(shape) => self.walk_chosen(shapes, edges, "Choices", &rule.next, shape),
             Err(RuleShapeRefusal::MayBeMissing) => {
                 Err(broken_at("Choices", FindingFault::PathMayBeMissing))
