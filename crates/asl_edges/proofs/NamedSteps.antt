@@ -1,8 +1,12 @@
 -- What a path names, and the walk over it.
-use Rattle.std.proofs.Common.{◌≡◌, ◌<◌, ℕ, List, [], ◌∷◌, length, Bool, true, false, codes, Option, Some, None, Result, Ok, Err, refl, sym, ap, ◌∙◌, subst}
+use Rattle.std.proofs.Common.{◌≡◌, ◌<◌, ◌⊎◌, inl, inr, ℕ, List, [], ◌∷◌, length, Bool, true, false, codes, Option, Some, None, Result, Ok, Err, String, refl, sym, ap, ◌∙◌, subst}
+use Rattle.std.specs.declared.alloc.Global.{Global}
+use Rattle.asl_machine.specs.Machine.{delay_view}
+use Rattle.asl_machine.specs.declared.states.Delay as states
+use Rattle.asl_machine.specs.declared.states.Delay.TheVariants as given
 use Rattle.asl_model.specs.Edges.{Walked, Breaks, breaks_unless, walk_delay, walk_items, walk_named}
 use Rattle.asl_model.specs.Finding.{Breach, PathMayBeMissing, WrongKind, array_parts}
-use Rattle.asl_model.specs.Machine.{Delay, Seconds, SecondsPath, Timestamp, TimestampPath}
+use Rattle.asl_model.specs.Machine.{Delay, SecondsPath, TimestampPath}
 use Rattle.asl_model.specs.Path.{Segment}
 use Rattle.asl_model.specs.Shape.{Shape, Shapes}
 use Rattle.asl_model.specs.ShapeFlow.{look}
@@ -58,11 +62,9 @@ module _ (a b : List Shape) (edges : List Edge) (delay : Delay) (path : List Seg
       rw (is, named.comes.is) (walks_later a b b edges edges (breaks_unless (is_string_shape (shape_at b n)) (codes "TimestampPath") WrongKind) r named.keeps (subst (λ h. Walks b b edges edges (breaks_unless h (codes "TimestampPath") WrongKind) r) kind w))
 
 -- a time that is given
-pub seconds_given : (delay : Delay) (n : ℕ) (s : Shape) → delay ≡ Seconds n → walk_delay delay s ≡ []
-seconds_given delay n s is = rw is refl
-
-pub timestamp_given : (delay : Delay) (t : List ℕ) (s : Shape) → delay ≡ Timestamp t → walk_delay delay s ≡ []
-timestamp_given delay t s is = rw is refl
+pub time_given : (delay : states.Delay) (s : Shape) → ((n : ℕ) × (delay ≡ given.Seconds n)) ⊎ ((t : String Global) × (delay ≡ given.Timestamp t)) → walk_delay (delay_view delay) s ≡ []
+time_given delay s (inl seconds) = rw seconds.1 refl
+time_given delay s (inr timestamp) = rw timestamp.1 refl
 
 -- ---- the items of a Map
 

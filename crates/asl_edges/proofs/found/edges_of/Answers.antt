@@ -13,6 +13,3 @@ returns-in-Err-Broken c = record {
   walked = found_some _ _ _ _ c.in-Err-Broken.broken c.in-Err-Broken.field-0 c.new-edges.ensures.items refl c.in-Err-Broken.field-0-is c.in-Err-Broken.ensures.goes;
   keeps = c.in-Err-Broken.ensures.keeps;
 }
-
-pub returns-in-Err-OutOfMemory : goal.returns-in-Err-OutOfMemory
-returns-in-Err-OutOfMemory c = record { walked = tt; keeps = c.in-Err-OutOfMemory.ensures.keeps }

@@ -44,7 +44,7 @@ loop-catcher-preserved c =
     let keeps = c.in_ok-walk_catcher.ensures.keeps in (
       goes_on_then _ _ _ _ _ _ _ _ _ _ going (walks_same _ _ _ _ _ _ _ same c.in_ok-walk_catcher.ensures),
       within _ _ _ keeps l.invariant.1,
-      shown _ _ _ keeps l.invariant.1 ∙ l.invariant.2,
+      shown l.shapes c.walk_catcher.new.shapes c.in_ok-error.error keeps l.invariant.1 ∙ l.invariant.2,
     )
 
 pub returns : goal.returns

@@ -28,9 +28,9 @@ pub returns-in-Some : goal.returns-in-Some
 returns-in-Some c =
     let walk = c.args.self.now in
     let a = c.args.shapes.now in
-    let b = c.named_in-items.new.shapes in
+    let b = c.named_in.new.shapes in
     let elements = elements_view (expansions b) c.in-Some.elements in
-    let some = sym (ap (option_map (elements_view (expansions b))) c.in-Some.is) ∙ c.in_ok-elements_of.ensures.as_defined in
+    let some = sym (ap (option_map (elements_view (expansions b))) c.in-Some.is) ∙ c.in_ok-elements.ensures.as_defined in
     let same = elements_kept a b walk c.args.children elements c.in_ok-items.ensures.keeps c.requires.entry c.requires.effective in
     items_walked _ _ _ _ _ (elements_steps (expansions a) walk c.args.children) _ c.in_ok-items.items elements _ c.in_ok-items.ensures some (walks_same _ _ _ _ _ _ _ same c.walk_elements.ensures)
 
@@ -38,6 +38,6 @@ pub returns-in-None : goal.returns-in-None
 returns-in-None c =
     let walk = c.args.self.now in
     let a = c.args.shapes.now in
-    let b = c.named_in-items.new.shapes in
-    let none = sym (ap (option_map (elements_view (expansions b))) c.in-None.is) ∙ c.in_ok-elements_of.ensures.as_defined in
+    let b = c.named_in.new.shapes in
+    let none = sym (ap (option_map (elements_view (expansions b))) c.in-None.is) ∙ c.in_ok-elements.ensures.as_defined in
     items_wrong _ _ _ (elements_steps (expansions a) walk c.args.children) _ c.in_ok-items.items _ c.in_ok-items.ensures none c.broken_at.ensures

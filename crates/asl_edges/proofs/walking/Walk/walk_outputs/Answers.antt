@@ -16,7 +16,7 @@ walk_result-requires-clause-work c = among _ _ c.in_ok-outputs-in-Some.ensures.n
 
 pub returns-in_ok-outputs-in-Some : goal.returns-in_ok-outputs-in-Some
 returns-in_ok-outputs-in-Some c =
-    outputs_walked c.args.shapes.now c.outputs_at-outputs.new.shapes _ _ _ c.args.self.now c.in-Some.item (elements_view (expansions c.args.shapes.now) c.args.elements.now) c.in_ok-outputs-in-Some.outputs _ c.in-Some.is c.requires.entry.input c.in_ok-outputs-in-Some.ensures.keeps c.in_ok-outputs-in-Some.ensures.number c.walk_result.ensures
+    outputs_walked c.args.shapes.now c.outputs_at.new.shapes _ _ _ c.args.self.now c.in-Some.item (elements_view (expansions c.args.shapes.now) c.args.elements.now) c.in_ok-outputs-in-Some.outputs _ c.in-Some.is c.requires.entry.input c.in_ok-outputs-in-Some.ensures.keeps c.in_ok-outputs-in-Some.ensures.number c.walk_result.ensures
 
 pub returns-in-None : goal.returns-in-None
 returns-in-None c = walks_nowhere _ _ _ _ (no_outputs (expansions c.args.shapes.now) c.args.self.now (elements_view (expansions c.args.shapes.now) c.args.elements.now) c.in-None.is)
