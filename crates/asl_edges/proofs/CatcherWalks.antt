@@ -1,7 +1,6 @@
 -- The walk over a catcher.
-use Rattle.std.proofs.Common.{◌≡◌, ◌<◌, ℕ, List, [], ◌∷◌, length, codes, Option, Some, None, Result, Ok, Err, string_bytes, refl, sym, ap, ◌∙◌, subst}
+use Rattle.std.proofs.Common.{◌≡◌, ◌<◌, ℕ, List, length, codes, Some, None, Result, Ok, Err, string_bytes, refl, sym, ap, ◌∙◌}
 use Rattle.asl_machine.specs.declared.states.Catcher.{Catcher}
-use Rattle.asl_model.specs.Edges.{Walked}
 use Rattle.asl_model.specs.Finding.{ResultMayNotFit, error_output_shape, error_placed_shape}
 use Rattle.asl_model.specs.Path.{Segment}
 use Rattle.asl_model.specs.Shape.{Shape}

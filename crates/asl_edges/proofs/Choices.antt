@@ -1,9 +1,9 @@
 -- The walk over a rule of a Choice, and over `Default`.
-use Rattle.std.proofs.Common.{◌≡◌, ◌<◌, ℕ, List, [], ◌∷◌, length, codes, Option, Some, None, option_map, Result, Err, String, string_bytes, refl, sym, ap, ◌∙◌}
+use Rattle.std.proofs.Common.{◌≡◌, ◌<◌, ℕ, List, [], length, codes, Option, Some, None, Result, Err, String, string_bytes, refl, ap}
 use Rattle.std.specs.declared.alloc.Global.{Global}
 use Rattle.asl_choice.specs.View.{view as test_view}
 use Rattle.asl_choice.specs.declared.rule.Rule.{Rule}
-use Rattle.asl_model.specs.Edges.{Walked, walk_chosen}
+use Rattle.asl_model.specs.Edges.{walk_chosen}
 use Rattle.asl_model.specs.Finding.{PathMayBeMissing}
 use Rattle.asl_model.specs.Shape.{Shape}
 use Rattle.asl_model.specs.ShapeFlow.{rule_shape}

@@ -1,5 +1,5 @@
 -- The edges that a walk has found.
-use Rattle.std.proofs.Common.{◌≡◌, ◌<◌, ℕ, List, [], ◌∷◌, ◌++◌, length, Option, Some, None, Result, Ok, Err, refl, sym, ap, ◌∙◌, subst}
+use Rattle.std.proofs.Common.{◌≡◌, List, [], ◌++◌, length, Some, None, refl, sym, ap, ◌∙◌, subst}
 use Rattle.asl_model.specs.Edges.{Walked}
 use Rattle.asl_model.specs.Shape.{Shape}
 use Rattle.asl_numbered.specs.Expansion.{AreBelow}

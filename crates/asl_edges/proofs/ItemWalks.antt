@@ -1,20 +1,20 @@
 -- The walk over the items of a Map.
-use Rattle.std.proofs.Common.{◌≡◌, ◌<◌, ℕ, List, [], ◌∷◌, length, codes, Option, Some, None, option_map, Result, Ok, Err, refl, sym, ap, ◌∙◌, subst, arith}
+use Rattle.std.proofs.Common.{◌≡◌, ◌<◌, ℕ, List, [], length, codes, Some, None, option_map, Result, Ok, Err, refl, sym, ap, ◌∙◌, subst, arith}
 use Rattle.std.specs.Prelude.{IfSome}
 use Rattle.asl_flow.specs.Elements.{elements_view, AreElementsBelow}
 use Rattle.asl_flow.specs.Leaving.{IsStopped, fault_view}
 use Rattle.asl_flow.specs.declared.elements.Elements.{Elements}
 use Rattle.asl_flow.specs.declared.leaving.FlowFault.{FlowFault as Fault}
-use Rattle.asl_model.specs.Edges.{Walked, to_child, walk_elements, walk_items_result, walk_result}
+use Rattle.asl_model.specs.Edges.{to_child, walk_elements, walk_items_result}
 use Rattle.asl_model.specs.Finding.{breach_of, element_shape, item_flow, map_result}
 use Rattle.asl_model.specs.Shape.{Shape, Shapes}
 use Rattle.asl_numbered.specs.declared.node.Node.{Node}
-use Rattle.asl_numbered.specs.Expansion.{expansions, shape_at, shapes_at, AreBelow, IsNumberOf, Keeps}
+use Rattle.asl_numbered.specs.Expansion.{expansions, shape_at, shapes_at, IsNumberOf, Keeps}
 use Rattle.asl_numbered.proofs.Expansions.{below-wider, keeps_trans, shapes_at_stay}
 use Rattle.asl_template.specs.View as templates
 use Rattle.asl_edges.specs.Entry.{entry_view, IsEntryBelow}
 use Rattle.asl_edges.specs.Items.{elements_steps, item_steps, outputs_steps, processor_of}
-use Rattle.asl_edges.specs.Steps.{settings_of, kind_of, input_of, result_steps}
+use Rattle.asl_edges.specs.Steps.{settings_of, kind_of, result_steps}
 use Rattle.asl_edges.specs.View.{stopped_view}
 use Rattle.asl_edges.specs.Walks.{Walks}
 use Rattle.asl_edges.specs.declared.faults.Stopped.{Stopped}

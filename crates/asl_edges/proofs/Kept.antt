@@ -1,8 +1,6 @@
 -- The shapes of a state in a table that has grown.
-use Rattle.std.proofs.Common.{◌≡◌, ◌<◌, ◌≤◌, ℕ, List, [], ◌∷◌, length, map, Option, Some, None, option_map, refl, sym, ap, ◌∙◌, arith}
+use Rattle.std.proofs.Common.{◌≡◌, ◌<◌, ◌≤◌, ℕ, List, [], ◌∷◌, length, map, Option, Some, None, option_map, refl, ap, arith}
 use Rattle.std.specs.Prelude.{IfSome}
-use Rattle.asl_model.specs.Certificate.{StateShapes}
-use Rattle.asl_model.specs.Shape.{Shape}
 use Rattle.asl_numbered.specs.declared.node.Node.{Node}
 use Rattle.asl_numbered.specs.Expansion.{expansions, shape_at, AreBelow, Keeps}
 use Rattle.asl_numbered.proofs.Expansions.{as_many, below-wider, keeps_longer, kept_shape}

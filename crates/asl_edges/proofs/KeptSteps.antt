@@ -1,19 +1,18 @@
 -- The steps of a walk on shapes of a table that has grown.
-use Rattle.std.proofs.Common.{◌≡◌, ◌<◌, ◌+◌, ℕ, List, [], ◌∷◌, ◌++◌, length, get_or, drop, map, Option, Some, None, option_map, String, string_bytes, refl, sym, ap, ◌∙◌, drop-cons, add-one}
+use Rattle.std.proofs.Common.{◌≡◌, ◌<◌, ◌+◌, ℕ, List, ◌∷◌, ◌++◌, length, get_or, drop, map, Option, option_map, String, string_bytes, refl, ap, ◌∙◌, drop-cons, add-one}
 use Rattle.std.specs.declared.alloc.Global.{Global}
 use Rattle.asl_choice.specs.View.{view as test_view}
 use Rattle.asl_choice.specs.declared.rule.Rule.{Rule}
 use Rattle.asl_machine.specs.Machine.{catcher_view}
 use Rattle.asl_machine.specs.declared.states.Catcher.{Catcher}
-use Rattle.asl_model.specs.Edges.{Walked, walk_catchers, walk_caught, walk_chosen, walk_default, walk_result, walk_rule, walk_settled, walk_work}
+use Rattle.asl_model.specs.Edges.{walk_catchers, walk_caught, walk_chosen, walk_default, walk_result, walk_rule, walk_settled, walk_work}
 use Rattle.asl_model.specs.Finding.{error_placed_shape}
-use Rattle.asl_model.specs.Shape.{Shape, Shapes}
+use Rattle.asl_model.specs.Shape.{Shape}
 use Rattle.asl_model.specs.ShapeFlow.{rule_shape}
 use Rattle.asl_numbered.specs.declared.node.Node.{Node}
-use Rattle.asl_numbered.specs.Expansion.{expansions, shape_at, shapes_at, Keeps}
+use Rattle.asl_numbered.specs.Expansion.{expansions, shape_at, Keeps}
 use Rattle.asl_edges.specs.Entry.{entry_view, IsEntryBelow}
-use Rattle.asl_edges.specs.Items.{outputs_steps}
-use Rattle.asl_edges.specs.Steps.{settings_of, kind_of, input_of, result_steps, chosen_steps, rules_steps, rule_steps, default_steps, catchers_steps, catcher_steps, settled_steps, work_steps}
+use Rattle.asl_edges.specs.Steps.{settings_of, kind_of, input_of, result_steps, chosen_steps, rules_steps, rule_steps, default_steps, catchers_steps, catcher_steps, settled_steps}
 use Rattle.asl_edges.specs.declared.walking.Walk.{Walk}
 use Rattle.asl_edges.proofs.Kept.{shown, entry_shown}
 

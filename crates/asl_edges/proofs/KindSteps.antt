@@ -1,7 +1,7 @@
 -- The steps of a state's walk, by its type.
-use Rattle.std.proofs.Common.{◌≡◌, ℕ, List, [], ◌∷◌, ◌++◌, Bool, true, false, Option, Some, None, codes, refl}
+use Rattle.std.proofs.Common.{◌≡◌, ℕ, List, [], ◌++◌, true, false, Option, Some, None, codes, refl}
 use Rattle.asl_model.specs.Certificate.{StateShapes}
-use Rattle.asl_model.specs.Edges.{Walked, breaks, to_branches, to_end, walk, walk_catchers, walk_default, walk_delay, walk_elements, walk_items, walk_result, walk_rules, walk_settled, walk_then, walk_work}
+use Rattle.asl_model.specs.Edges.{breaks, to_branches, to_end, walk, walk_catchers, walk_default, walk_delay, walk_elements, walk_items, walk_result, walk_rules, walk_settled, walk_then, walk_work}
 use Rattle.asl_model.specs.Finding.{NoDefault, as_first_elements, effective_flow}
 use Rattle.asl_model.specs.Machine.{Settings, Kind, Pass, Task, Choice, Wait, Succeed, Fail, Parallel, Map, Delay, Scope, Scopes}
 use Rattle.asl_model.specs.Path.{Segment}

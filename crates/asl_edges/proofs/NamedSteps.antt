@@ -1,5 +1,5 @@
 -- What a path names, and the walk over it.
-use Rattle.std.proofs.Common.{◌≡◌, ◌<◌, ◌⊎◌, inl, inr, ℕ, List, [], ◌∷◌, length, Bool, true, false, codes, Option, Some, None, Result, Ok, Err, String, refl, sym, ap, ◌∙◌, subst}
+use Rattle.std.proofs.Common.{◌≡◌, ◌<◌, ◌⊎◌, inl, inr, ℕ, List, [], ◌∷◌, length, Bool, codes, Option, Some, None, Result, Ok, Err, String, refl, sym, ap, ◌∙◌, subst}
 use Rattle.std.specs.declared.alloc.Global.{Global}
 use Rattle.asl_machine.specs.Machine.{delay_view}
 use Rattle.asl_machine.specs.declared.states.Delay as states

@@ -1,5 +1,5 @@
 -- The walk over a result that is made.
-use Rattle.std.proofs.Common.{◌≡◌, ◌<◌, ℕ, List, length, Result, refl, sym, ap, ◌∙◌}
+use Rattle.std.proofs.Common.{◌≡◌, ◌<◌, ℕ, List, length, Result, ap, ◌∙◌}
 use Rattle.asl_model.specs.Edges.{walk_result}
 use Rattle.asl_model.specs.Shape.{Shape}
 use Rattle.asl_numbered.specs.declared.node.Node.{Node}

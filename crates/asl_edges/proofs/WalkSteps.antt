@@ -1,5 +1,5 @@
 -- Walks, one after another.
-use Rattle.std.proofs.Common.{◌≡◌, ◌<◌, ℕ, zero, suc, List, [], ◌∷◌, ◌++◌, length, get_or, map, Option, Some, None, option_map, Result, Ok, Err, refl, sym, ap, ◌∙◌, subst, arith}
+use Rattle.std.proofs.Common.{◌≡◌, ◌<◌, ℕ, zero, suc, List, [], ◌∷◌, ◌++◌, length, get_or, map, Option, Some, None, option_map, Result, Ok, Err, refl, sym, ap, subst, arith}
 use Rattle.std.specs.List.{Contains}
 use Rattle.std.proofs.lemmas.List.{append-nil}
 use Rattle.std.proofs.lemmas.List.Elements.{Contains-append_left}
@@ -12,7 +12,7 @@ use Rattle.asl_flow.specs.declared.leaving.FlowFault.{FlowFault as Fault}
 use Rattle.asl_numbered.specs.Expansion.{shape_at, Keeps}
 use Rattle.asl_numbered.proofs.Expansions.{keeps_same, keeps_trans}
 use Rattle.asl_edges.specs.View.{stopped_view}
-use Rattle.asl_edges.specs.Walks.{none_left, Adds, GoesOn, Goes, Halts, Pushes, StopsAt, Walks}
+use Rattle.asl_edges.specs.Walks.{none_left, Adds, GoesOn, Halts, Pushes, StopsAt, Walks}
 use Rattle.asl_edges.specs.declared.faults.Stopped.{Stopped}
 use Rattle.asl_edges.specs.declared.found.Edge.{Edge}
 use Rattle.asl_edges.proofs.Adding.{adds_none, adds_before, adds_then, pushes_add}

@@ -1,5 +1,5 @@
 -- The steps of a Map, on shapes of a table.
-use Rattle.std.specs.Prelude.{ℕ, List, codes, option_map}
+use Rattle.std.specs.Prelude.{List, codes, option_map}
 use Rattle.asl_model.specs.Edges as model
 use Rattle.asl_model.specs.Finding.{element_shape, item_flow}
 use Rattle.asl_model.specs.Machine.{Scope, ScopeOf, NoStates}

@@ -1,8 +1,5 @@
-use Rattle.std.proofs.Common.{codes, subst}
-use Rattle.asl_model.specs.Edges.{to_branches, to_child}
-use Rattle.asl_model.specs.Machine.{ScopeOf, NoStates}
+use Rattle.asl_model.specs.Edges.{to_branches}
 use Rattle.asl_machine.specs.Machine.{branches_view}
-use Rattle.asl_edges.specs.Walks.{none_left, Pushes}
 use Rattle.asl_edges.proofs.Adding.{none_pushed}
 use Rattle.asl_edges.proofs.PushedEdges.{branch_pushed, branches_pushed}
 use Rattle.asl_edges.proofs.pushing.push_branches.Goals as goal

@@ -1,4 +1,4 @@
-use Rattle.std.proofs.Common.{ap, string_bytes}
+use Rattle.std.proofs.Common.{ap}
 use Rattle.std.proofs.lemmas.Result.{err_from_is_err_and}
 use Rattle.asl_machine.specs.Machine.{delay_view}
 use Rattle.asl_numbered.specs.Expansion.{expansions, shape_at}

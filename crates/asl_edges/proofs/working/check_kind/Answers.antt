@@ -1,4 +1,4 @@
-use Rattle.std.proofs.Common.{[], ◌∷◌, refl}
+use Rattle.std.proofs.Common.{refl}
 use Rattle.asl_model.specs.Finding.{WrongKind}
 use Rattle.asl_numbered.proofs.Expansions.{keeps_same}
 use Rattle.asl_edges.proofs.WalkSteps.{walks_broken, walks_nowhere}

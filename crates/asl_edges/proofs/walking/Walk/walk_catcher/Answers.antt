@@ -1,4 +1,4 @@
-use Rattle.std.proofs.Common.{Err, string_bytes, ap, refl}
+use Rattle.std.proofs.Common.{Err, ap, refl}
 use Rattle.asl_numbered.specs.Expansion.{expansions}
 use Rattle.asl_edges.proofs.CatcherWalks.{input_caught, misfit_caught, placed_caught}
 use Rattle.asl_edges.proofs.Kept.{among_shapes}

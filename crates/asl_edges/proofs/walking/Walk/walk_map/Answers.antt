@@ -1,4 +1,4 @@
-use Rattle.std.proofs.Common.{None, Some, option_map, ap, sym, ◌∙◌}
+use Rattle.std.proofs.Common.{option_map, ap, sym, ◌∙◌}
 use Rattle.std.proofs.lemmas.Result.{err_from_is_err_and}
 use Rattle.asl_flow.specs.Elements.{elements_view}
 use Rattle.asl_numbered.specs.Expansion.{expansions}

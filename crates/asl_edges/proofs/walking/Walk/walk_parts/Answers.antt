@@ -1,8 +1,5 @@
-use Rattle.std.proofs.Common.{◌++◌}
 use Rattle.std.proofs.lemmas.Result.{err_from_is_err_and}
-use Rattle.asl_numbered.specs.Expansion.{expansions}
 use Rattle.asl_numbered.proofs.Expansions.{keeps_trans}
-use Rattle.asl_edges.specs.Steps.{input_steps, settled_steps, catchers_steps}
 use Rattle.asl_edges.proofs.Kept.{entry_within, within}
 use Rattle.asl_edges.proofs.KeptSteps.{catchers_kept, settled_kept}
 use Rattle.asl_edges.proofs.WalkSteps.{walks_first, walks_same, walks_then}

@@ -1,5 +1,4 @@
-use Rattle.std.proofs.Common.{◌≡◌, Err, Ok, Some, None, refl, ap, sym}
-use Rattle.asl_numbered.specs.Expansion.{expansions}
+use Rattle.std.proofs.Common.{Err, refl, ap}
 use Rattle.asl_edges.proofs.Choices.{rule_missing, rule_walked}
 use Rattle.asl_edges.proofs.Kept.{among, within}
 use Rattle.asl_edges.proofs.WalkSteps.{walks_out}

@@ -1,10 +1,10 @@
-use Rattle.std.proofs.Common.{◌+◌, List, ◌++◌, drop, refl, subst, ap}
+use Rattle.std.proofs.Common.{List, subst, ap}
 use Rattle.std.proofs.lemmas.List.{drop_all}
 use Rattle.std.proofs.lemmas.Result.{err_from_is_err_and}
 use Rattle.asl_model.specs.Edges.{Walked}
 use Rattle.asl_numbered.specs.Expansion.{expansions}
 use Rattle.asl_numbered.proofs.Expansions.{keeps_same}
-use Rattle.asl_edges.specs.Steps.{rules_steps, rule_steps}
+use Rattle.asl_edges.specs.Steps.{rules_steps}
 use Rattle.asl_edges.specs.Walks.{GoesOn}
 use Rattle.asl_edges.proofs.Kept.{within}
 use Rattle.asl_edges.proofs.KeptSteps.{rule_kept, rule_left}

@@ -1,17 +1,16 @@
-use Rattle.std.proofs.Common.{◌++◌, None, Some, map, option_map, string_bytes, ap, sym, ◌∙◌}
+use Rattle.std.proofs.Common.{◌++◌, map, option_map, string_bytes, ap, ◌∙◌}
 use Rattle.asl_choice.specs.View.{rule_view}
 use Rattle.asl_machine.specs.Machine.{branches_view, delay_view, kind_view, started_at}
 use Rattle.asl_model.specs.Edges.{to_branches}
 use Rattle.asl_numbered.specs.Expansion.{expansions, shape_at}
 use Rattle.asl_numbered.proofs.Expansions.{keeps_same}
 use Rattle.asl_template.specs.View as templates
-use Rattle.asl_tree.specs.View as trees
 use Rattle.asl_edges.specs.Entry.{entry_view}
 use Rattle.asl_edges.specs.Steps.{settings_of, kind_of, rules_steps, default_steps}
 use Rattle.asl_edges.specs.Walks.{payload_step}
 use Rattle.asl_edges.proofs.Kept.{among_shapes}
-use Rattle.asl_edges.proofs.KindSteps.{choice_steps, fail_steps, literal_passed, map_steps, parallel_steps, pass_steps, succeed_steps, task_steps, wait_steps}
-use Rattle.asl_edges.proofs.WalkSteps.{walks_nowhere, walks_pushed, walks_same}
+use Rattle.asl_edges.proofs.KindSteps.{choice_steps, map_steps, parallel_steps, succeed_steps, task_steps, wait_steps}
+use Rattle.asl_edges.proofs.WalkSteps.{walks_pushed, walks_same}
 use Rattle.asl_edges.proofs.walking.Walk.walk_work.Goals as goal
 
 pub returns-in_ok-push_payload-in-Task : goal.returns-in_ok-push_payload-in-Task
