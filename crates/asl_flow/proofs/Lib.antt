@@ -1,11 +1,3 @@
-pub mod ArgumentShapes
-pub mod Doubts
-pub mod FunctionShapes
-pub mod Leavings
-pub mod LiteralFields
-pub mod Narrowings
-pub mod Needed
-pub mod Presence
-pub mod Puts
-pub mod Replaced
+pub mod Numbered
+pub mod NumberedParts
 pub mod ShapeParts

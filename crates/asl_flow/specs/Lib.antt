@@ -1,9 +1,5 @@
-pub mod CallAnswer
 pub mod Counting
-pub mod Items
-pub mod Kept
+pub mod Elements
 pub mod Leaving
-pub mod Looking
+pub mod Numbers
 pub mod Putting
-pub mod Sources
-pub mod TemplateAnswer
