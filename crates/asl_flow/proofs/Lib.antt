@@ -1,3 +1,11 @@
-pub mod Numbered
-pub mod NumberedParts
+pub mod ArgumentShapes
+pub mod Doubts
+pub mod FunctionShapes
+pub mod Leavings
+pub mod LiteralFields
+pub mod Narrowings
+pub mod Needed
+pub mod Presence
+pub mod Puts
+pub mod Replaced
 pub mod ShapeParts

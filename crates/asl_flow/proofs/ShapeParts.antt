@@ -1,19 +1,77 @@
--- Segments that may name nothing, counted.
-use Rattle.std.proofs.Common.{◌≡◌, ℕ, suc, Result, Ok, Err, refl, ap, sym, arith, List}
+-- What one segment, and then the segments behind it, lead to in a shape.
+use Rattle.std.proofs.Common.{◌≡◌, ℕ, zero, suc, ◌<◌, ◌≤◌, Bool, List, [], ◌∷◌, Option, Some, None, Result, Ok, Err, option_map, Bor, String, string_bytes, is_some, IfSome, length, get_or, drop, drop-cons, refl, ap, sym, ◌∙◌, arith, Vec, Box, BTreeMap}
+use borrow.Author.Tests.{ltb-true, ltb-false}
+use lib.Dec.{ltb}
+use Rattle.std.specs.BTreeMap.{is_at}
+use Rattle.std.specs.Map.{lookup}
+use Rattle.std.specs.String.{string_cmp}
+use Rattle.std.specs.declared.alloc.Global.{Global}
 use Rattle.asl_model.specs.Path as path
 use Rattle.asl_model.specs.Shape as model
-use Rattle.asl_model.specs.ShapeFlow.{look_at, one_further}
+use Rattle.asl_model.specs.ShapeFlow.{part_at, place_at, look_at, if_needed, one_further}
 use Rattle.asl_flow.specs.Counting.{counted_on}
+use Rattle.asl_path.specs.View.{segment_view, segments_view}
+use Rattle.asl_path.specs.declared.Segment as code
+use Rattle.asl_shape.specs.declared.shape.Field.{Field}
+use Rattle.asl_shape.specs.declared.shape.Shape.{Shape}
+use Rattle.asl_shape.specs.declared.shape.Shape.TheViews
+use Rattle.asl_shape.specs.View.{view, shapes_view}
+use Rattle.asl_shape.proofs.Lookups.{mention_of_lookup}
+use Rattle.asl_shape.proofs.Views.{view_list, view_object}
+
+-- the place at an index that a list has
+pub place_within : (ss : List Shape) (i : ℕ) (d : Shape) → i < length ss → Some (view (get_or ss i d)) ≡ place_at i (shapes_view ss)
+place_within [] i d h = absurd (omega arith)
+place_within (s ∷ ss) zero d h = refl
+place_within (s ∷ ss) (suc i) d h = place_within ss i d (omega arith)
+
+-- no place is at an index behind a list
+pub place_past : (ss : List Shape) (i : ℕ) → length ss ≤ i → None ≡ place_at i (shapes_view ss)
+place_past [] i h = refl
+place_past (s ∷ ss) zero h = absurd (omega arith)
+place_past (s ∷ ss) (suc i) h = place_past ss i (omega arith)
+
+-- getting a shape of a list gets the one at that place
+pub place_got : (ss : List Shape) (i : ℕ) (r : Option (Bor Shape)) → is_some r ≡ ltb i (length ss) → IfSome r (λ x. x.now ≡ get_or ss i x.now)
+    → option_map (λ x. view x.now) r ≡ place_at i (shapes_view ss)
+place_got ss i None e h = place_past ss i (ltb-false i (length ss) (sym e))
+place_got ss i (Some x) e h = ap (λ t. Some (view t)) h ∙ place_within ss i x.now (ltb-true i (length ss) (sym e))
+
+pub list_part : (s : Shape) (first : Vec Shape Global) (rest : Box Shape Global) (i : ℕ) → s ≡ TheViews.List first rest
+    → place_at i (shapes_view first.items) ≡ part_at (path.Index i) (view s)
+list_part s first rest i e = rw (e, view_list first rest) refl
+
+-- what a look-up in an object's fields says of the part of that name
+pub object_part : (s : Shape) (m : BTreeMap (String Global) Field) (extra : Bool) (k : String Global) (found : Option Field) → s ≡ TheViews.Object m extra
+    → found ≡ lookup (is_at (string_cmp k)) m.entries
+    → if_needed (option_map (λ (f : Field). (f.needed, view f.shape)) found) ≡ part_at (path.Name (string_bytes k)) (view s)
+object_part s m extra k found e l = rw (e, view_object m extra, mention_of_lookup k m.entries, ← l) refl
 
 -- counted behind none it is itself
 pub counted_none : (r : Result model.Shape ℕ) → counted_on 0 r ≡ r
 counted_none (Ok s) = refl
 counted_none (Err at) = ap Err (omega arith)
 
-pub counted_one : (passed : ℕ) (r : Result model.Shape ℕ) → counted_on passed (one_further r) ≡ counted_on (suc passed) r
+counted_one : (passed : ℕ) (r : Result model.Shape ℕ) → counted_on passed (one_further r) ≡ counted_on (suc passed) r
 counted_one passed (Ok s) = refl
 counted_one passed (Err at) = ap Err (omega arith)
 
 -- before the first segment
 pub looks_first : (p : List path.Segment) (s : model.Shape) → look_at p s ≡ counted_on 0 (look_at p s)
 looks_first p s = sym (counted_none (look_at p s))
+
+-- a step that leads somewhere
+pub looks_on : (whole : Result model.Shape ℕ) (node : model.Shape) (items : List code.Segment) (i : ℕ) (s : code.Segment) (r : Option (Bor Shape)) (n : Bor Shape)
+    → whole ≡ counted_on i (look_at (segments_view (drop i items)) node) → i < length items → s ≡ get_or items i s
+    → option_map (λ t. view t.now) r ≡ part_at (segment_view s) node → r ≡ Some n → whole ≡ counted_on (suc i) (look_at (segments_view (drop (suc i) items)) (view n.now))
+looks_on whole node items i s r n so_far within is step found =
+    let here : part_at (segment_view (get_or items i s)) node ≡ Some (view n.now) = ap (λ x. part_at (segment_view x) node) (sym is) ∙ sym step ∙ ap (option_map (λ t. view t.now)) found in
+    so_far ∙ rw (drop-cons items i s within, here) (counted_one i (look_at (segments_view (drop (suc i) items)) (view n.now)))
+
+-- a step that leads nowhere
+pub looks_nowhere : (whole : Result model.Shape ℕ) (node : model.Shape) (items : List code.Segment) (i : ℕ) (s : code.Segment) (r : Option (Bor Shape))
+    → whole ≡ counted_on i (look_at (segments_view (drop i items)) node) → i < length items → s ≡ get_or items i s
+    → option_map (λ t. view t.now) r ≡ part_at (segment_view s) node → r ≡ None → whole ≡ Err i
+looks_nowhere whole node items i s r so_far within is step found =
+    let here : part_at (segment_view (get_or items i s)) node ≡ None = ap (λ x. part_at (segment_view x) node) (sym is) ∙ sym step ∙ ap (option_map (λ t. view t.now)) found in
+    so_far ∙ rw (drop-cons items i s within, here) (ap Err (omega arith))

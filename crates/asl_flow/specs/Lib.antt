@@ -1,5 +1,9 @@
+pub mod CallAnswer
 pub mod Counting
-pub mod Elements
+pub mod Items
+pub mod Kept
 pub mod Leaving
-pub mod Numbers
+pub mod Looking
 pub mod Putting
+pub mod Sources
+pub mod TemplateAnswer

@@ -1,0 +1,23 @@
+-- What a refusal tells of the doubts of a template.
+use Rattle.std.specs.Prelude.{◌≡◌, ℕ, List, [], Option, Some, None, Result, Ok, Err, IfOk, IfErr, IfSome, string_bytes}
+use Rattle.std.specs.List.{Contains}
+use Rattle.asl_model.specs.Shape.{Shape}
+use Rattle.asl_model.specs.ShapeFlow as model
+use Rattle.asl_flow.specs.declared.templates.TemplateShapeRefusal.{TemplateShapeRefusal}
+use Rattle.asl_flow.specs.declared.templates.TemplateShapeRefusal.TheVariants.{MayBeMissing, MayFail, OutOfMemory}
+
+-- there is no shape, and that doubt stands at that field
+abbrev pub IsDoubted : Result Shape (List (List ℕ × model.Doubt)) → List ℕ → model.Doubt → Type 0
+IsDoubted (Ok s) field doubt = ⊥
+IsDoubted (Err found) field doubt = Contains found (field, doubt)
+
+-- the doubt that is told, with its field; want of memory tells none
+abbrev pub doubt_told : TemplateShapeRefusal → Option (List ℕ × model.Doubt)
+doubt_told (MayBeMissing field) = Some (string_bytes field, model.MayBeMissing)
+doubt_told (MayFail field) = Some (string_bytes field, model.MayFail)
+doubt_told OutOfMemory = None
+
+-- an answer is given where there is no doubt, and a refusal tells one of them
+pub record Tells {A : Type 0} (r : Result A TemplateShapeRefusal) (found : List (List ℕ × model.Doubt)) : Type 0 where
+  pub none : IfOk r (λ a. found ≡ [])
+  pub listed : IfErr r (λ e. IfSome (doubt_told e) (Contains found))
