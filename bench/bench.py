@@ -7,6 +7,17 @@ Each form is a kind of text in growing sizes; the names of all forms, or those t
 - chains: the check of a chain of Pass states, each with object shapes of 20 fields as input and output; the certificate
   of the largest is just below the limit of 16 MiB a line;
 - wide: the check of one Pass state with object shapes of many fields;
+- check-rules: the check of a Choice with so many rules, which all lead to one state;
+- check-nested: the check of Parallels and Maps that nest in each other, so many times the same six levels;
+- check-wide: the check of so many Pass states with object shapes of 1,000 fields;
+- check-deep: the check of so many Pass states with shapes that nest 56 levels;
+- check-findings: the check of a chain with a finding in every state;
+- infer-chain, infer-against: the inference of a chain, in byte order of the names and against it;
+- verify-ring: so many states in a ring, in byte order of the names, of which the last nests its input one level deeper;
+- verify-ring-against: the same, against the order of the names;
+- verify-fields: a chain of states that each place a field of their own;
+- verify-nested: the nested Parallels and Maps of check-nested;
+- verify-hub: a Choice that leads to so many states, which all lead to one;
 - run-chain: the run of a chain of Pass states over a record of 20 fields;
 - run-loop: a loop of four states (a template with Format, a Result that is placed, a Choice back), cut off after so
   many steps;
@@ -59,9 +70,9 @@ def shape(fields):
             "required": [*record(fields)], "additionalProperties": False}
 
 
-def chain(count):
-    """A machine of so many Pass states, one after the other."""
-    each = names(count)
+def chain(count, against=False):
+    """A machine of so many Pass states, one after the other, in byte order of their names or against it."""
+    each = names(count)[::-1] if against else names(count)
     follows = [*({"Next": it} for it in each[1:]), {"End": True}]
     return {"StartAt": each[0], "States": {it: {"Type": "Pass", **after} for it, after in zip(each, follows)}}
 
@@ -77,6 +88,115 @@ def checked(count, fields):
     states = {it: {"input": one, "output": one} for it in names(count)}
     return {"definition": chain(count), "declared": {"input": one, "tasks": {}},
             "certificate": {"version": 1, "output": one, "states": states}}
+
+
+def certified(definition, one, **others):
+    """A check where the declared input and each state's shapes are that shape, but for the entries that are given."""
+    states = {it: others.get(it, {"input": one, "output": one}) for it in definition["States"]}
+    return {"definition": definition, "declared": {"input": one, "tasks": {}},
+            "certificate": {"version": 1, "output": one, "states": states}}
+
+
+def ruled(rules):
+    """A Choice with so many rules, which all lead to one state, and its check."""
+    rule = {"Variable": "$.item00", "IsPresent": True, "Next": "Z"}
+    states = {"A": {"Type": "Choice", "Choices": [rule] * rules, "Default": "Z"}, "Z": {"Type": "Succeed"}}
+    return certified({"StartAt": "A", "States": states}, shape(20))
+
+
+def nested_scope(name, levels):
+    """A scope of one state: a Parallel of two branches and a Map in turn, down to so many levels."""
+    if not levels:
+        return alone({"Type": "Pass", "End": True}, name)
+    if levels % 2:
+        branches = [nested_scope(f"{name}{it}", levels - 1) for it in "ab"]
+        return alone({"Type": "Parallel", "OutputPath": "$[0]", "Branches": branches, "End": True}, name)
+    processor = nested_scope(f"{name}m", levels - 1)
+    return alone({"Type": "Map", "ItemsPath": "$.items", "ItemSelector": {"items.$": "$.items"},
+                  "ItemProcessor": processor, "ResultPath": None, "End": True}, name)
+
+
+def nested(count):
+    """A chain of so many states, each of which holds a scope of six levels of Parallels and Maps."""
+    chained = chain(count)
+    for name, state in chained["States"].items():
+        state.update({"Type": "Parallel", "OutputPath": "$[0]", "Branches": [nested_scope(f"{name}-", 6)]})
+    return {"definition": chained, "declared": {"input": LISTED, "tasks": {}}}
+
+
+LISTED = {"type": "object", "properties": {"items": {"type": "array", "items": {"type": "integer"}}},
+          "required": ["items"], "additionalProperties": False}
+
+
+def entries_of(scope):
+    """The certificate's entries of the states of a nested scope, in which every input and output has one shape."""
+    for name, state in scope["States"].items():
+        inner = state.get("Branches", [state["ItemProcessor"]] if "ItemProcessor" in state else [])
+        entry = {"input": LISTED, "output": LISTED}
+        if state["Type"] == "Parallel":
+            entry["branches"] = [LISTED] * len(inner)
+        if state["Type"] == "Map":
+            entry["item"] = LISTED
+        yield name, entry
+        for it in inner:
+            yield from entries_of(it)
+
+
+def nested_check(count):
+    """The check of the nested states."""
+    texts = nested(count)
+    return {**texts, "certificate": {"version": 1, "output": LISTED, "states": dict(entries_of(texts["definition"]))}}
+
+
+def deep(levels):
+    """A shape that nests so many levels."""
+    one = {"type": "integer"}
+    for _ in range(levels - 1):
+        one = {"type": "object", "properties": {"a": one}, "required": ["a"], "additionalProperties": False}
+    return one
+
+
+def with_findings(count):
+    """The check of a chain in which no state's output is inside its certified one."""
+    texts = checked(count, 20)
+    for entry in texts["certificate"]["states"].values():
+        entry["output"] = {"type": "string"}
+    return texts
+
+
+def inferred(definition, fields=3):
+    """The machine with its declared shapes: an input of so many fields."""
+    return {"definition": definition, "declared": {"input": shape(fields), "tasks": {}}}
+
+
+def ring(count, against=False):
+    """So many states in a ring, of which the last nests its input one level deeper, and a way out of the first."""
+    machine = chain(count, against)
+    first, *_, last = machine["States"]
+    machine["States"][last] = {"Type": "Pass", "Parameters": {"p.$": "$"}, "Next": first}
+    second = machine["States"][first].pop("Next")
+    rule = {"Variable": "$.out", "IsPresent": True, "Next": "Z"}
+    machine["States"][first] = {"Type": "Choice", "Choices": [rule], "Default": second}
+    machine["States"]["Z"] = {"Type": "Succeed"}
+    return {"definition": machine, "declared": {"input": {"type": "object"}, "tasks": {}}}
+
+
+def placing(count):
+    """A chain of so many states, each of which places a field of its own."""
+    machine = chain(count)
+    for name, state in machine["States"].items():
+        state.update({"Result": 1, "ResultPath": f"$.{name}"})
+    closed = {"type": "object", "properties": {}, "additionalProperties": True}
+    return {"definition": machine, "declared": {"input": closed, "tasks": {}}}
+
+
+def hub(count):
+    """A Choice that leads to so many states, which all lead to one."""
+    each = names(count)
+    rules = [{"Variable": "$.item00", "NumericEquals": at, "Next": it} for at, it in enumerate(each)]
+    states = {"A": {"Type": "Choice", "Choices": rules, "Default": "Z"},
+              **{it: {"Type": "Pass", "Next": "Z"} for it in each}, "Z": {"Type": "Succeed"}}
+    return inferred({"StartAt": "A", "States": states})
 
 
 def loop(steps):
@@ -133,29 +253,45 @@ def long_input(megabytes):
     return {"definition": chain(5), "input": [one] * count, "answers": []}
 
 
+# The words behind the program's name, where SIZE stands for the size; a check reads its texts as lines.
+CHECK = []
+INFER = ["infer", "definition", "declared"]
+VERIFY = ["verify", "definition", "declared"]
+CUT_OFF = ["run", "definition", "input", "answers", "--max-steps", "SIZE"]
+RUN = ["run", "definition", "input", "answers", "--max-steps", "10000"]
+LAST = [*RUN, "--order", "last"]
+
 # Each form: how its texts are made of a size, its sizes, its words, and the status with which it ends.
 FORMS = {
-    "chains": (lambda n: checked(n, 20), [2500, 5000, 10000], None, 0),
-    "wide": (lambda n: checked(1, n), [50000, 100000], None, 0),
-    "run-chain": (lambda n: {"definition": chain(n), "input": record(20), "answers": []}, [2500, 5000, 10000], [], 0),
-    "run-loop": (loop, [2500, 5000, 10000], "steps", 4),
-    "run-growing": (growing, [1250, 2500, 5000], "steps", 4),
-    "run-map": (mapped, [1250, 2500, 5000], [], 0),
-    "run-map-last": (mapped, [1250, 2500, 5000], ["--order", "last"], 0),
-    "run-tasks-last": (tasks, [1200, 2400, 4800], ["--order", "last", "--declared", "declared"], 0),
-    "run-parallel": (parallel, [1000, 2000, 4000], [], 0),
-    "run-retry": (retried, [1250, 2500, 4990], [], 0),
-    "run-wide": (long_input, [4, 8, 16], [], 0),
+    "chains": (lambda n: checked(n, 20), [2500, 5000, 10000], CHECK, 0),
+    "wide": (lambda n: checked(1, n), [50000, 100000], CHECK, 0),
+    "check-rules": (ruled, [2000, 4000, 8000], CHECK, 0),
+    "check-nested": (nested_check, [25, 50, 100], CHECK, 0),
+    "check-wide": (lambda n: certified(chain(n), shape(1000)), [12, 25, 50], CHECK, 0),
+    "check-deep": (lambda n: certified(chain(n), deep(56)), [250, 500, 1000], CHECK, 0),
+    "check-findings": (with_findings, [2500, 5000, 10000], CHECK, 1),
+    "infer-chain": (lambda n: inferred(chain(n)), [2500, 5000, 10000], INFER, 0),
+    "infer-against": (lambda n: inferred(chain(n, True)), [1000, 2000, 4000], INFER, 0),
+    "verify-ring": (ring, [1000, 2000, 4000], VERIFY, 0),
+    "verify-ring-against": (lambda n: ring(n, True), [25, 50, 100], VERIFY, 0),
+    "verify-fields": (placing, [100, 200, 400], VERIFY, 0),
+    "verify-nested": (nested, [25, 50, 100], VERIFY, 0),
+    "verify-hub": (hub, [500, 1000, 2000], VERIFY, 0),
+    "run-chain": (lambda n: {"definition": chain(n), "input": record(20), "answers": []}, [2500, 5000, 10000], RUN, 0),
+    "run-loop": (loop, [2500, 5000, 10000], CUT_OFF, 4),
+    "run-growing": (growing, [1250, 2500, 5000], CUT_OFF, 4),
+    "run-map": (mapped, [1250, 2500, 5000], RUN, 0),
+    "run-map-last": (mapped, [1250, 2500, 5000], LAST, 0),
+    "run-tasks-last": (tasks, [1200, 2400, 4800], [*LAST, "--declared", "declared"], 0),
+    "run-parallel": (parallel, [1000, 2000, 4000], RUN, 0),
+    "run-retry": (retried, [1250, 2500, 4990], RUN, 0),
+    "run-wide": (long_input, [4, 8, 16], RUN, 0),
 }
 
 
 def words_of(form, size):
     """The words behind the program's name."""
-    _, _, words, _ = FORMS[form]
-    if words is None:
-        return []
-    further = ["--max-steps", str(size)] if words == "steps" else ["--max-steps", "10000", *words]
-    return ["run", "definition", "input", "answers", *further]
+    return [str(size) if it == "SIZE" else it for it in FORMS[form][2]]
 
 
 def make(form, size, folder):
@@ -166,7 +302,7 @@ def make(form, size, folder):
         if len(text) > LIMIT:
             raise ValueError(f"{form} {size}: the {name} has {len(text)} bytes, which is beyond the limit")
         pathlib.Path(folder, name).write_text(text, encoding="utf-8")
-    asked = "\n".join(spelled.values()) if "certificate" in spelled else ""
+    asked = "\n".join(spelled.values()) if FORMS[form][2] == CHECK else ""
     pathlib.Path(folder, "asked").write_text(asked, encoding="utf-8")
 
 
@@ -174,7 +310,7 @@ def loads(folder):
     """Prints the shortest time of several in which json.loads reads what the program reads and prints."""
     texts = [it.read_text(encoding="utf-8") for it in pathlib.Path(folder).iterdir() if it.name not in ("asked", "said")]
     said = pathlib.Path(folder, "said").read_text(encoding="utf-8").splitlines()
-    texts += [it for it in said if it != "yes"]
+    texts += [it for it in said if it.startswith("{")]
     times = []
     for _ in range(RUNS):
         begin = time.process_time()
