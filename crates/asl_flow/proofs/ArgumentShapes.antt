@@ -1,42 +1,88 @@
--- The shapes of the arguments of a call, in order.
-use Rattle.std.proofs.Common.{◌≡◌, ◌<◌, ◌≤◌, ℕ, zero, suc, List, [], ◌∷◌, length, get_or, take, map, Option, Some, None, Result, Err, refl, sym, ap, ◌∙◌, arith}
-use Rattle.std.proofs.lemmas.List.{take_all}
+-- The numbers of the shapes of a call's arguments, in order.
+use Rattle.std.proofs.Common.{◌≡◌, ◌<◌, ◌≤◌, ℕ, zero, suc, List, [], ◌∷◌, ◌++◌, length, get_or, take, map, Option, Some, None, Result, Ok, Err, Vec, Global, refl, sym, ap, ◌∙◌, subst, arith}
+use Rattle.std.proofs.lemmas.List.{map-append, take_all}
+use Rattle.std.specs.Prelude.{IfErr, IfSome}
 use Rattle.asl_intrinsic.specs.View.{argument_view, arguments_view}
 use Rattle.asl_intrinsic.specs.declared.call.Arg.{Arg}
 use Rattle.asl_model.specs.Shape as model
-use Rattle.asl_model.specs.ShapeFlow.{argument_shape, argument_shapes, and_argument}
-use Rattle.asl_flow.specs.CallAnswer.{Answers}
-use Rattle.asl_flow.specs.Sources.{part_view, parts_view}
-use Rattle.asl_flow.specs.declared.calls.CallShapeRefusal.{CallShapeRefusal}
-use Rattle.asl_flow.specs.declared.calls.CallShapeRefusal.TheVariants.{MayFail}
-use Rattle.asl_flow.specs.declared.references.Part.{Part}
+use Rattle.asl_model.specs.ShapeFlow.{Doubt as Why, argument_shape, argument_shapes, and_argument}
+use Rattle.asl_numbered.specs.declared.node.Node.{Node}
+use Rattle.asl_numbered.specs.Expansion.{expansions, shape_at, shapes_at, AreBelow, Keeps}
+use Rattle.asl_numbered.proofs.Expansions.{as_many, below-append, below-wider, keeps_longer}
+use Rattle.asl_flow.specs.CallAnswer.{Answers, AnswersAll}
+use Rattle.asl_flow.specs.Sources.{doubt_view}
+use Rattle.asl_flow.specs.declared.references.Doubt.{Doubt}
+use Rattle.asl_flow.proofs.Numbered.{still_shown}
+
+-- the shapes of numbers, each of which there is
+abbrev pub each_shown : List model.Shape → List ℕ → List (Option model.Shape)
+each_shown table ns = map (λ n. Some (shape_at table n)) ns
+
+each-kept : (old new : List Node) (ns : List ℕ) → Keeps (expansions old) (expansions new) → AreBelow (length old) ns → each_shown (expansions new) ns ≡ each_shown (expansions old) ns
+each-kept old new [] keeps below = refl
+each-kept old new (n ∷ ns) keeps below = rw (still_shown old new n keeps below.0, each-kept old new ns keeps below.1) refl
 
 module _ (input : model.Shape) (item : Option model.Shape) where
-  shapes_given : (arguments : List Arg) (parts : List Part) → map (λ a. argument_shape (argument_view a) input item) arguments ≡ map (λ p. Some (part_view p)) parts → argument_shapes (arguments_view arguments) input item ≡ Some (parts_view parts)
-  shapes_given [] [] e = refl
-  shapes_given [] (p ∷ parts) e = absurd (cc)
-  shapes_given (a ∷ arguments) [] e = absurd (cc)
-  shapes_given (a ∷ arguments) (p ∷ parts) e =
-      let first : argument_shape (argument_view a) input item ≡ Some (part_view p) = cc in
-      rw (first, shapes_given arguments parts (cc)) refl
+  -- the shapes of arguments, as far as there are some
+  abbrev pub each_shape : List Arg → List (Option model.Shape)
+  each_shape arguments = map (λ a. argument_shape (argument_view a) input item) arguments
+
+  -- the numbers are in the table, and their shapes are those of the arguments
+  pub record AreShapesOf (nodes : List Node) (arguments : List Arg) (ns : List ℕ) : Type 0 where
+    pub within : AreBelow (length nodes) ns
+    pub same : each_shape arguments ≡ each_shown (expansions nodes) ns
+
+  -- none so far
+  pub no_arguments : (nodes : List Node) → AreShapesOf nodes [] []
+  no_arguments nodes = record { within = tt; same = refl }
+
+  -- one more, in a table that has grown
+  pub argument_more : (old new : List Node) (before after : List Arg) (a : Arg) (ns ms : List ℕ) (n : ℕ) → Keeps (expansions old) (expansions new) → AreShapesOf old before ns → argument_shape (argument_view a) input item ≡ Some (shape_at (expansions new) n) → n < length new → after ≡ before ++ a ∷ [] → ms ≡ ns ++ n ∷ [] → AreShapesOf new after ms
+  argument_more old new before after a ns ms n keeps are own is more also =
+      let longer : length old ≤ length new = omega (arith, keeps_longer (expansions old) (expansions new) keeps, as_many old, as_many new) in
+      let within : AreBelow (length new) ns = below-wider (length old) (length new) ns longer are.within in
+      let now : each_shape before ≡ each_shown (expansions new) ns = are.same ∙ sym (each-kept old new ns keeps are.within) in
+      rw (more, also) (record {
+        within = below-append (length new) ns (n ∷ []) within (is, tt);
+        same = map-append (λ x. argument_shape (argument_view x) input item) before (a ∷ []) ∙ rw (now, own) (sym (map-append (λ m. Some (shape_at (expansions new) m)) ns (n ∷ [])));
+      })
+
+  shapes-given : (table : List model.Shape) (arguments : List Arg) (ns : List ℕ) → each_shape arguments ≡ each_shown table ns → argument_shapes (arguments_view arguments) input item ≡ Some (shapes_at table ns)
+  shapes-given table [] [] e = refl
+  shapes-given table [] (n ∷ ns) e = absurd (cc)
+  shapes-given table (a ∷ arguments) [] e = absurd (cc)
+  shapes-given table (a ∷ arguments) (n ∷ ns) e =
+      let first : argument_shape (argument_view a) input item ≡ Some (shape_at table n) = cc in
+      rw (first, shapes-given table arguments ns (cc)) refl
 
   -- the arguments gone through, to the end
-  pub shapes_gone_through : (arguments : List Arg) (i : ℕ) (parts : List Part) → length arguments ≤ i → map (λ a. argument_shape (argument_view a) input item) (take i arguments) ≡ map (λ p. Some (part_view p)) parts → argument_shapes (arguments_view arguments) input item ≡ Some (parts_view parts)
-  shapes_gone_through arguments i parts end e = shapes_given arguments parts (ap (map (λ a. argument_shape (argument_view a) input item)) (sym (take_all i arguments end)) ∙ e)
+  pub arguments_end : (nodes : List Node) (arguments : List Arg) (i : ℕ) (v : Vec ℕ Global) → length arguments ≤ i → AreShapesOf nodes (take i arguments) v.items → AnswersAll nodes (Ok v) (argument_shapes (arguments_view arguments) input item)
+  arguments_end nodes arguments i v end are = record {
+    within = are.within;
+    give = shapes-given (expansions nodes) arguments v.items (ap each_shape (sym (take_all i arguments end)) ∙ are.same);
+    fail = tt;
+  }
 
-  no_rest : (s : Option model.Shape) (others : Option model.Shapes) → others ≡ None → and_argument s others ≡ None
-  no_rest None others e = refl
-  no_rest (Some s) others e = rw e refl
+  no-rest : (s : Option model.Shape) (others : Option model.Shapes) → others ≡ None → and_argument s others ≡ None
+  no-rest None others e = refl
+  no-rest (Some s) others e = rw e refl
 
-  none_at : (arguments : List Arg) (i : ℕ) (d : Arg) → i < length arguments → argument_shape (argument_view (get_or arguments i d)) input item ≡ None → argument_shapes (arguments_view arguments) input item ≡ None
-  none_at [] i d h e = absurd (omega arith)
-  none_at (a ∷ arguments) zero d h e = rw e refl
-  none_at (a ∷ arguments) (suc i) d h e = no_rest _ _ (none_at arguments i d (omega arith) e)
+  none-at : (arguments : List Arg) (i : ℕ) (d : Arg) → i < length arguments → argument_shape (argument_view (get_or arguments i d)) input item ≡ None → argument_shapes (arguments_view arguments) input item ≡ None
+  none-at [] i d h e = absurd (omega arith)
+  none-at (a ∷ arguments) zero d h e = rw e refl
+  none-at (a ∷ arguments) (suc i) d h e = no-rest _ _ (none-at arguments i d (omega arith) e)
+
+  told-on : {P Q : Type 0} (o : Option Why) → (P → Q) → IfSome o (λ e. P) → IfSome o (λ e. Q)
+  told-on None f h = tt
+  told-on (Some e) f h = f h
 
   -- where one argument may fail, the arguments have no shapes
-  pub shapes_refused : {A : Type 0} (seen : A → model.Shapes) (given : Result A CallShapeRefusal) (refusal : CallShapeRefusal) (one : Result Part CallShapeRefusal) (arguments : List Arg) (i : ℕ) (a : Arg) → given ≡ Err refusal → one ≡ Err refusal → i < length arguments → a ≡ get_or arguments i a
-      → Answers part_view one (argument_shape (argument_view a) input item) → Answers seen given (argument_shapes (arguments_view arguments) input item)
-  shapes_refused seen given refusal one arguments i a is was within at h = rw is (record {
-    gives = tt;
-    fails = λ e. let same : refusal ≡ MayFail = cc in none_at arguments i a within (ap (λ x. argument_shape (argument_view x) input item) (sym at) ∙ h.fails (was ∙ ap Err same));
-  })
+  pub arguments_refused : (nodes : List Node) (given : Result (Vec ℕ Global) Doubt) (doubt : Doubt) (one : Result ℕ Doubt) (arguments : List Arg) (i : ℕ) (a : Arg) → given ≡ Err doubt → one ≡ Err doubt → i < length arguments → a ≡ get_or arguments i a → Answers nodes one (argument_shape (argument_view a) input item)
+      → AnswersAll nodes given (argument_shapes (arguments_view arguments) input item)
+  arguments_refused nodes given doubt one arguments i a is was within at h =
+      let told : IfSome (doubt_view doubt) (λ e. argument_shape (argument_view a) input item ≡ None) = subst (λ r. IfErr r (λ d. IfSome (doubt_view d) (λ e. argument_shape (argument_view a) input item ≡ None))) was h.fails in
+      rw is (record {
+        within = tt;
+        give = tt;
+        fail = told-on (doubt_view doubt) (λ none. none-at arguments i a within (ap (λ x. argument_shape (argument_view x) input item) (sym at) ∙ none)) told;
+      })

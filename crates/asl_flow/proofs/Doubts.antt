@@ -1,31 +1,29 @@
--- What is told of the doubts of elements and fields that are gone through, and the shapes of their values.
-use Rattle.std.proofs.Common.{◌≡◌, ℕ, ◌+◌, ◌<◌, ◌≤◌, List, [], ◌∷◌, ◌++◌, length, get_or, drop, take, map, Option, Some, None, Result, Ok, Err, String, Global, true, false, string_bytes, string_cmp, refl, sym, ap, subst, ◌∙◌, rules}
-use Rattle.std.proofs.lemmas.List.{take_all}
-use Rattle.std.proofs.lemmas.List.Elements.{Contains-append_left}
+-- What is told of the doubts of elements and fields that are gone through, and the numbers of the shapes of their values.
+use Rattle.std.proofs.Common.{◌≡◌, ℕ, ◌+◌, ◌<◌, ◌≤◌, List, [], ◌∷◌, ◌++◌, length, get_or, drop, take, Option, Some, None, Result, Ok, Err, Vec, String, Global, true, false, string_bytes, string_cmp, refl, sym, ap, subst, ◌∙◌, rules}
+use Rattle.std.proofs.lemmas.List.{append-nil, take_all}
+use Rattle.std.proofs.lemmas.List.Elements.{Contains-append_left, Contains-push}
 use Rattle.std.specs.BTreeMap.{BTreeMap}
 use Rattle.std.specs.List.{Contains}
 use Rattle.std.specs.List.Sorted.{IsStrictlySortedBy}
 use Rattle.std.specs.Map.{keys_of}
-use Rattle.std.specs.Prelude.{IfOk, IfSome}
-use Rattle.asl_model.specs.Intrinsic.{Item}
+use Rattle.std.specs.Prelude.{IfOk, IfErr, IfSome}
 use Rattle.asl_model.specs.Shape as model
-use Rattle.asl_model.specs.Shape.{Has}
-use Rattle.asl_model.specs.ShapeFlow.{Doubt, ItemHas, doubts, element_doubts, field_doubts, filled_shape, filled_elements, filled_fields, template_shape}
+use Rattle.asl_model.specs.ShapeFlow.{Doubt, doubts, doubts_at, element_doubts, field_doubts, filled_shape, filled_elements, filled_fields, or_none, template_shape}
 use Rattle.asl_model.specs.ShapeOrder.{set_mention}
 use Rattle.asl_model.specs.Template as template
-use Rattle.asl_model.specs.Tree as trees
-use Rattle.asl_shape.proofs.Views.{view_object}
-use Rattle.asl_shape.specs.View.{shapes_of, shapes_view, fields_view}
-use Rattle.asl_shape.specs.View as shapes
-use Rattle.asl_shape.specs.declared.shape.Field.{Field}
-use Rattle.asl_shape.specs.declared.shape.Shape.{Shape}
-use Rattle.asl_shape.specs.declared.shape.Shape as shape
+use Rattle.asl_numbered.specs.declared.node.NodeField.{NodeField}
+use Rattle.asl_numbered.specs.declared.node.Node.{Node}
+use Rattle.asl_numbered.specs.Expansion.{expansions, shape_at, AreNumbersOf, AreFieldsOf}
 use Rattle.asl_template.proofs.Values.{Entry, next_element, no_element_left}
 use Rattle.asl_template.specs.View.{view, elements_view, entries_view}
 use Rattle.asl_template.specs.declared.template.Template.{Template, the_lemmas}
 use Rattle.asl_template.specs.declared.template.Template as code
-use Rattle.asl_flow.specs.TemplateAnswer.{Tells, doubt_told}
+use Rattle.asl_flow.specs.Numbers.{Shows}
+use Rattle.asl_flow.specs.Sources.{doubt_view, IsPart}
+use Rattle.asl_flow.specs.TemplateAnswer.{IsToldAt, Tells, doubt_in, doubt_told}
+use Rattle.asl_flow.specs.declared.references.Doubt.{Doubt as Doubted}
 use Rattle.asl_flow.specs.declared.templates.TemplateShapeRefusal.{TemplateShapeRefusal}
+use Rattle.asl_flow.proofs.Composed.{shapes_by}
 use Rattle.asl_flow.proofs.Needed.{needed_by, set_in_order}
 
 abbrev Found : Type 0
@@ -38,6 +36,10 @@ first_told e whole own further is told = record { none = tt; listed = subst (λ 
     at : (o : Option (List ℕ × Doubt)) → IfSome o (Contains own) → IfSome o (Contains (own ++ further))
     at None h = h
     at (Some doubt) h = Contains-append_left own further doubt h
+
+-- so is a refusal that is handed on
+pub first_refused : {A B : Type 0} (given : Result B TemplateShapeRefusal) (e : TemplateShapeRefusal) (one : Result A TemplateShapeRefusal) (whole own further : Found) → given ≡ Err e → one ≡ Err e → whole ≡ own ++ further → Tells one own → Tells given whole
+first_refused given e one whole own further is was split told = rw is (first_told e whole own further split (subst (λ r. Tells r own) was told))
 
 -- where there is no doubt first, those behind are all
 pub none_told : {A : Type 0} (a : A) (whole own further : Found) → whole ≡ own ++ further → Tells (Ok a) own → whole ≡ further
@@ -59,13 +61,13 @@ module _ (input : model.Shape) (item : Option model.Shape) where
   pub no_element_doubts : (field : List ℕ) (whole : Found) (ts : List Template) (i : ℕ) → length ts ≤ i → whole ≡ element_doubts (elements_view (drop i ts)) field input item → whole ≡ []
   no_element_doubts field whole ts i end so_far = so_far ∙ ap (λ left. element_doubts left field input item) (no_element_left ts i end)
 
-  elements_shown : (ts : List Template) → shapes_of (map of_value ts) ≡ filled_elements (elements_view ts) input item
+  elements_shown : (ts : List Template) → shapes_by of_value ts ≡ filled_elements (elements_view ts) input item
   elements_shown [] = refl
   elements_shown (t ∷ ts) = ap (model.AndShape (of_value t)) (elements_shown ts)
 
-  -- the shapes of the elements' values, once all are gone through
-  pub elements_gone_through : (ts : List Template) (i : ℕ) (ss : List Shape) → length ts ≤ i → map shapes.view ss ≡ map of_value (take i ts) → shapes_view ss ≡ filled_elements (elements_view ts) input item
-  elements_gone_through ts i ss end e = ap shapes_of (e ∙ ap (map of_value) (take_all i ts end)) ∙ elements_shown ts
+  -- the numbers of the elements' values, once all are gone through
+  pub elements_end : (table : List model.Shape) (ts : List Template) (i : ℕ) (ns : List ℕ) → length ts ≤ i → AreNumbersOf table (shapes_by of_value (take i ts)) ns → AreNumbersOf table (filled_elements (elements_view ts) input item) ns
+  elements_end table ts i ns end are = subst (λ ss. AreNumbersOf table ss ns) (ap (shapes_by of_value) (take_all i ts end) ∙ elements_shown ts) are
 
   -- ---- fields
 
@@ -75,27 +77,59 @@ module _ (input : model.Shape) (item : Option model.Shape) where
   field_next n whole left more e named is so_far = so_far ∙ ap (λ es. field_doubts (entries_view es) input item) is ∙ ap (λ m. doubts (view e.1) m input item ++ field_doubts (entries_view more) input item) (sym named)
 
   -- the shapes of the fields' values, where the names are in order
-  pub fields_shown : (es : List Entry) → IsStrictlySortedBy string_cmp (keys_of es) → filled_fields (entries_view es) input item ≡ needed_by of_value es
+  fields_shown : (es : List Entry) → IsStrictlySortedBy string_cmp (keys_of es) → filled_fields (entries_view es) input item ≡ needed_by of_value es
   unfolding IsStrictlySortedBy
   fields_shown [] h = refl
   fields_shown (e ∷ es) h = ap (set_mention (string_bytes e.0) true (of_value e.1)) (fields_shown es h.1) ∙ set_in_order of_value e.0 (of_value e.1) es h.0
 
+  -- the numbers of the fields' values, once all are gone through
+  pub fields_end : (table : List model.Shape) (all done left : List Entry) (fs : List (String Global × NodeField)) → all ≡ done ++ left → left ≡ [] → IsStrictlySortedBy string_cmp (keys_of all) → AreFieldsOf table (needed_by of_value done) fs → AreFieldsOf table (filled_fields (entries_view all) input item) fs
+  fields_end table all done left fs split none sorted are =
+      let whole : all ≡ done = split ∙ ap (λ es. done ++ es) none ∙ append-nil done in
+      subst (λ ms. AreFieldsOf table ms fs) (ap (needed_by of_value) (sym whole) ∙ sym (fields_shown all sorted)) are
+
+  template_list : (ts : Vec Template Global) → view (code.List ts) ≡ template.ArrayTemplate (elements_view ts.items)
+  template_list ts = search (rules, the_lemmas)
+
   template_object : (m : BTreeMap (String Global) Template) → view (code.Object m) ≡ template.ObjectTemplate (entries_view m.entries)
   template_object m = search (rules, the_lemmas)
 
+  -- the shape of a list
+  pub list_shown : (t : Template) (ts : Vec Template Global) → t ≡ code.List ts → filled_shape (view t) input item ≡ model.ArrayShape (filled_elements (elements_view ts.items) input item) model.Never
+  list_shown t ts is = ap (λ p. filled_shape p input item) (ap view is ∙ template_list ts)
+
   -- the shape of an object
-  pub object_shown : (t : Template) (m : BTreeMap (String Global) Template) (fields : BTreeMap (String Global) Field) → t ≡ code.Object m → fields_view fields.entries ≡ filled_fields (entries_view m.entries) input item → shapes.view (shape.Object fields false) ≡ filled_shape (view t) input item
-  object_shown t m fields is shown = view_object fields false ∙ ap (λ ms. model.ObjectShape ms false) shown ∙ sym (ap (λ p. filled_shape p input item) (ap view is ∙ template_object m))
+  pub object_shown : (t : Template) (m : BTreeMap (String Global) Template) → t ≡ code.Object m → filled_shape (view t) input item ≡ model.ObjectShape (filled_fields (entries_view m.entries) input item) false
+  object_shown t m is = ap (λ p. filled_shape p input item) (ap view is ∙ template_object m)
 
--- ---- the law about a template's shape
+-- ---- parts that a path names
 
--- what the law says of a shape: for every tree of the input's shape and item of the item's there is a value that has it
-abbrev pub HasValues : template.Template → model.Shape → Option model.Shape → model.Shape → Type 0
-HasValues t input item r = (v : trees.Tree) (i : Option Item) → Has input v → ItemHas item i → (u : trees.Tree) × (template.template_value t v i ≡ Ok u) × Has r u
+module _ (nodes : List Node) (field : List ℕ) (part : Result ℕ Doubted) (found : Result model.Shape Doubt) (is : IsPart nodes part found) where
+  -- the number of a part is that of its shape
+  pub part_number : (r : Result ℕ TemplateShapeRefusal) → IsToldAt field part r → IfOk r (Shows nodes (or_none found))
+  part_number (Err e) told = tt
+  part_number (Ok n) told =
+      let at : found ≡ Ok (shape_at (expansions nodes) n) = subst (λ p. IfOk p (λ m. found ≡ Ok (shape_at (expansions nodes) m))) told.same is.found in
+      record { within = subst (λ p. IfOk p (λ m. m < length nodes)) told.same is.within; same = sym (ap or_none at) }
+
+  doubt-found : (p : Result ℕ Doubted) (doubt : Doubt) → IfErr p (λ d. IfSome (doubt_view d) (λ e. found ≡ Err e)) → doubt_in p ≡ Some doubt → found ≡ Err doubt
+  doubt-found (Ok n) doubt h e = absurd (cc)
+  doubt-found (Err d) doubt h e = subst (λ o. IfSome o (λ x. found ≡ Err x)) e h
+
+  listed : (told : Option (List ℕ × Doubt)) → IfSome told (λ d. (d.0 ≡ field) × (doubt_in part ≡ Some d.1)) → IfSome told (Contains (doubts_at field found))
+  listed None h = tt
+  listed (Some d) h = subst (λ f. Contains (doubts_at f found) d) h.0 (rw (doubt-found part d.1 is.doubted h.1) (Contains-push [] d))
+
+  -- and where there is none, its doubt is told
+  pub part_told : (r : Result ℕ TemplateShapeRefusal) → IsToldAt field part r → Tells r (doubts_at field found)
+  part_told (Ok n) told =
+      let at : found ≡ Ok (shape_at (expansions nodes) n) = subst (λ p. IfOk p (λ m. found ≡ Ok (shape_at (expansions nodes) m))) told.same is.found in
+      record { none = ap (doubts_at field) at; listed = tt }
+  part_told (Err e) told = record { none = tt; listed = listed (doubt_told e) told.told }
+
+-- ---- the whole template
 
 -- the shape of an answer, where some tree has the input's
-pub values_given : (law : (t : template.Template) (input : model.Shape) (item : Option model.Shape) (r : model.Shape) → template_shape t input item ≡ Ok r → HasValues t input item r) (t : template.Template) (input i : model.Shape) (item j : Option model.Shape) (r : Result Shape TemplateShapeRefusal)
-    → i ≡ input → j ≡ item → true ≡ model.inhabited input → IfOk r (λ s. shapes.view s ≡ filled_shape t i j) → Tells r (doubts t [] i j) → IfOk r (λ s. HasValues t input item (shapes.view s))
-values_given law t input i item j (Ok s) same also live filled told =
-    law t input item (shapes.view s) (rw (← live, ← same, ← also, told.none, filled) refl)
-values_given law t input i item j (Err e) same also live filled told = tt
+pub filled_defined : (nodes : List Node) (t : template.Template) (input : model.Shape) (item : Option model.Shape) (r : Result ℕ TemplateShapeRefusal) → true ≡ model.inhabited input → IfOk r (Shows nodes (filled_shape t input item)) → Tells r (doubts t [] input item) → IfOk r (λ n. template_shape t input item ≡ Ok (shape_at (expansions nodes) n))
+filled_defined nodes t input item (Ok n) live filled told = rw (← live, told.none, filled.same) refl
+filled_defined nodes t input item (Err e) live filled told = tt

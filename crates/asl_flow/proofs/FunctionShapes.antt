@@ -1,39 +1,50 @@
--- The shapes of the functions' values, for the shapes of their arguments.
-use Rattle.std.proofs.Common.{◌≡◌, ℕ, suc, List, [], ◌∷◌, length, get_or, true, ◌||◌, not, nat_eq, Option, Some, None, option_map, refl, ap, arith, rules}
+-- The shapes of the functions' values, for the numbers of the shapes of their arguments.
+use Rattle.std.proofs.Common.{◌≡◌, ℕ, suc, List, [], ◌∷◌, length, get_or, Bool, true, false, ◌||◌, not, nat_eq, Option, Some, None, option_map, Ok, refl, sym, ap, ◌∙◌, arith}
 use Rattle.asl_model.specs.Intrinsic.{Pieces}
 use Rattle.asl_model.specs.Shape as model
 use Rattle.asl_model.specs.ShapeFlow as flow
-use Rattle.asl_shape.specs.View.{view}
-use Rattle.asl_shape.specs.declared.shape.Shape as shape
-use Rattle.asl_shape.specs.declared.shape.Shape.{the_lemmas}
-use Rattle.asl_flow.specs.Sources.{part_view, parts_view}
-use Rattle.asl_flow.specs.declared.references.Part.{Part}
+use Rattle.asl_numbered.specs.declared.node.Node.{Node}
+use Rattle.asl_numbered.specs.Expansion.{shape_at, shapes_at}
+use Rattle.asl_flow.specs.CallAnswer.{Answers}
+use Rattle.asl_flow.specs.Numbers.{Shows}
+
+-- what shows a shape answers where that is the one
+pub answered : (nodes : List Node) (s : model.Shape) (n : ℕ) (shape : Option model.Shape) → shape ≡ Some s → Shows nodes s n → Answers nodes (Ok n) shape
+answered nodes s n shape is shows = record { within = shows.within; gives = is ∙ ap Some (sym shows.same); fails = tt }
 
 -- how many shapes there are
-pub counted : (parts : List Part) → flow.how_many_shapes (parts_view parts) ≡ length parts
-counted [] = refl
-counted (p ∷ parts) = ap suc (counted parts)
+counted : (table : List model.Shape) (ns : List ℕ) → flow.how_many_shapes (shapes_at table ns) ≡ length ns
+counted table [] = refl
+counted table (n ∷ ns) = ap suc (counted table ns)
 
 -- the holes of a literal text are as many as there are other arguments
-pub holes_fit : (literal : Option Pieces) (s : model.Shape) (others : List Part) (holes : ℕ) → Some holes ≡ option_map (λ pieces. length pieces.after_holes) literal → nat_eq holes (length others) ≡ flow.fits_holes literal s (parts_view others)
-holes_fit None s others holes is = absurd (cc)
-holes_fit (Some pieces) s others holes is =
+pub holes_fit : (literal : Option Pieces) (s : model.Shape) (table : List model.Shape) (others : List ℕ) (holes : ℕ) → Some holes ≡ option_map (λ pieces. length pieces.after_holes) literal → nat_eq holes (length others) ≡ flow.fits_holes literal s (shapes_at table others)
+holes_fit None s table others holes is = absurd (cc)
+holes_fit (Some pieces) s table others holes is =
     let same : holes ≡ length pieces.after_holes = cc in
-    rw (same, counted others) refl
+    rw (same, counted table others) refl
+
+-- one test before four is before each
+pub before_four : (a b c d e : Bool) → (a || (b || c || d || e)) ≡ (a || b || c || d || e)
+before_four true b c d e = refl
+before_four false b c d e = refl
 
 -- ---- `States.ArrayLength`
 
 -- it takes one argument
-pub one_argument : (parts : List Part) → (length parts ≡ 1 → ⊥) → flow.array_length_of (Some (parts_view parts)) ≡ None
-one_argument [] h = refl
-one_argument (p ∷ []) h = absurd (h refl)
-one_argument (p ∷ q ∷ parts) h = refl
-
-int_shown : view shape.Int ≡ model.IntegerShape
-int_shown = search (rules, the_lemmas)
+pub one_argument : (table : List model.Shape) (ns : List ℕ) → (length ns ≡ 1 → ⊥) → flow.array_length_of (Some (shapes_at table ns)) ≡ None
+one_argument table [] h = refl
+one_argument table (n ∷ []) h = absurd (h refl)
+one_argument table (n ∷ m ∷ ns) h = refl
 
 -- and gives a number where it is a list, or never comes
-pub length_known : (parts : List Part) (p : Part) → length parts ≡ 1 → p ≡ get_or parts 0 p → true ≡ (not (model.inhabited (part_view p)) || flow.is_array_shape (part_view p)) → flow.array_length_of (Some (parts_view parts)) ≡ Some (view shape.Int)
-length_known [] p one is fits = absurd (omega arith)
-length_known (q ∷ []) p one is fits = rw (← is, ← fits, int_shown) refl
-length_known (q ∷ r ∷ parts) p one is fits = absurd (omega arith)
+pub length_known : (table : List model.Shape) (ns : List ℕ) (n : ℕ) → length ns ≡ 1 → n ≡ get_or ns 0 n → true ≡ (not (model.inhabited (shape_at table n)) || flow.is_array_shape (shape_at table n)) → flow.array_length_of (Some (shapes_at table ns)) ≡ Some model.IntegerShape
+length_known table [] n one is fits = absurd (omega arith)
+length_known table (m ∷ []) n one is fits = rw (← is, ← fits) refl
+length_known table (m ∷ k ∷ ns) n one is fits = absurd (omega arith)
+
+-- and else may fail
+pub length_unknown : (table : List model.Shape) (ns : List ℕ) (n : ℕ) → length ns ≡ 1 → n ≡ get_or ns 0 n → false ≡ (not (model.inhabited (shape_at table n)) || flow.is_array_shape (shape_at table n)) → flow.array_length_of (Some (shapes_at table ns)) ≡ None
+length_unknown table [] n one is fits = absurd (omega arith)
+length_unknown table (m ∷ []) n one is fits = rw (← is, ← fits) refl
+length_unknown table (m ∷ k ∷ ns) n one is fits = absurd (omega arith)

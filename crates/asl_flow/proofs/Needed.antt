@@ -1,19 +1,13 @@
 -- Mentions that are all needed, one for each entry of a map in the order of its names.
-use Rattle.std.proofs.Common.{◌≡◌, List, [], ◌∷◌, ◌++◌, true, false, String, Global, Less, string_bytes, string_cmp, bytes_eq, refl, sym, ap, ◌∙◌}
+use Rattle.std.proofs.Common.{◌≡◌, List, [], ◌∷◌, true, false, String, Global, Less, string_bytes, string_cmp, bytes_eq, refl, sym, ap, ◌∙◌}
 use Rattle.std.proofs.lemmas.Cmp.{nat_list_eq_equiv}
 use Rattle.std.proofs.lemmas.Map.Text.{is_eq-slice_cmp}
-use Rattle.std.specs.BTreeMap.{insert_entry}
 use Rattle.std.specs.List.{AllByRecursion}
-use Rattle.std.specs.List.Sorted.{IsStrictlySortedBy}
 use Rattle.std.specs.Map.{keys_of}
 use Rattle.std.specs.Ordering.{is_eq}
 use Rattle.asl_model.specs.Shape as model
 use Rattle.asl_model.specs.ShapeOrder.{set_mention, without_mention}
 use Rattle.asl_model.specs.Shape.{insert_mention}
-use Rattle.asl_shape.proofs.Spellings.{Mention, put, put_shown}
-use Rattle.asl_shape.specs.View.{view, fields_view}
-use Rattle.asl_shape.specs.declared.shape.Field.{Field}
-use Rattle.asl_tree.proofs.Texts.{after_first}
 
 -- each entry's mention, by the shape of its value
 abbrev pub needed_by : {V : Type 0} → (V → model.Shape) → List (String Global × V) → model.FieldShapes
@@ -36,18 +30,3 @@ module _ {V : Type 0} (shape : V → model.Shape) where
   -- so a mention that is set in the order of the names stands in front
   pub set_in_order : (n : String Global) (s : model.Shape) (es : List (String Global × V)) → AllByRecursion (λ y. string_cmp n y ≡ Less) (keys_of es) → set_mention (string_bytes n) true s (needed_by shape es) ≡ model.AndFieldShape (string_bytes n) true s (needed_by shape es)
   set_in_order n s es h = ap (insert_mention (string_bytes n) true s) (none_of_less n es h) ∙ before_others n s es h
-
--- ---- building the map
-
-module _ {V : Type 0} (shape : V → model.Shape) where
-  -- a name that comes last goes last
-  put_last : (done : List (String Global × V)) (e : String Global × V) (more : List (String Global × V)) → IsStrictlySortedBy string_cmp (keys_of (done ++ e ∷ more)) → put (string_bytes e.0) true (shape e.1) (needed_by shape done) ≡ needed_by shape (done ++ e ∷ [])
-  unfolding IsStrictlySortedBy
-  put_last [] e more h = refl
-  put_last (first ∷ done) e more h =
-      rw (after_first first done e more h.0) (ap (model.AndFieldShape (string_bytes first.0) true (shape first.1)) (put_last done e more h.1))
-
-  -- one more entry
-  pub one_more : (done : List (String Global × V)) (e : String Global × V) (more : List (String Global × V)) (fs : List Mention) (k : String Global) (f : Field) → IsStrictlySortedBy string_cmp (keys_of (done ++ e ∷ more)) → fields_view fs ≡ needed_by shape done → string_bytes k ≡ string_bytes e.0 → f.needed ≡ true → view f.shape ≡ shape e.1
-      → fields_view (insert_entry string_cmp fs k f) ≡ needed_by shape (done ++ e ∷ [])
-  one_more done e more fs k f sorted so_far named needed shown = put_shown fs k f ∙ rw (named, needed, shown, so_far) (put_last done e more sorted)

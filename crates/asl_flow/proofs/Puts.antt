@@ -1,162 +1,214 @@
--- What is put in the parts of a shape, with refusals counted from the first segment.
-use Rattle.std.proofs.Common.{◌≡◌, ℕ, zero, suc, ◌+◌, Bool, true, false, ◌&&◌, ◌||◌, not, List, [], ◌∷◌, Option, Some, None, Result, Ok, Err, option_map, Bor, String, string_bytes, is_some, IfSome, length, get_or, refl, ap, sym, ◌∙◌, arith, Vec, Box, BTreeMap, bytes_eq, if◌then◌else◌}
-use Rattle.std.specs.Prelude.{IfOk, IsTrue}
-use Rattle.std.proofs.lemmas.Bool.{and_parts}
-use lib.Dec.{ltb}
-use Rattle.std.specs.BTreeMap.{get_by}
-use Rattle.std.specs.Option.{option_copied}
+-- What is put in the parts of a shape, with refusals counted from the first segment, and the numbers that answer it.
+use Rattle.std.proofs.Common.{◌≡◌, ◌<◌, ℕ, suc, ◌+◌, Bool, true, false, ◌&&◌, List, [], ◌∷◌, Option, Some, None, Result, Ok, Err, option_map, String, Global, string_bytes, length, refl, ap, sym, ◌∙◌, subst, arith}
+use Rattle.std.specs.BTreeMap.{BTreeMap, get_by}
+use Rattle.std.specs.Prelude.{IfOk}
 use Rattle.std.specs.String.{string_cmp}
-use Rattle.std.specs.declared.alloc.Global.{Global}
 use Rattle.asl_model.specs.Path.{Segment, Name, Index}
-use Rattle.asl_model.specs.Shape as model
-use Rattle.asl_model.specs.Shape.{Shapes, NoShapes, AndShape, FieldShapes, NoFieldShapes, AndFieldShape, ArrayShape, ObjectShape, inhabited, all_inhabited, needed_inhabited}
-use Rattle.asl_model.specs.ShapeFlow.{place_at, put, put_under, put_mentioned, array_with, object_with, join_results, set_place}
-use Rattle.asl_model.specs.ShapeOrder.{mention_of, set_mention}
-use Rattle.asl_model.proofs.JoinFuel.{join-first_uninhabited}
+use Rattle.asl_model.specs.Shape.{Shape, FieldShapes, NoFieldShapes, AndFieldShape, ArrayShape, ObjectShape, Any, Never, NullShape, BooleanShape, IntegerShape, StringShape, inhabited}
+use Rattle.asl_model.specs.ShapeFlow.{part_at, place_at, put, put_under, put_mentioned, array_with, object_with, around, join_results}
+use Rattle.asl_model.specs.ShapeOrder.{mention_of, join}
+use Rattle.asl_flow.specs.Changing.{with_field, with_place}
 use Rattle.asl_flow.specs.Counting.{counted_on}
+use Rattle.asl_flow.specs.Numbers.{Shows}
 use Rattle.asl_flow.specs.Putting.{Answers, mentioned}
 use Rattle.asl_flow.specs.declared.putting.PutRefusal.{PutRefusal}
 use Rattle.asl_flow.specs.declared.putting.PutRefusal.TheVariants.{MayNotFit, OutOfMemory}
-use Rattle.asl_flow.proofs.ShapeParts.{counted_none, place_got}
-use Rattle.asl_shape.specs.declared.shape.Field.{Field}
-use Rattle.asl_shape.specs.declared.shape.Shape as code
-use Rattle.asl_shape.specs.declared.shape.Shape.TheViews
-use Rattle.asl_shape.specs.View.{view, shapes_view, fields_view}
-use Rattle.asl_shape.proofs.Lookups.{mention_of_lookup}
-use Rattle.asl_shape.proofs.Views.{view_list, view_object}
+use Rattle.asl_flow.proofs.Numbered.{still_shown, number_within, own_number}
+use Rattle.asl_flow.proofs.NumberedParts.{mention_got}
+use Rattle.asl_flow.proofs.ShapeParts.{counted_none}
+use Rattle.asl_numbered.specs.declared.node.Node.{Node}
+use Rattle.asl_numbered.specs.declared.node.NodeField.{NodeField}
+use Rattle.asl_numbered.specs.Expansion.{expansions, shape_at, fields_at, AreDistinct, IsNumberOf, Keeps}
 
--- ---- the parts of an inhabited shape are inhabited
+-- ---- refusals counted on
 
-place_inhabited : (i : ℕ) (shapes : Shapes) (t : model.Shape) → IsTrue (all_inhabited shapes) → place_at i shapes ≡ Some t → IsTrue (inhabited t)
-place_inhabited i NoShapes t h e = absurd (cc)
-place_inhabited zero (AndShape s others) t h e =
+-- a shape changed by what is put in a part of it, or the refusal counted with the part's segment
+abbrev pub changed_by : (Shape → Shape) → Result Shape ℕ → Result Shape ℕ
+changed_by f (Ok s) = Ok (f s)
+changed_by f (Err at) = Err (suc at)
+
+counted_refusal : (at k : ℕ) (f : Shape → Shape) (r : Result Shape ℕ) → counted_on (at + 1) r ≡ Err k → counted_on at (changed_by f r) ≡ Err k
+counted_refusal at k f (Ok s) e = absurd (cc)
+counted_refusal at k f (Err j) e = ap Err (omega arith) ∙ e
+
+counted_change : (at : ℕ) (f : Shape → Shape) (r : Result Shape ℕ) (t : Shape) → counted_on (at + 1) r ≡ Ok t → counted_on at (changed_by f r) ≡ Ok (f t)
+counted_change at f (Ok s) t e =
     let is : s ≡ t = cc in
-    rw (sym is) (and_parts (inhabited s) (all_inhabited others) h).0
-place_inhabited (suc i) (AndShape s others) t h e = place_inhabited i others t (and_parts (inhabited s) (all_inhabited others) h).1 e
+    rw is refl
+counted_change at f (Err j) t e = absurd (cc)
 
-field_inhabited : (n : List ℕ) (shapes : FieldShapes) (m : Bool × model.Shape) → IsTrue (needed_inhabited shapes) → mention_of n shapes ≡ Some m → IsTrue m.0 → IsTrue (inhabited m.1)
-field_inhabited n NoFieldShapes m h e needed = absurd (cc)
-field_inhabited n (AndFieldShape k needs s others) m h e needed = go (bytes_eq k n) needs h e (field_inhabited n others m)
-  where
-    go : (same needs' : Bool) → IsTrue ((not needs' || inhabited s) && needed_inhabited others) → (if same then Some (needs', s) else mention_of n others) ≡ Some m → (IsTrue (needed_inhabited others) → mention_of n others ≡ Some m → IsTrue m.0 → IsTrue (inhabited m.1)) → IsTrue (inhabited m.1)
-    go true true h' e' further =
-        let is : (true, s) ≡ m = cc in
-        rw (sym is) (and_parts (inhabited s) (needed_inhabited others) h').0
-    go true false h' e' further =
-        let is : (false, s) ≡ m = cc in
-        let never : IsTrue false = rw (sym is) at needed in
-        absurd (cc)
-    go false needs' h' e' further = further (and_parts (not needs' || inhabited s) (needed_inhabited others) h').1 e' needed
+-- a refusal in a part
+pub refused_below : (old new : List Node) (at : ℕ) (f : Shape → Shape) (whole r : Result Shape ℕ) (refusal : PutRefusal) → whole ≡ changed_by f r → Answers old (counted_on (at + 1) r) (Err refusal) → Answers new (counted_on at whole) (Err refusal)
+refused_below old new at f whole r (MayNotFit k) is h = record { within = tt; shape = tt; refusal = ap (counted_on at) is ∙ counted_refusal at k f r h.refusal }
+refused_below old new at f whole r OutOfMemory is h = record { within = tt; shape = tt; refusal = tt }
+
+-- what was put in a part
+pub changed_below : (old new : List Node) (at : ℕ) (f : Shape → Shape) (whole r : Result Shape ℕ) (n m : ℕ) → whole ≡ changed_by f r → Answers old (counted_on (at + 1) r) (Ok n) → Shows new (f (shape_at (expansions old) n)) m → Answers new (counted_on at whole) (Ok m)
+changed_below old new at f whole r n m is h shows = record {
+  within = shows.within;
+  shape = ap (counted_on at) is ∙ counted_change at f r (shape_at (expansions old) n) h.shape ∙ ap Ok (sym shows.same);
+  refusal = tt;
+}
 
 -- ---- lists
 
--- what a list shape's look-up at an index gets
-pub place_of : (ss items : List code.Shape) (i : ℕ) (r : Option (Bor code.Shape)) (part : Option (Bor code.Shape)) → ss ≡ items → is_some r ≡ ltb i (length ss) → IfSome r (λ x. x.now ≡ get_or ss i x.now) → r ≡ part → place_at i (shapes_view items) ≡ option_map (λ x. view x.now) part
-place_of ss items i r part same some got is = ap (λ xs. place_at i (shapes_view xs)) (sym same) ∙ sym (place_got ss i r some got) ∙ ap (option_map (λ x. view x.now)) is
+-- putting under an index changes the place there
+pub put_at_index : (go_on : Shape → Result Shape ℕ) (p : List Segment) (w s : Shape) (i : ℕ) (part : Option Shape) (t : Shape) → part ≡ part_at (Index i) s → part ≡ Some t → put_under go_on (Index i) p w s ≡ changed_by (λ u. with_place i u s) (go_on t)
+put_at_index go_on p w Any i part t is found = absurd (cc)
+put_at_index go_on p w Never i part t is found = absurd (cc)
+put_at_index go_on p w NullShape i part t is found = absurd (cc)
+put_at_index go_on p w BooleanShape i part t is found = absurd (cc)
+put_at_index go_on p w IntegerShape i part t is found = absurd (cc)
+put_at_index go_on p w StringShape i part t is found = absurd (cc)
+put_at_index go_on p w (ArrayShape first rest) i part t is found =
+    let at : place_at i first ≡ Some t = sym is ∙ found in
+    rw at (changed (go_on t))
+  where
+    changed : (r : Result Shape ℕ) → array_with i first rest r ≡ changed_by (λ u. with_place i u (ArrayShape first rest)) r
+    changed (Ok u) = refl
+    changed (Err at) = refl
+put_at_index go_on p w (ObjectShape shapes extra) i part t is found = absurd (cc)
 
-pub place_is_inhabited : (s : code.Shape) (first : Vec code.Shape Global) (rest : Box code.Shape Global) (i : ℕ) (t : model.Shape) → s ≡ TheViews.List first rest → IsTrue (inhabited (view s)) → place_at i (shapes_view first.items) ≡ Some t → IsTrue (inhabited t)
-place_is_inhabited s first rest i t is h at = place_inhabited i (shapes_view first.items) t (rw (is, view_list first rest) at h) at
+-- where there is no such place, nothing can be put
+pub no_index : (nodes : List Node) (at : ℕ) (go_on : Shape → Result Shape ℕ) (p : List Segment) (w s : Shape) (i : ℕ) → None ≡ part_at (Index i) s → Answers nodes (counted_on at (put_under go_on (Index i) p w s)) (Err (MayNotFit at))
+no_index nodes at go_on p w s i none = record { within = tt; shape = tt; refusal = ap (counted_on at) (refused s none) ∙ ap Err (omega arith) }
+  where
+    refused : (t : Shape) → None ≡ part_at (Index i) t → put_under go_on (Index i) p w t ≡ Err 0
+    refused Any e = refl
+    refused Never e = refl
+    refused NullShape e = refl
+    refused BooleanShape e = refl
+    refused IntegerShape e = refl
+    refused StringShape e = refl
+    refused (ArrayShape first rest) e = rw (sym e) refl
+    refused (ObjectShape shapes extra) e = refl
 
--- putting in a list shape puts in the place at the index
-list_put : (go_on : model.Shape → Result model.Shape ℕ) (p : List Segment) (w : model.Shape) (s : code.Shape) (first : Vec code.Shape Global) (rest : Box code.Shape Global) (i : ℕ) (t : model.Shape) → s ≡ TheViews.List first rest → place_at i (shapes_view first.items) ≡ Some t
-    → put_under go_on (Index i) p w (view s) ≡ array_with i (shapes_view first.items) (view rest.value) (go_on t)
-list_put go_on p w s first rest i t is at = rw (is, view_list first rest, at) refl
+pub refused_in_list : (old new : List Node) (at i : ℕ) (go_on : Shape → Result Shape ℕ) (p : List Segment) (w : Shape) (number : ℕ) (r : Option ℕ) (place : ℕ) (refusal : PutRefusal) (answer : Result ℕ PutRefusal)
+    → option_map (shape_at (expansions old)) r ≡ part_at (Index i) (shape_at (expansions old) number) → r ≡ Some place → Answers new (counted_on (at + 1) (go_on (shape_at (expansions old) place))) (Err refusal) → answer ≡ Err refusal
+    → Answers new (counted_on at (put_under go_on (Index i) p w (shape_at (expansions old) number))) answer
+refused_in_list old new at i go_on p w number r place refusal answer part found h e =
+    let table = expansions old in
+    let whole = put_at_index go_on p w (shape_at table number) i (option_map (shape_at table) r) (shape_at table place) part (ap (option_map (shape_at table)) found) in
+    rw e (refused_below new new at (λ u. with_place i u (shape_at table number)) _ (go_on (shape_at table place)) refusal whole h)
 
-array_counted : (at i k : ℕ) (first : Shapes) (rest : model.Shape) (inner : Result model.Shape ℕ) → counted_on (at + 1) inner ≡ Err k → counted_on at (array_with i first rest inner) ≡ Err k
-array_counted at i k first rest (Ok s) e = absurd (cc)
-array_counted at i k first rest (Err j) e = ap Err (omega arith) ∙ e
-
-array_changed : (at i : ℕ) (first : Shapes) (rest t : model.Shape) (inner : Result model.Shape ℕ) → counted_on (at + 1) inner ≡ Ok t → counted_on at (array_with i first rest inner) ≡ Ok (ArrayShape (set_place i t first) rest)
-array_changed at i first rest t (Ok s) e =
-    let is : s ≡ t = cc in
-    rw is refl
-array_changed at i first rest t (Err j) e = absurd (cc)
-
--- a refusal in a place of a list
-pub refused_in_list : (at i : ℕ) (go_on : model.Shape → Result model.Shape ℕ) (p : List Segment) (w : model.Shape) (s : code.Shape) (first : Vec code.Shape Global) (rest : Box code.Shape Global) (t : model.Shape) (refusal : PutRefusal) (answer : Result code.Shape PutRefusal)
-    → s ≡ TheViews.List first rest → place_at i (shapes_view first.items) ≡ Some t → Answers (counted_on (at + 1) (go_on t)) (Err refusal) → answer ≡ Err refusal → Answers (counted_on at (put_under go_on (Index i) p w (view s))) answer
-refused_in_list at i go_on p w s first rest t (MayNotFit k) answer is found h e = rw e (record { shape = tt; refusal = ap (counted_on at) (list_put go_on p w s first rest i t is found) ∙ array_counted at i k (shapes_view first.items) (view rest.value) (go_on t) h.refusal })
-refused_in_list at i go_on p w s first rest t OutOfMemory answer is found h e = rw e (record { shape = tt; refusal = tt })
-
--- an index that isn't among the first places
-pub past_first : (at i : ℕ) (go_on : model.Shape → Result model.Shape ℕ) (p : List Segment) (w : model.Shape) (s : code.Shape) (first : Vec code.Shape Global) (rest : Box code.Shape Global)
-    → s ≡ TheViews.List first rest → place_at i (shapes_view first.items) ≡ None → Answers (counted_on at (put_under go_on (Index i) p w (view s))) (Err (MayNotFit at))
-past_first at i go_on p w s first rest is none = record { shape = tt; refusal = rw (is, view_list first rest, none) (ap Err (omega arith)) }
-
--- the list with what was put in the place
-pub answered_in_list : (at i : ℕ) (go_on : model.Shape → Result model.Shape ℕ) (p : List Segment) (w : model.Shape) (s : code.Shape) (first : Vec code.Shape Global) (rest : Box code.Shape Global) (t : model.Shape) (changed : code.Shape) (places : Vec code.Shape Global) (items : List code.Shape) (further whole : code.Shape)
-    → s ≡ TheViews.List first rest → place_at i (shapes_view first.items) ≡ Some t → Answers (counted_on (at + 1) (go_on t)) (Ok changed) → items ≡ first.items → shapes_view places.items ≡ set_place i (view changed) (shapes_view items) → further ≡ rest.value → view whole ≡ ArrayShape (shapes_view places.items) (view further)
-    → Answers (counted_on at (put_under go_on (Index i) p w (view s))) (Ok whole)
-answered_in_list at i go_on p w s first rest t changed places items further whole is found h same set lent made = record {
-  shape =
-      ap (counted_on at) (list_put go_on p w s first rest i t is found) ∙ array_changed at i (shapes_view first.items) (view rest.value) (view changed) (go_on t) h.shape ∙ ap Ok (sym (made ∙ rw (set, same, lent) refl));
-  refusal = tt;
-}
+pub answered_in_list : (old mid new : List Node) (at i : ℕ) (go_on : Shape → Result Shape ℕ) (p : List Segment) (w : Shape) (number : ℕ) (r : Option ℕ) (place n m : ℕ)
+    → number < length old → Keeps (expansions old) (expansions mid) → option_map (shape_at (expansions old)) r ≡ part_at (Index i) (shape_at (expansions old) number) → r ≡ Some place → Answers mid (counted_on (at + 1) (go_on (shape_at (expansions old) place))) (Ok n)
+    → Shows new (with_place i (shape_at (expansions mid) n) (shape_at (expansions mid) number)) m → Answers new (counted_on at (put_under go_on (Index i) p w (shape_at (expansions old) number))) (Ok m)
+answered_in_list old mid new at i go_on p w number r place n m within keeps part found h shows =
+    let table = expansions old in
+    let whole = put_at_index go_on p w (shape_at table number) i (option_map (shape_at table) r) (shape_at table place) part (ap (option_map (shape_at table)) found) in
+    let shown = subst (λ s. Shows new (with_place i (shape_at (expansions mid) n) s) m) (still_shown old mid number keeps within) shows in
+    changed_below mid new at (λ u. with_place i u (shape_at table number)) _ (go_on (shape_at table place)) n m whole h shown
 
 -- ---- objects
 
--- the mention of a field, as the map has it
-pub mention_got : (k : String Global) (m : BTreeMap (String Global) Field) (r : Option (Bor Field)) → option_copied r ≡ get_by (string_cmp k) m → mention_of (string_bytes k) (fields_view m.entries) ≡ option_map mentioned r
-mention_got k m r got = mention_of_lookup k m.entries ∙ rw (← got) (shown r)
+-- putting under a name changes the field
+pub put_at_name : (go_on : Shape → Result Shape ℕ) (p : List Segment) (w s : Shape) (n : List ℕ) (shapes : FieldShapes) (extra : Bool) (mention : Option (Bool × Shape)) → s ≡ ObjectShape shapes extra → mention_of n shapes ≡ mention → put_under go_on (Name n) p w s ≡ changed_by (λ u. with_field n u s) (put_mentioned go_on extra p w mention)
+put_at_name go_on p w s n shapes extra mention is found = rw (is, found) (changed (put_mentioned go_on extra p w mention))
   where
-    shown : (o : Option (Bor Field)) → option_map (λ (f : Field). (f.needed, view f.shape)) (option_copied o) ≡ option_map mentioned o
-    shown None = refl
-    shown (Some f) = refl
+    changed : (r : Result Shape ℕ) → object_with n shapes extra r ≡ changed_by (λ u. with_field n u (ObjectShape shapes extra)) r
+    changed (Ok u) = refl
+    changed (Err at) = refl
 
--- the shape of a needed field of an inhabited object shape is inhabited
-pub field_is_inhabited : (s : code.Shape) (m : BTreeMap (String Global) Field) (extra : Bool) (k : String Global) (r : Option (Bor Field)) → s ≡ TheViews.Object m extra → IsTrue (inhabited (view s)) → option_copied r ≡ get_by (string_cmp k) m → IfSome r (λ f. IsTrue f.now.needed → IsTrue (inhabited (view f.now.shape)))
-field_is_inhabited s m extra k None is h got = tt
-field_is_inhabited s m extra k (Some f) is h got = λ needed. field_inhabited (string_bytes k) (fields_view m.entries) (f.now.needed, view f.now.shape) (rw (is, view_object m extra) at h) (mention_got k m (Some f) got) needed
+pub refused_in_object : (new : List Node) (at : ℕ) (go_on : Shape → Result Shape ℕ) (p : List Segment) (w s : Shape) (table : List Shape) (k : String Global) (fields : BTreeMap (String Global) NodeField) (extra : Bool) (field : Option NodeField) (refusal : PutRefusal) (answer : Result ℕ PutRefusal)
+    → s ≡ ObjectShape (fields_at table fields.entries) extra → field ≡ get_by (string_cmp k) fields → Answers new (counted_on (at + 1) (put_mentioned go_on extra p w (option_map (mentioned table) field))) (Err refusal) → answer ≡ Err refusal
+    → Answers new (counted_on at (put_under go_on (Name (string_bytes k)) p w s)) answer
+refused_in_object new at go_on p w s table k fields extra field refusal answer is got h e =
+    let whole = put_at_name go_on p w s (string_bytes k) (fields_at table fields.entries) extra (option_map (mentioned table) field) is (mention_got table k fields field got) in
+    rw e (refused_below new new at (λ u. with_field (string_bytes k) u s) _ (put_mentioned go_on extra p w (option_map (mentioned table) field)) refusal whole h)
 
-object_put : (go_on : model.Shape → Result model.Shape ℕ) (p : List Segment) (w : model.Shape) (s : code.Shape) (m : BTreeMap (String Global) Field) (extra : Bool) (k : String Global) (r : Option (Bor Field)) → s ≡ TheViews.Object m extra → option_copied r ≡ get_by (string_cmp k) m
-    → put_under go_on (Name (string_bytes k)) p w (view s) ≡ object_with (string_bytes k) (fields_view m.entries) extra (put_mentioned go_on extra p w (option_map mentioned r))
-object_put go_on p w s m extra k r is got = rw (is, view_object m extra, mention_got k m r got) refl
+pub answered_in_object : (old mid new : List Node) (at : ℕ) (go_on : Shape → Result Shape ℕ) (p : List Segment) (w : Shape) (number : ℕ) (k : String Global) (fields : BTreeMap (String Global) NodeField) (extra : Bool) (field : Option NodeField) (n m : ℕ)
+    → number < length old → Keeps (expansions old) (expansions mid) → shape_at (expansions old) number ≡ ObjectShape (fields_at (expansions old) fields.entries) extra → field ≡ get_by (string_cmp k) fields
+    → Answers mid (counted_on (at + 1) (put_mentioned go_on extra p w (option_map (mentioned (expansions old)) field))) (Ok n) → Shows new (with_field (string_bytes k) (shape_at (expansions mid) n) (shape_at (expansions mid) number)) m
+    → Answers new (counted_on at (put_under go_on (Name (string_bytes k)) p w (shape_at (expansions old) number))) (Ok m)
+answered_in_object old mid new at go_on p w number k fields extra field n m within keeps is got h shows =
+    let table = expansions old in
+    let s = shape_at table number in
+    let whole = put_at_name go_on p w s (string_bytes k) (fields_at table fields.entries) extra (option_map (mentioned table) field) is (mention_got table k fields field got) in
+    let shown = subst (λ t. Shows new (with_field (string_bytes k) (shape_at (expansions mid) n) t) m) (still_shown old mid number keeps within) shows in
+    changed_below mid new at (λ u. with_field (string_bytes k) u s) _ (put_mentioned go_on extra p w (option_map (mentioned table) field)) n m whole h shown
 
-object_counted : (at k : ℕ) (n : List ℕ) (shapes : FieldShapes) (extra : Bool) (inner : Result model.Shape ℕ) → counted_on (at + 1) inner ≡ Err k → counted_on at (object_with n shapes extra inner) ≡ Err k
-object_counted at k n shapes extra (Ok s) e = absurd (cc)
-object_counted at k n shapes extra (Err j) e = ap Err (omega arith) ∙ e
-
-object_changed : (at : ℕ) (n : List ℕ) (shapes : FieldShapes) (extra : Bool) (t : model.Shape) (inner : Result model.Shape ℕ) → counted_on (at + 1) inner ≡ Ok t → counted_on at (object_with n shapes extra inner) ≡ Ok (ObjectShape (set_mention n true t shapes) extra)
-object_changed at n shapes extra t (Ok s) e =
-    let is : s ≡ t = cc in
-    rw is refl
-object_changed at n shapes extra t (Err j) e = absurd (cc)
-
--- a refusal in a field of an object
-pub refused_in_object : (at : ℕ) (go_on : model.Shape → Result model.Shape ℕ) (p : List Segment) (w : model.Shape) (s : code.Shape) (m : BTreeMap (String Global) Field) (extra : Bool) (k : String Global) (r : Option (Bor Field)) (refusal : PutRefusal) (answer : Result code.Shape PutRefusal)
-    → s ≡ TheViews.Object m extra → option_copied r ≡ get_by (string_cmp k) m → Answers (counted_on (at + 1) (put_mentioned go_on extra p w (option_map mentioned r))) (Err refusal) → answer ≡ Err refusal → Answers (counted_on at (put_under go_on (Name (string_bytes k)) p w (view s))) answer
-refused_in_object at go_on p w s m extra k r (MayNotFit j) answer is got h e = rw e (record { shape = tt; refusal = ap (counted_on at) (object_put go_on p w s m extra k r is got) ∙ object_counted at j (string_bytes k) (fields_view m.entries) extra _ h.refusal })
-refused_in_object at go_on p w s m extra k r OutOfMemory answer is got h e = rw e (record { shape = tt; refusal = tt })
-
--- the object with what was put in the field
-pub answered_in_object : (at : ℕ) (go_on : model.Shape → Result model.Shape ℕ) (p : List Segment) (w : model.Shape) (s : code.Shape) (m : BTreeMap (String Global) Field) (extra : Bool) (k : String Global) (r : Option (Bor Field)) (value : code.Shape) (fields : BTreeMap (String Global) Field)
-    → s ≡ TheViews.Object m extra → option_copied r ≡ get_by (string_cmp k) m → Answers (counted_on (at + 1) (put_mentioned go_on extra p w (option_map mentioned r))) (Ok value) → fields_view fields.entries ≡ set_mention (string_bytes k) true (view value) (fields_view m.entries)
-    → Answers (counted_on at (put_under go_on (Name (string_bytes k)) p w (view s))) (Ok (TheViews.Object fields extra))
-answered_in_object at go_on p w s m extra k r value fields is got h set = record {
-  shape = ap (counted_on at) (object_put go_on p w s m extra k r is got) ∙ object_changed at (string_bytes k) (fields_view m.entries) extra (view value) _ h.shape ∙ ap Ok (sym (view_object fields extra ∙ ap (λ ms. ObjectShape ms extra) set));
-  refusal = tt;
-}
+-- where the shape isn't one of objects, nothing can be put
+pub no_object : (nodes : List Node) (at : ℕ) (whole : Result Shape ℕ) → whole ≡ Err 0 → Answers nodes (counted_on at whole) (Err (MayNotFit at))
+no_object nodes at whole none = record { within = tt; shape = tt; refusal = ap (counted_on at) none ∙ ap Err (omega arith) }
 
 -- ---- where there is no tree
 
 -- where no tree has the shapes, there is nothing to put
-pub nothing_put : (p : List Segment) (w s : model.Shape) → inhabited s && inhabited w ≡ false → put p w s ≡ Ok model.Never
+pub nothing_put : (p : List Segment) (w s : Shape) → inhabited s && inhabited w ≡ false → put p w s ≡ Ok Never
 nothing_put [] w s h = rw h refl
 nothing_put (segment ∷ p) w s h = rw h refl
 
 -- ---- an optional field
 
-join_with_never : (r : Result model.Shape ℕ) → join_results (Ok model.Never) r ≡ r
-join_with_never (Ok s) = ap Ok (join-first_uninhabited model.Never s refl)
-join_with_never (Err at) = refl
+-- a refusal of the second, where the first is there
+pub second_refused : (old mid new : List Node) (at : ℕ) (first second : Result Shape ℕ) (n : ℕ) (refusal : PutRefusal) (answer : Result ℕ PutRefusal) → Answers old (counted_on at first) (Ok n) → Answers mid (counted_on at second) (Err refusal) → answer ≡ Err refusal → Answers new (counted_on at (join_results first second)) answer
+second_refused old mid new at (Ok s) (Ok t) n (MayNotFit k) answer h g e =
+    let told = g.refusal in
+    absurd (cc)
+second_refused old mid new at (Ok s) (Err j) n (MayNotFit k) answer h g e = rw e (record { within = tt; shape = tt; refusal = g.refusal })
+second_refused old mid new at (Err j) second n (MayNotFit k) answer h g e =
+    let told = h.shape in
+    absurd (cc)
+second_refused old mid new at first second n OutOfMemory answer h g e = rw e (record { within = tt; shape = tt; refusal = tt })
 
--- where no tree has the field's shape, the field can't be there: what is built counts alone
-pub built_alone : (at : ℕ) (p : List Segment) (w s : model.Shape) (built : Result model.Shape ℕ) (answer : Result code.Shape PutRefusal) → inhabited s ≡ false → Answers (counted_on at built) answer → Answers (counted_on at (join_results (put p w s) built)) answer
-built_alone at p w s built answer h given = rw (nothing_put p w s (rw h refl), join_with_never built) given
+join_counted : (at : ℕ) (first second : Result Shape ℕ) (s t : Shape) → counted_on at first ≡ Ok s → counted_on at second ≡ Ok t → counted_on at (join_results first second) ≡ Ok (join s t)
+join_counted at (Ok a) (Ok b) s t h g =
+    let one : a ≡ s = cc in
+    let two : b ≡ t = cc in
+    rw (one, two) refl
+join_counted at (Ok a) (Err k) s t h g = absurd (cc)
+join_counted at (Err j) second s t h g = absurd (cc)
 
--- ---- the whole path
+-- both are joined
+pub both_joined : (old mid new : List Node) (at : ℕ) (first second : Result Shape ℕ) (n m k : ℕ) → Answers old (counted_on at first) (Ok n) → Answers mid (counted_on at second) (Ok m) → shape_at (expansions mid) n ≡ shape_at (expansions old) n → Shows new (join (shape_at (expansions mid) n) (shape_at (expansions mid) m)) k → Answers new (counted_on at (join_results first second)) (Ok k)
+both_joined old mid new at first second n m k h g stays shows = record {
+  within = shows.within;
+  shape = join_counted at first second (shape_at (expansions mid) n) (shape_at (expansions mid) m) (h.shape ∙ ap Ok (sym stays)) g.shape ∙ ap Ok (sym shows.same);
+  refusal = tt;
+}
 
--- what holds of the shape that the definition gives holds of the answered one
-pub answered_so : (P : model.Shape → Type 0) (r : Result model.Shape ℕ) (answer : Result code.Shape PutRefusal) → Answers (counted_on 0 r) answer → ((s : model.Shape) → r ≡ Ok s → P s) → IfOk answer (λ s. P (view s))
-answered_so P r (Ok s) h holds = holds (view s) (sym (counted_none r) ∙ h.shape)
-answered_so P r (Err refusal) h holds = tt
+-- ---- what is built
+
+-- the object round what is built is it changed
+pub built_around : (n : List ℕ) (r : Result Shape ℕ) → around n r ≡ changed_by (λ s. ObjectShape (AndFieldShape n true s NoFieldShapes) false) r
+built_around n (Ok s) = refl
+built_around n (Err at) = refl
+
+-- ---- answers
+
+-- a number at hand is the answer
+pub answered : (nodes : List Node) (at n : ℕ) (s : Shape) (r : Result Shape ℕ) → r ≡ Ok s → Shows nodes s n → Answers nodes (counted_on at r) (Ok n)
+answered nodes at n s r is shows = record { within = shows.within; shape = ap (counted_on at) is ∙ ap Ok (sym shows.same); refusal = tt }
+
+-- out of memory answers everything
+pub no_memory : (nodes : List Node) (r : Result Shape ℕ) → Answers nodes r (Err OutOfMemory)
+no_memory nodes r = record { within = tt; shape = tt; refusal = tt }
+
+-- the whole path
+pub whole_path : (nodes : List Node) (r : Result Shape ℕ) (answer : Result ℕ PutRefusal) → Answers nodes (counted_on 0 r) answer → IfOk answer (λ n. r ≡ Ok (shape_at (expansions nodes) n))
+whole_path nodes r (Ok n) h = sym (counted_none r) ∙ h.shape
+whole_path nodes r (Err refusal) h = tt
+
+-- its number
+pub own_answer : (nodes : List Node) (r : Result Shape ℕ) (answer : Result ℕ PutRefusal) → AreDistinct (expansions nodes) → Answers nodes r answer → IfOk answer (λ n. IsNumberOf (expansions nodes) (shape_at (expansions nodes) n) n)
+own_answer nodes r (Ok n) distinct h = own_number nodes n distinct h.within
+own_answer nodes r (Err refusal) distinct h = tt
+
+-- in a table of the two shapes
+pub put_through : (one two three : List Node) (p : List Segment) (w s r : Shape) (number placed changed : ℕ) → IsNumberOf (expansions one) s number → Keeps (expansions one) (expansions two) → IsNumberOf (expansions two) w placed
+    → put p (shape_at (expansions two) placed) (shape_at (expansions two) number) ≡ Ok (shape_at (expansions three) changed) → r ≡ shape_at (expansions three) changed → put p w s ≡ Ok r
+put_through one two three p w s r number placed changed is keeps also h shown =
+    let own : shape_at (expansions two) number ≡ s = still_shown one two number keeps (number_within one s number is) ∙ is.same in
+    let its : shape_at (expansions two) placed ≡ w = also.same in
+    ap (λ t. put p t s) (sym its) ∙ ap (put p (shape_at (expansions two) placed)) (sym own) ∙ h ∙ ap Ok (sym shown)
+
+pub refused_through : (one two : List Node) (p : List Segment) (w s : Shape) (number placed at : ℕ) → IsNumberOf (expansions one) s number → Keeps (expansions one) (expansions two) → IsNumberOf (expansions two) w placed
+    → put p (shape_at (expansions two) placed) (shape_at (expansions two) number) ≡ Err at → put p w s ≡ Err at
+refused_through one two p w s number placed at is keeps also h =
+    let own : shape_at (expansions two) number ≡ s = still_shown one two number keeps (number_within one s number is) ∙ is.same in
+    let its : shape_at (expansions two) placed ≡ w = also.same in
+    ap (λ t. put p t s) (sym its) ∙ ap (put p (shape_at (expansions two) placed)) (sym own) ∙ h
+
+pub whole_refusal : (nodes : List Node) (r : Result Shape ℕ) (answer : Result ℕ PutRefusal) (at : ℕ) → Answers nodes (counted_on 0 r) answer → answer ≡ Err (MayNotFit at) → r ≡ Err at
+whole_refusal nodes r answer at h is = let e = rw is at h in sym (counted_none r) ∙ e.refusal

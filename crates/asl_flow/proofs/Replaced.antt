@@ -1,23 +1,26 @@
--- Fields and places of which one is replaced.
-use Rattle.std.proofs.Common.{◌≡◌, ℕ, zero, suc, ◌+◌, ◌-◌, ◌<◌, List, [], ◌∷◌, ◌++◌, Bool, true, false, bytes_eq, String, Global, Ordering, Less, Equal, Greater, string_bytes, string_cmp, nat_cmp, map, length, take, drop, refl, sym, ap, ◌∙◌, add-one, append_assoc, length-drop, arith}
+-- Fields and places of nodes of which one is replaced.
+use Rattle.std.proofs.Common.{◌≡◌, ◌<◌, ◌≤◌, ℕ, zero, suc, List, [], ◌∷◌, ◌++◌, Bool, true, false, bytes_eq, String, Global, Vec, Ordering, Less, Equal, Greater, string_bytes, string_cmp, nat_cmp, length, slice_set, refl, sym, ap, ◌∙◌, subst, arith}
 use Rattle.std.proofs.lemmas.Cmp.{nat_list_cmp_total}
-use Rattle.std.proofs.lemmas.List.{map-append, take_all}
 use Rattle.std.proofs.lemmas.Map.Text.{is_eq-slice_cmp}
 use Rattle.std.proofs.lemmas.Slice.Eq.{bytes_eq-Decides}
-use Rattle.std.specs.BTreeMap.{insert_entry}
+use Rattle.std.specs.BTreeMap.{BTreeMap, insert_entry}
 use Rattle.std.specs.Cmp.Lexicographic.{slice_cmp}
 use Rattle.std.specs.List.{AllByRecursion}
 use Rattle.std.specs.List.Sorted.{IsStrictlySortedBy}
 use Rattle.std.specs.Map.{keys_of}
 use Rattle.std.specs.Ordering.{is_eq, ordering_reverse}
 use Rattle.asl_model.specs.Shape as model
-use Rattle.asl_model.specs.Shape.{AndFieldShape, AndShape, NoFieldShapes, FieldShapes, Shapes}
+use Rattle.asl_model.specs.Shape.{AndFieldShape, AndShape, NoFieldShapes, FieldShapes}
 use Rattle.asl_model.specs.ShapeFlow.{set_place}
 use Rattle.asl_model.specs.ShapeOrder.{set_mention, without_mention}
-use Rattle.asl_shape.specs.View.{view, shapes_of, shapes_view, fields_view}
-use Rattle.asl_shape.specs.declared.shape.Field.{Field}
-use Rattle.asl_shape.specs.declared.shape.Shape.{Shape}
-use Rattle.asl_shape.proofs.Spellings.{Mention, put, put_shown}
+use Rattle.asl_flow.specs.Changing.{AreOthers, AreWithField, AreWithPlace}
+use Rattle.asl_shape.proofs.Spellings.{put}
+use Rattle.asl_numbered.specs.declared.node.NodeField.{NodeField}
+use Rattle.asl_numbered.specs.declared.node.Node.{Node}
+use Rattle.asl_numbered.specs.declared.node.Node.TheVariants.{List as Elements, Object}
+use Rattle.asl_numbered.specs.Expansion.{shape_at, shapes_at, fields_at, numbers_in, AreBelow, RefersBelow}
+use Rattle.asl_numbered.proofs.Expansions.{below-wider}
+use Rattle.asl_numbered.proofs.Parts.{Entry, put-shown, put-below}
 
 -- ---- fields
 
@@ -36,55 +39,108 @@ put-set n needed s (AndFieldShape m other r shapes) = go (bytes_eq m n) refl (sl
     go false is Greater at below = rw (is, at) (ap (AndFieldShape m other r) below)
 
 -- inserting a field into those of other names is the setting of its mention
-pub field_set : (name : List ℕ) (k : String Global) (f : Field) (es new : List Mention) (shapes : FieldShapes) → string_bytes k ≡ name → f.needed ≡ true → fields_view es ≡ without_mention name shapes → new ≡ insert_entry string_cmp es k f → fields_view new ≡ set_mention name true (view f.shape) shapes
-field_set name k f es new shapes same needed others inserted =
-    ap fields_view inserted ∙ put_shown es k f ∙ rw (same, needed, others) (put-set name true (view f.shape) shapes)
+pub field_set : (name : List ℕ) (k : String Global) (f : NodeField) (old others new : List Entry) → string_bytes k ≡ name → f.needed ≡ true → AreOthers name old others → new ≡ insert_entry string_cmp others k f → AreWithField name f.shape old new
+field_set name k f old others new same needed are inserted = record {
+  shapes = λ table. ap (fields_at table) inserted ∙ put-shown table others k f ∙ rw (same, needed, are.shapes table) (put-set name true (shape_at table f.shape) (fields_at table old));
+  below = λ bound within below. subst (λ es. AreBelow bound (numbers_in es)) (sym inserted) (put-below bound others k f within (are.below bound below));
+}
 
-below_middle : (first : Mention) (ms : List Mention) (m : Mention) (more : List Mention) → AllByRecursion (λ y. string_cmp first.0 y ≡ Less) (keys_of (ms ++ m ∷ more)) → string_cmp first.0 m.0 ≡ Less
+below_middle : (first : Entry) (ms : List Entry) (m : Entry) (more : List Entry) → AllByRecursion (λ y. string_cmp first.0 y ≡ Less) (keys_of (ms ++ m ∷ more)) → string_cmp first.0 m.0 ≡ Less
 below_middle first [] m more h = h.0
 below_middle first (x ∷ ms) m more h = below_middle first ms m more h.1
 
 -- a name that is above those before it goes last
-put_last : (n : List ℕ) (done : List Mention) (m : Mention) (more : List Mention) → IsStrictlySortedBy string_cmp (keys_of (done ++ m ∷ more)) → bytes_eq (string_bytes m.0) n ≡ false → put (string_bytes m.0) m.1.needed (view m.1.shape) (without_mention n (fields_view done)) ≡ without_mention n (fields_view (done ++ m ∷ []))
+put_last : (table : List model.Shape) (n : List ℕ) (done : List Entry) (m : Entry) (more : List Entry) → IsStrictlySortedBy string_cmp (keys_of (done ++ m ∷ more)) → bytes_eq (string_bytes m.0) n ≡ false → put (string_bytes m.0) m.1.needed (shape_at table m.1.shape) (without_mention n (fields_at table done)) ≡ without_mention n (fields_at table (done ++ m ∷ []))
 unfolding IsStrictlySortedBy
-put_last n [] m more h other = rw other refl
-put_last n (first ∷ done) m more h other = go (bytes_eq (string_bytes first.0) n) refl (put_last n done m more h.1 other)
+put_last table n [] m more h other = rw other refl
+put_last table n (first ∷ done) m more h other = go (bytes_eq (string_bytes first.0) n) refl (put_last table n done m more h.1 other)
   where
     above : slice_cmp nat_cmp (string_bytes m.0) (string_bytes first.0) ≡ Greater
     above = nat_list_cmp_total.antisymm (string_bytes m.0) (string_bytes first.0) ∙ ap ordering_reverse (below_middle first done m more h.0)
 
-    go : (same : Bool) → bytes_eq (string_bytes first.0) n ≡ same → put (string_bytes m.0) m.1.needed (view m.1.shape) (without_mention n (fields_view done)) ≡ without_mention n (fields_view (done ++ m ∷ [])) → put (string_bytes m.0) m.1.needed (view m.1.shape) (without_mention n (fields_view (first ∷ done))) ≡ without_mention n (fields_view (first ∷ (done ++ m ∷ [])))
+    go : (same : Bool) → bytes_eq (string_bytes first.0) n ≡ same → put (string_bytes m.0) m.1.needed (shape_at table m.1.shape) (without_mention n (fields_at table done)) ≡ without_mention n (fields_at table (done ++ m ∷ [])) → put (string_bytes m.0) m.1.needed (shape_at table m.1.shape) (without_mention n (fields_at table (first ∷ done))) ≡ without_mention n (fields_at table (first ∷ (done ++ m ∷ [])))
     go true is below = rw is below
-    go false is below = rw (is, above) (ap (AndFieldShape (string_bytes first.0) first.1.needed (view first.1.shape)) below)
+    go false is below = rw (is, above) (ap (AndFieldShape (string_bytes first.0) first.1.needed (shape_at table first.1.shape)) below)
 
--- a field of another name, equal to the next one, goes behind the copies
-pub other_copied : (n : List ℕ) (done : List Mention) (m : Mention) (more : List Mention) (copies : List Mention) (k : String Global) (f : Field) → IsStrictlySortedBy string_cmp (keys_of (done ++ m ∷ more)) → bytes_eq (string_bytes m.0) n ≡ false → fields_view copies ≡ without_mention n (fields_view done) → string_bytes k ≡ string_bytes m.0 → f.needed ≡ m.1.needed → view f.shape ≡ view m.1.shape → fields_view (insert_entry string_cmp copies k f) ≡ without_mention n (fields_view (done ++ m ∷ []))
-other_copied n done m more copies k f sorted other so_far named needed shape =
-    put_shown copies k f ∙ rw (named, needed, shape, so_far) (put_last n done m more sorted other)
+-- the numbers of fields and of one more
+below_last : (bound : ℕ) (done : List Entry) (m : Entry) → AreBelow bound (numbers_in (done ++ m ∷ [])) → AreBelow bound (numbers_in done) × (m.1.shape < bound)
+below_last bound [] m h = (tt, h.0)
+below_last bound (first ∷ done) m h = let rest = below_last bound done m h.1 in ((h.0, rest.0), rest.1)
+
+-- no fields yet
+pub none_copied : (n : List ℕ) → AreOthers n [] []
+none_copied n = record { shapes = λ table. refl; below = λ bound h. tt }
+
+-- a field of another name goes behind the copies
+pub other_copied : (n : List ℕ) (done : List Entry) (m : Entry) (more copies new : List Entry) (k : String Global) → IsStrictlySortedBy string_cmp (keys_of (done ++ m ∷ more)) → bytes_eq (string_bytes m.0) n ≡ false → AreOthers n done copies → string_bytes k ≡ string_bytes m.0 → new ≡ insert_entry string_cmp copies k m.1 → AreOthers n (done ++ m ∷ []) new
+other_copied n done m more copies new k sorted other are named inserted = record {
+  shapes = λ table. ap (fields_at table) inserted ∙ put-shown table copies k m.1 ∙ rw (named, are.shapes table) (put_last table n done m more sorted other);
+  below = λ bound h. let parts = below_last bound done m h in subst (λ es. AreBelow bound (numbers_in es)) (sym inserted) (put-below bound copies k m.1 parts.1 (are.below bound parts.0));
+}
+
+passed : (table : List model.Shape) (n : List ℕ) (done : List Entry) (m : Entry) → bytes_eq (string_bytes m.0) n ≡ true → without_mention n (fields_at table done) ≡ without_mention n (fields_at table (done ++ m ∷ []))
+passed table n [] m same = rw same refl
+passed table n (first ∷ done) m same = go (bytes_eq (string_bytes first.0) n) refl (passed table n done m same)
+  where
+    go : (here : Bool) → bytes_eq (string_bytes first.0) n ≡ here → without_mention n (fields_at table done) ≡ without_mention n (fields_at table (done ++ m ∷ [])) → without_mention n (fields_at table (first ∷ done)) ≡ without_mention n (fields_at table (first ∷ (done ++ m ∷ [])))
+    go true is below = rw is below
+    go false is below = rw is (ap (AndFieldShape (string_bytes first.0) first.1.needed (shape_at table first.1.shape)) below)
 
 -- the field of that name is passed over
-pub same_passed : (n : List ℕ) (done : List Mention) (m : Mention) → bytes_eq (string_bytes m.0) n ≡ true → without_mention n (fields_view done) ≡ without_mention n (fields_view (done ++ m ∷ []))
-same_passed n [] m same = rw same refl
-same_passed n (first ∷ done) m same = go (bytes_eq (string_bytes first.0) n) refl (same_passed n done m same)
-  where
-    go : (here : Bool) → bytes_eq (string_bytes first.0) n ≡ here → without_mention n (fields_view done) ≡ without_mention n (fields_view (done ++ m ∷ [])) → without_mention n (fields_view (first ∷ done)) ≡ without_mention n (fields_view (first ∷ (done ++ m ∷ [])))
-    go true is below = rw is below
-    go false is below = rw is (ap (AndFieldShape (string_bytes first.0) first.1.needed (view first.1.shape)) below)
+pub same_passed : (n : List ℕ) (done : List Entry) (m : Entry) (copies : List Entry) → bytes_eq (string_bytes m.0) n ≡ true → AreOthers n done copies → AreOthers n (done ++ m ∷ []) copies
+same_passed n done m copies same are = record {
+  shapes = λ table. are.shapes table ∙ passed table n done m same;
+  below = λ bound h. are.below bound (below_last bound done m h).0;
+}
+
+-- the node with the changed fields has numbers of the table alone
+pub field_refers : (bound n m : ℕ) (name : List ℕ) (node : Node) (old new : BTreeMap (String Global) NodeField) (extra : Bool) → node ≡ Object old extra → RefersBelow n node → n < bound → m < bound → AreWithField name m old.entries new.entries → RefersBelow bound (Object new extra)
+field_refers bound n m name node old new extra is refers within also are =
+    let own = subst (RefersBelow n) is refers in
+    record { each = are.below bound also (below-wider n bound (numbers_in old.entries) (omega arith) own.each) }
 
 -- ---- places
 
--- the shapes before an index, one, and those behind the index
-place_set : (ss : List Shape) (i : ℕ) (s : Shape) → i < length ss → shapes_of (map view (take i ss ++ s ∷ drop (suc i) ss)) ≡ set_place i (view s) (shapes_view ss)
-place_set [] i s h = absurd (omega arith)
-place_set (x ∷ ss) zero s h = refl
-place_set (x ∷ ss) (suc i) s h = ap (AndShape (view x)) (place_set ss i s (omega arith))
+set_shapes : (table : List model.Shape) (ns : List ℕ) (i n : ℕ) → i < length ns → shapes_at table (slice_set ns i n) ≡ set_place i (shape_at table n) (shapes_at table ns)
+set_shapes table [] i n h = absurd (omega arith)
+set_shapes table (m ∷ ns) zero n h = refl
+set_shapes table (m ∷ ns) (suc i) n h = ap (AndShape (shape_at table m)) (set_shapes table ns i n (omega arith))
 
--- copies of the shapes before an index, one pushed behind them, and copies of those behind the index
-pub place_put : (ss : List Shape) (i : ℕ) (s : Shape) (none before with_it after : List Shape) → i < length ss → none ≡ [] → map view before ≡ map view (none ++ take i ss) → with_it ≡ before ++ s ∷ []
-    → map view after ≡ map view (with_it ++ take (length ss - (i + 1)) (drop (i + 1) ss)) → shapes_view after ≡ set_place i (view s) (shapes_view ss)
-place_put ss i s none before with_it after h empty front pushed back =
-    let all : take (length ss - (i + 1)) (drop (i + 1) ss) ≡ drop (suc i) ss = rw add-one (take_all (length ss - suc i) (drop (suc i) ss) (omega (arith, length-drop (suc i) ss))) in
-    let copied : map view before ≡ map view (take i ss) = rw empty at front in
-    let whole : map view after ≡ map view (take i ss ++ s ∷ drop (suc i) ss) =
-    back ∙ rw (all, pushed, append_assoc) (map-append view before (s ∷ drop (suc i) ss) ∙ ap (λ ms. ms ++ map view (s ∷ drop (suc i) ss)) copied ∙ sym (map-append view (take i ss) (s ∷ drop (suc i) ss))) in
-    ap shapes_of whole ∙ place_set ss i s h
+set_below : (bound : ℕ) (ns : List ℕ) (i n : ℕ) → i < length ns → n < bound → AreBelow bound ns → AreBelow bound (slice_set ns i n)
+set_below bound [] i n h within below = absurd (omega arith)
+set_below bound (m ∷ ns) zero n h within below = (within, below.1)
+set_below bound (m ∷ ns) (suc i) n h within below = (below.0, set_below bound ns i n (omega arith) within below.1)
+
+none_set : (s : model.Shape) (table : List model.Shape) (ns : List ℕ) (i : ℕ) → length ns ≤ i → shapes_at table ns ≡ set_place i s (shapes_at table ns)
+none_set s table [] i h = refl
+none_set s table (m ∷ ns) zero h = absurd (omega arith)
+none_set s table (m ∷ ns) (suc i) h = ap (AndShape (shape_at table m)) (none_set s table ns i (omega arith))
+
+-- the place at an index is set
+pub place_set : (ns new : List ℕ) (i n : ℕ) → i < length ns → new ≡ slice_set ns i n → AreWithPlace i n ns new
+place_set ns new i n h is = record {
+  shapes = λ table. ap (shapes_at table) is ∙ set_shapes table ns i n h;
+  below = λ bound within below. subst (AreBelow bound) (sym is) (set_below bound ns i n h within below);
+}
+
+-- there is none at the index
+pub no_place : (ns new : List ℕ) (i n : ℕ) → length ns ≤ i → new ≡ ns → AreWithPlace i n ns new
+no_place ns new i n h is = record {
+  shapes = λ table. ap (shapes_at table) is ∙ none_set (shape_at table n) table ns i h;
+  below = λ bound within below. subst (AreBelow bound) (sym is) below;
+}
+
+-- all places, copied behind none
+pub copied_all : (none copied ns : List ℕ) → none ≡ [] → copied ≡ none ++ ns → copied ≡ ns
+copied_all none copied ns empty h = h ∙ rw empty
+
+-- the places as they were copied, of which one was set
+pub copy_set : (ns copied new : List ℕ) (i n : ℕ) → copied ≡ ns → AreWithPlace i n copied new → AreWithPlace i n ns new
+copy_set ns copied new i n same are = subst (λ ms. AreWithPlace i n ms new) same are
+
+-- the node with the changed places has numbers of the table alone
+pub place_refers : (bound n m i : ℕ) (node : Node) (old new : Vec ℕ Global) (rest : ℕ) (places : List ℕ) → node ≡ Elements old rest → RefersBelow n node → n < bound → m < bound → places ≡ old.items → AreWithPlace i m places new.items → RefersBelow bound (Elements new rest)
+place_refers bound n m i node old new rest places is refers within also lent are =
+    let own = subst (RefersBelow n) is refers in
+    let below : AreBelow bound old.items = below-wider n bound old.items (omega arith) own.each.1 in
+    record { each = (omega (arith, own.each.0), are.below bound also (subst (AreBelow bound) (sym lent) below)) }

@@ -52,7 +52,7 @@ pub counted_none : (r : Result model.Shape ℕ) → counted_on 0 r ≡ r
 counted_none (Ok s) = refl
 counted_none (Err at) = ap Err (omega arith)
 
-counted_one : (passed : ℕ) (r : Result model.Shape ℕ) → counted_on passed (one_further r) ≡ counted_on (suc passed) r
+pub counted_one : (passed : ℕ) (r : Result model.Shape ℕ) → counted_on passed (one_further r) ≡ counted_on (suc passed) r
 counted_one passed (Ok s) = refl
 counted_one passed (Err at) = ap Err (omega arith)
 

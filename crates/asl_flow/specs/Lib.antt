@@ -1,9 +1,12 @@
 pub mod CallAnswer
+pub mod Changing
 pub mod Counting
+pub mod Elements
 pub mod Items
-pub mod Kept
 pub mod Leaving
 pub mod Looking
+pub mod Narrowed
+pub mod Numbers
 pub mod Putting
 pub mod Sources
 pub mod TemplateAnswer

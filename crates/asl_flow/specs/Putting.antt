@@ -1,23 +1,23 @@
 -- What putting one shape into another answers.
-use Rattle.std.specs.Borrow.{Bor}
-use Rattle.std.specs.Prelude.{◌≡◌, ℕ, Bool, Result, Ok, Err, IfOk, IfErr}
+use Rattle.std.specs.Prelude.{◌≡◌, ◌<◌, ℕ, List, length, Bool, Result, Ok, Err, IfOk, IfErr}
 use Rattle.asl_model.specs.Shape as model
 use Rattle.asl_flow.specs.declared.putting.PutRefusal.{PutRefusal}
 use Rattle.asl_flow.specs.declared.putting.PutRefusal.TheVariants.{MayNotFit, OutOfMemory}
-use Rattle.asl_shape.specs.View.{view}
-use Rattle.asl_shape.specs.declared.shape.Field.{Field}
-use Rattle.asl_shape.specs.declared.shape.Shape.{Shape}
+use Rattle.asl_numbered.specs.declared.node.Node.{Node}
+use Rattle.asl_numbered.specs.declared.node.NodeField.{NodeField}
+use Rattle.asl_numbered.specs.Expansion.{expansions, shape_at}
 
 -- the mention of a field: whether it is needed, and its shape
-abbrev pub mentioned : Bor Field → Bool × model.Shape
-mentioned f = (f.now.needed, view f.now.shape)
+abbrev pub mentioned : List model.Shape → NodeField → Bool × model.Shape
+mentioned table f = (f.needed, shape_at table f.shape)
 
 -- the refusal is that one, unless memory was refused
 abbrev pub IsRefusal : PutRefusal → Result model.Shape ℕ → Type 0
 IsRefusal (MayNotFit at) r = r ≡ Err at
 IsRefusal OutOfMemory r = Unit {0}
 
--- the answer is that shape or that refusal, unless memory was refused
-pub record Answers (r : Result model.Shape ℕ) (answer : Result Shape PutRefusal) : Type 0 where
-  pub shape : IfOk answer (λ s. r ≡ Ok (view s))
+-- the answer is the number of that shape, or that refusal, unless memory was refused
+pub record Answers (nodes : List Node) (r : Result model.Shape ℕ) (answer : Result ℕ PutRefusal) : Type 0 where
+  pub within : IfOk answer (λ n. n < length nodes)
+  pub shape : IfOk answer (λ n. r ≡ Ok (shape_at (expansions nodes) n))
   pub refusal : IfErr answer (λ refusal. IsRefusal refusal r)

@@ -1,38 +1,34 @@
--- What the paths of a template go into, and what is said of the parts that they name.
-use Rattle.std.specs.Prelude.{List, map, Option, Result, Ok, Err}
-use Rattle.asl_model.specs.Shape as model
+-- What the paths of a template go into, by number, and what is said of the parts that they name.
+use Rattle.std.specs.Prelude.{◌≡◌, ◌<◌, ℕ, List, length, Option, Some, None, option_map, Result, Ok, Err, IfOk, IfErr, IfSome}
+use Rattle.asl_model.specs.Shape.{Shape}
 use Rattle.asl_model.specs.ShapeFlow as flow
-use Rattle.asl_shape.specs.View.{view, shapes_of}
-use Rattle.asl_flow.specs.Items.{item_view}
 use Rattle.asl_flow.specs.declared.references.Doubt.{Doubt}
-use Rattle.asl_flow.specs.declared.references.Doubt.TheVariants as doubts
-use Rattle.asl_flow.specs.declared.references.Part.{Part}
-use Rattle.asl_flow.specs.declared.references.Part.TheVariants.{Lent, Made}
+use Rattle.asl_flow.specs.declared.references.Doubt.TheVariants.{MayBeMissing, MayFail, OutOfMemory}
 use Rattle.asl_flow.specs.declared.references.Sources.{Sources}
+use Rattle.asl_numbered.specs.declared.node.Node.{Node}
+use Rattle.asl_numbered.specs.Expansion.{expansions, shape_at}
 
 -- the shape of the input
-abbrev pub input_of : Sources → model.Shape
-input_of sources = view sources.input.now
+abbrev pub input_of : List Shape → Sources → Shape
+input_of table sources = shape_at table sources.input
 
 -- the shape of the item, where there is one
-abbrev pub item_of : Sources → Option model.Shape
-item_of sources = item_view sources.item
+abbrev pub item_of : List Shape → Sources → Option Shape
+item_of table sources = option_map (shape_at table) sources.item
 
--- the shape of the part
-abbrev pub part_view : Part → model.Shape
-part_view (Lent s) = view s.now
-part_view (Made s) = view s
+-- both numbers are below that bound
+pub record IsWithin (bound : ℕ) (sources : Sources) : Type 0 where
+  pub input : sources.input < bound
+  pub item : IfSome sources.item (λ n. n < bound)
 
--- the shapes of several, in order
-abbrev pub parts_view : List Part → model.Shapes
-parts_view parts = shapes_of (map part_view parts)
+-- why there may be no value; out of memory says nothing
+abbrev pub doubt_view : Doubt → Option flow.Doubt
+doubt_view MayBeMissing = Some flow.MayBeMissing
+doubt_view MayFail = Some flow.MayFail
+doubt_view OutOfMemory = None
 
--- why there may be none
-abbrev pub doubt_view : Doubt → flow.Doubt
-doubt_view doubts.MayBeMissing = flow.MayBeMissing
-doubt_view doubts.MayFail = flow.MayFail
-
--- the part, or why there may be none
-abbrev pub named_part : Result Part Doubt → Result model.Shape flow.Doubt
-named_part (Ok part) = Ok (part_view part)
-named_part (Err doubt) = Err (doubt_view doubt)
+-- an answer is a number of the part's shape, and a doubt is why there may be none
+pub record IsPart (nodes : List Node) (r : Result ℕ Doubt) (part : Result Shape flow.Doubt) : Type 0 where
+  pub within : IfOk r (λ n. n < length nodes)
+  pub found : IfOk r (λ n. part ≡ Ok (shape_at (expansions nodes) n))
+  pub doubted : IfErr r (λ d. IfSome (doubt_view d) (λ e. part ≡ Err e))

@@ -1,190 +1,178 @@
-//! The shapes of calls' values.
-ghost use Rattle.std.specs.Prelude.{◌≡◌, ◌||◌, IfOk, Some, option_map, length, not};
-ghost use Rattle.asl_flow.specs.CallAnswer.{Answers};
-ghost use Rattle.asl_flow.specs.Sources.{input_of, item_of, part_view, parts_view};
+//! The shapes of calls' values, by number.
+ghost use Rattle.std.specs.Prelude.{◌≡◌, ◌<◌, ◌||◌, List, Some, option_map, length, not};
+ghost use Rattle.asl_flow.specs.CallAnswer.{Answers, AnswersAll};
+ghost use Rattle.asl_flow.specs.Sources.{input_of, item_of, IsWithin};
 ghost use Rattle.asl_intrinsic.specs.View.{argument_view, arguments_view};
 ghost use Rattle.asl_intrinsic.specs.View as calls;
 ghost use Rattle.asl_model.specs.Intrinsic.{literal_pieces};
-ghost use Rattle.asl_model.specs.Shape as shapes;
-ghost use Rattle.asl_model.specs.ShapeFlow as model;
-ghost use Rattle.asl_shape.specs.View.{view, shapes_view};
+ghost use Rattle.asl_model.specs.Shape as model;
+ghost use Rattle.asl_model.specs.ShapeFlow as flow;
+ghost use Rattle.asl_model.specs.ShapeOrder as order;
+ghost use Rattle.asl_numbered.specs.Expansion.{expansions, shape_at, shapes_at, shape_over, AreBelow, Keeps};
 
 use crate::composing::closed_list;
-use crate::references::{Doubt, Part, Sources};
+use crate::numbers::{is_inhabited, put_node};
+use crate::references::{Doubt, Sources};
 use asl_intrinsic::{Arg, Call};
-use asl_shape::{Shape, inhabited};
-use asl_tree::OutOfMemory;
-use std::alloc::{AllocError, AllocFailed, Global};
+use asl_numbered::{Node, Shapes};
+use std::alloc::Global;
 
-/// Why a call has no shape.
-#[derive(Drop)]
-pub(crate) enum CallShapeRefusal {
-    /// The call may fail: a path in it may name nothing, there is no item, or a function may not be given as many
-    /// arguments, or values of the kinds, that it takes.
-    MayFail,
-    /// An allocation was refused.
-    OutOfMemory,
-}
-
-impl From<Doubt> for CallShapeRefusal {
-    ghost use Rattle.asl_flow.specs.declared.calls.CallShapeRefusal.{CallShapeRefusal};
-
-    ghost from_gives = { λ _ refusal. refusal ≡ CallShapeRefusal.MayFail };
-
-    fn from(_doubt: Doubt) -> CallShapeRefusal {
-        CallShapeRefusal::MayFail
-    }
-}
-
-impl From<AllocError> for CallShapeRefusal {
-    ghost use Rattle.asl_flow.specs.declared.calls.CallShapeRefusal.{CallShapeRefusal};
-
-    ghost from_gives = { λ _ refusal. refusal ≡ CallShapeRefusal.OutOfMemory };
-
-    fn from(_error: AllocError) -> CallShapeRefusal {
-        CallShapeRefusal::OutOfMemory
-    }
-}
-
-impl<T: Drop> From<AllocFailed<T>> for CallShapeRefusal {
-    ghost use Rattle.asl_flow.specs.declared.calls.CallShapeRefusal.{CallShapeRefusal};
-
-    ghost from_gives = { λ _ refusal. refusal ≡ CallShapeRefusal.OutOfMemory };
-
-    fn from(_error: AllocFailed<T>) -> CallShapeRefusal {
-        CallShapeRefusal::OutOfMemory
-    }
-}
-
-impl From<OutOfMemory> for CallShapeRefusal {
-    ghost use Rattle.asl_flow.specs.declared.calls.CallShapeRefusal.{CallShapeRefusal};
-
-    ghost from_gives = { λ _ refusal. refusal ≡ CallShapeRefusal.OutOfMemory };
-
-    fn from(_error: OutOfMemory) -> CallShapeRefusal {
-        CallShapeRefusal::OutOfMemory
-    }
-}
-
-/// The shape of the call's value (States Language, "Appendix B: List of Intrinsic Functions").
+/// The number of the shape of the call's value (States Language, "Appendix B: List of Intrinsic Functions").
 #[cycle(call)]
 pub(crate) fn call_shape(
     alloc: Global,
+    shapes: &mut Shapes,
     call: &Call,
     sources: Sources,
-) -> Result<Shape, CallShapeRefusal>
-    ensures { Answers view result (model.call_shape (calls.view call.now) (input_of sources.entry) (item_of sources.entry)) }
+) -> Result<usize, Doubt>
+    requires within { IsWithin (length shapes.old) sources }
+    ensures answers { Answers shapes.new result
+        (flow.call_shape (calls.view call.now) (input_of (expansions shapes.old) sources)
+        (item_of (expansions shapes.old) sources)) }
+    ensures keeps { Keeps (expansions shapes.old) (expansions shapes.new) }
 {
     match call {
-        Call::Array(arguments) => array_shape(alloc, argument_shapes(alloc, arguments, sources)?),
+        Call::Array(arguments) => {
+            let numbers = argument_shapes(alloc, shapes, arguments, sources)?;
+            array_shape(shapes, numbers)
+        }
         Call::ArrayLength(arguments) => {
-            array_length_shape(&argument_shapes(alloc, arguments, sources)?)
+            let numbers = argument_shapes(alloc, shapes, arguments, sources)?;
+            array_length_shape(shapes, &numbers)
         }
         Call::Format(arguments) => {
-            format_shape(arguments, &argument_shapes(alloc, arguments, sources)?)
+            let numbers = argument_shapes(alloc, shapes, arguments, sources)?;
+            format_shape(shapes, arguments, &numbers)
         }
     }
 }
 
-/// The shapes of the arguments' values, in order.
+/// The numbers of the shapes of the arguments' values, in order.
 #[cycle(call)]
-fn argument_shapes<'s>(
+fn argument_shapes(
     alloc: Global,
+    shapes: &mut Shapes,
     arguments: &[Arg],
-    sources: Sources<'s>,
-) -> Result<Vec<Part<'s>>, CallShapeRefusal>
-    ensures { Answers (λ parts. parts_view parts.items) result (model.argument_shapes (arguments_view arguments.now) (input_of sources.entry) (item_of sources.entry)) }
+    sources: Sources,
+) -> Result<Vec<usize>, Doubt>
+    requires within { IsWithin (length shapes.old) sources }
+    ensures answers { AnswersAll shapes.new result
+        (flow.argument_shapes (arguments_view arguments.now)
+        (input_of (expansions shapes.old) sources) (item_of (expansions shapes.old) sources)) }
+    ensures keeps { Keeps (expansions shapes.old) (expansions shapes.new) }
 {
-    let mut shapes = Vec::with_capacity(alloc, arguments.len())?;
+    let mut numbers = Vec::with_capacity(alloc, arguments.len())?;
     for argument in arguments {
-        shapes.push(argument_shape(alloc, argument, sources)?)?;
+        let number = argument_shape(alloc, shapes, argument, sources)?;
+        numbers.push(number)?;
     }
-    Ok(shapes)
+    Ok(numbers)
 }
 
-/// The shape of the argument's value.
+/// The number of the shape of the argument's value.
+#[tactic(auto, using(asl_numbered::proofs::Expansions::simple_refers, crate::proofs::FunctionShapes::answered))]
 #[cycle(call)]
-fn argument_shape<'s>(
+fn argument_shape(
     alloc: Global,
+    shapes: &mut Shapes,
     argument: &Arg,
-    sources: Sources<'s>,
-) -> Result<Part<'s>, CallShapeRefusal>
-    ensures { Answers part_view result (model.argument_shape (argument_view argument.now) (input_of sources.entry) (item_of sources.entry)) }
+    sources: Sources,
+) -> Result<usize, Doubt>
+    requires within { IsWithin (length shapes.old) sources }
+    ensures answers { Answers shapes.new result
+        (flow.argument_shape (argument_view argument.now)
+        (input_of (expansions shapes.old) sources) (item_of (expansions shapes.old) sources)) }
+    ensures keeps { Keeps (expansions shapes.old) (expansions shapes.new) }
 {
     match argument {
-        Arg::Null => Ok(Part::Made(Shape::Null)),
-        Arg::Bool(_) => Ok(Part::Made(Shape::Bool)),
-        Arg::Int(_) => Ok(Part::Made(Shape::Int)),
-        Arg::Text(_) => Ok(Part::Made(Shape::Text)),
-        Arg::Path(path) => Ok(sources.in_input(path)?),
-        Arg::ItemIndex => Ok(sources.item_index()?),
-        Arg::ItemValue(path) => Ok(sources.in_item(path)?),
-        Arg::Call(call) => Ok(Part::Made(call_shape(alloc, call, sources)?)),
+        Arg::Null => Ok(put_node(shapes, Node::Null)?),
+        Arg::Bool(_) => Ok(put_node(shapes, Node::Bool)?),
+        Arg::Int(_) => Ok(put_node(shapes, Node::Int)?),
+        Arg::Text(_) => Ok(put_node(shapes, Node::Text)?),
+        Arg::Path(path) => sources.in_input(shapes, path),
+        Arg::ItemIndex => sources.item_index(shapes),
+        Arg::ItemValue(path) => sources.in_item(shapes, path),
+        Arg::Call(call) => call_shape(alloc, shapes, call, sources),
     }
 }
 
 /// `States.Array`: the list of the arguments.
-fn array_shape(alloc: Global, arguments: Vec<Part>) -> Result<Shape, CallShapeRefusal>
-    ensures { Answers view result (model.array_of (Some (parts_view arguments.entry.items))) }
+#[tactic(auto, using(crate::proofs::FunctionShapes::answered))]
+fn array_shape(shapes: &mut Shapes, arguments: Vec<usize>) -> Result<usize, Doubt>
+    requires arguments { AreBelow (length shapes.old) arguments.items }
+    ensures answers { Answers shapes.new result
+        (flow.array_of (Some (shapes_at (expansions shapes.old) arguments.items))) }
+    ensures keeps { Keeps (expansions shapes.old) (expansions shapes.new) }
 {
-    let first = own_shapes(alloc, arguments)?;
-    Ok(closed_list(alloc, first)?)
-}
-
-/// The arguments' shapes, each copied where it is lent.
-fn own_shapes(alloc: Global, arguments: Vec<Part>) -> Result<Vec<Shape>, OutOfMemory>
-    ensures { IfOk result (λ v. shapes_view v.items ≡ parts_view arguments.entry.items) }
-{
-    let mut shapes = Vec::with_capacity(alloc, arguments.len())?;
-    for argument in arguments {
-        shapes.push(argument.into_shape(alloc)?)?;
-    }
-    Ok(shapes)
+    Ok(closed_list(shapes, arguments)?)
 }
 
 /// `States.ArrayLength`: the length of one argument, which is a list or never comes.
-fn array_length_shape(arguments: &[Part]) -> Result<Shape, CallShapeRefusal>
-    ensures { Answers view result (model.array_length_of (Some (parts_view arguments.now))) }
+#[tactic(auto, using(asl_numbered::proofs::Expansions::simple_refers, asl_numbered::proofs::Expansions::keeps_same))]
+fn array_length_shape(shapes: &mut Shapes, arguments: &[usize]) -> Result<usize, Doubt>
+    requires arguments { AreBelow (length shapes.old) arguments.now }
+    ensures answers { Answers shapes.new result
+        (flow.array_length_of (Some (shapes_at (expansions shapes.old) arguments.now))) }
+    ensures keeps { Keeps (expansions shapes.old) (expansions shapes.new) }
 {
     let [argument] = arguments else {
-        return Err(CallShapeRefusal::MayFail);
+        return Err(Doubt::MayFail);
     };
-    if is_list_or_never(argument.shape()) {
-        Ok(Shape::Int)
+    if is_list_or_never(shapes, *argument) {
+        Ok(put_node(shapes, Node::Int)?)
     } else {
-        Err(CallShapeRefusal::MayFail)
+        Err(Doubt::MayFail)
     }
 }
 
-/// Whether the shape is one of lists, or no tree has it.
-fn is_list_or_never(shape: &Shape) -> bool
-    ensures { result ≡ (not (shapes.inhabited (view shape.now)) || model.is_array_shape (view shape.now)) }
+/// Whether the shape of that number is one of lists, or no tree has it.
+fn is_list_or_never(shapes: &Shapes, number: usize) -> bool
+    requires number { number < length shapes.now }
+    ensures { result
+        ≡ (not (model.inhabited (shape_at (expansions shapes.now) number))
+        || flow.is_array_shape (shape_at (expansions shapes.now) number)) }
 {
-    matches!(shape, Shape::List { .. }) || !inhabited(shape)
+    !is_inhabited(shapes, number) || is_list(shapes.node(number).unwrap())
+}
+
+/// Whether the node is of lists.
+fn is_list(node: &Node) -> bool
+    ensures { (table : List model.Shape) → result
+        ≡ flow.is_array_shape (shape_over table node.now) }
+{
+    matches!(node, Node::List { .. })
 }
 
 /// `States.Format`: a text and what fills its holes.
-fn format_shape(arguments: &[Arg], shapes: &[Part]) -> Result<Shape, CallShapeRefusal>
-    ensures { Answers view result (model.format_of (literal_pieces (arguments_view arguments.now)) (Some (parts_view shapes.now))) }
+#[tactic(auto, using(asl_numbered::proofs::Expansions::simple_refers, asl_numbered::proofs::Expansions::keeps_same, crate::proofs::FunctionShapes::answered))]
+fn format_shape(shapes: &mut Shapes, arguments: &[Arg], numbers: &[usize]) -> Result<usize, Doubt>
+    requires numbers { AreBelow (length shapes.old) numbers.now }
+    ensures answers { Answers shapes.new result
+        (flow.format_of (literal_pieces (arguments_view arguments.now))
+        (Some (shapes_at (expansions shapes.old) numbers.now))) }
+    ensures keeps { Keeps (expansions shapes.old) (expansions shapes.new) }
 {
-    let [first, others @ ..] = shapes else {
-        return Err(CallShapeRefusal::MayFail);
+    let [first, others @ ..] = numbers else {
+        return Err(Doubt::MayFail);
     };
-    if fits_holes(arguments, first.shape(), others) && all_formattable(others) {
-        Ok(Shape::Text)
+    if fits_holes(shapes, arguments, *first, others) && all_formattable(shapes, others) {
+        Ok(put_node(shapes, Node::Text)?)
     } else {
-        Err(CallShapeRefusal::MayFail)
+        Err(Doubt::MayFail)
     }
 }
 
-/// Whether the first argument, of that shape, is a literal text with as many holes as there are other arguments, or
-/// never comes.
-fn fits_holes(arguments: &[Arg], shape: &Shape, others: &[Part]) -> bool
-    ensures { result ≡ model.fits_holes (literal_pieces (arguments_view arguments.now)) (view shape.now) (parts_view others.now) }
+/// Whether the first argument, of the shape of that number, is a literal text with as many holes as there are other
+/// arguments, or never comes.
+fn fits_holes(shapes: &Shapes, arguments: &[Arg], first: usize, others: &[usize]) -> bool
+    requires first { first < length shapes.now }
+    ensures { result
+        ≡ flow.fits_holes (literal_pieces (arguments_view arguments.now))
+        (shape_at (expansions shapes.now) first) (shapes_at (expansions shapes.now) others.now) }
 {
     match holes_in(arguments) {
         Some(holes) => holes == others.len(),
-        None => !inhabited(shape),
+        None => !is_inhabited(shapes, first),
     }
 }
 
@@ -198,21 +186,34 @@ fn holes_in(arguments: &[Arg]) -> Option<usize>
     Some(pieces.after_holes.len())
 }
 
-/// Whether each of the shapes can be put in a text.
-fn all_formattable(shapes: &[Part]) -> bool
-    ensures { result ≡ model.all_formattable (parts_view shapes.now) }
+/// Whether each of the shapes of the numbers can be put in a text.
+fn all_formattable(shapes: &Shapes, numbers: &[usize]) -> bool
+    requires numbers { AreBelow (length shapes.now) numbers.now }
+    ensures { result ≡ flow.all_formattable (shapes_at (expansions shapes.now) numbers.now) }
 {
-    for shape in shapes {
-        if !is_formattable(shape.shape()) {
+    for number in numbers {
+        if !is_formattable(shapes, *number) {
             return false;
         }
     }
     true
 }
 
-/// Whether each tree of the shape can be put in a text.
-fn is_formattable(shape: &Shape) -> bool
-    ensures { result ≡ model.is_formattable (view shape.now) }
+/// Whether each tree of the shape of that number can be put in a text.
+fn is_formattable(shapes: &Shapes, number: usize) -> bool
+    requires number { number < length shapes.now }
+    ensures { result ≡ flow.is_formattable (shape_at (expansions shapes.now) number) }
 {
-    matches!(shape, Shape::Null | Shape::Bool | Shape::Int | Shape::Text) || !inhabited(shape)
+    !is_inhabited(shapes, number) || is_written(shapes.node(number).unwrap())
+}
+
+/// Whether the node is of a kind that can be put in a text.
+fn is_written(node: &Node) -> bool
+    ensures { (table : List model.Shape) → result
+        ≡ (order.is_null_shape (shape_over table node.now)
+        || order.is_boolean_shape (shape_over table node.now)
+        || order.is_integer_shape (shape_over table node.now)
+        || order.is_string_shape (shape_over table node.now)) }
+{
+    matches!(node, Node::Null | Node::Bool | Node::Int | Node::Text)
 }

@@ -1,20 +1,21 @@
 //! Shapes made of parts that are at hand.
-ghost use Rattle.std.specs.Prelude.{◌≡◌, IfOk, OnOk, String, string_bytes, string_cmp};
+ghost use Rattle.std.specs.Prelude.{◌≡◌, false, IfOk, OnOk, String, length, string_bytes, string_cmp};
 ghost use Rattle.std.specs.BTreeMap.{insert_entry};
 ghost use Rattle.std.specs.declared.alloc.Global.{Global};
+ghost use Rattle.asl_flow.specs.Numbers.{Shows};
 ghost use Rattle.asl_model.specs.Shape as model;
-ghost use Rattle.asl_shape.specs.View.{view, shapes_view};
+ghost use Rattle.asl_numbered.specs.Expansion.{expansions, shapes_at, fields_at, numbers_in, AreBelow, Keeps};
 
-use asl_shape::{Field, Shape};
+use crate::numbers::put_node;
+use asl_numbered::{Node, NodeField, Shapes};
 use asl_tree::OutOfMemory;
-use std::alloc::Global;
 use std::collections::BTreeMap;
 
 /// Inserts the field under a copy of the name.
-pub(crate) fn set_field(
-    fields: &mut BTreeMap<String, Field>,
+pub(crate) fn set_field<F: Drop>(
+    fields: &mut BTreeMap<String, F>,
     name: &String,
-    field: Field,
+    field: F,
 ) -> Result<(), OutOfMemory>
     ensures { OnOk result ((key : String Global) × (string_bytes key ≡ string_bytes name.now) × (fields.new.entries ≡ insert_entry string_cmp fields.old.entries key field)) }
 {
@@ -22,10 +23,30 @@ pub(crate) fn set_field(
     Ok(())
 }
 
-/// The shape of the lists with those first elements and no further one.
-pub(crate) fn closed_list(alloc: Global, first: Vec<Shape>) -> Result<Shape, OutOfMemory>
-    ensures { IfOk result (λ s. view s ≡ model.ArrayShape (shapes_view first.items) model.Never) }
+/// The number of the shape of the lists with those first elements and no further one.
+pub(crate) fn closed_list(shapes: &mut Shapes, first: Vec<usize>) -> Result<usize, OutOfMemory>
+    requires first { AreBelow (length shapes.old) first.items }
+    ensures shown { IfOk result
+        (Shows shapes.new
+        (model.ArrayShape (shapes_at (expansions shapes.old) first.items) model.Never)) }
+    ensures keeps { Keeps (expansions shapes.old) (expansions shapes.new) }
 {
-    let rest = Box::new(alloc, Shape::Never)?;
-    Ok(Shape::List { first, rest })
+    let rest = put_node(shapes, Node::Never)?;
+    put_node(shapes, Node::List { first, rest })
+}
+
+/// The number of the shape of the objects with those fields and no other.
+#[tactic(auto, using(asl_numbered::proofs::Expansions::object_refers))]
+pub(crate) fn closed_object(
+    shapes: &mut Shapes,
+    fields: BTreeMap<String, NodeField>,
+) -> Result<usize, OutOfMemory>
+    requires fields { AreBelow (length shapes.old) (numbers_in fields.entries) }
+    ensures shown { IfOk result
+        (Shows shapes.new
+        (model.ObjectShape (fields_at (expansions shapes.old) fields.entries) false)) }
+    ensures keeps { Keeps (expansions shapes.old) (expansions shapes.new) }
+{
+    let extra = false;
+    put_node(shapes, Node::Object { fields, extra })
 }

@@ -1,22 +1,26 @@
 // The shape of a state's output.
 
-ghost use Rattle.std.specs.Prelude.{◌≡◌, Ok, IfOk, IfErr, option_map, codes};
+ghost use Rattle.std.specs.Prelude.{◌≡◌, ◌<◌, Ok, IfOk, IfErr, length, option_map, codes};
 ghost use Rattle.asl_model.specs.Flow.{at_output_path, output_of};
 ghost use Rattle.asl_model.specs.Shape.{Has};
 ghost use Rattle.asl_model.specs.ShapeFlow as model;
 ghost use Rattle.asl_model.specs.Tree as trees;
 ghost use Rattle.asl_states.specs.Machine.{settings_view, kind_view};
-ghost use Rattle.asl_flow.specs.Leaving.{IsStopped, FlowsTo, fault_view, flowing_view, leaving_of};
+ghost use Rattle.asl_flow.specs.Leaving.{FlowsTo, IsStopped, fault_view, leaving_of};
+ghost use Rattle.asl_flow.specs.Numbers.{Shows};
 ghost use Rattle.asl_flow.specs.TemplateAnswer.{doubt_told};
+ghost use Rattle.asl_numbered.specs.Expansion.{expansions, shape_at, IsNumberOf, Keeps};
 ghost use Rattle.asl_shape.specs.View.{view};
 ghost use Rattle.asl_template.specs.View as templates;
 
-use crate::looking::find_shape;
-use crate::putting::{PutRefusal, put};
-use crate::templates::{TemplateShapeRefusal, template_shape};
+use crate::numbers::{are_inhabited, expand, is_inhabited, put_never, put_node};
+use crate::parts::find_part;
+use crate::putting::{PutRefusal, put_at};
+use crate::templates::{TemplateShapeRefusal, template_shape_at};
 use asl_model::shape_laws::leave_means_an_output;
+use asl_numbered::{Node, Shapes};
 use asl_path::RefPath;
-use asl_shape::{Shape, copy, inhabited};
+use asl_shape::Shape;
 use asl_states::{Kind, Settings, State};
 use asl_template::Template;
 use asl_tree::OutOfMemory;
@@ -46,13 +50,6 @@ impl From<OutOfMemory> for FlowFault {
     }
 }
 
-/// A shape on its way through a state: one that was lent, or one that was made on the way.
-#[derive(Drop)]
-pub(crate) enum Flowing<'s> {
-    Lent(&'s Shape),
-    Made(Shape),
-}
-
 /// The shape of a state's output, for the shapes of its raw input and of its work (States Language, "Input and Output
 /// Processing").
 ///
@@ -67,23 +64,62 @@ pub fn leave(alloc: Global, state: &State, raw: &Shape, work: &Shape) -> Result<
     ensures refused { IfErr result (IsStopped (model.leave (settings_view state.now.settings) (kind_view state.now.kind) (view raw.now) (view work.now))) }
 {
     leave_means_an_output();
-    leave_shape(alloc, state, raw, work)
+    let mut shapes = Shapes::new(alloc);
+    let raw = shapes.add(raw)?;
+    let work = shapes.add(work)?;
+    let output = leave_at(alloc, &mut shapes, state, raw, work)?;
+    Ok(expand(&shapes, output)?)
 }
 
-/// The shape of a state's output.
-fn leave_shape(alloc: Global, state: &State, raw: &Shape, work: &Shape) -> Result<Shape, FlowFault>
-    ensures { FlowsTo view (model.leave (settings_view state.now.settings) (kind_view state.now.kind) (view raw.now) (view work.now)) result }
+/// The number of the shape of a state's output, for the numbers of those of its raw input and of its work, as [`leave`]
+/// tells it. What is refused may leave further shapes in the table.
+pub fn leave_at(
+    alloc: Global,
+    shapes: &mut Shapes,
+    state: &State,
+    raw: usize,
+    work: usize,
+) -> Result<usize, FlowFault>
+    requires raw { raw < length shapes.old }
+    requires work { work < length shapes.old }
+    ensures as_defined { IfOk result
+        (λ n. model.leave (settings_view state.now.settings) (kind_view state.now.kind)
+        (shape_at (expansions shapes.old) raw) (shape_at (expansions shapes.old) work)
+        ≡ Ok (shape_at (expansions shapes.new) n)) }
+    ensures number { IfOk result
+        (λ n. IsNumberOf (expansions shapes.new) (shape_at (expansions shapes.new) n) n) }
+    ensures refused { IfErr result
+        (IsStopped
+        (model.leave (settings_view state.now.settings) (kind_view state.now.kind)
+        (shape_at (expansions shapes.old) raw) (shape_at (expansions shapes.old) work))) }
+    ensures keeps { Keeps (expansions shapes.old) (expansions shapes.new) }
+{
+    let answer = output_by_kind(alloc, shapes, state, raw, work);
+    shapes.are_distinct();
+    answer
+}
+
+/// The number of the shape of a state's output.
+fn output_by_kind(
+    alloc: Global,
+    shapes: &mut Shapes,
+    state: &State,
+    raw: usize,
+    work: usize,
+) -> Result<usize, FlowFault>
+    requires raw { raw < length shapes.old }
+    requires work { work < length shapes.old }
+    ensures flows { FlowsTo shapes.new
+        (model.leave (settings_view state.now.settings) (kind_view state.now.kind)
+        (shape_at (expansions shapes.old) raw) (shape_at (expansions shapes.old) work)) result }
+    ensures keeps { Keeps (expansions shapes.old) (expansions shapes.new) }
 {
     match what_leaves(&state.kind) {
-        Leaving::WithResult => result_output(alloc, &state.settings, raw, work),
-        Leaving::WithInput => {
-            if inhabited(raw) {
-                at_output(alloc, &state.settings, work)
-            } else {
-                Ok(Shape::Never)
-            }
+        Leaving::WithResult => result_output(alloc, shapes, &state.settings, raw, work),
+        Leaving::WithInput if is_inhabited(shapes, raw) => {
+            at_output(alloc, shapes, &state.settings, work)
         }
-        Leaving::Nothing => Ok(Shape::Never),
+        Leaving::WithInput | Leaving::Nothing => Ok(put_never(shapes)?),
     }
 }
 
@@ -118,40 +154,46 @@ fn what_leaves(kind: &Kind) -> Leaving
     }
 }
 
-/// The shape of the output of a state with a result: `ResultSelector`, `ResultPath`, `OutputPath`.
+/// The number of the shape of the output of a state with a result: `ResultSelector`, `ResultPath`, `OutputPath`.
 fn result_output(
     alloc: Global,
+    shapes: &mut Shapes,
     settings: &Settings,
-    raw: &Shape,
-    work: &Shape,
-) -> Result<Shape, FlowFault>
-    ensures { FlowsTo view (model.result_leaves (settings_view settings.now) (view raw.now) (view work.now)) result }
+    raw: usize,
+    work: usize,
+) -> Result<usize, FlowFault>
+    requires raw { raw < length shapes.old }
+    requires work { work < length shapes.old }
+    ensures flows { FlowsTo shapes.new
+        (model.result_leaves (settings_view settings.now)
+        (shape_at (expansions shapes.old) raw) (shape_at (expansions shapes.old) work)) result }
+    ensures keeps { Keeps (expansions shapes.old) (expansions shapes.new) }
 {
-    if !(inhabited(raw) && inhabited(work)) {
-        return Ok(Shape::Never);
+    if !are_inhabited(shapes, raw, work) {
+        return Ok(put_never(shapes)?);
     }
-    let selected = match selected(alloc, &settings.result_selector, work) {
-        Ok(selected) => selected,
-        Err(fault) => return Err(fault),
-    };
-    match placed(alloc, &settings.result_path, raw, selected.shape()) {
-        Ok(placed) => at_output(alloc, settings, placed.shape()),
-        Err(fault) => Err(fault),
-    }
+    let selected = selected(alloc, shapes, &settings.result_selector, work)?;
+    let placed = placed(alloc, shapes, &settings.result_path, raw, selected)?;
+    at_output(alloc, shapes, settings, placed)
 }
 
 /// What `ResultSelector` makes of a result.
-fn selected<'s>(
+fn selected(
     alloc: Global,
+    shapes: &mut Shapes,
     selector: &Option<Template>,
-    work: &'s Shape,
-) -> Result<Flowing<'s>, FlowFault>
-    ensures { FlowsTo flowing_view (model.through_template (codes "ResultSelector") (option_map templates.view selector.now) (view work.now)) result }
+    work: usize,
+) -> Result<usize, FlowFault>
+    requires work { work < length shapes.old }
+    ensures flows { FlowsTo shapes.new
+        (model.through_template (codes "ResultSelector")
+        (option_map templates.view selector.now) (shape_at (expansions shapes.old) work)) result }
+    ensures keeps { Keeps (expansions shapes.old) (expansions shapes.new) }
 {
     match selector {
-        None => Ok(Flowing::Lent(work)),
-        Some(template) => match template_shape(alloc, template, work, None) {
-            Ok(shape) => Ok(Flowing::Made(shape)),
+        None => Ok(work),
+        Some(template) => match template_shape_at(alloc, shapes, template, work, None) {
+            Ok(number) => Ok(number),
             Err(refusal) => Err(selecting_fault(refusal)),
         },
     }
@@ -171,24 +213,25 @@ fn selecting_fault(refusal: TemplateShapeRefusal) -> FlowFault
 }
 
 /// What `ResultPath` makes of a raw input in which a result is placed.
-fn placed<'s>(
+fn placed(
     alloc: Global,
+    shapes: &mut Shapes,
     path: &Option<RefPath>,
-    raw: &'s Shape,
-    work: &Shape,
-) -> Result<Flowing<'s>, FlowFault>
-    ensures { FlowsTo flowing_view (model.through_placing (codes "ResultPath") path.now (view raw.now) (view work.now)) result }
+    raw: usize,
+    work: usize,
+) -> Result<usize, FlowFault>
+    requires raw { raw < length shapes.old }
+    requires work { work < length shapes.old }
+    ensures flows { FlowsTo shapes.new
+        (model.through_placing (codes "ResultPath") path.now
+        (shape_at (expansions shapes.old) raw) (shape_at (expansions shapes.old) work)) result }
+    ensures keeps { Keeps (expansions shapes.old) (expansions shapes.new) }
 {
     match path {
-        None => {
-            if inhabited(work) {
-                Ok(Flowing::Lent(raw))
-            } else {
-                Ok(Flowing::Made(Shape::Never))
-            }
-        }
-        Some(path) => match put(alloc, raw, path, work) {
-            Ok(shape) => Ok(Flowing::Made(shape)),
+        None if is_inhabited(shapes, work) => Ok(raw),
+        None => Ok(put_never(shapes)?),
+        Some(path) => match put_at(alloc, shapes, raw, path, work) {
+            Ok(number) => Ok(number),
             Err(PutRefusal::MayNotFit(_)) => Err(FlowFault::MayNotFit("ResultPath")),
             Err(PutRefusal::OutOfMemory) => Err(FlowFault::OutOfMemory),
         },
@@ -196,32 +239,38 @@ fn placed<'s>(
 }
 
 /// What `OutputPath` leaves of a shape.
-fn at_output(alloc: Global, settings: &Settings, shape: &Shape) -> Result<Shape, FlowFault>
-    ensures { FlowsTo view (model.output_flow (settings_view settings.now) (view shape.now)) result }
+fn at_output(
+    alloc: Global,
+    shapes: &mut Shapes,
+    settings: &Settings,
+    number: usize,
+) -> Result<usize, FlowFault>
+    requires number { number < length shapes.old }
+    ensures flows { FlowsTo shapes.new
+        (model.output_flow (settings_view settings.now) (shape_at (expansions shapes.old) number))
+        result }
+    ensures keeps { Keeps (expansions shapes.old) (expansions shapes.new) }
 {
-    if !inhabited(shape) {
-        return Ok(Shape::Never);
+    if !is_inhabited(shapes, number) {
+        return Ok(put_never(shapes)?);
     }
     match &settings.output_path {
-        None => Ok(Shape::Object {
-            fields: BTreeMap::new(alloc),
-            extra: false,
-        }),
-        Some(path) => match find_shape(shape, path) {
-            Ok(part) => Ok(copy(alloc, part)?),
+        None => Ok(put_empty_object(alloc, shapes)?),
+        Some(path) => match find_part(shapes, number, path) {
+            Ok(part) => Ok(part),
             Err(_) => Err(FlowFault::MayBeMissing("OutputPath")),
         },
     }
 }
 
-impl Flowing<'_> {
-    /// Lends the shape.
-    fn shape(&self) -> &Shape
-        ensures { view result.now ≡ flowing_view self.now }
-    {
-        match self {
-            Flowing::Lent(shape) => shape,
-            Flowing::Made(shape) => shape,
-        }
-    }
+/// The number of the shape of the object without a field.
+fn put_empty_object(alloc: Global, shapes: &mut Shapes) -> Result<usize, OutOfMemory>
+    ensures shown { IfOk result (Shows shapes.new model.empty_object) }
+    ensures keeps { Keeps (expansions shapes.old) (expansions shapes.new) }
+{
+    let object = Node::Object {
+        fields: BTreeMap::new(alloc),
+        extra: false,
+    };
+    put_node(shapes, object)
 }

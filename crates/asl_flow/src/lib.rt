@@ -4,24 +4,36 @@
 //! [`look`] gives the shape of what a path names in every tree of a shape, and [`find_shape`] lends it; [`put`] gives the
 //! shape of the trees with another placed in them. [`template_shape`] gives the shape of a template's values, of which
 //! [`literal_shape`] is a part, [`rule_shape`] that of the trees for which a rule is true, and [`leave`] that of a state's
-//! output.
+//! output. [`look_at`], [`put_at`], [`template_shape_at`], [`literal_shape_at`], [`rule_shape_at`] and [`leave_at`] give
+//! the same by the numbers of a table of shapes. By number alone stand the other ways through a state: [`effective_at`]
+//! and [`item_input_at`] lead into it and into a Map's children, [`elements_of`] and [`element_at`] tell of an array's
+//! elements, [`outputs_at`] and [`list_at`] make the lists of children's outputs, and [`error_output_at`] is what a
+//! catcher places.
 #![tactic(auto)]
 
 mod calls;
 mod composing;
+mod elements;
+mod entering;
+mod errors;
 mod leaving;
 mod literals;
 mod looking;
 mod narrowing;
+mod numbers;
+mod parts;
 mod putting;
 mod references;
 mod replacing;
 mod rules;
 mod templates;
 
-pub use leaving::{FlowFault, leave};
-pub use literals::literal_shape;
-pub use looking::{LookRefusal, find_shape, look};
-pub use putting::{PutRefusal, put};
-pub use rules::{RuleShapeRefusal, rule_shape};
-pub use templates::{TemplateShapeRefusal, template_shape};
+pub use elements::{Elements, element_at, elements_of, list_at, outputs_at};
+pub use entering::{effective_at, item_input_at};
+pub use errors::error_output_at;
+pub use leaving::{FlowFault, leave, leave_at};
+pub use literals::{literal_shape, literal_shape_at};
+pub use looking::{LookRefusal, find_shape, look, look_at};
+pub use putting::{PutRefusal, put, put_at};
+pub use rules::{RuleShapeRefusal, rule_shape, rule_shape_at};
+pub use templates::{TemplateShapeRefusal, template_shape, template_shape_at};

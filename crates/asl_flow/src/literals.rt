@@ -1,11 +1,15 @@
 //! The shape of a value that stands for itself.
 ghost use Rattle.std.specs.Prelude.{◌≡◌, IfOk};
+ghost use Rattle.asl_flow.specs.Numbers.{Shows};
 ghost use Rattle.asl_model.specs.ShapeFlow.{literal, literals, literal_fields as fields_of_literal};
-ghost use Rattle.asl_shape.specs.View.{view, shapes_view, fields_view};
+ghost use Rattle.asl_numbered.specs.Expansion.{expansions, IsNumberOf, AreNumbersOf, AreFieldsOf, Keeps};
+ghost use Rattle.asl_shape.specs.View.{view};
 ghost use Rattle.asl_tree.specs.View as trees;
 
-use crate::composing::{closed_list, set_field};
-use asl_shape::{Field, Shape};
+use crate::composing::{closed_list, closed_object, set_field};
+use crate::numbers::{expand, put_node};
+use asl_numbered::{Node, NodeField, Shapes};
+use asl_shape::Shape;
 use asl_tree::{OutOfMemory, Tree};
 use std::alloc::Global;
 use std::collections::BTreeMap;
@@ -13,50 +17,96 @@ use std::collections::BTreeMap;
 /// The shape of a tree that stands for itself, as a Pass state's `Result` does (States Language, "Pass State"): each
 /// value's kind, lists place by place with no further element, objects closed with each field needed. Refuses only
 /// where an allocation was refused.
-#[cycle(literal)]
 pub fn literal_shape(alloc: Global, tree: &Tree) -> Result<Shape, OutOfMemory>
     ensures as_defined { IfOk result (λ s. view s ≡ literal (trees.view tree.now)) }
 {
-    match tree {
-        Tree::Null => Ok(Shape::Null),
-        Tree::Bool(_) => Ok(Shape::Bool),
-        Tree::Int(_) => Ok(Shape::Int),
-        Tree::Text(_) => Ok(Shape::Text),
-        Tree::List(elements) => closed_list(alloc, element_shapes(alloc, elements)?),
-        Tree::Object(fields) => Ok(Shape::Object {
-            fields: field_shapes(alloc, fields)?,
-            extra: false,
-        }),
-    }
+    let mut shapes = Shapes::new(alloc);
+    let number = own_shape(alloc, &mut shapes, tree)?;
+    expand(&shapes, number)
 }
 
-/// The shapes of the elements, in order.
-#[cycle(literal)]
-fn element_shapes(alloc: Global, elements: &[Tree]) -> Result<Vec<Shape>, OutOfMemory>
-    ensures { IfOk result (λ v. shapes_view v.items ≡ literals (trees.elements_view elements.now)) }
+/// The number of the shape of a tree that stands for itself, as [`literal_shape`] tells it. Refuses only where an
+/// allocation was refused.
+pub fn literal_shape_at(
+    alloc: Global,
+    shapes: &mut Shapes,
+    tree: &Tree,
+) -> Result<usize, OutOfMemory>
+    ensures number { IfOk result
+        (IsNumberOf (expansions shapes.new) (literal (trees.view tree.now))) }
+    ensures keeps { Keeps (expansions shapes.old) (expansions shapes.new) }
 {
-    let mut shapes = Vec::with_capacity(alloc, elements.len())?;
-    for element in elements {
-        shapes.push(literal_shape(alloc, element)?)?;
-    }
-    Ok(shapes)
+    let number = own_shape(alloc, shapes, tree)?;
+    shapes.are_distinct();
+    Ok(number)
 }
 
-/// Each field, needed and with the shape of its value.
+/// A number of the shape of a tree that stands for itself.
+#[tactic(auto, using(asl_numbered::proofs::Expansions::simple_refers))]
+#[cycle(literal)]
+pub(crate) fn own_shape(
+    alloc: Global,
+    shapes: &mut Shapes,
+    tree: &Tree,
+) -> Result<usize, OutOfMemory>
+    ensures shown { IfOk result (Shows shapes.new (literal (trees.view tree.now))) }
+    ensures keeps { Keeps (expansions shapes.old) (expansions shapes.new) }
+{
+    match tree {
+        Tree::Null => put_node(shapes, Node::Null),
+        Tree::Bool(_) => put_node(shapes, Node::Bool),
+        Tree::Int(_) => put_node(shapes, Node::Int),
+        Tree::Text(_) => put_node(shapes, Node::Text),
+        Tree::List(elements) => {
+            let first = element_shapes(alloc, shapes, elements)?;
+            closed_list(shapes, first)
+        }
+        Tree::Object(fields) => {
+            let mentions = field_shapes(alloc, shapes, fields)?;
+            closed_object(shapes, mentions)
+        }
+    }
+}
+
+/// The numbers of the shapes of the elements, in order.
+#[cycle(literal)]
+fn element_shapes(
+    alloc: Global,
+    shapes: &mut Shapes,
+    elements: &[Tree],
+) -> Result<Vec<usize>, OutOfMemory>
+    ensures numbers { IfOk result
+        (λ v. AreNumbersOf (expansions shapes.new)
+        (literals (trees.elements_view elements.now)) v.items) }
+    ensures keeps { Keeps (expansions shapes.old) (expansions shapes.new) }
+{
+    let mut numbers = Vec::with_capacity(alloc, elements.len())?;
+    for element in elements {
+        let number = own_shape(alloc, shapes, element)?;
+        numbers.push(number)?;
+    }
+    Ok(numbers)
+}
+
+/// Each field, needed and with the number of the shape of its value.
 #[cycle(literal)]
 fn field_shapes(
     alloc: Global,
+    shapes: &mut Shapes,
     fields: &BTreeMap<String, Tree>,
-) -> Result<BTreeMap<String, Field>, OutOfMemory>
-    ensures { IfOk result (λ m. fields_view m.entries ≡ fields_of_literal (trees.entries_view fields.now.entries)) }
+) -> Result<BTreeMap<String, NodeField>, OutOfMemory>
+    ensures numbers { IfOk result
+        (λ m. AreFieldsOf (expansions shapes.new)
+        (fields_of_literal (trees.entries_view fields.now.entries)) m.entries) }
+    ensures keeps { Keeps (expansions shapes.old) (expansions shapes.new) }
 {
-    let mut shapes = BTreeMap::new(alloc);
+    let mut mentions = BTreeMap::new(alloc);
     for (name, field) in fields.iter() {
-        let mention = Field {
+        let mention = NodeField {
             needed: true,
-            shape: literal_shape(alloc, field)?,
+            shape: own_shape(alloc, shapes, field)?,
         };
-        set_field(&mut shapes, name, mention)?;
+        set_field(&mut mentions, name, mention)?;
     }
-    Ok(shapes)
+    Ok(mentions)
 }

@@ -1,16 +1,20 @@
 // What a path leads to in the trees of a shape.
 
-ghost use Rattle.std.specs.Prelude.{◌≡◌, ◌↔◌, ℕ, Some, Ok, Err, IfOk, option_map, string_bytes};
+ghost use Rattle.std.specs.Prelude.{◌≡◌, ◌<◌, ◌↔◌, ℕ, Some, Ok, Err, IfOk, length, option_map, string_bytes};
 ghost use Rattle.asl_model.specs.Path.{Name, Index, Names};
 ghost use Rattle.asl_model.specs.Shape.{Has};
-ghost use Rattle.asl_model.specs.ShapeFlow.{part_at, look_at, look as looked, if_needed as needed_shape};
+ghost use Rattle.asl_model.specs.ShapeFlow.{part_at, look_at as part_by_path, look as looked, if_needed as needed_shape};
 ghost use Rattle.asl_model.specs.Tree.{Tree};
 ghost use Rattle.asl_flow.specs.declared.looking.LookRefusal.TheVariants.{MayBeMissing};
 ghost use Rattle.asl_flow.specs.Looking.{lent};
+ghost use Rattle.asl_numbered.specs.Expansion.{expansions, shape_at, IsNumberOf, Keeps};
 ghost use Rattle.asl_path.specs.View.{segment_view};
 ghost use Rattle.asl_shape.specs.View.{view};
 
+use crate::numbers::{is_inhabited, put_never};
+use crate::parts::find_part;
 use asl_model::shape_laws::look_means_named;
+use asl_numbered::Shapes;
 use asl_path::{RefPath, Segment};
 use asl_shape::{Field, Shape, copy, inhabited};
 use asl_tree::OutOfMemory;
@@ -55,11 +59,33 @@ pub fn look(alloc: Global, shape: &Shape, path: &RefPath) -> Result<Shape, LookR
     }
 }
 
+/// The number of the shape that [`look`] gives for the shape of a number. `OutOfMemory` comes only where no tree has that
+/// shape, and the table had no room for `Never`.
+pub fn look_at(shapes: &mut Shapes, number: usize, path: &RefPath) -> Result<usize, LookRefusal>
+    requires number { number < length shapes.old }
+    ensures as_defined { IfOk result
+        (λ n. looked path.now (shape_at (expansions shapes.old) number)
+        ≡ Ok (shape_at (expansions shapes.new) n)) }
+    ensures number { IfOk result
+        (λ n. IsNumberOf (expansions shapes.new) (shape_at (expansions shapes.new) n) n) }
+    ensures may_be_missing { (at : ℕ) → (result ≡ Err (MayBeMissing at))
+        ↔ (looked path.now (shape_at (expansions shapes.old) number) ≡ Err at) }
+    ensures keeps { Keeps (expansions shapes.old) (expansions shapes.new) }
+{
+    shapes.are_distinct();
+    if !is_inhabited(shapes, number) {
+        let never = put_never(shapes)?;
+        shapes.are_distinct();
+        return Ok(never);
+    }
+    find_part(shapes, number, path).map_err(LookRefusal::MayBeMissing)
+}
+
 /// Lends the shape of what `path` names in every tree of an inhabited `shape`, or tells the number of the segment that
 /// may name nothing, counted from 0 (States Language, "Reference Paths"). A name needs a needed field of an object, an
 /// index a place among the first of a list.
 pub fn find_shape<'s>(shape: &'s Shape, path: &RefPath) -> Result<&'s Shape, usize>
-    ensures found { lent result ≡ look_at path.now (view shape.now) }
+    ensures found { lent result ≡ part_by_path path.now (view shape.now) }
 {
     let mut node = shape;
     for (at, segment) in path.segments().iter().enumerate() {

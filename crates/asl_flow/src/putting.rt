@@ -1,6 +1,6 @@
 // The shape of a tree with another placed in it.
 
-ghost use Rattle.std.specs.Prelude.{◌≡◌, ◌+◌, ◌<◌, ◌^◌, ℕ, IsTrue, IfOk, IfSome, Ok, Err, true, false, length, option_map, string_bytes};
+ghost use Rattle.std.specs.Prelude.{◌≡◌, ◌+◌, ◌<◌, ◌^◌, ℕ, IfOk, IfSome, Ok, Err, true, false, length, option_map, string_bytes};
 ghost use Rattle.asl_model.specs.Path.{Name, Index};
 ghost use Rattle.asl_model.specs.Placing.{Places};
 ghost use Rattle.asl_model.specs.Shape as model;
@@ -8,16 +8,21 @@ ghost use Rattle.asl_model.specs.Shape.{Has};
 ghost use Rattle.asl_model.specs.ShapeFlow.{built_shape, join_results, put as put_shape, put_mentioned, put_under};
 ghost use Rattle.asl_model.specs.Tree.{Tree};
 ghost use Rattle.asl_flow.specs.Counting.{counted_on};
+ghost use Rattle.asl_flow.specs.Numbers.{Shows};
 ghost use Rattle.asl_flow.specs.Putting.{Answers, mentioned};
 ghost use Rattle.asl_flow.specs.declared.putting.PutRefusal.TheVariants.{MayNotFit};
+ghost use Rattle.asl_numbered.specs.Expansion.{expansions, shape_at, IsNumberOf, Keeps};
 ghost use Rattle.asl_path.specs.View.{segments_view};
-ghost use Rattle.asl_shape.specs.View.{view, shapes_view};
+ghost use Rattle.asl_shape.specs.View.{view};
 
 use crate::composing::set_field;
-use crate::replacing::{with_needed_field, with_place};
+use crate::numbers::{are_inhabited, expand, put_join, put_never, put_node};
+use crate::parts::place_of;
+use crate::replacing::{put_field, put_place};
 use asl_model::shape_laws::put_means_placed;
+use asl_numbered::{Node, NodeField, Shapes};
 use asl_path::{RefPath, Segment};
-use asl_shape::{Field, Shape, copy, inhabited, join};
+use asl_shape::Shape;
 use asl_tree::OutOfMemory;
 use std::alloc::{AllocFailed, Global};
 use std::collections::BTreeMap;
@@ -70,33 +75,68 @@ pub fn put(
     ensures may_not_fit { (at : ℕ) → result ≡ Err (MayNotFit at) → put_shape path.now (view placed.now) (view shape.now) ≡ Err at }
 {
     put_means_placed();
-    if inhabited(shape) && inhabited(placed) {
-        put_at(alloc, shape, path.segments(), 0, placed)
-    } else {
-        Ok(Shape::Never)
-    }
+    let mut shapes = Shapes::new(alloc);
+    let number = shapes.add(shape)?;
+    let placed = shapes.add(placed)?;
+    let changed = put_at(alloc, &mut shapes, number, path, placed)?;
+    Ok(expand(&shapes, changed)?)
 }
 
-/// Puts the shape at the segments, which are counted from `at`, in a shape that some tree has.
-#[cycle(put)]
-fn put_at(
+/// The number of the shape that [`put`] gives for the shapes of the numbers. `OutOfMemory` comes only where an allocation
+/// was refused.
+pub fn put_at(
     alloc: Global,
-    shape: &Shape,
+    shapes: &mut Shapes,
+    number: usize,
+    path: &RefPath,
+    placed: usize,
+) -> Result<usize, PutRefusal>
+    requires number { number < length shapes.old }
+    requires placed { placed < length shapes.old }
+    ensures as_defined { IfOk result
+        (λ n. put_shape path.now (shape_at (expansions shapes.old) placed)
+        (shape_at (expansions shapes.old) number)
+        ≡ Ok (shape_at (expansions shapes.new) n)) }
+    ensures number { IfOk result
+        (λ n. IsNumberOf (expansions shapes.new) (shape_at (expansions shapes.new) n) n) }
+    ensures may_not_fit { (at : ℕ) → result ≡ Err (MayNotFit at)
+        → put_shape path.now (shape_at (expansions shapes.old) placed)
+        (shape_at (expansions shapes.old) number) ≡ Err at }
+    ensures keeps { Keeps (expansions shapes.old) (expansions shapes.new) }
+{
+    let answer = put_segments(alloc, shapes, number, path.segments(), 0, placed);
+    shapes.are_distinct();
+    answer
+}
+
+/// Puts the shape at the segments, which are counted from `at`.
+#[cycle(put)]
+fn put_segments(
+    alloc: Global,
+    shapes: &mut Shapes,
+    number: usize,
     segments: &[Segment],
     at: usize,
-    placed: &Shape,
-) -> Result<Shape, PutRefusal>
-    requires inhabited { IsTrue (model.inhabited (view shape.now)) }
-    requires placed_inhabited { IsTrue (model.inhabited (view placed.now)) }
+    placed: usize,
+) -> Result<usize, PutRefusal>
+    requires number { number < length shapes.old }
+    requires placed { placed < length shapes.old }
     requires countable { at + length segments.now < 2 ^ 64 }
-    ensures { Answers (counted_on at (put_shape (segments_view segments.now) (view placed.now) (view shape.now))) result }
+    ensures answers { Answers shapes.new
+        (counted_on at
+        (put_shape (segments_view segments.now) (shape_at (expansions shapes.old) placed)
+        (shape_at (expansions shapes.old) number))) result }
+    ensures keeps { Keeps (expansions shapes.old) (expansions shapes.new) }
 {
+    if !are_inhabited(shapes, number, placed) {
+        return Ok(put_never(shapes)?);
+    }
     let [segment, further @ ..] = segments else {
-        return Ok(copy(alloc, placed)?);
+        return Ok(placed);
     };
     match segment {
-        Segment::Name(name) => put_in_object(alloc, shape, name, further, at, placed),
-        Segment::Index(index) => put_in_list(alloc, shape, *index, further, at, placed),
+        Segment::Name(name) => put_in_object(alloc, shapes, number, name, further, at, placed),
+        Segment::Index(index) => put_in_list(alloc, shapes, number, *index, further, at, placed),
     }
 }
 
@@ -104,34 +144,32 @@ fn put_at(
 #[cycle(put)]
 fn put_in_object(
     alloc: Global,
-    shape: &Shape,
+    shapes: &mut Shapes,
+    number: usize,
     name: &String,
     further: &[Segment],
     at: usize,
-    placed: &Shape,
-) -> Result<Shape, PutRefusal>
-    requires inhabited { IsTrue (model.inhabited (view shape.now)) }
-    requires placed_inhabited { IsTrue (model.inhabited (view placed.now)) }
+    placed: usize,
+) -> Result<usize, PutRefusal>
+    requires number { number < length shapes.old }
+    requires placed { placed < length shapes.old }
     requires countable { at + length further.now + 1 < 2 ^ 64 }
-    ensures { Answers (counted_on at (put_under (put_shape (segments_view further.now) (view placed.now)) (Name (string_bytes name.now)) (segments_view further.now) (view placed.now) (view shape.now))) result }
+    ensures answers { Answers shapes.new
+        (counted_on at
+        (put_under
+        (put_shape (segments_view further.now) (shape_at (expansions shapes.old) placed))
+        (Name (string_bytes name.now)) (segments_view further.now)
+        (shape_at (expansions shapes.old) placed)
+        (shape_at (expansions shapes.old) number))) result }
+    ensures keeps { Keeps (expansions shapes.old) (expansions shapes.new) }
 {
-    match shape {
-        Shape::Object { fields, extra } => {
-            let field = fields.get(name);
-            let value = put_in_field(alloc, field, *extra, further, at + 1, placed)?;
-            Ok(Shape::Object {
-                fields: with_needed_field(alloc, fields, name, value)?,
-                extra: *extra,
-            })
-        }
-        Shape::Any
-        | Shape::Never
-        | Shape::Null
-        | Shape::Bool
-        | Shape::Int
-        | Shape::Text
-        | Shape::List { first: _, rest: _ } => Err(PutRefusal::MayNotFit(at)),
-    }
+    let Some(Node::Object { fields, extra }) = shapes.node(number) else {
+        return Err(PutRefusal::MayNotFit(at));
+    };
+    let field = fields.get(name).copied();
+    let extra = *extra;
+    let value = put_in_field(alloc, shapes, field, extra, further, at + 1, placed)?;
+    Ok(put_field(alloc, shapes, number, name, value)?)
 }
 
 /// What stands in a field, where it is mentioned, with the shape put at the segments; `extra` says whether the object may
@@ -139,22 +177,31 @@ fn put_in_object(
 #[cycle(put)]
 fn put_in_field(
     alloc: Global,
-    field: Option<&Field>,
+    shapes: &mut Shapes,
+    field: Option<NodeField>,
     extra: bool,
     segments: &[Segment],
     at: usize,
-    placed: &Shape,
-) -> Result<Shape, PutRefusal>
-    requires inhabited { IfSome field (λ f. IsTrue f.now.needed → IsTrue (model.inhabited (view f.now.shape))) }
-    requires placed_inhabited { IsTrue (model.inhabited (view placed.now)) }
+    placed: usize,
+) -> Result<usize, PutRefusal>
+    requires field { IfSome field (λ f. f.shape < length shapes.old) }
+    requires placed { placed < length shapes.old }
     requires countable { at + length segments.now < 2 ^ 64 }
-    ensures { Answers (counted_on at (put_mentioned (put_shape (segments_view segments.now) (view placed.now)) extra (segments_view segments.now) (view placed.now) (option_map mentioned field.entry))) result }
+    ensures answers { Answers shapes.new
+        (counted_on at
+        (put_mentioned
+        (put_shape (segments_view segments.now) (shape_at (expansions shapes.old) placed)) extra
+        (segments_view segments.now) (shape_at (expansions shapes.old) placed)
+        (option_map (mentioned (expansions shapes.old)) field))) result }
+    ensures keeps { Keeps (expansions shapes.old) (expansions shapes.new) }
 {
     match field {
-        Some(field) if field.needed => put_at(alloc, &field.shape, segments, at, placed),
-        Some(field) => put_in_optional(alloc, &field.shape, segments, at, placed),
+        Some(field) if field.needed => {
+            put_segments(alloc, shapes, field.shape, segments, at, placed)
+        }
+        Some(field) => put_in_optional(alloc, shapes, field.shape, segments, at, placed),
         None if extra && !segments.is_empty() => Err(PutRefusal::MayNotFit(at)),
-        None => build(alloc, segments, at, placed),
+        None => build(alloc, shapes, segments, at, placed),
     }
 }
 
@@ -162,103 +209,111 @@ fn put_in_field(
 #[cycle(put)]
 fn put_in_optional(
     alloc: Global,
-    shape: &Shape,
+    shapes: &mut Shapes,
+    number: usize,
     segments: &[Segment],
     at: usize,
-    placed: &Shape,
-) -> Result<Shape, PutRefusal>
-    requires placed_inhabited { IsTrue (model.inhabited (view placed.now)) }
+    placed: usize,
+) -> Result<usize, PutRefusal>
+    requires number { number < length shapes.old }
+    requires placed { placed < length shapes.old }
     requires countable { at + length segments.now < 2 ^ 64 }
-    ensures { Answers (counted_on at (join_results (put_shape (segments_view segments.now) (view placed.now) (view shape.now)) (built_shape (segments_view segments.now) (view placed.now)))) result }
+    ensures answers { Answers shapes.new
+        (counted_on at
+        (join_results
+        (put_shape (segments_view segments.now) (shape_at (expansions shapes.old) placed)
+        (shape_at (expansions shapes.old) number))
+        (built_shape (segments_view segments.now) (shape_at (expansions shapes.old) placed))))
+        result }
+    ensures keeps { Keeps (expansions shapes.old) (expansions shapes.new) }
 {
-    if !inhabited(shape) {
-        return build(alloc, segments, at, placed);
-    }
-    let changed = put_at(alloc, shape, segments, at, placed)?;
-    let built = build(alloc, segments, at, placed)?;
-    Ok(join(alloc, &changed, &built)?)
+    let changed = put_segments(alloc, shapes, number, segments, at, placed)?;
+    let built = build(alloc, shapes, segments, at, placed)?;
+    Ok(put_join(shapes, changed, built)?)
 }
 
 /// Puts the shape under the index of segment `at` and the further segments.
 #[cycle(put)]
 fn put_in_list(
     alloc: Global,
-    shape: &Shape,
+    shapes: &mut Shapes,
+    number: usize,
     index: u32,
     further: &[Segment],
     at: usize,
-    placed: &Shape,
-) -> Result<Shape, PutRefusal>
-    requires inhabited { IsTrue (model.inhabited (view shape.now)) }
-    requires placed_inhabited { IsTrue (model.inhabited (view placed.now)) }
+    placed: usize,
+) -> Result<usize, PutRefusal>
+    requires number { number < length shapes.old }
+    requires placed { placed < length shapes.old }
     requires countable { at + length further.now + 1 < 2 ^ 64 }
-    ensures { Answers (counted_on at (put_under (put_shape (segments_view further.now) (view placed.now)) (Index index) (segments_view further.now) (view placed.now) (view shape.now))) result }
+    ensures answers { Answers shapes.new
+        (counted_on at
+        (put_under
+        (put_shape (segments_view further.now) (shape_at (expansions shapes.old) placed))
+        (Index index) (segments_view further.now) (shape_at (expansions shapes.old) placed)
+        (shape_at (expansions shapes.old) number))) result }
+    ensures keeps { Keeps (expansions shapes.old) (expansions shapes.new) }
 {
-    match shape {
-        Shape::List { first, rest } => match first.get(index as usize) {
-            Some(place) => {
-                let changed = put_at(alloc, place, further, at + 1, placed)?;
-                let first = with_place(alloc, first, index as usize, changed)?;
-                Ok(list_with(alloc, first, rest)?)
-            }
-            None => Err(PutRefusal::MayNotFit(at)),
-        },
-        Shape::Any
-        | Shape::Never
-        | Shape::Null
-        | Shape::Bool
-        | Shape::Int
-        | Shape::Text
-        | Shape::Object {
-            fields: _,
-            extra: _,
-        } => Err(PutRefusal::MayNotFit(at)),
-    }
-}
-
-/// The shape of the lists with those first elements and further ones of a shape, which is copied.
-fn list_with(alloc: Global, first: Vec<Shape>, rest: &Shape) -> Result<Shape, OutOfMemory>
-    ensures { IfOk result (λ s. view s ≡ model.ArrayShape (shapes_view first.items) (view rest.now)) }
-{
-    let rest = Box::new(alloc, copy(alloc, rest)?)?;
-    Ok(Shape::List { first, rest })
+    let Some(place) = place_of(shapes, number, index) else {
+        return Err(PutRefusal::MayNotFit(at));
+    };
+    let changed = put_segments(alloc, shapes, place, further, at + 1, placed)?;
+    Ok(put_place(alloc, shapes, number, index as usize, changed)?)
 }
 
 /// The shape under closed objects for the names of the segments, which are counted from `at`; no list is built.
 #[cycle(build)]
 fn build(
     alloc: Global,
+    shapes: &mut Shapes,
     segments: &[Segment],
     at: usize,
-    placed: &Shape,
-) -> Result<Shape, PutRefusal>
+    placed: usize,
+) -> Result<usize, PutRefusal>
+    requires placed { placed < length shapes.old }
     requires countable { at + length segments.now < 2 ^ 64 }
-    ensures { Answers (counted_on at (built_shape (segments_view segments.now) (view placed.now))) result }
+    ensures answers { Answers shapes.new
+        (counted_on at
+        (built_shape (segments_view segments.now) (shape_at (expansions shapes.old) placed)))
+        result }
+    ensures keeps { Keeps (expansions shapes.old) (expansions shapes.new) }
 {
     let [segment, further @ ..] = segments else {
-        return Ok(copy(alloc, placed)?);
+        return Ok(placed);
     };
     match segment {
         Segment::Name(name) => {
-            let inner = build(alloc, further, at + 1, placed)?;
-            Ok(around(alloc, name, inner)?)
+            let inner = build(alloc, shapes, further, at + 1, placed)?;
+            Ok(put_around(alloc, shapes, name, inner)?)
         }
         Segment::Index(_) => Err(PutRefusal::MayNotFit(at)),
     }
 }
 
 /// The closed object with one field, which is needed.
-fn around(alloc: Global, name: &String, shape: Shape) -> Result<Shape, OutOfMemory>
-    ensures { IfOk result (λ s. view s ≡ model.ObjectShape (model.AndFieldShape (string_bytes name.now) true (view shape) model.NoFieldShapes) false) }
+fn put_around(
+    alloc: Global,
+    shapes: &mut Shapes,
+    name: &String,
+    number: usize,
+) -> Result<usize, OutOfMemory>
+    requires number { number < length shapes.old }
+    ensures shown { IfOk result
+        (Shows shapes.new
+        (model.ObjectShape
+        (model.AndFieldShape (string_bytes name.now) true (shape_at (expansions shapes.old) number)
+        model.NoFieldShapes) false)) }
+    ensures keeps { Keeps (expansions shapes.old) (expansions shapes.new) }
 {
-    let field = Field {
+    let field = NodeField {
         needed: true,
-        shape,
+        shape: number,
     };
     let mut fields = BTreeMap::new(alloc);
     set_field(&mut fields, name, field)?;
-    Ok(Shape::Object {
+    let object = Node::Object {
         fields,
         extra: false,
-    })
+    };
+    put_node(shapes, object)
 }

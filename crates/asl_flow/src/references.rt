@@ -1,127 +1,150 @@
-//! What the paths of templates and calls name.
-ghost use Rattle.std.specs.Prelude.{◌≡◌, IfOk, IfSome, IsTrue, is_some};
-ghost use Rattle.asl_flow.specs.Items.{item_view, is_inhabited};
+//! What the paths of templates and calls name, by number.
+ghost use Rattle.std.specs.Prelude.{◌≡◌, ◌<◌, IfOk, IfSome, length, option_map};
+ghost use Rattle.asl_flow.specs.Items.{item_view};
+ghost use Rattle.asl_flow.specs.Sources.{input_of, item_of, IsWithin, IsPart};
 ghost use Rattle.asl_model.specs.Intrinsic.{InInput, ItemIndex, InItem};
-ghost use Rattle.asl_model.specs.Shape as model;
-ghost use Rattle.asl_model.specs.ShapeFlow.{reference_shape};
+ghost use Rattle.asl_model.specs.ShapeFlow.{look, or_missing, reference_shape};
+ghost use Rattle.asl_numbered.specs.Expansion.{expansions, shape_at, Keeps};
 ghost use Rattle.asl_shape.specs.View.{view};
 
-use crate::looking::find_shape;
+use crate::looking::{LookRefusal, look_at};
+use crate::numbers::put_node;
+use asl_numbered::{Node, Shapes};
 use asl_path::RefPath;
-use asl_shape::{Shape, copy, inhabited};
+use asl_shape::Shape;
 use asl_tree::OutOfMemory;
-use std::alloc::Global;
+use std::alloc::{AllocError, AllocFailed};
 
 /// Why a template may have no value for a tree of its input's shape.
 #[derive(Drop)]
 pub(crate) enum Doubt {
     /// A path may name nothing.
     MayBeMissing,
-    /// There is no item, or a call may fail.
+    /// There is no item, or a function may not be given as many arguments, or values of the kinds, that it takes.
     MayFail,
+    /// An allocation was refused.
+    OutOfMemory,
 }
 
-/// The shape of a value.
-#[derive(Drop)]
-pub(crate) enum Part<'s> {
-    /// A part of the shape of the input or of the item.
-    Lent(&'s Shape),
-    /// A shape of its own.
-    Made(Shape),
-}
+impl From<AllocError> for Doubt {
+    ghost use Rattle.asl_flow.specs.declared.references.Doubt.{Doubt};
 
-impl<'s> Part<'s> {
-    ghost use Rattle.asl_flow.specs.Sources.{part_view};
+    ghost from_gives = { λ _ doubt. doubt ≡ Doubt.OutOfMemory };
 
-    /// The shape.
-    pub(crate) fn shape(&self) -> &Shape
-        ensures { view result.now ≡ part_view self.now }
-    {
-        match self {
-            Part::Lent(shape) => shape,
-            Part::Made(shape) => shape,
-        }
+    fn from(_error: AllocError) -> Doubt {
+        Doubt::OutOfMemory
     }
+}
 
-    /// The shape, copied where it is lent.
-    pub(crate) fn into_shape(self, alloc: Global) -> Result<Shape, OutOfMemory>
-        ensures { IfOk result (λ s. view s ≡ part_view self.entry) }
-    {
-        match self {
-            Part::Lent(shape) => copy(alloc, shape),
-            Part::Made(shape) => Ok(shape),
-        }
+impl<T: Drop> From<AllocFailed<T>> for Doubt {
+    ghost use Rattle.asl_flow.specs.declared.references.Doubt.{Doubt};
+
+    ghost from_gives = { λ _ doubt. doubt ≡ Doubt.OutOfMemory };
+
+    fn from(_error: AllocFailed<T>) -> Doubt {
+        Doubt::OutOfMemory
+    }
+}
+
+impl From<OutOfMemory> for Doubt {
+    ghost use Rattle.asl_flow.specs.declared.references.Doubt.{Doubt};
+
+    ghost from_gives = { λ _ doubt. doubt ≡ Doubt.OutOfMemory };
+
+    fn from(_error: OutOfMemory) -> Doubt {
+        Doubt::OutOfMemory
     }
 }
 
 /// What paths go into.
 #[derive(Clone, Copy)]
-pub(crate) struct Sources<'s> {
-    /// The shape of the template's input.
-    input: &'s Shape,
-    /// The shape of the item, where there is one.
-    item: Option<&'s Shape>,
-    /// Whether there is an item, and some tree has its shape.
-    item_inhabited: bool,
-    ghost input_inhabited: { IsTrue (model.inhabited (view input.now)) },
-    ghost item_tested: { item_inhabited ≡ is_inhabited (item_view item) },
+pub(crate) struct Sources {
+    /// The number of the shape of the template's input.
+    pub(crate) input: usize,
+    /// That of the shape of the item, where there is one.
+    pub(crate) item: Option<usize>,
 }
 
-impl<'s> Sources<'s> {
-    ghost use Rattle.asl_flow.specs.Sources.{input_of, item_of, named_part};
-
-    /// These two, where some tree has the shape of the input.
-    pub(crate) fn of(input: &'s Shape, item: Option<&'s Shape>) -> Option<Sources<'s>>
-        ensures tested { is_some result ≡ model.inhabited (view input.now) }
-        ensures these { IfSome result (λ s. (input_of s ≡ view input.now) × (item_of s ≡ item_view item.entry)) }
+impl Sources {
+    /// The numbers of these two shapes.
+    pub(crate) fn add(
+        shapes: &mut Shapes,
+        input: &Shape,
+        item: Option<&Shape>,
+    ) -> Result<Sources, OutOfMemory>
+        ensures within { IfOk result (IsWithin (length shapes.new)) }
+        ensures input { IfOk result (λ s. input_of (expansions shapes.new) s ≡ view input.now) }
+        ensures item { IfOk result (λ s. item_of (expansions shapes.new) s ≡ item_view item.entry) }
     {
-        if !inhabited(input) {
-            return None;
-        }
-        let item_inhabited = match item {
-            Some(item) => inhabited(item),
-            None => false,
-        };
-        Some(Sources {
-            input,
-            item,
-            item_inhabited,
-        })
+        let item = add_item(shapes, item)?;
+        let input = shapes.add(input)?;
+        Ok(Sources { input, item })
     }
 
-    /// The shape of what a path names in the input.
-    pub(crate) fn in_input(self, path: &RefPath) -> Result<Part<'s>, Doubt>
-        ensures { named_part result ≡ reference_shape (InInput path.now) (input_of self.entry) (item_of self.entry) }
+    /// The number of the shape of what a path names in the input.
+    pub(crate) fn in_input(self, shapes: &mut Shapes, path: &RefPath) -> Result<usize, Doubt>
+        requires within { IsWithin (length shapes.old) self }
+        ensures part { IsPart shapes.new result
+            (reference_shape (InInput path.now) (input_of (expansions shapes.old) self)
+            (item_of (expansions shapes.old) self)) }
+        ensures keeps { Keeps (expansions shapes.old) (expansions shapes.new) }
     {
-        match find_shape(self.input, path) {
-            Ok(shape) => Ok(Part::Lent(shape)),
-            Err(_) => Err(Doubt::MayBeMissing),
-        }
+        named_part(shapes, self.input, path)
     }
 
-    /// The shape of the item's number.
-    pub(crate) fn item_index(self) -> Result<Part<'s>, Doubt>
-        ensures { named_part result ≡ reference_shape ItemIndex (input_of self.entry) (item_of self.entry) }
+    /// The number of the shape of the item's number.
+    #[tactic(auto, using(asl_numbered::proofs::Expansions::simple_refers, asl_numbered::proofs::Expansions::keeps_same))]
+    pub(crate) fn item_index(self, shapes: &mut Shapes) -> Result<usize, Doubt>
+        ensures part { IsPart shapes.new result
+            (reference_shape ItemIndex (input_of (expansions shapes.old) self)
+            (item_of (expansions shapes.old) self)) }
+        ensures keeps { Keeps (expansions shapes.old) (expansions shapes.new) }
     {
         match self.item {
-            Some(_) => Ok(Part::Made(Shape::Int)),
+            Some(_) => Ok(put_node(shapes, Node::Int)?),
             None => Err(Doubt::MayFail),
         }
     }
 
-    /// The shape of what a path names in the item.
-    pub(crate) fn in_item(self, path: &RefPath) -> Result<Part<'s>, Doubt>
-        ensures { named_part result ≡ reference_shape (InItem path.now) (input_of self.entry) (item_of self.entry) }
+    /// The number of the shape of what a path names in the item.
+    #[tactic(auto, using(asl_numbered::proofs::Expansions::keeps_same))]
+    pub(crate) fn in_item(self, shapes: &mut Shapes, path: &RefPath) -> Result<usize, Doubt>
+        requires within { IsWithin (length shapes.old) self }
+        ensures part { IsPart shapes.new result
+            (reference_shape (InItem path.now) (input_of (expansions shapes.old) self)
+            (item_of (expansions shapes.old) self)) }
+        ensures keeps { Keeps (expansions shapes.old) (expansions shapes.new) }
     {
         let Some(item) = self.item else {
             return Err(Doubt::MayFail);
         };
-        if !self.item_inhabited {
-            return Ok(Part::Made(Shape::Never));
-        }
-        match find_shape(item, path) {
-            Ok(shape) => Ok(Part::Lent(shape)),
-            Err(_) => Err(Doubt::MayBeMissing),
-        }
+        named_part(shapes, item, path)
+    }
+}
+
+/// The number of the item's shape, where there is one.
+#[tactic(auto, using(crate::proofs::Numbered::number_within))]
+fn add_item(shapes: &mut Shapes, item: Option<&Shape>) -> Result<Option<usize>, OutOfMemory>
+    ensures within { IfOk result (λ r. IfSome r (λ n. n < length shapes.new)) }
+    ensures shape { IfOk result
+        (λ r. option_map (shape_at (expansions shapes.new)) r ≡ item_view item.entry) }
+{
+    match item {
+        Some(item) => Ok(Some(shapes.add(item)?)),
+        None => Ok(None),
+    }
+}
+
+/// The number of the shape of what a path names in the trees of a shape.
+fn named_part(shapes: &mut Shapes, number: usize, path: &RefPath) -> Result<usize, Doubt>
+    requires number { number < length shapes.old }
+    ensures part { IsPart shapes.new result
+        (or_missing (look path.now (shape_at (expansions shapes.old) number))) }
+    ensures keeps { Keeps (expansions shapes.old) (expansions shapes.new) }
+{
+    match look_at(shapes, number, path) {
+        Ok(part) => Ok(part),
+        Err(LookRefusal::MayBeMissing(_)) => Err(Doubt::MayBeMissing),
+        Err(LookRefusal::OutOfMemory) => Err(Doubt::OutOfMemory),
     }
 }

@@ -1,29 +1,83 @@
-// Copies of the parts of an object shape or a list shape with one of them replaced.
+//! Shapes of a table with one of their parts replaced.
 
-ghost use Rattle.std.specs.Prelude.{◌≡◌, ◌++◌, ◌<◌, IfOk, length, map, string_bytes, true};
-ghost use Rattle.asl_model.specs.ShapeFlow.{set_place};
-ghost use Rattle.asl_model.specs.ShapeOrder.{set_mention, without_mention};
-ghost use Rattle.asl_shape.specs.View.{view, shapes_view, fields_view};
+ghost use Rattle.std.specs.Prelude.{◌<◌, IfOk, length, string_bytes};
+ghost use Rattle.asl_flow.specs.Changing.{with_field as changed_field, with_place as changed_place, AreOthers, AreWithField, AreWithPlace};
+ghost use Rattle.asl_flow.specs.Numbers.{Shows};
+ghost use Rattle.asl_numbered.specs.Expansion.{expansions, shape_at, Keeps};
 
 use crate::composing::set_field;
-use asl_shape::{Field, Shape, copy};
+use crate::numbers::put_node;
+use asl_numbered::{Node, NodeField, Shapes};
 use asl_tree::OutOfMemory;
 use std::alloc::Global;
 use std::collections::BTreeMap;
 
-/// The fields, with one of that name that is needed and has that shape in place of any other of its name.
-pub(crate) fn with_needed_field(
+/// The number of an object shape with a field of that name, which is needed and has the shape of the other number, in
+/// place of any other of its name. Another shape stays as it is.
+pub(crate) fn put_field(
     alloc: Global,
-    fields: &BTreeMap<String, Field>,
+    shapes: &mut Shapes,
+    number: usize,
     name: &String,
-    shape: Shape,
-) -> Result<BTreeMap<String, Field>, OutOfMemory>
-    ensures { IfOk result (λ m. fields_view m.entries ≡ set_mention (string_bytes name.now) true (view shape) (fields_view fields.now.entries)) }
+    field: usize,
+) -> Result<usize, OutOfMemory>
+    requires number { number < length shapes.old }
+    requires field { field < length shapes.old }
+    ensures shown { IfOk result
+        (Shows shapes.new
+        (changed_field (string_bytes name.now) (shape_at (expansions shapes.old) field)
+        (shape_at (expansions shapes.old) number))) }
+    ensures keeps { Keeps (expansions shapes.old) (expansions shapes.new) }
+{
+    let Some(Node::Object { fields, extra }) = shapes.node(number) else {
+        return Ok(number);
+    };
+    let changed = Node::Object {
+        fields: with_field(alloc, fields, name, field)?,
+        extra: *extra,
+    };
+    put_node(shapes, changed)
+}
+
+/// The number of a list shape with the shape of the other number at an index, where that is among the first places.
+/// Another shape stays as it is.
+pub(crate) fn put_place(
+    alloc: Global,
+    shapes: &mut Shapes,
+    number: usize,
+    index: usize,
+    place: usize,
+) -> Result<usize, OutOfMemory>
+    requires number { number < length shapes.old }
+    requires place { place < length shapes.old }
+    ensures shown { IfOk result
+        (Shows shapes.new
+        (changed_place index (shape_at (expansions shapes.old) place)
+        (shape_at (expansions shapes.old) number))) }
+    ensures keeps { Keeps (expansions shapes.old) (expansions shapes.new) }
+{
+    let Some(Node::List { first, rest }) = shapes.node(number) else {
+        return Ok(number);
+    };
+    let first = with_place(alloc, first, index, place)?;
+    let rest = *rest;
+    put_node(shapes, Node::List { first, rest })
+}
+
+/// The fields, with one of that name that is needed and has that number in place of any other of its name.
+fn with_field(
+    alloc: Global,
+    fields: &BTreeMap<String, NodeField>,
+    name: &String,
+    number: usize,
+) -> Result<BTreeMap<String, NodeField>, OutOfMemory>
+    ensures { IfOk result
+        (λ m. AreWithField (string_bytes name.now) number fields.now.entries m.entries) }
 {
     let mut changed = copy_others(alloc, fields, name)?;
-    let field = Field {
+    let field = NodeField {
         needed: true,
-        shape,
+        shape: number,
     };
     set_field(&mut changed, name, field)?;
     Ok(changed)
@@ -32,47 +86,41 @@ pub(crate) fn with_needed_field(
 /// The fields but for the one of that name.
 fn copy_others(
     alloc: Global,
-    fields: &BTreeMap<String, Field>,
+    fields: &BTreeMap<String, NodeField>,
     name: &String,
-) -> Result<BTreeMap<String, Field>, OutOfMemory>
-    ensures { IfOk result (λ m. fields_view m.entries ≡ without_mention (string_bytes name.now) (fields_view fields.now.entries)) }
+) -> Result<BTreeMap<String, NodeField>, OutOfMemory>
+    ensures { IfOk result (λ m. AreOthers (string_bytes name.now) fields.now.entries m.entries) }
 {
     let mut copies = BTreeMap::new(alloc);
     for (other, field) in fields.iter() {
         if other != name {
-            let copied = Field {
-                needed: field.needed,
-                shape: copy(alloc, &field.shape)?,
-            };
-            set_field(&mut copies, other, copied)?;
+            set_field(&mut copies, other, *field)?;
         }
     }
     Ok(copies)
 }
 
-/// The places, with that shape at an index.
-pub(crate) fn with_place(
+/// The places, with that number at an index, where there is one.
+fn with_place(
     alloc: Global,
-    places: &[Shape],
+    places: &[usize],
     index: usize,
-    shape: Shape,
-) -> Result<Vec<Shape>, OutOfMemory>
-    requires { index < length places.now }
-    ensures { IfOk result (λ v. shapes_view v.items ≡ set_place index (view shape) (shapes_view places.now)) }
+    number: usize,
+) -> Result<Vec<usize>, OutOfMemory>
+    ensures { IfOk result (λ v. AreWithPlace index number places.now v.items) }
 {
     let mut changed = Vec::with_capacity(alloc, places.len())?;
-    push_copies(alloc, &mut changed, &places[..index])?;
-    changed.push(shape)?;
-    push_copies(alloc, &mut changed, &places[index + 1..])?;
+    changed.extend_from_slice(places)?;
+    set_place(&mut changed, index, number);
     Ok(changed)
 }
 
-/// Copies of the shapes behind what is there.
-fn push_copies(alloc: Global, copies: &mut Vec<Shape>, shapes: &[Shape]) -> Result<(), OutOfMemory>
-    ensures { IfOk result (λ _. map view copies.new.items ≡ map view (copies.old.items ++ shapes.now)) }
+/// Writes the number at an index, where there is a place.
+fn set_place(places: &mut Vec<usize>, index: usize, number: usize)
+    ensures { AreWithPlace index number places.old.items places.new.items }
 {
-    for shape in shapes {
-        copies.push(copy(alloc, shape)?)?;
+    match places.get_mut(index) {
+        Some(place) => *place = number,
+        None => {}
     }
-    Ok(())
 }

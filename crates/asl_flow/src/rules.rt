@@ -1,20 +1,23 @@
 // The shape of the trees for which a rule's test is true.
-ghost use Rattle.std.specs.Prelude.{◌≡◌, Bool, true, false, Err, IfErr, IfOk, IsOk, IsSome, IsTrue, None, OnOk, Some, is_ok};
+ghost use Rattle.std.specs.Prelude.{◌≡◌, ◌<◌, Bool, true, false, Err, IfErr, IfOk, IsOk, IsSome, IsTrue, None, OnOk, Some, is_ok, length};
 ghost use Rattle.asl_choice.specs.View.{operand_view, tests_view, view as test_view};
-ghost use Rattle.asl_flow.specs.Kept.{IsRefused, kept_view};
+ghost use Rattle.asl_flow.specs.Narrowed.{ShowsNarrowed, IsRefused};
 ghost use Rattle.asl_flow.specs.declared.rules.RuleShapeRefusal.TheVariants.{MayBeMissing};
-ghost use Rattle.asl_model.specs.Shape as shapes;
+ghost use Rattle.asl_model.specs.Shape.{Has};
 ghost use Rattle.asl_model.specs.ShapeFlow as model;
 ghost use Rattle.asl_model.specs.Test.{truth};
 ghost use Rattle.asl_model.specs.Tree.{Tree};
+ghost use Rattle.asl_numbered.specs.Expansion.{expansions, shape_at, IsNumberOf, Keeps};
 ghost use Rattle.asl_shape.specs.View.{view};
 
-use crate::looking::find_shape;
 use crate::narrowing::narrow_to_present;
+use crate::numbers::{expand, is_inhabited, put_never};
+use crate::parts::find_part;
 use asl_choice::{Operand, Test};
 use asl_model::shape_laws::rule_shape_means_decided;
+use asl_numbered::Shapes;
 use asl_path::RefPath;
-use asl_shape::{Shape, copy, inhabited};
+use asl_shape::Shape;
 use asl_tree::OutOfMemory;
 use std::alloc::Global;
 
@@ -46,56 +49,109 @@ impl From<OutOfMemory> for RuleShapeRefusal {
 /// without a tree the answer is `Never`, also of one that a part of an `And` hands to the next.
 pub fn rule_shape(alloc: Global, test: &Test, shape: &Shape) -> Result<Shape, RuleShapeRefusal>
     ensures as_defined { IfOk result (λ s. model.rule_shape (test_view test.now) (view shape.now) ≡ Some (view s)) }
-    ensures decided { IfOk result (λ s. (t : Tree) → shapes.Has (view shape.now) t → (b : Bool) × (truth (test_view test.now) t ≡ Some b) × (IsTrue b → shapes.Has (view s) t)) }
+    ensures decided { IfOk result (λ s. (t : Tree) → Has (view shape.now) t → (b : Bool) × (truth (test_view test.now) t ≡ Some b) × (IsTrue b → Has (view s) t)) }
     ensures may_be_missing { result ≡ Err MayBeMissing → model.rule_shape (test_view test.now) (view shape.now) ≡ None }
 {
-    rule_shape_means_decided();
-    if !inhabited(shape) {
-        return Ok(Shape::Never);
-    }
-    let narrowed = narrow(alloc, test, Kept::Given(shape))?;
-    Ok(narrowed.into_owned(alloc)?)
+    let mut shapes = Shapes::new(alloc);
+    let number = shapes.add(shape)?;
+    let narrowed = rule_shape_at(alloc, &mut shapes, test, number)?;
+    Ok(expand(&shapes, narrowed)?)
 }
 
-// Narrows the shape to the trees for which the test is true.
+/// The number of the shape of the trees of the number's shape for which the test is true, as [`rule_shape`] tells it.
+pub fn rule_shape_at(
+    alloc: Global,
+    shapes: &mut Shapes,
+    test: &Test,
+    number: usize,
+) -> Result<usize, RuleShapeRefusal>
+    requires number { number < length shapes.old }
+    ensures as_defined { IfOk result
+        (λ n. model.rule_shape (test_view test.now) (shape_at (expansions shapes.old) number)
+        ≡ Some (shape_at (expansions shapes.new) n)) }
+    ensures number { IfOk result
+        (λ n. IsNumberOf (expansions shapes.new) (shape_at (expansions shapes.new) n) n) }
+    ensures decided { IfOk result
+        (λ n. (t : Tree) → Has (shape_at (expansions shapes.old) number) t
+        → (b : Bool) × (truth (test_view test.now) t ≡ Some b)
+        × (IsTrue b → Has (shape_at (expansions shapes.new) n) t)) }
+    ensures may_be_missing { result ≡ Err MayBeMissing
+        → model.rule_shape (test_view test.now) (shape_at (expansions shapes.old) number) ≡ None }
+    ensures keeps { Keeps (expansions shapes.old) (expansions shapes.new) }
+{
+    rule_shape_means_decided();
+    let narrowed = narrow_inhabited(alloc, shapes, test, number)?;
+    shapes.are_distinct();
+    Ok(narrowed)
+}
+
+// Narrows the shape to the trees for which the test is true; of a shape without a tree the answer is `Never`.
 #[cycle(narrow)]
-fn narrow<'s>(alloc: Global, test: &Test, shape: Kept<'s>) -> Result<Kept<'s>, RuleShapeRefusal>
-    ensures as_defined { IfOk result (λ s. model.true_of (test_view test.now) (kept_view shape.entry) ≡ Some (kept_view s)) }
-    ensures refused { IfErr result (λ r. IsRefused r (model.true_of (test_view test.now) (kept_view shape.entry))) }
+fn narrow_inhabited(
+    alloc: Global,
+    shapes: &mut Shapes,
+    test: &Test,
+    number: usize,
+) -> Result<usize, RuleShapeRefusal>
+    requires number { number < length shapes.old }
+    ensures narrowed { IfOk result
+        (ShowsNarrowed shapes.new
+        (model.rule_shape (test_view test.now) (shape_at (expansions shapes.old) number))) }
+    ensures refused { IfErr result
+        (IsRefused
+        (model.rule_shape (test_view test.now) (shape_at (expansions shapes.old) number))) }
+    ensures keeps { Keeps (expansions shapes.old) (expansions shapes.new) }
+{
+    if !is_inhabited(shapes, number) {
+        return Ok(put_never(shapes)?);
+    }
+    narrow(alloc, shapes, test, number)
+}
+
+// The same of a shape that some tree has.
+#[cycle(narrow)]
+fn narrow(
+    alloc: Global,
+    shapes: &mut Shapes,
+    test: &Test,
+    number: usize,
+) -> Result<usize, RuleShapeRefusal>
+    requires number { number < length shapes.old }
+    ensures narrowed { IfOk result
+        (ShowsNarrowed shapes.new
+        (model.true_of (test_view test.now) (shape_at (expansions shapes.old) number))) }
+    ensures refused { IfErr result
+        (IsRefused
+        (model.true_of (test_view test.now) (shape_at (expansions shapes.old) number))) }
+    ensures keeps { Keeps (expansions shapes.old) (expansions shapes.new) }
 {
     match test {
-        Test::And(tests) => narrow_by_all(alloc, tests, shape),
+        Test::And(tests) => narrow_by_all(alloc, shapes, tests, number),
         Test::Or(tests) => {
-            let found = check_all(alloc, tests, shape.shape());
-            keep_where(found, shape)
+            check_all(alloc, shapes, tests, number)?;
+            Ok(number)
         }
         Test::Not(part) => {
-            let found = check(alloc, part, shape.shape());
-            keep_where(found, shape)
+            check(alloc, shapes, part, number)?;
+            Ok(number)
         }
         Test::Compare {
             variable,
-            comparison: _,
             operand,
+            ..
         } => {
-            let found = is_found(shape.shape(), variable)
-                && is_operand_found(shape.shape(), operand);
-            keep_if(found, shape)
+            let found = is_found(shapes, number, variable)
+                && is_operand_found(shapes, number, operand);
+            keep_if(found, number)
         }
-        Test::StringMatches {
-            variable,
-            pattern: _,
+        Test::StringMatches { variable, .. } | Test::IsOfKind { variable, .. } => {
+            keep_if(is_found(shapes, number, variable), number)
         }
-        | Test::IsOfKind {
-            variable,
-            kind: _,
-            wanted: _,
-        } => keep_if(is_found(shape.shape(), variable), shape),
         Test::IsPresent { variable, wanted } => {
             if *wanted {
-                Ok(shape.where_present(alloc, variable)?)
+                Ok(narrow_to_present(alloc, shapes, number, variable.segments())?)
             } else {
-                Ok(shape)
+                Ok(number)
             }
         }
     }
@@ -103,32 +159,47 @@ fn narrow<'s>(alloc: Global, test: &Test, shape: Kept<'s>) -> Result<Kept<'s>, R
 
 // Narrows the shape by each test in turn; from a shape without a tree on the answer is `Never`.
 #[cycle(narrow)]
-fn narrow_by_all<'s>(
+fn narrow_by_all(
     alloc: Global,
+    shapes: &mut Shapes,
     tests: &[Test],
-    shape: Kept<'s>,
-) -> Result<Kept<'s>, RuleShapeRefusal>
-    ensures as_defined { IfOk result (λ s. model.each_true_of (tests_view tests.now) (kept_view shape.entry) ≡ Some (kept_view s)) }
-    ensures refused { IfErr result (λ r. IsRefused r (model.each_true_of (tests_view tests.now) (kept_view shape.entry))) }
+    number: usize,
+) -> Result<usize, RuleShapeRefusal>
+    requires number { number < length shapes.old }
+    ensures narrowed { IfOk result
+        (ShowsNarrowed shapes.new
+        (model.each_true_of (tests_view tests.now) (shape_at (expansions shapes.old) number))) }
+    ensures refused { IfErr result
+        (IsRefused
+        (model.each_true_of (tests_view tests.now) (shape_at (expansions shapes.old) number))) }
+    ensures keeps { Keeps (expansions shapes.old) (expansions shapes.new) }
 {
-    let mut narrowed = shape;
+    let mut narrowed = number;
     for test in tests {
-        if !inhabited(narrowed.shape()) {
-            return Ok(Kept::Narrowed(Shape::Never));
-        }
-        narrowed = narrow(alloc, test, narrowed)?;
+        narrowed = narrow_inhabited(alloc, shapes, test, narrowed)?;
     }
     Ok(narrowed)
 }
 
 // Refuses where one of the tests may be neither true nor false of a tree of the shape.
 #[cycle(narrow)]
-fn check_all(alloc: Global, tests: &[Test], shape: &Shape) -> Result<(), RuleShapeRefusal>
-    ensures as_defined { OnOk result (model.each_found (tests_view tests.now) (view shape.now) ≡ Some (view shape.now)) }
-    ensures refused { IfErr result (λ r. IsRefused r (model.each_found (tests_view tests.now) (view shape.now))) }
+fn check_all(
+    alloc: Global,
+    shapes: &mut Shapes,
+    tests: &[Test],
+    number: usize,
+) -> Result<(), RuleShapeRefusal>
+    requires number { number < length shapes.old }
+    ensures found { OnOk result
+        (model.each_found (tests_view tests.now) (shape_at (expansions shapes.old) number)
+        ≡ Some (shape_at (expansions shapes.old) number)) }
+    ensures refused { IfErr result
+        (IsRefused
+        (model.each_found (tests_view tests.now) (shape_at (expansions shapes.old) number))) }
+    ensures keeps { Keeps (expansions shapes.old) (expansions shapes.new) }
 {
     for test in tests {
-        check(alloc, test, shape)?;
+        check(alloc, shapes, test, number)?;
     }
     Ok(())
 }
@@ -136,92 +207,56 @@ fn check_all(alloc: Global, tests: &[Test], shape: &Shape) -> Result<(), RuleSha
 // Refuses where the test may be neither true nor false of a tree of the shape. `IsPresent` always is one of them, so
 // nothing is narrowed for it.
 #[cycle(narrow)]
-fn check(alloc: Global, test: &Test, shape: &Shape) -> Result<(), RuleShapeRefusal>
-    ensures as_defined { OnOk result (IsSome (model.true_of (test_view test.now) (view shape.now))) }
-    ensures refused { IfErr result (λ r. IsRefused r (model.true_of (test_view test.now) (view shape.now))) }
+fn check(
+    alloc: Global,
+    shapes: &mut Shapes,
+    test: &Test,
+    number: usize,
+) -> Result<(), RuleShapeRefusal>
+    requires number { number < length shapes.old }
+    ensures found { OnOk result
+        (IsSome (model.true_of (test_view test.now) (shape_at (expansions shapes.old) number))) }
+    ensures refused { IfErr result
+        (IsRefused
+        (model.true_of (test_view test.now) (shape_at (expansions shapes.old) number))) }
+    ensures keeps { Keeps (expansions shapes.old) (expansions shapes.new) }
 {
     if let Test::IsPresent { .. } = test {
         return Ok(());
     }
-    drop(narrow(alloc, test, Kept::Given(shape))?);
+    narrow(alloc, shapes, test, number)?;
     Ok(())
 }
 
 // Whether the path names something in every tree of the shape.
-fn is_found(shape: &Shape, path: &RefPath) -> bool
-    ensures { result ≡ is_ok (model.look path.now (view shape.now)) }
+fn is_found(shapes: &Shapes, number: usize, path: &RefPath) -> bool
+    requires number { number < length shapes.now }
+    ensures { result ≡ is_ok (model.look path.now (shape_at (expansions shapes.now) number)) }
 {
-    find_shape(shape, path).is_ok() || !inhabited(shape)
+    find_part(shapes, number, path).is_ok() || !is_inhabited(shapes, number)
 }
 
 // Whether a comparison's second value stands there for every tree of the shape.
-fn is_operand_found(shape: &Shape, operand: &Operand) -> bool
-    ensures { result ≡ is_ok (model.operand_shape (operand_view operand.now) (view shape.now)) }
+fn is_operand_found(shapes: &Shapes, number: usize, operand: &Operand) -> bool
+    requires number { number < length shapes.now }
+    ensures { result
+        ≡ is_ok (model.operand_shape (operand_view operand.now)
+        (shape_at (expansions shapes.now) number)) }
 {
     match operand {
         Operand::Constant(_) => true,
-        Operand::AtPath(path) => is_found(shape, path),
+        Operand::AtPath(path) => is_found(shapes, number, path),
     }
 }
 
-// The shape, where it was found so.
-fn keep_where<'s>(
-    found: Result<(), RuleShapeRefusal>,
-    shape: Kept<'s>,
-) -> Result<Kept<'s>, RuleShapeRefusal>
-    ensures found { IfOk result (λ s. (IsOk found) × (kept_view s ≡ kept_view shape.entry)) }
-    ensures refused { IfErr result (λ r. found ≡ Err r) }
-{
-    match found {
-        Ok(()) => Ok(shape),
-        Err(refusal) => Err(refusal),
-    }
-}
-
-// The shape, where the paths of a test are found in it.
-fn keep_if<'s>(found: bool, shape: Kept<'s>) -> Result<Kept<'s>, RuleShapeRefusal>
-    ensures found { IfOk result (λ s. (found ≡ true) × (kept_view s ≡ kept_view shape.entry)) }
+// The number, where the paths of a test are found in its shape.
+fn keep_if(found: bool, number: usize) -> Result<usize, RuleShapeRefusal>
+    ensures found { IfOk result (λ n. (found ≡ true) × (n ≡ number)) }
     ensures refused { IfErr result (λ _. found ≡ false) }
 {
     if found {
-        Ok(shape)
+        Ok(number)
     } else {
         Err(RuleShapeRefusal::MayBeMissing)
-    }
-}
-
-// A shape on its way through a test: the one that was given, until it is narrowed.
-#[derive(Drop)]
-enum Kept<'s> {
-    Given(&'s Shape),
-    Narrowed(Shape),
-}
-
-impl<'s> Kept<'s> {
-    fn shape(&self) -> &Shape
-        ensures { view result.now ≡ kept_view self.now }
-    {
-        match self {
-            Kept::Given(shape) => shape,
-            Kept::Narrowed(shape) => shape,
-        }
-    }
-
-    fn into_owned(self, alloc: Global) -> Result<Shape, OutOfMemory>
-        ensures { IfOk result (λ s. view s ≡ kept_view self.entry) }
-    {
-        match self {
-            Kept::Given(shape) => copy(alloc, shape),
-            Kept::Narrowed(shape) => Ok(shape),
-        }
-    }
-
-    // The same narrowed to the trees in which the path names something.
-    fn where_present(self, alloc: Global, path: &RefPath) -> Result<Kept<'s>, OutOfMemory>
-        ensures { IfOk result (λ s. kept_view s ≡ model.where_present path.now (kept_view self.entry)) }
-    {
-        let mut shape = self.into_owned(alloc)?;
-        narrow_to_present(alloc, &mut shape, path.segments())?;
-        Ok(Kept::Narrowed(shape))
     }
 }

@@ -1,9 +1,10 @@
 //! The shape of what a payload template gives.
-ghost use Rattle.std.specs.Prelude.{◌≡◌, Option, Ok, Err, IfOk, String, string_bytes};
+ghost use Rattle.std.specs.Prelude.{◌≡◌, ◌<◌, Option, Ok, Err, IfOk, IfSome, String, length, option_map, string_bytes};
 ghost use Rattle.std.specs.declared.alloc.Global.{Global};
 ghost use Rattle.asl_flow.specs.Items.{item_view};
-ghost use Rattle.asl_flow.specs.Sources.{input_of, item_of, named_part};
-ghost use Rattle.asl_flow.specs.TemplateAnswer.{IsDoubted, Tells};
+ghost use Rattle.asl_flow.specs.Numbers.{Shows};
+ghost use Rattle.asl_flow.specs.Sources.{input_of, item_of, IsWithin};
+ghost use Rattle.asl_flow.specs.TemplateAnswer.{IsDoubted, IsToldAt, Tells};
 ghost use Rattle.asl_flow.specs.declared.templates.TemplateShapeRefusal.TheVariants.{MayBeMissing, MayFail};
 ghost use Rattle.asl_intrinsic.specs.View as calls;
 ghost use Rattle.asl_model.specs.Intrinsic.{Item};
@@ -11,16 +12,19 @@ ghost use Rattle.asl_model.specs.Shape.{Has};
 ghost use Rattle.asl_model.specs.ShapeFlow as model;
 ghost use Rattle.asl_model.specs.Template.{template_value};
 ghost use Rattle.asl_model.specs.Tree as trees;
-ghost use Rattle.asl_shape.specs.View.{view, shapes_view, fields_view};
+ghost use Rattle.asl_numbered.specs.Expansion.{expansions, shape_at, IsNumberOf, AreNumbersOf, AreFieldsOf, Keeps};
+ghost use Rattle.asl_shape.specs.View.{view};
 ghost use Rattle.asl_template.specs.View as templates;
 
-use crate::calls::{CallShapeRefusal, call_shape};
-use crate::composing::{closed_list, set_field};
-use crate::literals::literal_shape;
-use crate::references::{Doubt, Part, Sources};
+use crate::calls::call_shape;
+use crate::composing::{closed_list, closed_object, set_field};
+use crate::literals::own_shape;
+use crate::numbers::{expand, is_inhabited, put_never};
+use crate::references::{Doubt, Sources};
 use asl_intrinsic::Call;
 use asl_model::shape_laws::template_shape_means_a_value;
-use asl_shape::{Field, Shape};
+use asl_numbered::{NodeField, Shapes};
+use asl_shape::Shape;
 use asl_template::Template;
 use asl_tree::OutOfMemory;
 use std::alloc::{AllocError, AllocFailed, Global};
@@ -86,114 +90,190 @@ pub fn template_shape(
     ensures may_fail { (field : String Global) → result ≡ Err (MayFail field) → IsDoubted (model.template_shape (templates.view template.now) (view input.now) (item_view item.entry)) (string_bytes field) model.MayFail }
 {
     template_shape_means_a_value();
-    match Sources::of(input, item) {
-        Some(sources) => filled_shape(alloc, template, "", sources),
-        None => Ok(Shape::Never),
-    }
+    let mut shapes = Shapes::new(alloc);
+    let sources = Sources::add(&mut shapes, input, item)?;
+    let number = template_shape_at(alloc, &mut shapes, template, sources.input, sources.item)?;
+    Ok(expand(&shapes, number)?)
 }
 
-/// The shape of the template's value, or the first of its doubts, which stands at that field unless it stands deeper.
+/// The number of the shape of the template's values, for the numbers of the shapes of its input and of the item, where
+/// there is one, as [`template_shape`] tells it. What is refused may leave further shapes in the table.
+pub fn template_shape_at(
+    alloc: Global,
+    shapes: &mut Shapes,
+    template: &Template,
+    input: usize,
+    item: Option<usize>,
+) -> Result<usize, TemplateShapeRefusal>
+    requires input { input < length shapes.old }
+    requires item { IfSome item (λ n. n < length shapes.old) }
+    ensures as_defined { IfOk result
+        (λ n. model.template_shape (templates.view template.now)
+        (shape_at (expansions shapes.old) input)
+        (option_map (shape_at (expansions shapes.old)) item)
+        ≡ Ok (shape_at (expansions shapes.new) n)) }
+    ensures number { IfOk result
+        (λ n. IsNumberOf (expansions shapes.new) (shape_at (expansions shapes.new) n) n) }
+    ensures may_be_missing { (field : String Global) → result ≡ Err (MayBeMissing field)
+        → IsDoubted (model.template_shape (templates.view template.now)
+        (shape_at (expansions shapes.old) input)
+        (option_map (shape_at (expansions shapes.old)) item))
+        (string_bytes field) model.MayBeMissing }
+    ensures may_fail { (field : String Global) → result ≡ Err (MayFail field)
+        → IsDoubted (model.template_shape (templates.view template.now)
+        (shape_at (expansions shapes.old) input)
+        (option_map (shape_at (expansions shapes.old)) item))
+        (string_bytes field) model.MayFail }
+    ensures keeps { Keeps (expansions shapes.old) (expansions shapes.new) }
+{
+    if !is_inhabited(shapes, input) {
+        let never = put_never(shapes)?;
+        shapes.are_distinct();
+        return Ok(never);
+    }
+    let number = filled_shape(alloc, shapes, template, "", Sources { input, item })?;
+    shapes.are_distinct();
+    Ok(number)
+}
+
+/// The number of the shape of the template's value, or the first of its doubts, which stands at that field unless it
+/// stands deeper.
 #[cycle(template)]
 fn filled_shape(
     alloc: Global,
+    shapes: &mut Shapes,
     template: &Template,
     field: &str,
     sources: Sources,
-) -> Result<Shape, TemplateShapeRefusal>
-    ensures filled { IfOk result (λ s. view s ≡ model.filled_shape (templates.view template.now) (input_of sources.entry) (item_of sources.entry)) }
-    ensures told { Tells result (model.doubts (templates.view template.now) field.now (input_of sources.entry) (item_of sources.entry)) }
+) -> Result<usize, TemplateShapeRefusal>
+    requires within { IsWithin (length shapes.old) sources }
+    ensures filled { IfOk result
+        (Shows shapes.new
+        (model.filled_shape (templates.view template.now) (input_of (expansions shapes.old) sources)
+        (item_of (expansions shapes.old) sources))) }
+    ensures told { Tells result
+        (model.doubts (templates.view template.now) field.now
+        (input_of (expansions shapes.old) sources) (item_of (expansions shapes.old) sources)) }
+    ensures keeps { Keeps (expansions shapes.old) (expansions shapes.new) }
 {
     match template {
-        Template::Literal(tree) => Ok(literal_shape(alloc, tree)?),
-        Template::Path(path) => named_shape(alloc, sources.in_input(path), field),
-        Template::ItemIndex => named_shape(alloc, sources.item_index(), field),
-        Template::ItemValue(path) => named_shape(alloc, sources.in_item(path), field),
-        Template::Call(call) => value_shape(alloc, call, field, sources),
+        Template::Literal(tree) => Ok(own_shape(alloc, shapes, tree)?),
+        Template::Path(path) => told_at(alloc, field, sources.in_input(shapes, path)),
+        Template::ItemIndex => told_at(alloc, field, sources.item_index(shapes)),
+        Template::ItemValue(path) => told_at(alloc, field, sources.in_item(shapes, path)),
+        Template::Call(call) => value_shape(alloc, shapes, call, field, sources),
         Template::List(elements) => {
-            let shapes = element_shapes(alloc, elements, field, sources)?;
-            Ok(closed_list(alloc, shapes)?)
+            let first = element_shapes(alloc, shapes, elements, field, sources)?;
+            Ok(closed_list(shapes, first)?)
         }
-        Template::Object(fields) => Ok(Shape::Object {
-            fields: field_shapes(alloc, fields, sources)?,
-            extra: false,
-        }),
+        Template::Object(fields) => {
+            let mentions = field_shapes(alloc, shapes, fields, sources)?;
+            Ok(closed_object(shapes, mentions)?)
+        }
     }
 }
 
-/// The shape of the elements' values, in order.
+/// The numbers of the shapes of the elements' values, in order.
 #[cycle(template)]
 fn element_shapes(
     alloc: Global,
+    shapes: &mut Shapes,
     elements: &[Template],
     field: &str,
     sources: Sources,
-) -> Result<Vec<Shape>, TemplateShapeRefusal>
-    ensures filled { IfOk result (λ v. shapes_view v.items ≡ model.filled_elements (templates.elements_view elements.now) (input_of sources.entry) (item_of sources.entry)) }
-    ensures told { Tells result (model.element_doubts (templates.elements_view elements.now) field.now (input_of sources.entry) (item_of sources.entry)) }
+) -> Result<Vec<usize>, TemplateShapeRefusal>
+    requires within { IsWithin (length shapes.old) sources }
+    ensures filled { IfOk result
+        (λ v. AreNumbersOf (expansions shapes.new)
+        (model.filled_elements (templates.elements_view elements.now)
+        (input_of (expansions shapes.old) sources) (item_of (expansions shapes.old) sources))
+        v.items) }
+    ensures told { Tells result
+        (model.element_doubts (templates.elements_view elements.now) field.now
+        (input_of (expansions shapes.old) sources) (item_of (expansions shapes.old) sources)) }
+    ensures keeps { Keeps (expansions shapes.old) (expansions shapes.new) }
 {
-    let mut shapes = Vec::with_capacity(alloc, elements.len())?;
+    let mut numbers = Vec::with_capacity(alloc, elements.len())?;
     for element in elements {
-        shapes.push(filled_shape(alloc, element, field, sources)?)?;
+        let number = filled_shape(alloc, shapes, element, field, sources)?;
+        numbers.push(number)?;
     }
-    Ok(shapes)
+    Ok(numbers)
 }
 
-/// Each field, needed and with the shape of its value.
+/// Each field, needed and with the number of the shape of its value.
 #[cycle(template)]
 fn field_shapes(
     alloc: Global,
+    shapes: &mut Shapes,
     fields: &BTreeMap<String, Template>,
     sources: Sources,
-) -> Result<BTreeMap<String, Field>, TemplateShapeRefusal>
-    ensures filled { IfOk result (λ m. fields_view m.entries ≡ model.filled_fields (templates.entries_view fields.now.entries) (input_of sources.entry) (item_of sources.entry)) }
-    ensures told { Tells result (model.field_doubts (templates.entries_view fields.now.entries) (input_of sources.entry) (item_of sources.entry)) }
+) -> Result<BTreeMap<String, NodeField>, TemplateShapeRefusal>
+    requires within { IsWithin (length shapes.old) sources }
+    ensures filled { IfOk result
+        (λ m. AreFieldsOf (expansions shapes.new)
+        (model.filled_fields (templates.entries_view fields.now.entries)
+        (input_of (expansions shapes.old) sources) (item_of (expansions shapes.old) sources))
+        m.entries) }
+    ensures told { Tells result
+        (model.field_doubts (templates.entries_view fields.now.entries)
+        (input_of (expansions shapes.old) sources) (item_of (expansions shapes.old) sources)) }
+    ensures keeps { Keeps (expansions shapes.old) (expansions shapes.new) }
 {
-    let mut shapes = BTreeMap::new(alloc);
+    let mut mentions = BTreeMap::new(alloc);
     for (name, field) in fields.iter() {
-        let mention = Field {
+        let mention = NodeField {
             needed: true,
-            shape: filled_shape(alloc, field, name, sources)?,
+            shape: filled_shape(alloc, shapes, field, name, sources)?,
         };
-        set_field(&mut shapes, name, mention)?;
+        set_field(&mut mentions, name, mention)?;
     }
-    Ok(shapes)
+    Ok(mentions)
 }
 
-/// The shape of what a path names, or the doubt at that field.
-fn named_shape(
+/// The number of what a path names, or the doubt at that field.
+fn told_at(
     alloc: Global,
-    part: Result<Part, Doubt>,
     field: &str,
-) -> Result<Shape, TemplateShapeRefusal>
-    ensures named { IfOk result (λ s. view s ≡ model.or_none (named_part part.entry)) }
-    ensures told { Tells result (model.doubts_at field.now (named_part part.entry)) }
+    part: Result<usize, Doubt>,
+) -> Result<usize, TemplateShapeRefusal>
+    ensures { IsToldAt field.now part result }
 {
     match part {
-        Ok(part) => Ok(part.into_shape(alloc)?),
+        Ok(number) => Ok(number),
         Err(Doubt::MayBeMissing) => {
             Err(TemplateShapeRefusal::MayBeMissing(String::from_str(alloc, field)?))
         }
         Err(Doubt::MayFail) => {
             Err(TemplateShapeRefusal::MayFail(String::from_str(alloc, field)?))
         }
+        Err(Doubt::OutOfMemory) => Err(TemplateShapeRefusal::OutOfMemory),
     }
 }
 
-/// The shape of a call's value, or the doubt at that field.
+/// The number of the shape of a call's value, or the doubt at that field.
 fn value_shape(
     alloc: Global,
+    shapes: &mut Shapes,
     call: &Call,
     field: &str,
     sources: Sources,
-) -> Result<Shape, TemplateShapeRefusal>
-    ensures named { IfOk result (λ s. view s ≡ model.or_none (model.or_may_fail (model.call_shape (calls.view call.now) (input_of sources.entry) (item_of sources.entry)))) }
-    ensures told { Tells result (model.doubts_at field.now (model.or_may_fail (model.call_shape (calls.view call.now) (input_of sources.entry) (item_of sources.entry)))) }
+) -> Result<usize, TemplateShapeRefusal>
+    requires within { IsWithin (length shapes.old) sources }
+    ensures named { IfOk result
+        (Shows shapes.new
+        (model.or_none (model.or_may_fail (model.call_shape (calls.view call.now)
+        (input_of (expansions shapes.old) sources) (item_of (expansions shapes.old) sources))))) }
+    ensures told { Tells result
+        (model.doubts_at field.now (model.or_may_fail (model.call_shape (calls.view call.now)
+        (input_of (expansions shapes.old) sources) (item_of (expansions shapes.old) sources)))) }
+    ensures keeps { Keeps (expansions shapes.old) (expansions shapes.new) }
 {
-    match call_shape(alloc, call, sources) {
-        Ok(shape) => Ok(shape),
-        Err(CallShapeRefusal::MayFail) => {
+    match call_shape(alloc, shapes, call, sources) {
+        Ok(number) => Ok(number),
+        Err(Doubt::MayBeMissing | Doubt::MayFail) => {
             Err(TemplateShapeRefusal::MayFail(String::from_str(alloc, field)?))
         }
-        Err(CallShapeRefusal::OutOfMemory) => Err(TemplateShapeRefusal::OutOfMemory),
+        Err(Doubt::OutOfMemory) => Err(TemplateShapeRefusal::OutOfMemory),
     }
 }

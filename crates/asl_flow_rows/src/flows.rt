@@ -1,7 +1,10 @@
 //! Shapes through a state: what paths name, what is put, what templates give and rules let through, and what leaves a
 //! state, each call once with ample memory.
 use asl_choice::{Test, from_tree};
-use asl_flow::{leave, literal_shape, look, put, rule_shape, template_shape};
+use asl_flow::{
+    leave, leave_at, literal_shape, look, put, rule_shape, template_shape, template_shape_at,
+};
+use asl_numbered::Shapes;
 use asl_path::{RefPath, parse};
 use asl_shape::{Shape, read, write};
 use asl_states::{Kind, Settings, State};
@@ -639,5 +642,39 @@ fn outputs(rt: HostRuntime) {
     assert_eq!(rt;
         written(&rt, alloc, &output).as_str(),
         r#"{"type":"integer"}"#
+    );
+}
+
+/// What a Pass without a result of its own gives for a raw input, by number: the result is what its `Parameters` give.
+fn given_by_number(rt: &impl Abort, alloc: Global, pass: &State, raw: &Shape) -> Shape {
+    let mut shapes = Shapes::new(alloc);
+    let raw = shapes.add(raw).expect(rt, "memory");
+    assert!(rt; raw < shapes.len());
+    let parameters = pass.settings.parameters.as_ref().expect(rt, "a template");
+    let work = template_shape_at(alloc, &mut shapes, parameters, raw, None).expect(rt, "a shape");
+    assert!(rt; raw < shapes.len());
+    assert!(rt; work < shapes.len());
+    let output = leave_at(alloc, &mut shapes, pass, raw, work).expect(rt, "a shape");
+    let output = shapes.expand(output).expect(rt, "memory");
+    output.expect(rt, "a shape of the table")
+}
+
+#[test]
+fn outputs_by_number(rt: HostRuntime) {
+    let alloc = rt.alloc();
+    let kind = Kind::Pass { result: None };
+    let mut pass = state(&rt, alloc, kind, ("", "$.box.out", "$.box"));
+    let parameters = asl_tree::read(alloc, r#"{"m.$":"$.n","k":true}"#.as_bytes());
+    let parameters = asl_template::from_tree(alloc, &parameters.expect(&rt, "a tree"), false);
+    pass.settings.parameters = Some(parameters.expect(&rt, "a template"));
+    let raw = shape(
+        &rt,
+        alloc,
+        r#"{"type":"object","properties":{"n":{"type":"integer"},"box":{"type":"object","properties":{"a":{"type":"string"}},"additionalProperties":false}},"required":["n","box"],"additionalProperties":false}"#,
+    );
+    let output = given_by_number(&rt, alloc, &pass, &raw);
+    assert_eq!(rt;
+        written(&rt, alloc, &output).as_str(),
+        r#"{"additionalProperties":false,"properties":{"a":{"type":"string"},"out":{"additionalProperties":false,"properties":{"k":{"type":"boolean"},"m":{"type":"integer"}},"required":["k","m"],"type":"object"}},"required":["out"],"type":"object"}"#
     );
 }

@@ -83,12 +83,12 @@ module _ (table : List Shape) where
   shown-by Equal a b c = refl
   shown-by Greater a b c = refl
 
-  put-shown : (es : List Entry) (k : String Global) (f : NodeField) → fields_at table (insert_entry string_cmp es k f) ≡ put (string_bytes k) f.needed (shape_at table f.shape) (fields_at table es)
+  pub put-shown : (es : List Entry) (k : String Global) (f : NodeField) → fields_at table (insert_entry string_cmp es k f) ≡ put (string_bytes k) f.needed (shape_at table f.shape) (fields_at table es)
   put-shown [] k f = refl
   put-shown (e ∷ es) k f = shown-by (string_cmp k e.0) _ _ _ ∙ rw (put-shown es k f)
 
 -- the numbers of fields with one more
-put-below : (bound : ℕ) (es : List Entry) (k : String Global) (f : NodeField) → f.shape < bound → AreBelow bound (numbers_in es) → AreBelow bound (numbers_in (insert_entry string_cmp es k f))
+pub put-below : (bound : ℕ) (es : List Entry) (k : String Global) (f : NodeField) → f.shape < bound → AreBelow bound (numbers_in es) → AreBelow bound (numbers_in (insert_entry string_cmp es k f))
 put-below bound [] k f h below = (h, tt)
 put-below bound (e ∷ es) k f h below = go (string_cmp k e.0) (put-below bound es k f h below.1)
   where

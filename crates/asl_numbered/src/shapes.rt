@@ -10,7 +10,7 @@ ghost use Rattle.asl_shape.specs.View.{view};
 ghost use Rattle.asl_shape.specs.Spelled as trees;
 ghost use Rattle.asl_tree.specs.View.{view as tree_view};
 ghost use Rattle.serde_json.specs.View.{view as value_view};
-ghost use Rattle.asl_numbered.specs.Expansion.{expansions, shape_at, shape_over, AreBelow, RefersBelow, IsNumberOf, Keeps};
+ghost use Rattle.asl_numbered.specs.Expansion.{expansions, shape_at, shape_over, AreBelow, AreDistinct, RefersBelow, IsNumberOf, Keeps};
 ghost use Rattle.asl_numbered.specs.References.{shapes_given, SpellsWith, TellsOf, TellsFault};
 
 use crate::NumberedRefusal;
@@ -78,6 +78,13 @@ impl Shapes {
         ensures counted { result ≡ length self.now }
     {
         self.table.len()
+    }
+
+    /// No shape stands under two numbers. Reads nothing, and takes no memory.
+    pub fn are_distinct(&self)
+        ensures distinct { AreDistinct (expansions self.now) }
+    {
+        self.table.are_distinct();
     }
 
     /// The first level of the shape of that number; `None` where there is none. Takes no memory.

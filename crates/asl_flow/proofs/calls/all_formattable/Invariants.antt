@@ -1,7 +1,9 @@
-use Rattle.std.proofs.Common.{◌≡◌, drop}
+use Rattle.std.proofs.Common.{◌≡◌, drop, length}
 use Rattle.asl_model.specs.ShapeFlow.{all_formattable}
-use Rattle.asl_flow.specs.Sources.{parts_view}
+use Rattle.asl_numbered.specs.Expansion.{expansions, shapes_at, AreBelow}
 use Rattle.asl_flow.proofs.calls.all_formattable.Given as goal
 
-abbrev pub invariant-loop-shape : goal.invariant-loop-shape
-invariant-loop-shape l = all_formattable (parts_view l.shapes) ≡ all_formattable (parts_view (drop l.shape-index l.shapes))
+abbrev pub invariant-loop-number : goal.invariant-loop-number
+invariant-loop-number l =
+    (all_formattable (shapes_at (expansions l.shapes) l.numbers) ≡ all_formattable (shapes_at (expansions l.shapes) (drop l.number-index l.numbers)))
+    × AreBelow (length l.shapes) (drop l.number-index l.numbers)

@@ -1,25 +1,43 @@
-use Rattle.std.proofs.Common.{◌≡◌, Ok}
+use Rattle.std.proofs.Common.{◌≡◌, Err, rules}
 use Rattle.asl_states.specs.Machine.{settings_view, kind_view}
-use Rattle.asl_model.specs.Flow.{at_output_path, output_of}
-use Rattle.asl_model.specs.Shape.{Has}
 use Rattle.asl_model.specs.ShapeFlow as model
-use Rattle.asl_model.specs.Tree.{Tree}
 use Rattle.asl_shape.specs.View.{view}
-use Rattle.asl_flow.proofs.Leavings.{leaves}
+use Rattle.asl_flow.proofs.Leavings.{reached_through, stopped_through}
+use Rattle.asl_flow.proofs.Numbered.{still_within, number_within}
 use Rattle.asl_flow.proofs.leaving.leave.Goals as goal
+
+pub leave_at-requires-clause-raw : goal.leave_at-requires-clause-raw
+leave_at-requires-clause-raw c = still_within c.add.new.self c.add-2.new.self c.in_ok-raw.raw c.add-2.ensures.keeps (number_within c.add.new.self _ c.in_ok-raw.raw c.in_ok-raw.ensures.number)
+
+pub leave_at-requires-clause-work : goal.leave_at-requires-clause-work
+leave_at-requires-clause-work c = number_within c.add-2.new.self _ c.in_ok-work.work c.in_ok-work.ensures.number
+
+pub returns-in_err-output-clause-refused : goal.returns-in_err-output-clause-refused
+returns-in_err-output-clause-refused c =
+    let settings = settings_view c.args.state.now.settings in
+    let kind = kind_view c.args.state.now.kind in
+    let told : c.from_residual-in_err-output.result ≡ Err c.in_err-output.field-0.0 = search rules in
+    rw told (stopped_through c.add.new.self c.add-2.new.self (model.leave settings kind) (view c.args.raw.now) (view c.args.work.now) c.in_ok-raw.raw c.in_ok-work.work c.in_ok-raw.ensures.number c.add-2.ensures.keeps c.in_ok-work.ensures.number c.in_err-output.field-0.0 c.in_err-output.ensures.refused)
+
+pub expand-requires : goal.expand-requires
+expand-requires c = record { number = number_within c.leave_at.new.shapes _ c.in_ok-output.output c.in_ok-output.ensures.number }
+
+pub returns-clause-as_defined : goal.returns-clause-as_defined
+returns-clause-as_defined c =
+    let settings = settings_view c.args.state.now.settings in
+    let kind = kind_view c.args.state.now.kind in
+    reached_through c.add.new.self c.add-2.new.self (model.leave settings kind) (view c.args.raw.now) (view c.args.work.now) c.in_ok-raw.raw c.in_ok-work.work c.in_ok-raw.ensures.number c.add-2.ensures.keeps c.in_ok-work.ensures.number c.leave_at.new.shapes c.in_ok-output.output _ c.in_ok-output.ensures.as_defined c.in_ok-expand.ensures.shape
 
 pub returns-clause-result_leaves : goal.returns-clause-result_leaves
 returns-clause-result_leaves c =
     let settings = settings_view c.args.state.now.settings in
     let kind = kind_view c.args.state.now.kind in
-    let raw = view c.args.raw.now in
-    let work = view c.args.work.now in
-    leaves (λ r. model.leaving kind ≡ model.WithResult → (v x : Tree) → Has raw v → Has work x → (u : Tree) × (output_of settings v x ≡ Ok u) × Has r u) (model.leave settings kind raw work) c.leave_shape.result c.leave_shape.ensures.shape (λ r is by. c.leave_means_an_output.ensures.result settings kind raw work r by is)
+    let is = reached_through c.add.new.self c.add-2.new.self (model.leave settings kind) (view c.args.raw.now) (view c.args.work.now) c.in_ok-raw.raw c.in_ok-work.work c.in_ok-raw.ensures.number c.add-2.ensures.keeps c.in_ok-work.ensures.number c.leave_at.new.shapes c.in_ok-output.output _ c.in_ok-output.ensures.as_defined c.in_ok-expand.ensures.shape in
+    λ by. c.leave_means_an_output.ensures.result settings kind (view c.args.raw.now) (view c.args.work.now) (view c.in_ok-expand.field-0) by is
 
 pub returns-clause-input_leaves : goal.returns-clause-input_leaves
 returns-clause-input_leaves c =
     let settings = settings_view c.args.state.now.settings in
     let kind = kind_view c.args.state.now.kind in
-    let raw = view c.args.raw.now in
-    let work = view c.args.work.now in
-    leaves (λ r. model.leaving kind ≡ model.WithInput → (v x : Tree) → Has raw v → Has work x → (u : Tree) × (at_output_path settings x ≡ Ok u) × Has r u) (model.leave settings kind raw work) c.leave_shape.result c.leave_shape.ensures.shape (λ r is by. c.leave_means_an_output.ensures.input settings kind raw work r by is)
+    let is = reached_through c.add.new.self c.add-2.new.self (model.leave settings kind) (view c.args.raw.now) (view c.args.work.now) c.in_ok-raw.raw c.in_ok-work.work c.in_ok-raw.ensures.number c.add-2.ensures.keeps c.in_ok-work.ensures.number c.leave_at.new.shapes c.in_ok-output.output _ c.in_ok-output.ensures.as_defined c.in_ok-expand.ensures.shape in
+    λ by. c.leave_means_an_output.ensures.input settings kind (view c.args.raw.now) (view c.args.work.now) (view c.in_ok-expand.field-0) by is

@@ -1,15 +1,30 @@
-use Rattle.std.proofs.Common.{◌≡◌, [], ◌∷◌, ◌++◌, String, Global, true, refl, string_cmp, sym, ap, ◌∙◌, subst, append-nil, append_assoc}
+use Rattle.std.proofs.Common.{◌≡◌, ◌+◌, [], ◌∷◌, ◌++◌, take, String, Global, refl, string_cmp, sym, ap, ◌∙◌, subst, append_assoc, arith}
+use Rattle.std.proofs.lemmas.Grind.{common_steps}
 use Rattle.std.specs.List.Sorted.{IsStrictlySortedBy}
 use Rattle.std.specs.Map.{keys_of}
-use Rattle.asl_shape.specs.View.{fields_view}
+use Rattle.asl_numbered.proofs.Expansions.{keeps_trans}
 use Rattle.asl_tree.specs.declared.Tree.{Tree}
-use Rattle.asl_flow.proofs.LiteralFields.{of_itself, elements_gone_through, fields_shown, object_shown}
-use Rattle.asl_flow.proofs.Needed.{needed_by, one_more}
+use Rattle.asl_flow.proofs.Composed.{number_more, field_more, numbers_below, fields_below}
+use Rattle.asl_flow.proofs.LiteralFields.{of_itself, elements_end, fields_end}
 use Rattle.asl_flow.proofs.literals.+literal.Goals as goal
 
+pub element_shapes-loop-element-preserved : goal.element_shapes-loop-element-preserved
+element_shapes-loop-element-preserved t c =
+    let l = c.loop-element in
+    let i = l.element-index in
+    let elements = c.args.elements.now in
+    let element = c.element-item.result in
+    let more : take (i + 1) elements ≡ take i elements ++ element ∷ [] = grind (arith, common_steps) in
+    record {
+      keeps = keeps_trans _ _ _ l.invariant.keeps c.in_ok-number.ensures.keeps;
+      shown = number_more of_itself l.shapes c.own_shape.new.shapes (take i elements) (take (i + 1) elements) element l.numbers.items c.push.new.self.items c.in_ok-number.number c.in_ok-number.ensures.keeps l.invariant.shown c.in_ok-number.ensures.shown more c.in_ok-push.ensures.items;
+    }
+
 pub element_shapes-returns : goal.element_shapes-returns
-element_shapes-returns t c =
-    elements_gone_through c.args.elements.now c.loop-element.element-index c.loop-element.shapes.items c.loop-element-test.false c.loop-element.invariant
+element_shapes-returns t c = record {
+  numbers = elements_end _ c.args.elements.now c.loop-element.element-index _ c.loop-element-test.false c.loop-element.invariant.shown;
+  keeps = c.loop-element.invariant.keeps;
+}
 
 pub field_shapes-loop-name-preserved : goal.field_shapes-loop-name-preserved
 field_shapes-loop-name-preserved t c =
@@ -22,16 +37,20 @@ field_shapes-loop-name-preserved t c =
     record {
       done = done ++ e ∷ [];
       whole = all ∙ sym (append_assoc done (e ∷ []) left);
-      shown = ap fields_view c.in_ok-set_field.ensures.2 ∙ one_more of_itself done e left l.shapes.entries c.in_ok-set_field.ensures.0 (record { needed = true; shape = c.in_ok-literal_shape.field-0 }) sorted l.invariant.shown c.in_ok-set_field.ensures.1 refl c.in_ok-literal_shape.ensures.as_defined;
+      keeps = keeps_trans _ _ _ l.invariant.keeps c.in_ok-own_shape.ensures.keeps;
+      shown = field_more of_itself l.shapes c.own_shape.new.shapes done left e l.mentions.entries c.set_field.new.fields.entries c.in_ok-set_field.ensures.0 _ sorted c.in_ok-own_shape.ensures.keeps l.invariant.shown c.in_ok-set_field.ensures.1 refl c.in_ok-own_shape.ensures.shown c.in_ok-set_field.ensures.2;
     }
 
 pub field_shapes-returns : goal.field_shapes-returns
-field_shapes-returns t c =
-    let l = c.loop-name in
-    let done : c.args.fields.now.entries ≡ l.invariant.done = l.invariant.whole ∙ ap (λ es. l.invariant.done ++ es) c.in-None.ensures.steps.0 ∙ append-nil l.invariant.done in
-    l.invariant.shown ∙ ap (needed_by of_itself) (sym done) ∙ sym (fields_shown c.args.fields.now.entries c.iter-name-items.ensures.ordered)
+field_shapes-returns t c = record {
+  numbers = fields_end _ c.args.fields.now.entries c.loop-name.invariant.done _ _ c.loop-name.invariant.whole c.in-None.ensures.steps.0 c.iter-name-items.ensures.ordered c.loop-name.invariant.shown;
+  keeps = c.loop-name.invariant.keeps;
+}
 
-pub literal_shape-returns-in_ok-field_shapes-in-Object :
-    goal.literal_shape-returns-in_ok-field_shapes-in-Object
-literal_shape-returns-in_ok-field_shapes-in-Object t c =
-    record { as_defined = object_shown c.args.tree.now c.in-Object.fields c.in_ok-field_shapes-in-Object.field-0 c.in-Object.is c.in_ok-field_shapes-in-Object.ensures }
+pub own_shape-closed_list-requires : goal.own_shape-closed_list-requires
+own_shape-closed_list-requires t c =
+    record { first = numbers_below c.element_shapes.new.shapes _ c.in_ok-first-in-List.first.items c.in_ok-first-in-List.ensures.numbers }
+
+pub own_shape-closed_object-requires : goal.own_shape-closed_object-requires
+own_shape-closed_object-requires t c =
+    record { fields = fields_below c.field_shapes.new.shapes _ c.in_ok-mentions-in-Object.mentions.entries c.in_ok-mentions-in-Object.ensures.numbers }

@@ -1,57 +1,89 @@
-use Rattle.std.proofs.Common.{Some, rules, arith}
-use Rattle.asl_model.specs.ShapeFlow.{put as put_shape}
-use Rattle.asl_flow.proofs.Puts.{place_of, place_is_inhabited, refused_in_list, past_first, answered_in_list, field_is_inhabited, refused_in_object, answered_in_object, built_alone}
+use Rattle.std.proofs.Common.{◌≡◌, sym, ◌∙◌, rules, arith, length}
+use Rattle.asl_model.specs.Shape.{Never}
+use Rattle.asl_model.specs.ShapeFlow.{put as put_shape, built_shape}
+use Rattle.asl_flow.proofs.Numbered.{still_within, still_shown}
+use Rattle.asl_flow.proofs.NumberedParts.{field_within, object_level}
+use Rattle.asl_flow.proofs.Puts.{answered_in_list, refused_in_object, answered_in_object, nothing_put, second_refused, both_joined, answered}
+use Rattle.asl_numbered.specs.declared.node.Node.TheVariants.{Object}
+use Rattle.asl_numbered.specs.Expansion.{expansions, shape_at}
 use Rattle.asl_path.specs.View.{segments_view}
-use Rattle.asl_shape.specs.View.{view}
 use Rattle.asl_flow.proofs.putting.+put.Goals as goal
 
-pub put_in_list-put_at-requires : goal.put_in_list-put_at-requires
-put_in_list-put_at-requires t c =
-    let found = place_of c.deref.result.now c.in-List.first.items c.args.index c.get.result (Some c.in-Some.place) c.deref.ensures.value c.get.ensures.lookup.0 c.get.ensures.lookup.1 c.in-Some.is in
-    let there = place_is_inhabited c.args.shape.now c.in-List.first c.in-List.rest c.args.index (view c.in-Some.place.now) c.in-List.is c.requires.inhabited found in
-    (omega (arith, c.decreases), (there, (c.requires.placed_inhabited, omega arith)))
+pub put_in_list-put_place-requires-clause-number :
+    goal.put_in_list-put_place-requires-clause-number
+put_in_list-put_place-requires-clause-number t c = still_within c.args.shapes.now c.put_segments.new.shapes c.args.number c.put_segments.ensures.keeps c.requires.number
 
-pub put_in_list-returns-in_err-changed-in-Some : goal.put_in_list-returns-in_err-changed-in-Some
-put_in_list-returns-in_err-changed-in-Some t c =
-    let found = place_of c.deref.result.now c.in-List.first.items c.args.index c.get.result (Some c.in-Some.place) c.deref.ensures.value c.get.ensures.lookup.0 c.get.ensures.lookup.1 c.in-Some.is in
+pub put_in_list-returns-clause-answers : goal.put_in_list-returns-clause-answers
+put_in_list-returns-clause-answers t c =
     let p = segments_view c.args.further.now in
-    let w = view c.args.placed.now in
-    refused_in_list c.args.at c.args.index (put_shape p w) p w c.args.shape.now c.in-List.first c.in-List.rest (view c.in-Some.place.now) c.in_err-changed-in-Some.field-0.0 c.from_residual.result c.in-List.is found c.in_err-changed-in-Some.ensures (search rules)
-
-pub put_in_list-returns-in_ok-list_with-in-Some : goal.put_in_list-returns-in_ok-list_with-in-Some
-put_in_list-returns-in_ok-list_with-in-Some t c =
-    let found = place_of c.deref.result.now c.in-List.first.items c.args.index c.get.result (Some c.in-Some.place) c.deref.ensures.value c.get.ensures.lookup.0 c.get.ensures.lookup.1 c.in-Some.is in
-    let p = segments_view c.args.further.now in
-    let w = view c.args.placed.now in
-    let places = c.in_ok-first-in-Some in
-    answered_in_list c.args.at c.args.index (put_shape p w) p w c.args.shape.now c.in-List.first c.in-List.rest (view c.in-Some.place.now) c.in_ok-changed-in-Some.changed places.first c.deref-in-Some.result.now c.deref-in-Some-2.result.now c.in_ok-list_with-in-Some.field-0
-    c.in-List.is found c.in_ok-changed-in-Some.ensures c.deref-in-Some.ensures.value places.ensures c.deref-in-Some-2.ensures c.in_ok-list_with-in-Some.ensures
-
-pub put_in_list-returns-in-None : goal.put_in_list-returns-in-None
-put_in_list-returns-in-None t c =
-    let none = place_of c.deref.result.now c.in-List.first.items c.args.index c.get.result _ c.deref.ensures.value c.get.ensures.lookup.0 c.get.ensures.lookup.1 c.in-None.is in
-    let p = segments_view c.args.further.now in
-    let w = view c.args.placed.now in
-    past_first c.args.at c.args.index (put_shape p w) p w c.args.shape.now c.in-List.first c.in-List.rest c.in-List.is none
+    let w = shape_at (expansions c.args.shapes.now) c.args.placed in
+    answered_in_list c.args.shapes.now c.put_segments.new.shapes c.put_place.new.shapes c.args.at c.args.index (put_shape p w) p w c.args.number c.place_of.result c.in-Some.place c.in_ok-changed.changed c.in_ok-put_place.field-0
+    c.requires.number c.put_segments.ensures.keeps c.place_of.ensures.part c.in-Some.is c.in_ok-changed.ensures.answers c.in_ok-put_place.ensures.shown
 
 pub put_in_object-put_in_field-requires : goal.put_in_object-put_in_field-requires
 put_in_object-put_in_field-requires t c =
-    let there = field_is_inhabited c.args.shape.now c.in-Object.fields c.in-Object.extra c.args.name.now c.get-field.result c.in-Object.is c.requires.inhabited c.get-field.ensures.value in
-    (omega (arith, c.decreases), (there, (c.requires.placed_inhabited, omega arith)))
+    let object = c.in-Some-Object in
+    let is : object.field-0.now ≡ Object object.fields object.extra = cc in
+    let there = field_within (length c.args.shapes.now) c.args.number object.field-0.now object.fields object.extra c.args.name.now c.copied-field.result is object.ensures.earlier c.requires.number (c.copied-field.ensures ∙ c.get.ensures.value) in
+    (omega (arith, c.decreases), (there, (c.requires.placed, omega arith)))
 
-pub put_in_object-returns-in_err-value-in-Object : goal.put_in_object-returns-in_err-value-in-Object
-put_in_object-returns-in_err-value-in-Object t c =
+pub put_in_object-returns-in_err-value-clause-answers :
+    goal.put_in_object-returns-in_err-value-clause-answers
+put_in_object-returns-in_err-value-clause-answers t c =
     let p = segments_view c.args.further.now in
-    let w = view c.args.placed.now in
-    refused_in_object c.args.at (put_shape p w) p w c.args.shape.now c.in-Object.fields c.in-Object.extra c.args.name.now c.get-field.result c.in_err-value-in-Object.field-0.0 c.from_residual.result c.in-Object.is c.get-field.ensures.value c.in_err-value-in-Object.ensures (search rules)
+    let table = expansions c.args.shapes.now in
+    let w = shape_at table c.args.placed in
+    let s = shape_at table c.args.number in
+    let object = c.in-Some-Object in
+    let is : object.field-0.now ≡ Object object.fields object.extra = cc in
+    let level = object_level table object.field-0.now object.fields object.extra s is object.ensures.level in
+    refused_in_object c.put_in_field.new.shapes c.args.at (put_shape p w) p w s table c.args.name.now object.fields object.extra c.copied-field.result c.in_err-value.field-0.0 c.from_residual.result level (c.copied-field.ensures ∙ c.get.ensures.value) c.in_err-value.ensures.answers (search rules)
 
-pub put_in_object-returns-in_ok-with_needed_field-in-Object : goal.put_in_object-returns-in_ok-with_needed_field-in-Object
-put_in_object-returns-in_ok-with_needed_field-in-Object t c =
+pub put_in_object-put_field-requires-clause-number :
+    goal.put_in_object-put_field-requires-clause-number
+put_in_object-put_field-requires-clause-number t c = still_within c.args.shapes.now c.put_in_field.new.shapes c.args.number c.put_in_field.ensures.keeps c.requires.number
+
+pub put_in_object-returns-clause-answers : goal.put_in_object-returns-clause-answers
+put_in_object-returns-clause-answers t c =
     let p = segments_view c.args.further.now in
-    let w = view c.args.placed.now in
-    let changed = c.in_ok-with_needed_field-in-Object in
-    answered_in_object c.args.at (put_shape p w) p w c.args.shape.now c.in-Object.fields c.in-Object.extra c.args.name.now c.get-field.result c.in_ok-value-in-Object.value changed.field-0 c.in-Object.is c.get-field.ensures.value c.in_ok-value-in-Object.ensures changed.ensures
+    let table = expansions c.args.shapes.now in
+    let w = shape_at table c.args.placed in
+    let s = shape_at table c.args.number in
+    let object = c.in-Some-Object in
+    let is : object.field-0.now ≡ Object object.fields object.extra = cc in
+    let level = object_level table object.field-0.now object.fields object.extra s is object.ensures.level in
+    answered_in_object c.args.shapes.now c.put_in_field.new.shapes c.put_field.new.shapes c.args.at (put_shape p w) p w c.args.number c.args.name.now object.fields object.extra c.copied-field.result c.in_ok-value.value c.in_ok-put_field.field-0
+    c.requires.number c.put_in_field.ensures.keeps level (c.copied-field.ensures ∙ c.get.ensures.value) c.in_ok-value.ensures.answers c.in_ok-put_field.ensures.shown
 
-pub put_in_optional-returns-then-not-inhabited : goal.put_in_optional-returns-then-not-inhabited
-put_in_optional-returns-then-not-inhabited t c =
-    built_alone c.args.at (segments_view c.args.segments.now) (view c.args.placed.now) (view c.args.shape.now) _ c.build.result (search rules) c.build.ensures
+pub put_in_optional-build-requires-clause-placed :
+    goal.put_in_optional-build-requires-clause-placed
+put_in_optional-build-requires-clause-placed t c = still_within c.args.shapes.now c.put_segments.new.shapes c.args.placed c.put_segments.ensures.keeps c.requires.placed
+
+pub put_in_optional-returns-in_err-built-clause-answers :
+    goal.put_in_optional-returns-in_err-built-clause-answers
+put_in_optional-returns-in_err-built-clause-answers t c =
+    let p = segments_view c.args.segments.now in
+    let w = shape_at (expansions c.args.shapes.now) c.args.placed in
+    let s = shape_at (expansions c.args.shapes.now) c.args.number in
+    let stays = still_shown c.args.shapes.now c.put_segments.new.shapes c.args.placed c.put_segments.ensures.keeps c.requires.placed in
+    second_refused c.put_segments.new.shapes c.build.new.shapes c.build.new.shapes c.args.at (put_shape p w s) (built_shape p w) c.in_ok-changed.changed c.in_err-built.field-0.0 c.from_residual-in_err-built.result c.in_ok-changed.ensures.answers (rw stays at c.in_err-built.ensures.answers) (search rules)
+
+pub put_in_optional-put_join-requires-clause-first :
+    goal.put_in_optional-put_join-requires-clause-first
+put_in_optional-put_join-requires-clause-first t c = still_within c.put_segments.new.shapes c.build.new.shapes c.in_ok-changed.changed c.build.ensures.keeps c.in_ok-changed.ensures.answers.within
+
+pub put_in_optional-returns-clause-answers : goal.put_in_optional-returns-clause-answers
+put_in_optional-returns-clause-answers t c =
+    let p = segments_view c.args.segments.now in
+    let w = shape_at (expansions c.args.shapes.now) c.args.placed in
+    let s = shape_at (expansions c.args.shapes.now) c.args.number in
+    let stays = still_shown c.args.shapes.now c.put_segments.new.shapes c.args.placed c.put_segments.ensures.keeps c.requires.placed in
+    let changed = still_shown c.put_segments.new.shapes c.build.new.shapes c.in_ok-changed.changed c.build.ensures.keeps c.in_ok-changed.ensures.answers.within in
+    both_joined c.put_segments.new.shapes c.build.new.shapes c.put_join.new.shapes c.args.at (put_shape p w s) (built_shape p w) c.in_ok-changed.changed c.in_ok-built.built c.in_ok-put_join.field-0 c.in_ok-changed.ensures.answers (rw stays at c.in_ok-built.ensures.answers) changed c.in_ok-put_join.ensures.shown
+
+pub put_segments-returns-then-not-are_inhabited-clause-answers :
+    goal.put_segments-returns-then-not-are_inhabited-clause-answers
+put_segments-returns-then-not-are_inhabited-clause-answers t c =
+    let table = expansions c.args.shapes.now in
+    let neither = sym c.are_inhabited.ensures.as_defined ∙ c.if-not-are_inhabited.true in
+    answered c.put_never.new.shapes c.args.at _ Never _ (nothing_put (segments_view c.args.segments.now) (shape_at table c.args.placed) (shape_at table c.args.number) neither) (search rules)

@@ -1,8 +1,8 @@
 use Rattle.std.proofs.Common.{◌+◌, ◌*◌, length}
 use Rattle.asl_flow.proofs.putting.+put.Given as goal
 
-abbrev pub decreases-put_at : goal.decreases-put_at
-decreases-put_at l = 4 * length l.segments.now
+abbrev pub decreases-put_segments : goal.decreases-put_segments
+decreases-put_segments l = 4 * length l.segments.now
 
 abbrev pub decreases-put_in_object : goal.decreases-put_in_object
 decreases-put_in_object l = 4 * length l.further.now + 3
@@ -14,4 +14,4 @@ abbrev pub decreases-put_in_optional : goal.decreases-put_in_optional
 decreases-put_in_optional l = 4 * length l.segments.now + 1
 
 abbrev pub decreases-put_in_list : goal.decreases-put_in_list
-decreases-put_in_list l = 4 * length l.further.now + 1
+decreases-put_in_list l = 4 * length l.further.now + 3

@@ -1,26 +1,31 @@
-use Rattle.std.proofs.Common.{◌≡◌, false, ◌&&◌, Ok, ap, sym, ◌∙◌, rules}
-use Rattle.asl_model.specs.Placing.{Places}
-use Rattle.asl_model.specs.Shape as model
-use Rattle.asl_model.specs.Shape.{Has, inhabited}
-use Rattle.asl_model.specs.ShapeFlow.{put as put_shape}
-use Rattle.asl_model.specs.Tree.{Tree}
-use Rattle.asl_flow.proofs.Puts.{answered_so, nothing_put}
+use Rattle.std.proofs.Common.{◌≡◌, Err, sym, ap, ◌∙◌, rules}
+use Rattle.asl_flow.specs.declared.putting.PutRefusal.TheVariants.{MayNotFit}
+use Rattle.asl_flow.proofs.Numbered.{still_within, number_within}
+use Rattle.asl_flow.proofs.Puts.{put_through, refused_through}
 use Rattle.asl_shape.specs.View.{view}
-use Rattle.asl_shape.specs.declared.shape.Shape.{Never, the_lemmas}
 use Rattle.asl_flow.proofs.putting.put.Goals as goal
-use Rattle.asl_flow.proofs.putting.put.Goals.{else-inhabited-via-then-inhabited+else-inhabited-2, else-inhabited-via-else-inhabited}
 
-pub returns-then-inhabited-2-clause-placed : goal.returns-then-inhabited-2-clause-placed
-returns-then-inhabited-2-clause-placed c =
-    let p = c.args.path.now in
-    let w = view c.args.placed.now in
-    let s = view c.args.shape.now in
-    answered_so (λ r. (x v : Tree) → Has w x → Has s v → (u : Tree) × Places p x v u × Has r u) (put_shape p w s) c.put_at.result (rw c.segments.ensures.steps at c.put_at.ensures) (λ r is. c.put_means_placed.ensures.placed p w s r is)
+pub put_at-requires-clause-number : goal.put_at-requires-clause-number
+put_at-requires-clause-number c = still_within c.add.new.self c.add-2.new.self c.in_ok-number.number c.add-2.ensures.keeps (number_within c.add.new.self _ c.in_ok-number.number c.in_ok-number.ensures.number)
 
-pub returns-else-inhabited-clause-as_defined : goal.returns-else-inhabited-clause-as_defined
-returns-else-inhabited-clause-as_defined c =
-    let w = view c.args.placed.now in
-    let s = view c.args.shape.now in
-    let neither : inhabited s && inhabited w ≡ false = elim c.else-inhabited.branch [ else-inhabited-via-then-inhabited+else-inhabited-2 b ↦ search rules | else-inhabited-via-else-inhabited b ↦ search rules ] in
-    let never : view Never ≡ model.Never = search (rules, the_lemmas) in
-    nothing_put c.args.path.now w s neither ∙ ap Ok (sym never)
+pub put_at-requires-clause-placed : goal.put_at-requires-clause-placed
+put_at-requires-clause-placed c = number_within c.add-2.new.self _ c.in_ok-placed.placed c.in_ok-placed.ensures.number
+
+pub returns-in_err-changed-clause-may_not_fit : goal.returns-in_err-changed-clause-may_not_fit
+returns-in_err-changed-clause-may_not_fit c =
+    let told : c.from_residual-in_err-changed.result ≡ Err c.in_err-changed.field-0.0 = search rules in
+    λ at is.
+    let same : c.in_err-changed.field-0.0 ≡ MayNotFit at = cc (sym told ∙ is) in
+    refused_through c.add.new.self c.add-2.new.self c.args.path.now (view c.args.placed.now) (view c.args.shape.now) c.in_ok-number.number c.in_ok-placed.placed at c.in_ok-number.ensures.number c.add-2.ensures.keeps c.in_ok-placed.ensures.number (c.in_err-changed.ensures.may_not_fit at (ap Err same))
+
+pub expand-requires : goal.expand-requires
+expand-requires c = record { number = number_within c.put_at.new.shapes _ c.in_ok-changed.changed c.in_ok-changed.ensures.number }
+
+pub returns-clause-as_defined : goal.returns-clause-as_defined
+returns-clause-as_defined c =
+    put_through c.add.new.self c.add-2.new.self c.put_at.new.shapes c.args.path.now (view c.args.placed.now) (view c.args.shape.now) (view c.in_ok-expand.field-0) c.in_ok-number.number c.in_ok-placed.placed c.in_ok-changed.changed c.in_ok-number.ensures.number c.add-2.ensures.keeps c.in_ok-placed.ensures.number c.in_ok-changed.ensures.as_defined c.in_ok-expand.ensures.shape
+
+pub returns-clause-placed : goal.returns-clause-placed
+returns-clause-placed c =
+    c.put_means_placed.ensures.placed c.args.path.now (view c.args.placed.now) (view c.args.shape.now) (view c.in_ok-expand.field-0)
+    (put_through c.add.new.self c.add-2.new.self c.put_at.new.shapes c.args.path.now (view c.args.placed.now) (view c.args.shape.now) (view c.in_ok-expand.field-0) c.in_ok-number.number c.in_ok-placed.placed c.in_ok-changed.changed c.in_ok-number.ensures.number c.add-2.ensures.keeps c.in_ok-placed.ensures.number c.in_ok-changed.ensures.as_defined c.in_ok-expand.ensures.shape)

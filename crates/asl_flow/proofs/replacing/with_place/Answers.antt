@@ -1,8 +1,7 @@
-use Rattle.std.proofs.Common.{rules}
-use Rattle.asl_flow.proofs.Replaced.{place_put}
+use Rattle.asl_flow.proofs.Replaced.{copied_all, copy_set}
 use Rattle.asl_flow.proofs.replacing.with_place.Goals as goal
 
 pub returns : goal.returns
 returns c =
-    place_put c.args.places.now c.args.index c.args.shape c.in_ok-changed.changed.items c.push_copies.new.copies.items c.push.new.self.items c.push_copies-2.new.copies.items
-    c.requires (search rules) c.in_ok-push_copies.ensures (search rules) c.in_ok-push_copies-2.ensures
+    let copied = copied_all c.in_ok-changed.changed.items c.extend_from_slice.new.self.items c.args.places.now c.in_ok-changed.ensures.items c.in_ok-extend_from_slice.ensures.items in
+    copy_set c.args.places.now c.extend_from_slice.new.self.items c.set_place.new.places.items c.args.index c.args.number copied c.set_place.ensures

@@ -1,0 +1,98 @@
+// The walk over the rules of a Choice, and over `Default`.
+
+ghost use Rattle.std.specs.Prelude.{◌<◌, ◌++◌, length};
+ghost use Rattle.asl_edges.specs.Steps.{default_steps, rule_steps, rules_steps};
+ghost use Rattle.asl_edges.specs.Walks.{Walks};
+ghost use Rattle.asl_numbered.specs.Expansion.{expansions};
+
+use crate::faults::{FindingFault, Stopped, broken_at};
+use crate::found::Edge;
+use crate::walking::Walk;
+use asl_choice::Rule;
+use asl_flow::{RuleShapeRefusal, rule_shape_at};
+use asl_numbered::Shapes;
+
+impl<'m> Walk<'_, 'm> {
+    /// Walks over each rule of a Choice, and over `Default`.
+    pub(crate) fn walk_choice(
+        &self,
+        shapes: &mut Shapes,
+        edges: &mut Vec<Edge<'m>>,
+        rules: &'m [Rule],
+        default: &'m Option<String>,
+        effective: usize,
+    ) -> Result<(), Stopped>
+        requires input { self.now.entry.input < length shapes.old }
+        requires effective { effective < length shapes.old }
+        ensures { Walks (expansions shapes.old) (expansions shapes.new) edges.old.items
+            edges.new.items
+            (rules_steps (expansions shapes.old) self.now rules.now effective
+            ++ default_steps (expansions shapes.old) self.now default.now effective) result }
+    {
+        self.walk_rules(shapes, edges, rules, effective)?;
+        self.walk_default(shapes, edges, default, effective)
+    }
+
+    /// Walks over the rules, each of which is taken on the whole effective input.
+    fn walk_rules(
+        &self,
+        shapes: &mut Shapes,
+        edges: &mut Vec<Edge<'m>>,
+        rules: &'m [Rule],
+        effective: usize,
+    ) -> Result<(), Stopped>
+        requires input { self.now.entry.input < length shapes.old }
+        requires effective { effective < length shapes.old }
+        ensures { Walks (expansions shapes.old) (expansions shapes.new) edges.old.items
+            edges.new.items
+            (rules_steps (expansions shapes.old) self.now rules.now effective) result }
+    {
+        for rule in rules {
+            self.walk_rule(shapes, edges, rule, effective)?;
+        }
+        Ok(())
+    }
+
+    /// Walks over a rule: over its paths, and over the output for what it lets through.
+    fn walk_rule(
+        &self,
+        shapes: &mut Shapes,
+        edges: &mut Vec<Edge<'m>>,
+        rule: &'m Rule,
+        effective: usize,
+    ) -> Result<(), Stopped>
+        requires input { self.now.entry.input < length shapes.old }
+        requires effective { effective < length shapes.old }
+        ensures { Walks (expansions shapes.old) (expansions shapes.new) edges.old.items
+            edges.new.items
+            (rule_steps (expansions shapes.old) self.now rule.now effective) result }
+    {
+        match rule_shape_at(self.alloc, shapes, &rule.test, effective) {
+            Ok(shape) => self.walk_chosen(shapes, edges, "Choices", &rule.next, shape),
+            Err(RuleShapeRefusal::MayBeMissing) => {
+                Err(broken_at("Choices", FindingFault::PathMayBeMissing))
+            }
+            Err(RuleShapeRefusal::OutOfMemory) => Err(Stopped::OutOfMemory),
+        }
+    }
+
+    /// Walks over the output that goes to `Default`, where there is one.
+    fn walk_default(
+        &self,
+        shapes: &mut Shapes,
+        edges: &mut Vec<Edge<'m>>,
+        default: &'m Option<String>,
+        effective: usize,
+    ) -> Result<(), Stopped>
+        requires input { self.now.entry.input < length shapes.old }
+        requires effective { effective < length shapes.old }
+        ensures { Walks (expansions shapes.old) (expansions shapes.new) edges.old.items
+            edges.new.items
+            (default_steps (expansions shapes.old) self.now default.now effective) result }
+    {
+        match default {
+            Some(next) => self.walk_chosen(shapes, edges, "Default", next, effective),
+            None => Ok(()),
+        }
+    }
+}

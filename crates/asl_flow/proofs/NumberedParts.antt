@@ -1,0 +1,126 @@
+-- What one segment, and then the segments behind it, lead to in a shape of a table, by number.
+use Rattle.std.proofs.Common.{◌≡◌, ℕ, zero, suc, ◌<◌, ◌≤◌, Bool, List, [], ◌∷◌, Option, Some, None, Result, Ok, Err, option_map, is_some, is_ok, IfOk, IsErrAnd, MatchResult, Bor, String, Global, string_bytes, IfSome, length, get_or, drop, drop-cons, refl, ap, sym, ◌∙◌, arith, subst, Vec}
+use borrow.Author.Tests.{ltb-true, ltb-false}
+use lib.Dec.{ltb}
+use Rattle.std.specs.BTreeMap.{BTreeMap, get_by}
+use Rattle.std.specs.Option.{option_copied}
+use Rattle.std.specs.String.{string_cmp}
+use Rattle.asl_model.specs.Path as path
+use Rattle.asl_model.specs.Shape as model
+use Rattle.asl_model.specs.ShapeFlow.{part_at, place_at, look_at, if_needed}
+use Rattle.asl_model.specs.ShapeOrder.{mention_of}
+use Rattle.asl_flow.specs.Counting.{counted_on}
+use Rattle.asl_flow.specs.Putting.{mentioned}
+use Rattle.asl_flow.specs.declared.looking.LookRefusal.{LookRefusal}
+use Rattle.asl_flow.proofs.Numbered.{own_number}
+use Rattle.asl_flow.proofs.ShapeParts.{counted_one}
+use Rattle.asl_numbered.specs.declared.node.Node.{Node}
+use Rattle.asl_numbered.specs.declared.node.Node.TheVariants.{List as Elements, Object}
+use Rattle.asl_numbered.specs.declared.node.NodeField.{NodeField}
+use Rattle.asl_numbered.specs.Expansion.{expansions, shape_at, shapes_at, fields_at, shape_over, numbers_in, AreBelow, AreDistinct, IsNumberOf, RefersBelow}
+use Rattle.asl_numbered.proofs.Expansions.{below-wider}
+use Rattle.asl_numbered.proofs.Comparisons.{mention_of_number, found-below}
+use Rattle.asl_path.specs.View.{segment_view, segments_view}
+use Rattle.asl_path.specs.declared.Segment as code
+
+-- ---- places
+
+place_within : (table : List model.Shape) (ns : List ℕ) (i d : ℕ) → i < length ns → Some (shape_at table (get_or ns i d)) ≡ place_at i (shapes_at table ns)
+place_within table [] i d h = absurd (omega arith)
+place_within table (n ∷ ns) zero d h = refl
+place_within table (n ∷ ns) (suc i) d h = place_within table ns i d (omega arith)
+
+place_past : (table : List model.Shape) (ns : List ℕ) (i : ℕ) → length ns ≤ i → None ≡ place_at i (shapes_at table ns)
+place_past table [] i h = refl
+place_past table (n ∷ ns) zero h = absurd (omega arith)
+place_past table (n ∷ ns) (suc i) h = place_past table ns i (omega arith)
+
+-- getting a number of a list gets the one at that place
+pub place_got : (table : List model.Shape) (ns : List ℕ) (i : ℕ) (r : Option (Bor ℕ)) → is_some r ≡ ltb i (length ns) → IfSome r (λ x. x.now ≡ get_or ns i x.now)
+    → option_map (shape_at table) (option_copied r) ≡ place_at i (shapes_at table ns)
+place_got table ns i None e h = place_past table ns i (ltb-false i (length ns) (sym e))
+place_got table ns i (Some x) e h = ap (λ n. Some (shape_at table n)) h ∙ place_within table ns i x.now (ltb-true i (length ns) (sym e))
+
+-- a number in a list is below its bound
+pub below_at : (bound : ℕ) (ns : List ℕ) (i d : ℕ) → i < length ns → AreBelow bound ns → get_or ns i d < bound
+below_at bound [] i d h below = absurd (omega arith)
+below_at bound (n ∷ ns) zero d h below = below.0
+below_at bound (n ∷ ns) (suc i) d h below = below_at bound ns i d (omega arith) below.1
+
+pub place_below : (bound : ℕ) (ns : List ℕ) (i : ℕ) (r : Option (Bor ℕ)) → is_some r ≡ ltb i (length ns) → IfSome r (λ x. x.now ≡ get_or ns i x.now) → AreBelow bound ns
+    → IfSome (option_copied r) (λ n. n < bound)
+place_below bound ns i None e h below = tt
+place_below bound ns i (Some x) e h below = rw h (below_at bound ns i x.now (ltb-true i (length ns) (sym e)) below)
+
+-- the place of a node of lists
+pub first_part : (table : List model.Shape) (node : Node) (first : Vec ℕ Global) (rest i : ℕ) (ns : List ℕ) (r : Option (Bor ℕ)) (answer : Option ℕ) → node ≡ Elements first rest → ns ≡ first.items → is_some r ≡ ltb i (length ns) → IfSome r (λ x. x.now ≡ get_or ns i x.now) → answer ≡ option_copied r
+    → option_map (shape_at table) answer ≡ part_at (path.Index i) (shape_over table node)
+first_part table node first rest i ns r answer is same some got copied =
+    ap (option_map (shape_at table)) copied ∙ place_got table ns i r some got ∙ ap (λ ms. place_at i (shapes_at table ms)) same ∙ sym (ap (λ x. part_at (path.Index i) (shape_over table x)) is)
+
+pub first_below : (node : Node) (first : Vec ℕ Global) (rest i : ℕ) (ns : List ℕ) (r : Option (Bor ℕ)) (answer : Option ℕ) → node ≡ Elements first rest → ns ≡ first.items → is_some r ≡ ltb i (length ns) → IfSome r (λ x. x.now ≡ get_or ns i x.now) → answer ≡ option_copied r
+    → (bound : ℕ) → RefersBelow bound node → IfSome answer (λ n. n < bound)
+first_below node first rest i ns r answer is same some got copied bound refers =
+    let own = subst (RefersBelow bound) is refers in
+    let below : AreBelow bound ns = subst (AreBelow bound) (sym same) own.each.1 in
+    rw copied (place_below bound ns i r some got below)
+
+-- a part's number is below that of the whole, and so in the table
+pub part_within : (answer : Option ℕ) (bound wider : ℕ) → bound ≤ wider → IfSome answer (λ n. n < bound) → IfSome answer (λ n. n < wider)
+part_within None bound wider h below = tt
+part_within (Some n) bound wider h below = omega arith
+
+-- ---- fields
+
+-- the mention of a field, as the map of a node has it
+pub mention_got : (table : List model.Shape) (k : String Global) (m : BTreeMap (String Global) NodeField) (r : Option NodeField) → r ≡ get_by (string_cmp k) m → mention_of (string_bytes k) (fields_at table m.entries) ≡ option_map (mentioned table) r
+mention_got table k m r got = mention_of_number table k m.entries ∙ rw (← got) refl
+
+pub field_below : (bound : ℕ) (k : String Global) (m : BTreeMap (String Global) NodeField) (r : Option NodeField) → r ≡ get_by (string_cmp k) m → AreBelow bound (numbers_in m.entries) → IfSome r (λ f. f.shape < bound)
+field_below bound k m None got below = tt
+field_below bound k m (Some f) got below = found-below bound _ m.entries f below (sym got)
+
+-- the needed field of a node of objects
+pub needed_part : (table : List model.Shape) (node : Node) (m : BTreeMap (String Global) NodeField) (extra : Bool) (k : String Global) (found : Option NodeField) (answer : Option ℕ) → node ≡ Object m extra → found ≡ get_by (string_cmp k) m → option_map (shape_at table) answer ≡ if_needed (option_map (mentioned table) found)
+    → option_map (shape_at table) answer ≡ part_at (path.Name (string_bytes k)) (shape_over table node)
+needed_part table node m extra k found answer is got h = h ∙ sym (ap (λ x. part_at (path.Name (string_bytes k)) (shape_over table x)) is ∙ ap if_needed (mention_got table k m found got))
+
+pub needed_below : (bound : ℕ) (node : Node) (m : BTreeMap (String Global) NodeField) (extra : Bool) (k : String Global) (f : NodeField) → node ≡ Object m extra → Some f ≡ get_by (string_cmp k) m → RefersBelow bound node → f.shape < bound
+needed_below bound node m extra k f is got refers =
+    let own = subst (RefersBelow bound) is refers in
+    field_below bound k m (Some f) got own.each
+
+-- the field of a node of objects is in the table
+pub field_within : (bound n : ℕ) (node : Node) (m : BTreeMap (String Global) NodeField) (extra : Bool) (k : String Global) (r : Option NodeField) → node ≡ Object m extra → RefersBelow n node → n < bound → r ≡ get_by (string_cmp k) m → IfSome r (λ f. f.shape < bound)
+field_within bound n node m extra k r is refers within got =
+    let own = subst (RefersBelow n) is refers in
+    field_below bound k m r got (below-wider n bound (numbers_in m.entries) (omega arith) own.each)
+
+-- the shape of a node of objects
+pub object_level : (table : List model.Shape) (node : Node) (m : BTreeMap (String Global) NodeField) (extra : Bool) (s : model.Shape) → node ≡ Object m extra → shape_over table node ≡ s → s ≡ model.ObjectShape (fields_at table m.entries) extra
+object_level table node m extra s is level = sym level ∙ ap (shape_over table) is
+
+-- ---- the whole path
+
+-- a step that leads somewhere
+pub looks_on : (table : List model.Shape) (whole : Result model.Shape ℕ) (n : ℕ) (items : List code.Segment) (i : ℕ) (s : code.Segment) (r : Option ℕ) (m : ℕ)
+    → whole ≡ counted_on i (look_at (segments_view (drop i items)) (shape_at table n)) → i < length items → s ≡ get_or items i s
+    → option_map (shape_at table) r ≡ part_at (segment_view s) (shape_at table n) → r ≡ Some m → whole ≡ counted_on (suc i) (look_at (segments_view (drop (suc i) items)) (shape_at table m))
+looks_on table whole n items i s r m so_far within is step found =
+    let here : part_at (segment_view (get_or items i s)) (shape_at table n) ≡ Some (shape_at table m) = ap (λ x. part_at (segment_view x) (shape_at table n)) (sym is) ∙ sym step ∙ ap (option_map (shape_at table)) found in
+    so_far ∙ rw (drop-cons items i s within, here) (counted_one i (look_at (segments_view (drop (suc i) items)) (shape_at table m)))
+
+-- a step that leads nowhere
+pub looks_nowhere : (table : List model.Shape) (whole : Result model.Shape ℕ) (n : ℕ) (items : List code.Segment) (i : ℕ) (s : code.Segment) (r : Option ℕ)
+    → whole ≡ counted_on i (look_at (segments_view (drop i items)) (shape_at table n)) → i < length items → s ≡ get_or items i s
+    → option_map (shape_at table) r ≡ part_at (segment_view s) (shape_at table n) → r ≡ None → whole ≡ Err i
+looks_nowhere table whole n items i s r so_far within is step found =
+    let here : part_at (segment_view (get_or items i s)) (shape_at table n) ≡ None = ap (λ x. part_at (segment_view x) (shape_at table n)) (sym is) ∙ sym step ∙ ap (option_map (shape_at table)) found in
+    so_far ∙ rw (drop-cons items i s within, here) (ap Err (omega arith))
+
+-- the number that is found is that of its shape, whatever a refusal is told as
+pub found_number : (nodes : List Node) (r : Result ℕ ℕ) (answer : Result ℕ LookRefusal) (told : ℕ → LookRefusal → Type 0) → MatchResult r (λ n. answer ≡ Ok n) (λ at. IsErrAnd answer (told at)) → is_ok answer ≡ is_ok r → AreDistinct (expansions nodes) → IfOk r (λ n. n < length nodes)
+    → IfOk answer (λ n. IsNumberOf (expansions nodes) (shape_at (expansions nodes) n) n)
+found_number nodes (Ok n) answer told same as_well distinct within = rw same (own_number nodes n distinct within)
+found_number nodes (Err at) (Ok n) told same as_well distinct within = absurd (cc)
+found_number nodes (Err at) (Err refusal) told same as_well distinct within = tt
