@@ -1,13 +1,20 @@
 -- What is wrong with a certificate, by the parts in which it is read.
-use Rattle.std.proofs.Common.{◌≡◌, List, [], ◌∷◌, ◌++◌, codes, Some, unwrap_or, true, ⊎_elim, sym, ap, ◌∙◌}
+use Rattle.std.proofs.Common.{◌≡◌, ◌<◌, List, length, refl, arith, Option, [], ◌∷◌, ◌++◌, codes, Some, unwrap_or, true, ⊎_elim, sym, ap, ◌∙◌}
 use Rattle.std.specs.List.{Contains}
 use Rattle.std.proofs.lemmas.List.Elements.{Contains-append_left, Contains-append_right, Contains-append_cases}
 use Rattle.serde_json.specs.Data as json
 use Rattle.serde_json.specs.Data.{Data, Members}
 use Rattle.serde_json.specs.Find.{as_object, get_member}
-use Rattle.asl_model.specs.Records.{RecordComplaint, certificate_rows, state_rows, certificate_complaints, entries_complaints, members_under}
-use Rattle.asl_records.specs.Parts.{TellsOneOf, field_complaints, foreign_complaints, shape_row, entries_row, version_row, members_there}
+use Rattle.asl_model.specs.Records.{RecordComplaint, certificate_rows, state_rows, certificate_complaints, certificate_from, entries_complaints, entries_from, state_from, members_under}
+use Rattle.asl_records.specs.Parts.{TellsOneOf, field_complaints, foreign_complaints, shape_row, entries_row, version_row, members_there, shape_there}
 use Rattle.asl_records.specs.declared.refusals.ReadFault.{ReadFault}
+use Rattle.asl_numbered.specs.Expansion.{expansions, IsNumberOf, Keeps}
+use Rattle.asl_numbered.specs.declared.node.Node.{Node}
+use Rattle.asl_numbered.proofs.Expansions.{as_many}
+use Rattle.asl_records.specs.Numbered.{numbered_view}
+use Rattle.asl_records.specs.Numbering.{AreStatesOf}
+use Rattle.asl_records.specs.declared.records.NumberedCertificate.{NumberedCertificate}
+use Rattle.asl_records.proofs.Kept.{shown as shown_still}
 use Rattle.asl_records.proofs.Objects.{names_of, parts, shown}
 use Rattle.asl_records.proofs.Telling.{told_all, told_same}
 
@@ -73,3 +80,10 @@ states_told v ms f is told = told_of v ms (of_states ms ++ of_entries ms) f is (
 
     as_entry : (c : RecordComplaint) → Contains (of_entries ms) c → Contains ((rows ++ of_others ms) ++ of_entries ms) c
     as_entry c h = Contains-append_right (rows ++ of_others ms) (of_entries ms) c h
+
+-- what was read of the output and of the states makes the certificate, in a table that grew between
+pub stands_for : (one : List Node) (numbered : NumberedCertificate) (v : Data) (ms : Members) (output states : Option Data) → as_object v ≡ Some ms → output ≡ get_member (codes "output") ms → states ≡ get_member (codes "states") ms
+    → IsNumberOf (expansions one) (shape_there output) numbered.output → Keeps (expansions one) (expansions numbered.shapes) → AreStatesOf numbered.shapes (entries_from state_from (members_there states)) numbered.states.entries → numbered_view numbered ≡ certificate_from v
+stands_for one numbered v ms output states is o s number keeps are =
+    let below : numbered.output < length one = omega (arith, number.within, as_many one) in
+    rw (shown_still one numbered.shapes keeps numbered.output below, number.same, are.same, o, s, is) refl

@@ -57,12 +57,16 @@ module _ {T A : Type 0} (see : T → A) (rows : List RecordRow) (f : Data → A)
   pub next_whole : (all left rest : List Member) (es : List (String Global × T)) (e : Member) → Reads all left es → left ≡ e ∷ rest → IsWhole (view e.1)
   next_whole all left rest es e h split = head_whole (string_bytes e.0) (view e.1) (members_view rest) (subst (λ ms. AreWhole (members_view ms)) split h.whole)
 
+  -- it goes last
+  pub goes_last : (all left rest : List Member) (es more : List (String Global × T)) (e : Member) (x : T) → Reads all left es → left ≡ e ∷ rest → IsStrictlySortedBy string_cmp (keys_of all) → more ≡ insert_entry string_cmp es e.0 x → more ≡ es ++ (e.0, x) ∷ []
+  goes_last all left rest es more e x h split sorted made =
+      made ∙ insert_last es e.0 x (keys_of rest) (subst (IsStrictlySortedBy string_cmp) (h.names ∙ ap (λ ms. keys_of es ++ keys_of ms) split) sorted)
+
   -- one more entry was read
   pub gone_on : (all left rest : List Member) (es more : List (String Global × T)) (e : Member) (n : List ℕ) (x : T) → Reads all left es → left ≡ e ∷ rest → IsStrictlySortedBy string_cmp (keys_of all)
       → n ≡ string_bytes e.0 → object_complaints n rows (view e.1) ≡ [] → see x ≡ f (view e.1) → more ≡ insert_entry string_cmp es e.0 x → Reads all rest more
   gone_on all left rest es more e n x h split sorted named right is made =
-      let order = subst (IsStrictlySortedBy string_cmp) (h.names ∙ ap (λ ms. keys_of es ++ keys_of ms) split) sorted in
-      let last : more ≡ es ++ (e.0, x) ∷ [] = made ∙ insert_last es e.0 x (keys_of rest) order in
+      let last = goes_last all left rest es more e x h split sorted made in
       record {
         whole = tail_whole (string_bytes e.0) (view e.1) (members_view rest) (subst (λ ms. AreWhole (members_view ms)) split h.whole);
         wrong = h.wrong ∙ ap (λ ms. entries_complaints rows (members_view ms)) split ∙ ap (λ cs. cs ++ entries_complaints rows (members_view rest)) (rw named at right);
@@ -82,3 +86,8 @@ module _ {T A : Type 0} (see : T → A) (rows : List RecordRow) (f : Data → A)
 
   pub all_read : (all left : List Member) (es : List (String Global × T)) → Reads all left es → left ≡ [] → shown es ≡ entries_from f (members_view all)
   all_read all left es h end = sym (h.entries ∙ ap (λ ms. shown es ++ entries_from f (members_view ms)) end ∙ append-nil (shown es))
+
+-- the same, where what the table keeps stands for the same by another function
+pub seen_again : {T A : Type 0} (see also : T → A) (rows : List RecordRow) (f : Data → A) (all left : List Member) (es : List (String Global × T)) → shown also rows f es ≡ shown see rows f es → Reads see rows f all left es → Reads also rows f all left es
+seen_again see also rows f all left es same h =
+    record { whole = h.whole; wrong = h.wrong; names = h.names; entries = h.entries ∙ ap (λ front. front ++ entries_from f (members_view left)) (sym same) }

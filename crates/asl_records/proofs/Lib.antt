@@ -1,12 +1,16 @@
 pub mod Certified
 pub mod DeclaredParts
 pub mod Entries
+pub mod Kept
 pub mod Lists
 pub mod Members
+pub mod Numberings
 pub mod Numbers
 pub mod Objects
 pub mod Shapes
+pub mod StateEntries
 pub mod Stated
+pub mod Tasks
 pub mod Telling
 pub mod Versions
 pub mod Writings

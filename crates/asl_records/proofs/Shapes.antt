@@ -1,5 +1,5 @@
 -- What is told of a value that spells no shape.
-use Rattle.std.proofs.Common.{◌≡◌, ℕ, zero, suc, ◌<◌, List, [], ◌∷◌, map, length, slice_index_or, Option, Some, None, option_map, IfSome, ◌⊎◌, inl, inr, refl, sym, ap, subst, arith}
+use Rattle.std.proofs.Common.{◌≡◌, ◌≢◌, ℕ, zero, suc, ◌<◌, List, [], ◌∷◌, map, length, slice_index_or, Option, Some, None, option_map, IfSome, ◌⊎◌, inl, inr, refl, sym, ap, subst, arith}
 use Rattle.std.specs.List.{Contains}
 use Rattle.serde_json.specs.Data.{Data}
 use Rattle.asl_model.specs.Json.{tree_of}
@@ -10,8 +10,11 @@ use Rattle.asl_model.specs.Records.{RecordFault, RecordComplaint, BadShape}
 use Rattle.asl_shape.specs.declared.ShapeRefusal.{ShapeRefusal}
 use Rattle.asl_shape.specs.declared.ShapeRefusal.TheVariants as shape
 use Rattle.asl_shape.specs.Refusal.{Tells, fault_named}
+use Rattle.asl_numbered.specs.References.{TellsFault}
+use Rattle.asl_numbered.specs.declared.NumberedRefusal.{NumberedRefusal}
+use Rattle.asl_numbered.specs.declared.NumberedRefusal.TheVariants as numbered
 use Rattle.asl_records.specs.View.{record_fault_view}
-use Rattle.asl_records.specs.Parts.{TellsOneOf, complaint_of, shape_complaints}
+use Rattle.asl_records.specs.Parts.{TellsOneOf, complaint_of, fault_told, shape_complaints}
 use Rattle.asl_records.specs.declared.refusals.ReadFault.{ReadFault}
 use Rattle.asl_records.specs.declared.refusals.RecordFault.TheVariants as kept
 use Rattle.asl_records.proofs.Telling.{told_within}
@@ -58,3 +61,12 @@ refusal_listed refusal name field v t is h = by (fault_named refusal) h.listed
     by : (o : Option model.ShapeFault) → IfSome o (Contains (shape_faults t)) → IfSome o (λ f. Contains (shape_complaints name field v) (complaint_of name field (BadShape f)))
     by None k = k
     by (Some f) k = shape_listed name field v t f is k
+
+-- so does a refusal of a shape for a table, which then can't have been for its number
+pub number_refusal_listed : (refusal : NumberedRefusal) (name field : List ℕ) (v : Data) (t : Tree) → tree_of v ≡ Some t → TellsFault t refusal → IfSome (fault_told refusal) (λ f. Contains (shape_complaints name field v) (complaint_of name field (BadShape f)))
+number_refusal_listed (numbered.Shape refusal) name field v t is h = refusal_listed refusal name field v t is h
+number_refusal_listed numbered.BadNumber name field v t is h = tt
+number_refusal_listed numbered.OutOfMemory name field v t is h = tt
+
+pub no_wrong_number : (refusal : NumberedRefusal) (t : Tree) → TellsFault t refusal → refusal ≢ numbered.BadNumber
+no_wrong_number refusal t h e = subst (TellsFault t) e h

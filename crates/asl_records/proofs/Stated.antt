@@ -1,9 +1,10 @@
 -- What is wrong with a state's entry, by the parts in which it is read.
-use Rattle.std.proofs.Common.{◌≡◌, ℕ, List, [], ◌++◌, codes, Some, true, false, refl, ◌∙◌}
+use Rattle.std.proofs.Common.{◌≡◌, ℕ, List, [], ◌++◌, codes, Option, Some, option_map, true, false, refl, ◌∙◌}
 use Rattle.serde_json.specs.Data.{Data, Members}
 use Rattle.serde_json.specs.Find.{as_object, get_member}
-use Rattle.asl_model.specs.Records.{RecordComplaint, object_complaints, state_rows}
-use Rattle.asl_records.specs.Parts.{TellsOneOf, field_complaints, foreign_complaints, shape_row, shapes_row}
+use Rattle.asl_model.specs.Records.{RecordComplaint, object_complaints, state_rows, shape_from, state_from}
+use Rattle.asl_model.specs.Certificate.{StateShapes}
+use Rattle.asl_records.specs.Parts.{TellsOneOf, field_complaints, foreign_complaints, shape_row, shape_there, shapes_row, shapes_there}
 use Rattle.asl_records.specs.declared.refusals.ReadFault.{ReadFault}
 use Rattle.asl_records.proofs.Objects.{names_of, rows_told_of, shown}
 use Rattle.asl_records.proofs.Telling.{told_left, told_right}
@@ -20,6 +21,13 @@ of_branches name ms = field_complaints name (shapes_row (codes "branches")) (get
 
 abbrev pub of_item : List ℕ → Members → List RecordComplaint
 of_item name ms = field_complaints name (shape_row (codes "item") false) (get_member (codes "item") ms)
+
+-- what stands in them, by the look-ups of the fields one after another
+abbrev pub read_from : Option Data → Option Data → Option Data → Option Data → StateShapes
+read_from input output branches item = record { input = shape_there input; output = shape_there output; branches = shapes_there branches; item = option_map shape_from item }
+
+pub stands_for : (v : Data) (ms : Members) (output branches item : Option Data) → as_object v ≡ Some ms → output ≡ get_member (codes "output") ms → branches ≡ get_member (codes "branches") ms → item ≡ get_member (codes "item") ms → read_from (get_member (codes "input") ms) output branches item ≡ state_from v
+stands_for v ms output branches item is o b i = rw (o, b, i, is) refl
 
 -- where no part has a complaint, there is none
 pub none_wrong : (name : List ℕ) (v : Data) (ms : Members) → as_object v ≡ Some ms → foreign_complaints name (names_of state_rows) ms ≡ [] → of_input name ms ≡ [] → of_output name ms ≡ [] → of_branches name ms ≡ [] → of_item name ms ≡ [] → object_complaints name state_rows v ≡ []

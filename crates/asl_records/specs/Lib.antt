@@ -1,3 +1,5 @@
+pub mod Numbered
+pub mod Numbering
 pub mod Parts
 pub mod Refusal
 pub mod View

@@ -1,21 +1,27 @@
 -- What is wrong with the parts of a record, and what a part is refused with. No public clause cites this module.
-use Rattle.std.specs.Prelude.{ℕ, List, [], ◌∷◌, map, Bool, true, false, if◌then◌else◌, Option, option_map, option_and_then, codes, ⊤, IsTrue, is_some}
+use Rattle.std.specs.Prelude.{◌≡◌, ℕ, List, [], ◌∷◌, map, Bool, true, false, if◌then◌else◌, Option, None, option_map, option_and_then, codes, bytes_eq, ⊤, IsTrue, is_some, String}
+use Rattle.std.specs.declared.alloc.Global.{Global}
 use Rattle.std.specs.Option.{unwrap_or}
 use Rattle.std.specs.List.{Contains}
 use Rattle.serde_json.specs.Data as json
 use Rattle.serde_json.specs.Data.{Data, Items, Members}
-use Rattle.serde_json.specs.Find.{as_array}
+use Rattle.serde_json.specs.Find.{as_array, get_member}
+use Rattle.serde_json.specs.View.{members_view}
+use Rattle.serde_json.specs.declared.value.Value.{Value}
 use Rattle.asl_model.specs.Shape.{Shape, Any}
-use Rattle.asl_model.specs.ShapeSpelling.{is_among}
+use Rattle.asl_model.specs.ShapeSpelling.{ShapeFault, is_among}
 use Rattle.asl_model.specs.Json.{tree_of, elements_of, members_of}
 use Rattle.asl_model.specs.Records.{RecordFault, UnknownField, RecordComplaint, RecordRow, ShapeValue, ShapesValue, EntriesValue, VersionValue, field_faults, members_in, shape_from, shapes_from, shape_misfits, shapes_misfits}
+use Rattle.asl_shape.specs.Refusal.{fault_named}
+use Rattle.asl_numbered.specs.declared.NumberedRefusal.{NumberedRefusal}
+use Rattle.asl_numbered.specs.declared.NumberedRefusal.TheVariants as numbered
 use Rattle.asl_records.specs.Refusal.{Tells}
 use Rattle.asl_records.specs.declared.refusals.ReadFault.{ReadFault}
 use Rattle.asl_records.specs.declared.refusals.ReadFault.TheVariants as kept
 
 -- ---- refusals
 
--- a part is refused with one of the complaints about it, or for want of memory
+-- a part is refused with one of the complaints about it, or because memory ran out
 abbrev pub Blames : List RecordComplaint → ReadFault → Type 0
 Blames wrong kept.NotWhole = ⊥
 Blames wrong (kept.Record refusal) = Tells refusal (Contains wrong)
@@ -23,6 +29,12 @@ Blames wrong kept.OutOfMemory = ⊤
 
 pub record TellsOneOf (wrong : List RecordComplaint) (fault : ReadFault) : Type 0 where
   pub told : Blames wrong fault
+
+-- the fault that a refusal names, where it is one of a spelling
+abbrev pub fault_told : NumberedRefusal → Option ShapeFault
+fault_told (numbered.Shape refusal) = fault_named refusal
+fault_told numbered.BadNumber = None
+fault_told numbered.OutOfMemory = None
 
 -- all numbers in the value are whole, in the members, and in the elements: it is a tree
 pub record IsWhole (v : Data) : Type 0 where
@@ -74,6 +86,15 @@ foreign_complaints name known json.no_members = []
 foreign_complaints name known (json.member n v ms) = if is_among n known then foreign_complaints name known ms else complaint_of name n UnknownField ∷ foreign_complaints name known ms
 
 -- ---- what stands there
+
+-- the value in a field, if there is one
+abbrev pub value_in : List ℕ → List (String Global × Value) → Option Data
+value_in field members = get_member field (members_view members)
+
+-- the field was taken out of members that are whole, and the others are as they were
+pub record Takes (field : List ℕ) (old new : List (String Global × Value)) : Type 0 where
+  pub left : AreWhole (members_view new)
+  pub others : (n : List ℕ) → bytes_eq field n ≡ false → value_in n new ≡ value_in n old
 
 -- the members of the object that stands there
 abbrev pub members_there : Option Data → Members

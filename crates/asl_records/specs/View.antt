@@ -37,7 +37,7 @@ entries_view entries = map (λ entry. (string_bytes entry.0, entry_view entry.1)
 abbrev pub certificate_view : Certificate → model.Certificate
 certificate_view certificate = record { output = view certificate.output; states = entries_view certificate.states.entries }
 
--- the fault of a record; none is want of memory
+-- the fault of a record; out of memory is none
 abbrev pub record_fault_view : RecordFault → Option records.RecordFault
 record_fault_view kept.NotObject = Some records.NotObject
 record_fault_view kept.MissingField = Some records.MissingField
@@ -47,6 +47,6 @@ record_fault_view (kept.BadShape refusal) = option_map records.BadShape (fault_n
 record_fault_view kept.BadVersion = Some records.BadVersion
 record_fault_view kept.OutOfMemory = None
 
--- the complaint that a refusal tells; none is want of memory
+-- the complaint that a refusal tells; out of memory is none
 abbrev pub complaint_view : RecordRefusal → Option records.RecordComplaint
 complaint_view refusal = option_map (λ fault. record { fault = fault; name = string_bytes refusal.name; field = string_bytes refusal.field }) (record_fault_view refusal.fault)

@@ -1,14 +1,13 @@
 // Reading declared shapes.
 
 ghost use Rattle.std.specs.Prelude.{◌≡◌, ◌++◌, [], IfOk, IfErr, OnOk, false, codes};
-ghost use Rattle.serde_json.specs.Find.{get_member};
 ghost use Rattle.serde_json.specs.View.{view, members_view};
 ghost use Rattle.asl_model.specs.Records.{StandsForDeclared, declared_complaints, declared_from, object_complaints, entries_complaints, entries_from, task_rows, task_from};
 ghost use Rattle.asl_records.specs.View.{declared_view, task_view, tasks_view};
 ghost use Rattle.asl_records.specs.Refusal.{IsDeclaredRefusal};
-ghost use Rattle.asl_records.specs.Parts.{TellsOneOf, IsWhole, AreWhole, field_complaints, entries_row, members_there};
+ghost use Rattle.asl_records.specs.Parts.{TellsOneOf, IsWhole, AreWhole, entries_row, field_complaints, members_there, value_in};
 
-use crate::fields::{check_fields, entries, members, optional_shape, required_shape, take};
+use crate::fields::{Reader, entries, take};
 use crate::records::{Declared, TaskShapes};
 use crate::refusals::ReadFault;
 use asl_shape::Shape;
@@ -18,7 +17,8 @@ use std::collections::BTreeMap;
 
 /// The declared shapes that a JSON value stands for. Refuses where a rule is broken, with a fault that stands there.
 pub fn read_declared(alloc: Global, value: Value) -> Result<Declared, ReadFault>
-    ensures declared { IfOk result (λ declared. StandsForDeclared (view value) (declared_view declared)) }
+    ensures declared { IfOk result
+        (λ declared. StandsForDeclared (view value) (declared_view declared)) }
     ensures refused { IfErr result (IsDeclaredRefusal (view value)) }
 {
     if asl_tree::is_whole(&value) {
@@ -32,13 +32,15 @@ pub fn read_declared(alloc: Global, value: Value) -> Result<Declared, ReadFault>
 fn read_record(alloc: Global, value: Value) -> Result<Declared, ReadFault>
     requires { IsWhole (view value) }
     ensures right { OnOk result (declared_complaints (view value) ≡ []) }
-    ensures declared { IfOk result (λ declared. declared_view declared ≡ declared_from (view value)) }
+    ensures declared { IfOk result
+        (λ declared. declared_view declared ≡ declared_from (view value)) }
     ensures refused { IfErr result (TellsOneOf (declared_complaints (view value))) }
 {
-    let mut fields = members(alloc, "", value)?;
-    check_fields(alloc, "", &fields, &["input", "tasks"])?;
+    let record = Reader { alloc, name: "" };
+    let mut fields = record.members(value)?;
+    record.check_fields(&fields, &["input", "tasks"])?;
     Ok(Declared {
-        input: required_shape(alloc, "", "input", &mut fields)?,
+        input: record.required_shape("input", &mut fields)?,
         tasks: read_tasks(alloc, &mut fields)?,
     })
 }
@@ -49,9 +51,18 @@ fn read_tasks(
     fields: &mut Map<String, Value>,
 ) -> Result<BTreeMap<String, TaskShapes>, ReadFault>
     requires { AreWhole (members_view fields.old.entries) }
-    ensures right { OnOk result (field_complaints [] (entries_row (codes "tasks") false) (get_member (codes "tasks") (members_view fields.old.entries)) ++ entries_complaints task_rows (members_there (get_member (codes "tasks") (members_view fields.old.entries))) ≡ []) }
-    ensures tasks { IfOk result (λ tasks. tasks_view tasks.entries ≡ entries_from task_from (members_there (get_member (codes "tasks") (members_view fields.old.entries)))) }
-    ensures refused { IfErr result (TellsOneOf (field_complaints [] (entries_row (codes "tasks") false) (get_member (codes "tasks") (members_view fields.old.entries)) ++ entries_complaints task_rows (members_there (get_member (codes "tasks") (members_view fields.old.entries))))) }
+    ensures right { OnOk result (field_complaints [] (entries_row (codes "tasks") false)
+        (value_in (codes "tasks") fields.old.entries)
+        ++ entries_complaints task_rows
+        (members_there (value_in (codes "tasks") fields.old.entries)) ≡ []) }
+    ensures tasks { IfOk result (λ tasks. tasks_view tasks.entries
+        ≡ entries_from task_from
+        (members_there (value_in (codes "tasks") fields.old.entries))) }
+    ensures refused { IfErr result (TellsOneOf
+        (field_complaints [] (entries_row (codes "tasks") false)
+        (value_in (codes "tasks") fields.old.entries)
+        ++ entries_complaints task_rows
+        (members_there (value_in (codes "tasks") fields.old.entries)))) }
 {
     match take(fields, "tasks") {
         Some(tasks) => read_entries(alloc, entries(alloc, "tasks", tasks)?),
@@ -65,9 +76,12 @@ fn read_entries(
     entries: Map<String, Value>,
 ) -> Result<BTreeMap<String, TaskShapes>, ReadFault>
     requires { AreWhole (members_view entries.entries) }
-    ensures right { OnOk result (entries_complaints task_rows (members_view entries.entries) ≡ []) }
-    ensures tasks { IfOk result (λ tasks. tasks_view tasks.entries ≡ entries_from task_from (members_view entries.entries)) }
-    ensures refused { IfErr result (TellsOneOf (entries_complaints task_rows (members_view entries.entries))) }
+    ensures right { OnOk result
+        (entries_complaints task_rows (members_view entries.entries) ≡ []) }
+    ensures tasks { IfOk result (λ tasks. tasks_view tasks.entries
+        ≡ entries_from task_from (members_view entries.entries)) }
+    ensures refused { IfErr result
+        (TellsOneOf (entries_complaints task_rows (members_view entries.entries))) }
 {
     let mut tasks = BTreeMap::new(alloc);
     for (name, task) in entries {
@@ -82,12 +96,16 @@ fn read_task(alloc: Global, name: &str, value: Value) -> Result<TaskShapes, Read
     requires { IsWhole (view value) }
     ensures right { OnOk result (object_complaints name.now task_rows (view value) ≡ []) }
     ensures shapes { IfOk result (λ shapes. task_view shapes ≡ task_from (view value)) }
-    ensures refused { IfErr result (TellsOneOf (object_complaints name.now task_rows (view value))) }
+    ensures refused { IfErr result
+        (TellsOneOf (object_complaints name.now task_rows (view value))) }
 {
-    let mut fields = members(alloc, name, value)?;
-    check_fields(alloc, name, &fields, &["takes", "gives"])?;
+    let task = Reader { alloc, name };
+    let mut fields = task.members(value)?;
+    task.check_fields(&fields, &["takes", "gives"])?;
     Ok(TaskShapes {
-        takes: optional_shape(alloc, name, "takes", &mut fields)?.unwrap_or(Shape::Any),
-        gives: required_shape(alloc, name, "gives", &mut fields)?,
+        takes: task
+            .optional_shape("takes", &mut fields)?
+            .unwrap_or(Shape::Any),
+        gives: task.required_shape("gives", &mut fields)?,
     })
 }

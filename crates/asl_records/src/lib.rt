@@ -2,18 +2,24 @@
 //! checked, and how both are read from JSON values and written as trees.
 //!
 //! Both are read by taking the JSON value apart: each part is let go as soon as its shape stands, so that there is
-//! never a second whole copy of a text.
+//! never a second whole copy of a text. The shapes of a certificate are read into a table, where each distinct one
+//! stands once; [`number_certificate`] and [`expand_certificate`] lead there and back.
 #![tactic(auto)]
 
 mod certificates;
 mod declarations;
+mod field_numbers;
 mod fields;
+mod numbering;
 mod records;
 mod refusals;
 mod writing;
 
-pub use certificates::read_certificate;
+pub use certificates::{read_certificate, read_numbered};
 pub use declarations::read_declared;
-pub use records::{Certificate, Declared, StateShapes, TaskShapes};
+pub use numbering::{expand_certificate, number_certificate};
+pub use records::{
+    Certificate, Declared, NumberedCertificate, StateNumbers, StateShapes, TaskShapes,
+};
 pub use refusals::{ReadFault, RecordFault, RecordRefusal};
 pub use writing::{write_certificate, write_declared};

@@ -3,6 +3,7 @@
 ghost use Rattle.std.specs.Prelude.{◌≡◌, ◌∷◌, [], Some, IfSome};
 
 use asl_shape::ShapeRefusal;
+use asl_tree::OutOfMemory;
 use std::alloc::{AllocError, AllocFailed, Global};
 
 /// What is wrong with declared shapes or a certificate.
@@ -69,9 +70,10 @@ impl ReadFault {
     ghost use Rattle.asl_records.specs.View.{record_fault_view};
     ghost use Rattle.asl_records.specs.Parts.{TellsOneOf, complaint_of};
 
-    /// A fault at an entry and a field, or want of memory where there is none for their names.
+    /// A fault at an entry and a field, or out of memory where there is none for their names.
     pub(crate) fn record(alloc: Global, fault: RecordFault, name: &str, field: &str) -> ReadFault
-        ensures { (f : model.RecordFault) → record_fault_view fault ≡ Some f → TellsOneOf (complaint_of name.now field.now f ∷ []) result }
+        ensures { (f : model.RecordFault) → record_fault_view fault ≡ Some f
+            → TellsOneOf (complaint_of name.now field.now f ∷ []) result }
     {
         match (
             String::from_str(alloc, name),
@@ -80,6 +82,16 @@ impl ReadFault {
             (Ok(name), Ok(field)) => ReadFault::Record(RecordRefusal { fault, name, field }),
             _ => ReadFault::OutOfMemory,
         }
+    }
+}
+
+impl From<OutOfMemory> for ReadFault {
+    ghost use Rattle.asl_records.specs.declared.refusals.ReadFault.{ReadFault};
+
+    ghost from_gives = { λ _ fault. fault ≡ ReadFault.OutOfMemory };
+
+    fn from(_error: OutOfMemory) -> ReadFault {
+        ReadFault::OutOfMemory
     }
 }
 

@@ -2,8 +2,10 @@ use Rattle.std.proofs.Common.{[], ◌++◌, true, codes, refl, sym, ap, ◌∙�
 use Rattle.serde_json.specs.View.{view, members_view}
 use Rattle.asl_model.specs.Records.{certificate_rows, state_rows, object_complaints, entries_complaints, members_under}
 use Rattle.asl_records.specs.Parts.{field_complaints, shape_row, entries_row, version_row, members_there}
+use Rattle.asl_records.specs.declared.records.NumberedCertificate.{NumberedCertificate}
+use Rattle.asl_records.proofs.Numberings.{certificate_numbered}
 use Rattle.asl_records.proofs.Telling.{told_left, told_same, handed_on}
-use Rattle.asl_records.proofs.Certified.{others_told, version_told, output_told, states_told, none_wrong}
+use Rattle.asl_records.proofs.Certified.{others_told, version_told, output_told, states_told, none_wrong, stands_for}
 use Rattle.asl_records.proofs.certificates.read_record.Goals as goal
 
 pub returns-in_err-fields-clause-refused : goal.returns-in_err-fields-clause-refused
@@ -26,26 +28,38 @@ returns-in_err-check_version-clause-refused c =
     handed_on c.from_residual-in_err-check_version.result f _ c.from_residual-in_err-check_version.ensures.1
     (version_told (view c.args.value) (members_view c.in_ok-fields.fields.entries) f c.in_ok-fields.ensures.members told)
 
-pub returns-in_err-required_shape-clause-refused : goal.returns-in_err-required_shape-clause-refused
-returns-in_err-required_shape-clause-refused c =
-    let f = c.in_err-required_shape.field-0.0 in
-    let told = told_same f _ _ c.in_err-required_shape.ensures.refused (ap (field_complaints [] (shape_row (codes "output") true)) (c.take.ensures.others (codes "output") refl)) in
-    handed_on c.from_residual-in_err-required_shape.result f _ c.from_residual-in_err-required_shape.ensures.1
+pub returns-in_err-output-clause-refused : goal.returns-in_err-output-clause-refused
+returns-in_err-output-clause-refused c =
+    let f = c.in_err-output.field-0.0 in
+    let told = told_same f _ _ c.in_err-output.ensures.refused (ap (field_complaints [] (shape_row (codes "output") true)) (c.take.ensures.taken.others (codes "output") refl)) in
+    handed_on c.from_residual-in_err-output.result f _ c.from_residual-in_err-output.ensures.1
     (output_told (view c.args.value) (members_view c.in_ok-fields.fields.entries) f c.in_ok-fields.ensures.members told)
 
-pub returns-in_err-read_states-clause-refused : goal.returns-in_err-read_states-clause-refused
-returns-in_err-read_states-clause-refused c =
-    let f = c.in_err-read_states.field-0.0 in
-    let there = c.required_shape.ensures.others (codes "states") refl ∙ c.take.ensures.others (codes "states") refl in
-    let told = told_same f _ _ c.in_err-read_states.ensures.refused (ap (λ o. field_complaints [] (entries_row (codes "states") true) o ++ entries_complaints state_rows (members_there o)) there) in
-    handed_on c.from_residual-in_err-read_states.result f _ c.from_residual-in_err-read_states.ensures.1
+pub returns-in_err-states-clause-refused : goal.returns-in_err-states-clause-refused
+returns-in_err-states-clause-refused c =
+    let f = c.in_err-states.field-0.0 in
+    let there = c.required_number.ensures.taken.others (codes "states") refl ∙ c.take.ensures.taken.others (codes "states") refl in
+    let told = told_same f _ _ c.in_err-states.ensures.refused (ap (λ o. field_complaints [] (entries_row (codes "states") true) o ++ entries_complaints state_rows (members_there o)) there) in
+    handed_on c.from_residual-in_err-states.result f _ c.from_residual-in_err-states.ensures.1
     (states_told (view c.args.value) (members_view c.in_ok-fields.fields.entries) f c.in_ok-fields.ensures.members told)
 
 pub returns-clause-right : goal.returns-clause-right
 returns-clause-right c =
     let ms = members_view c.in_ok-fields.fields.entries in
-    let there = c.required_shape.ensures.others (codes "states") refl ∙ c.take.ensures.others (codes "states") refl in
+    let there = c.required_number.ensures.taken.others (codes "states") refl ∙ c.take.ensures.taken.others (codes "states") refl in
     let version = ap (field_complaints [] version_row) (sym c.take.ensures.value) ∙ c.in_ok-check_version.ensures.right in
-    let output = ap (field_complaints [] (shape_row (codes "output") true)) (sym (c.take.ensures.others (codes "output") refl)) ∙ c.in_ok-required_shape.ensures.right in
-    let states = ap (λ o. field_complaints [] (entries_row (codes "states") true) o ++ entries_complaints state_rows (members_there o)) (sym there) ∙ c.in_ok-read_states.ensures.right in
+    let output = ap (field_complaints [] (shape_row (codes "output") true)) (sym (c.take.ensures.taken.others (codes "output") refl)) ∙ c.in_ok-output.ensures.right in
+    let states = ap (λ o. field_complaints [] (entries_row (codes "states") true) o ++ entries_complaints state_rows (members_there o)) (sym there) ∙ c.in_ok-states.ensures.right in
     none_wrong (view c.args.value) ms c.in_ok-fields.ensures.members c.in_ok-check_fields.ensures.right version output states
+
+pub returns-clause-certificate : goal.returns-clause-certificate
+returns-clause-certificate c =
+    let output = c.take.ensures.taken.others (codes "output") refl in
+    let states = c.required_number.ensures.taken.others (codes "states") refl ∙ c.take.ensures.taken.others (codes "states") refl in
+    let numbered : NumberedCertificate = record { shapes = c.read_states.new.shapes; output = c.in_ok-output.output; states = c.in_ok-states.states } in
+    stands_for c.required_number.new.shapes numbered (view c.args.value) (members_view c.in_ok-fields.fields.entries) _ _ c.in_ok-fields.ensures.members output states c.in_ok-output.ensures.number c.in_ok-states.ensures.keeps c.in_ok-states.ensures.states
+
+pub returns-clause-within : goal.returns-clause-within
+returns-clause-within c =
+    let numbered : NumberedCertificate = record { shapes = c.read_states.new.shapes; output = c.in_ok-output.output; states = c.in_ok-states.states } in
+    certificate_numbered c.required_number.new.shapes numbered _ _ c.in_ok-output.ensures.number c.in_ok-states.ensures.keeps c.in_ok-states.ensures.states

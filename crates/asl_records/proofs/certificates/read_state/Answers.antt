@@ -1,10 +1,13 @@
-use Rattle.std.proofs.Common.{codes, true, false, refl, sym, ap, ◌∙◌}
+use Rattle.std.proofs.Common.{codes, true, false, refl, sym, ap, ◌∙◌, subst}
 use Rattle.serde_json.specs.View.{view, members_view}
 use Rattle.asl_model.specs.Records.{state_rows}
-use Rattle.asl_records.specs.Parts.{field_complaints, shape_row, shapes_row}
+use Rattle.asl_records.specs.Numbering.{AreStateOf}
+use Rattle.asl_records.specs.Parts.{field_complaints, shape_row, shapes_row, value_in}
+use Rattle.asl_records.specs.declared.records.StateNumbers.{StateNumbers}
+use Rattle.asl_records.proofs.Numberings.{state_numbered}
 use Rattle.asl_records.proofs.Telling.{handed_on, told_same}
 use Rattle.asl_records.proofs.Objects.{foreign_told_of}
-use Rattle.asl_records.proofs.Stated.{input_told, output_told, branches_told, item_told, none_wrong}
+use Rattle.asl_records.proofs.Stated.{input_told, output_told, branches_told, item_told, none_wrong, read_from, stands_for}
 use Rattle.asl_records.proofs.certificates.read_state.Goals as goal
 
 pub returns-in_err-fields-clause-refused : goal.returns-in_err-fields-clause-refused
@@ -16,42 +19,56 @@ returns-in_err-check_fields-clause-refused c =
     handed_on c.from_residual-in_err-check_fields.result f _ c.from_residual-in_err-check_fields.ensures.1
     (foreign_told_of c.args.name.now state_rows (view c.args.value) (members_view c.in_ok-fields.fields.entries) f c.in_ok-fields.ensures.members c.in_err-check_fields.ensures.refused)
 
-pub returns-in_err-required_shape-clause-refused : goal.returns-in_err-required_shape-clause-refused
-returns-in_err-required_shape-clause-refused c =
-    let f = c.in_err-required_shape.field-0.0 in
-    handed_on c.from_residual-in_err-required_shape.result f _ c.from_residual-in_err-required_shape.ensures.1
-    (input_told c.args.name.now (view c.args.value) (members_view c.in_ok-fields.fields.entries) f c.in_ok-fields.ensures.members c.in_err-required_shape.ensures.refused)
+pub returns-in_err-required_number-clause-refused : goal.returns-in_err-required_number-clause-refused
+returns-in_err-required_number-clause-refused c =
+    let f = c.in_err-required_number.field-0.0 in
+    handed_on c.from_residual-in_err-required_number.result f _ c.from_residual-in_err-required_number.ensures.1
+    (input_told c.args.name.now (view c.args.value) (members_view c.in_ok-fields.fields.entries) f c.in_ok-fields.ensures.members c.in_err-required_number.ensures.refused)
 
-pub returns-in_err-required_shape-2-clause-refused : goal.returns-in_err-required_shape-2-clause-refused
-returns-in_err-required_shape-2-clause-refused c =
+pub returns-in_err-required_number-2-clause-refused : goal.returns-in_err-required_number-2-clause-refused
+returns-in_err-required_number-2-clause-refused c =
     let name = c.args.name.now in
-    let f = c.in_err-required_shape-2.field-0.0 in
-    let told = told_same f _ _ c.in_err-required_shape-2.ensures.refused (ap (field_complaints name (shape_row (codes "output") true)) (c.required_shape.ensures.others (codes "output") refl)) in
-    handed_on c.from_residual-in_err-required_shape-2.result f _ c.from_residual-in_err-required_shape-2.ensures.1
+    let f = c.in_err-required_number-2.field-0.0 in
+    let told = told_same f _ _ c.in_err-required_number-2.ensures.refused (ap (field_complaints name (shape_row (codes "output") true)) (c.required_number.ensures.taken.others (codes "output") refl)) in
+    handed_on c.from_residual-in_err-required_number-2.result f _ c.from_residual-in_err-required_number-2.ensures.1
     (output_told name (view c.args.value) (members_view c.in_ok-fields.fields.entries) f c.in_ok-fields.ensures.members told)
 
-pub returns-in_err-optional_shapes-clause-refused : goal.returns-in_err-optional_shapes-clause-refused
-returns-in_err-optional_shapes-clause-refused c =
+pub returns-in_err-optional_numbers-clause-refused : goal.returns-in_err-optional_numbers-clause-refused
+returns-in_err-optional_numbers-clause-refused c =
     let name = c.args.name.now in
-    let f = c.in_err-optional_shapes.field-0.0 in
-    let there = c.required_shape-2.ensures.others (codes "branches") refl ∙ c.required_shape.ensures.others (codes "branches") refl in
-    let told = told_same f _ _ c.in_err-optional_shapes.ensures.refused (ap (field_complaints name (shapes_row (codes "branches"))) there) in
-    handed_on c.from_residual-in_err-optional_shapes.result f _ c.from_residual-in_err-optional_shapes.ensures.1
+    let f = c.in_err-optional_numbers.field-0.0 in
+    let there = c.required_number-2.ensures.taken.others (codes "branches") refl ∙ c.required_number.ensures.taken.others (codes "branches") refl in
+    let told = told_same f _ _ c.in_err-optional_numbers.ensures.refused (ap (field_complaints name (shapes_row (codes "branches"))) there) in
+    handed_on c.from_residual-in_err-optional_numbers.result f _ c.from_residual-in_err-optional_numbers.ensures.1
     (branches_told name (view c.args.value) (members_view c.in_ok-fields.fields.entries) f c.in_ok-fields.ensures.members told)
 
-pub returns-in_err-optional_shape-clause-refused : goal.returns-in_err-optional_shape-clause-refused
-returns-in_err-optional_shape-clause-refused c =
+pub returns-in_err-optional_number-clause-refused : goal.returns-in_err-optional_number-clause-refused
+returns-in_err-optional_number-clause-refused c =
     let name = c.args.name.now in
-    let f = c.in_err-optional_shape.field-0.0 in
-    let there = c.optional_shapes.ensures.others (codes "item") refl ∙ c.required_shape-2.ensures.others (codes "item") refl ∙ c.required_shape.ensures.others (codes "item") refl in
-    let told = told_same f _ _ c.in_err-optional_shape.ensures.refused (ap (field_complaints name (shape_row (codes "item") false)) there) in
-    handed_on c.from_residual-in_err-optional_shape.result f _ c.from_residual-in_err-optional_shape.ensures.1
+    let f = c.in_err-optional_number.field-0.0 in
+    let there = c.optional_numbers.ensures.taken.others (codes "item") refl ∙ c.required_number-2.ensures.taken.others (codes "item") refl ∙ c.required_number.ensures.taken.others (codes "item") refl in
+    let told = told_same f _ _ c.in_err-optional_number.ensures.refused (ap (field_complaints name (shape_row (codes "item") false)) there) in
+    handed_on c.from_residual-in_err-optional_number.result f _ c.from_residual-in_err-optional_number.ensures.1
     (item_told name (view c.args.value) (members_view c.in_ok-fields.fields.entries) f c.in_ok-fields.ensures.members told)
 
 pub returns-clause-right : goal.returns-clause-right
 returns-clause-right c =
     let name = c.args.name.now in
-    let output = ap (field_complaints name (shape_row (codes "output") true)) (sym (c.required_shape.ensures.others (codes "output") refl)) ∙ c.in_ok-required_shape-2.ensures.right in
-    let branches = ap (field_complaints name (shapes_row (codes "branches"))) (sym (c.required_shape-2.ensures.others (codes "branches") refl ∙ c.required_shape.ensures.others (codes "branches") refl)) ∙ c.in_ok-optional_shapes.ensures.right in
-    let item = ap (field_complaints name (shape_row (codes "item") false)) (sym (c.optional_shapes.ensures.others (codes "item") refl ∙ c.required_shape-2.ensures.others (codes "item") refl ∙ c.required_shape.ensures.others (codes "item") refl)) ∙ c.in_ok-optional_shape.ensures.right in
-    none_wrong name (view c.args.value) (members_view c.in_ok-fields.fields.entries) c.in_ok-fields.ensures.members c.in_ok-check_fields.ensures.right c.in_ok-required_shape.ensures.right output branches item
+    let output = ap (field_complaints name (shape_row (codes "output") true)) (sym (c.required_number.ensures.taken.others (codes "output") refl)) ∙ c.in_ok-required_number-2.ensures.right in
+    let branches = ap (field_complaints name (shapes_row (codes "branches"))) (sym (c.required_number-2.ensures.taken.others (codes "branches") refl ∙ c.required_number.ensures.taken.others (codes "branches") refl)) ∙ c.in_ok-optional_numbers.ensures.right in
+    let item = ap (field_complaints name (shape_row (codes "item") false)) (sym (c.optional_numbers.ensures.taken.others (codes "item") refl ∙ c.required_number-2.ensures.taken.others (codes "item") refl ∙ c.required_number.ensures.taken.others (codes "item") refl)) ∙ c.in_ok-optional_number.ensures.right in
+    none_wrong name (view c.args.value) (members_view c.in_ok-fields.fields.entries) c.in_ok-fields.ensures.members c.in_ok-check_fields.ensures.right c.in_ok-required_number.ensures.right output branches item
+
+pub returns-clause-numbers : goal.returns-clause-numbers
+returns-clause-numbers c =
+    let fields = c.in_ok-fields.fields.entries in
+    let first = c.required_number.new.fields.entries in
+    let second = c.required_number-2.new.fields.entries in
+    let third = c.optional_numbers.new.fields.entries in
+    let output = c.required_number.ensures.taken.others (codes "output") refl in
+    let branches = c.required_number-2.ensures.taken.others (codes "branches") refl ∙ c.required_number.ensures.taken.others (codes "branches") refl in
+    let item = c.optional_numbers.ensures.taken.others (codes "item") refl ∙ c.required_number-2.ensures.taken.others (codes "item") refl ∙ c.required_number.ensures.taken.others (codes "item") refl in
+    let numbers : StateNumbers = record { input = c.in_ok-required_number.field-0; output = c.in_ok-required_number-2.field-0; branches = c.in_ok-optional_numbers.field-0; item = c.in_ok-optional_number.field-0 } in
+    let read = read_from (value_in (codes "input") fields) (value_in (codes "output") first) (value_in (codes "branches") second) (value_in (codes "item") third) in
+    subst (λ shapes. AreStateOf c.optional_number.new.shapes shapes numbers) (stands_for (view c.args.value) (members_view fields) _ _ _ c.in_ok-fields.ensures.members output branches item)
+    (state_numbered c.required_number.new.shapes c.required_number-2.new.shapes c.optional_numbers.new.shapes c.optional_number.new.shapes read numbers c.in_ok-required_number.ensures.number c.in_ok-required_number-2.ensures.keeps c.in_ok-required_number-2.ensures.number c.in_ok-optional_numbers.ensures.keeps c.in_ok-optional_numbers.ensures.numbers c.in_ok-optional_number.ensures.keeps c.in_ok-optional_number.ensures.number)

@@ -31,11 +31,11 @@ returns-in_err-required_shape-clause-refused c =
 pub returns-in_err-read_tasks-clause-refused : goal.returns-in_err-read_tasks-clause-refused
 returns-in_err-read_tasks-clause-refused c =
     let f = c.in_err-read_tasks.field-0.0 in
-    let told = told_same f _ _ c.in_err-read_tasks.ensures.refused (ap (λ o. field_complaints [] (entries_row (codes "tasks") false) o ++ entries_complaints task_rows (members_there o)) (c.required_shape.ensures.others (codes "tasks") refl)) in
+    let told = told_same f _ _ c.in_err-read_tasks.ensures.refused (ap (λ o. field_complaints [] (entries_row (codes "tasks") false) o ++ entries_complaints task_rows (members_there o)) (c.required_shape.ensures.taken.others (codes "tasks") refl)) in
     handed_on c.from_residual-in_err-read_tasks.result f _ c.from_residual-in_err-read_tasks.ensures.1
     (tasks_told (view c.args.value) (members_view c.in_ok-fields.fields.entries) f c.in_ok-fields.ensures.members told)
 
 pub returns-clause-right : goal.returns-clause-right
 returns-clause-right c =
-    let tasks = ap (λ o. field_complaints [] (entries_row (codes "tasks") false) o ++ entries_complaints task_rows (members_there o)) (sym (c.required_shape.ensures.others (codes "tasks") refl)) ∙ c.in_ok-read_tasks.ensures.right in
+    let tasks = ap (λ o. field_complaints [] (entries_row (codes "tasks") false) o ++ entries_complaints task_rows (members_there o)) (sym (c.required_shape.ensures.taken.others (codes "tasks") refl)) ∙ c.in_ok-read_tasks.ensures.right in
     none_wrong (view c.args.value) (members_view c.in_ok-fields.fields.entries) c.in_ok-fields.ensures.members c.in_ok-check_fields.ensures.right c.in_ok-required_shape.ensures.right tasks

@@ -26,12 +26,12 @@ pub returns-in_err-required_shape-clause-refused : goal.returns-in_err-required_
 returns-in_err-required_shape-clause-refused c =
     let name = c.args.name.now in
     let f = c.in_err-required_shape.field-0.0 in
-    let told = told_same f _ _ c.in_err-required_shape.ensures.refused (ap (field_complaints name (shape_row (codes "gives") true)) (c.optional_shape.ensures.others (codes "gives") refl)) in
+    let told = told_same f _ _ c.in_err-required_shape.ensures.refused (ap (field_complaints name (shape_row (codes "gives") true)) (c.optional_shape.ensures.taken.others (codes "gives") refl)) in
     handed_on c.from_residual-in_err-required_shape.result f _ c.from_residual-in_err-required_shape.ensures.1
     (gives_told name (view c.args.value) (members_view c.in_ok-fields.fields.entries) f c.in_ok-fields.ensures.members told)
 
 pub returns-clause-right : goal.returns-clause-right
 returns-clause-right c =
     let name = c.args.name.now in
-    let gives = ap (field_complaints name (shape_row (codes "gives") true)) (sym (c.optional_shape.ensures.others (codes "gives") refl)) ∙ c.in_ok-required_shape.ensures.right in
+    let gives = ap (field_complaints name (shape_row (codes "gives") true)) (sym (c.optional_shape.ensures.taken.others (codes "gives") refl)) ∙ c.in_ok-required_shape.ensures.right in
     task_right name (view c.args.value) (members_view c.in_ok-fields.fields.entries) c.in_ok-fields.ensures.members c.in_ok-check_fields.ensures.right c.in_ok-optional_shape.ensures.right gives

@@ -8,13 +8,11 @@ use Rattle.asl_records.proofs.fields.take.Goals as goal
 pub returns-clause-whole : goal.returns-clause-whole
 returns-clause-whole c = found_whole (members_view c.args.fields.now.entries) c.args.field.now c.remove.result c.requires (ap (option_map view) c.remove.ensures.value ∙ found c.args.field.now c.args.fields.now)
 
-pub returns-clause-left : goal.returns-clause-left
-returns-clause-left c =
-    subst (λ es. AreWhole (members_view es)) (sym c.remove.ensures.entries) (removed_whole _ c.args.fields.now.entries c.requires)
-
 pub returns-clause-value : goal.returns-clause-value
 returns-clause-value c = ap (option_map view) c.remove.ensures.value ∙ found c.args.field.now c.args.fields.now
 
-pub returns-clause-others : goal.returns-clause-others
-returns-clause-others c = λ n other.
-    found_after c.args.field.now c.args.fields.now c.remove.new.self _ n c.remove.ensures.updates other
+pub returns-clause-taken : goal.returns-clause-taken
+returns-clause-taken c = record {
+  left = subst (λ es. AreWhole (members_view es)) (sym c.remove.ensures.entries) (removed_whole _ c.args.fields.now.entries c.requires);
+  others = λ n other. found_after c.args.field.now c.args.fields.now c.remove.new.self _ n c.remove.ensures.updates other;
+}

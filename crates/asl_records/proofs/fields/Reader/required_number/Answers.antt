@@ -2,9 +2,9 @@ use Rattle.std.proofs.Common.{◌≡◌, None, refl, rules}
 use Rattle.serde_json.specs.Find.{get_member}
 use Rattle.serde_json.specs.View.{members_view}
 use Rattle.asl_model.specs.Records.{MissingField}
-use Rattle.asl_records.proofs.fields.required_shape.Goals as goal
+use Rattle.asl_records.proofs.fields.Reader.required_number.Goals as goal
 
 pub returns-in-None-clause-refused : goal.returns-in-None-clause-refused
 returns-in-None-clause-refused c =
     let none : get_member c.args.field.now (members_view c.args.fields.now.entries) ≡ None = search rules in
-    rw none (c.record.ensures MissingField refl)
+    rw none (c.refuse.ensures MissingField refl)

@@ -1,0 +1,5 @@
+use Rattle.asl_records.proofs.Lists.{ReadsNumbers}
+use Rattle.asl_records.proofs.fields.Reader.read_numbers.Given as goal
+
+abbrev pub invariant-loop-element : goal.invariant-loop-element
+invariant-loop-element l = ReadsNumbers l.initial.shapes l.shapes l.fn.elements.items l.element-iterator.rest.items l.numbers.items

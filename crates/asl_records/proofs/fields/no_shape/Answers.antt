@@ -1,6 +1,0 @@
-use Rattle.asl_records.proofs.Shapes.{shape_told}
-use Rattle.asl_records.proofs.fields.no_shape.Goals as goal
-
-pub returns-in-NotAShape : goal.returns-in-NotAShape
-returns-in-NotAShape c = λ wrong listed.
-    shape_told c.args.refusal c.args.name.now c.args.field.now wrong c.record.result c.in-NotAShape.is c.record.ensures listed

@@ -1,0 +1,169 @@
+// The shapes in the fields of a certificate, read into a table.
+
+ghost use Rattle.std.specs.Prelude.{◌≡◌, ◌≢◌, List, [], map, true, false, Some, option_map, Contains, IfOk, IfErr, IfSome, OnOk};
+ghost use Rattle.serde_json.specs.View.{view, items_view, members_view};
+ghost use Rattle.asl_model.specs.Records.{BadShape, RecordComplaint, ShapesValue, misfits, shape_from, shape_misfits, shapes_from, shapes_misfits};
+ghost use Rattle.asl_numbered.specs.Expansion.{expansions, IsNumberOf, Keeps};
+ghost use Rattle.asl_numbered.specs.declared.NumberedRefusal.{NumberedRefusal};
+ghost use Rattle.asl_records.specs.Numbering.{AreListOf, IsItemOf};
+ghost use Rattle.asl_records.specs.Parts.{AreWhole, ElementsAreWhole, IsWhole, Takes, TellsOneOf, complaint_of, fault_told, field_complaints, shape_complaints, shape_row, shape_there, shapes_complaints, shapes_row, shapes_there, value_in};
+
+use crate::fields::{Reader, take};
+use crate::refusals::{ReadFault, RecordFault};
+use asl_numbered::{NumberedRefusal, Shapes};
+use serde_json::{Map, Value};
+
+impl Reader<'_> {
+    /// Takes a field that has to be there, and reads the number of its shape.
+    pub(crate) fn required_number(
+        &self,
+        shapes: &mut Shapes,
+        field: &'static str,
+        fields: &mut Map<String, Value>,
+    ) -> Result<usize, ReadFault>
+        requires { AreWhole (members_view fields.old.entries) }
+        ensures taken { Takes field.now fields.old.entries fields.new.entries }
+        ensures right { OnOk result (field_complaints self.now.name.now
+            (shape_row field.now true) (value_in field.now fields.old.entries) ≡ []) }
+        ensures number { IfOk result (IsNumberOf (expansions shapes.new)
+            (shape_there (value_in field.now fields.old.entries))) }
+        ensures refused { IfErr result (TellsOneOf (field_complaints self.now.name.now
+            (shape_row field.now true) (value_in field.now fields.old.entries))) }
+        ensures keeps { Keeps (expansions shapes.old) (expansions shapes.new) }
+    {
+        match take(fields, field) {
+            Some(value) => self.read_number(shapes, field, value),
+            None => Err(self.refuse(RecordFault::MissingField, field)),
+        }
+    }
+
+    /// Takes a field that may be there, and reads the number of its shape.
+    pub(crate) fn optional_number(
+        &self,
+        shapes: &mut Shapes,
+        field: &'static str,
+        fields: &mut Map<String, Value>,
+    ) -> Result<Option<usize>, ReadFault>
+        requires { AreWhole (members_view fields.old.entries) }
+        ensures taken { Takes field.now fields.old.entries fields.new.entries }
+        ensures right { OnOk result (field_complaints self.now.name.now
+            (shape_row field.now false) (value_in field.now fields.old.entries) ≡ []) }
+        ensures number { IfOk result (IsItemOf shapes.new
+            (option_map shape_from (value_in field.now fields.old.entries))) }
+        ensures refused { IfErr result (TellsOneOf (field_complaints self.now.name.now
+            (shape_row field.now false) (value_in field.now fields.old.entries))) }
+        ensures keeps { Keeps (expansions shapes.old) (expansions shapes.new) }
+    {
+        match take(fields, field) {
+            Some(value) => match self.read_number(shapes, field, value) {
+                Ok(number) => Ok(Some(number)),
+                Err(fault) => Err(fault),
+            },
+            None => Ok(None),
+        }
+    }
+
+    /// Takes a field that may be there, and reads the numbers of its list of shapes: none where it isn't there.
+    pub(crate) fn optional_numbers(
+        &self,
+        shapes: &mut Shapes,
+        field: &'static str,
+        fields: &mut Map<String, Value>,
+    ) -> Result<Vec<usize>, ReadFault>
+        requires { AreWhole (members_view fields.old.entries) }
+        ensures taken { Takes field.now fields.old.entries fields.new.entries }
+        ensures right { OnOk result (field_complaints self.now.name.now
+            (shapes_row field.now) (value_in field.now fields.old.entries) ≡ []) }
+        ensures numbers { IfOk result (λ numbers. AreListOf shapes.new
+            (shapes_there (value_in field.now fields.old.entries)) numbers.items) }
+        ensures refused { IfErr result (TellsOneOf (field_complaints self.now.name.now
+            (shapes_row field.now) (value_in field.now fields.old.entries))) }
+        ensures keeps { Keeps (expansions shapes.old) (expansions shapes.new) }
+    {
+        match take(fields, field) {
+            Some(value) => self.read_list(shapes, field, value),
+            None => Ok(Vec::new(self.alloc)),
+        }
+    }
+
+    /// The numbers of the shapes that the elements of a field's list stand for.
+    fn read_list(
+        &self,
+        shapes: &mut Shapes,
+        field: &str,
+        value: Value,
+    ) -> Result<Vec<usize>, ReadFault>
+        requires { IsWhole (view value) }
+        ensures right { OnOk result (misfits ShapesValue (view value) ≡ []) }
+        ensures numbers { IfOk result (λ numbers. AreListOf shapes.new
+            (shapes_there (Some (view value))) numbers.items) }
+        ensures refused { IfErr result (TellsOneOf
+            (map (complaint_of self.now.name.now field.now) (misfits ShapesValue (view value)))) }
+        ensures keeps { Keeps (expansions shapes.old) (expansions shapes.new) }
+    {
+        match value {
+            Value::Array(elements) => self.read_numbers(shapes, field, elements),
+            Value::Null | Value::Bool(_) | Value::Number(_) | Value::String(_) | Value::Object(_) =>
+                Err(self.refuse(RecordFault::WrongKind, field)),
+        }
+    }
+
+    /// The numbers of the shapes that the elements stand for, one after another.
+    fn read_numbers(
+        &self,
+        shapes: &mut Shapes,
+        field: &str,
+        elements: Vec<Value>,
+    ) -> Result<Vec<usize>, ReadFault>
+        requires { ElementsAreWhole (items_view elements.items) }
+        ensures right { OnOk result (shapes_misfits (items_view elements.items) ≡ []) }
+        ensures numbers { IfOk result (λ numbers. AreListOf shapes.new
+            (shapes_from (items_view elements.items)) numbers.items) }
+        ensures refused { IfErr result (TellsOneOf
+            (shapes_complaints self.now.name.now field.now (items_view elements.items))) }
+        ensures keeps { Keeps (expansions shapes.old) (expansions shapes.new) }
+    {
+        let mut numbers = Vec::with_capacity(self.alloc, elements.len())?;
+        for element in elements {
+            numbers.push(self.read_number(shapes, field, element)?)?;
+        }
+        Ok(numbers)
+    }
+
+    /// The number of the shape that a field's value stands for.
+    fn read_number(
+        &self,
+        shapes: &mut Shapes,
+        field: &str,
+        value: Value,
+    ) -> Result<usize, ReadFault>
+        requires { IsWhole (view value) }
+        ensures right { OnOk result (shape_misfits (view value) ≡ []) }
+        ensures number { IfOk result
+            (IsNumberOf (expansions shapes.new) (shape_from (view value))) }
+        ensures refused { IfErr result
+            (TellsOneOf (shape_complaints self.now.name.now field.now (view value))) }
+        ensures keeps { Keeps (expansions shapes.old) (expansions shapes.new) }
+    {
+        let answer = shapes.read_value_with(&value, None);
+        drop(value);
+        match answer {
+            Ok(number) => Ok(number),
+            Err(refusal) => Err(self.no_number(refusal, field)),
+        }
+    }
+
+    /// What is told of a field whose value is refused as a shape, where it can't have referred to one by a number.
+    fn no_number(&self, refusal: NumberedRefusal, field: &str) -> ReadFault
+        requires { refusal ≢ NumberedRefusal.BadNumber }
+        ensures { (wrong : List RecordComplaint) → IfSome (fault_told refusal)
+            (λ fault. Contains wrong (complaint_of self.now.name.now field.now (BadShape fault)))
+            → TellsOneOf wrong result }
+    {
+        match refusal {
+            NumberedRefusal::Shape(refusal) => self.no_shape(refusal, field),
+            NumberedRefusal::BadNumber => unreachable!(),
+            NumberedRefusal::OutOfMemory => ReadFault::OutOfMemory,
+        }
+    }
+}
