@@ -1,7 +1,7 @@
-pub mod Catches
-pub mod Elements
-pub mod ItemSelections
-pub mod KindRules
+pub mod Below
+pub mod EdgesTold
+pub mod FlowsTold
+pub mod Grown
 pub mod LookedUp
 pub mod Members
 pub mod Named
@@ -10,11 +10,11 @@ pub mod OneAfterAnother
 pub mod Passes
 pub mod RowsLeft
 pub mod StateRules
-pub mod Stops
 pub mod TableEnds
 pub mod TableFindings
 pub mod TableNames
 pub mod TableNoted
 pub mod TableRows
 pub mod TableScopes
+pub mod TaskNumbers
 pub mod Telling

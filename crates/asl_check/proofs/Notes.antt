@@ -11,9 +11,10 @@ use Rattle.std.proofs.lemmas.Map.Lookups.{exact_bytes}
 use Rattle.asl_model.specs.Finding as finding
 use Rattle.asl_model.specs.Finding.{found_at}
 use Rattle.asl_model.specs.Verdict.{Rejected, AreInNameOrder, TellsOf}
-use Rattle.asl_check.specs.declared.noting.Broken.{Broken}
+use Rattle.asl_edges.specs.View.{broken_view}
+use Rattle.asl_edges.specs.declared.faults.Broken.{Broken}
 use Rattle.asl_check.proofs.Members.{first, later, no_member, first_or_later, only}
-use Rattle.asl_check.specs.Noting.{AreNoted, IsToldBy, broken_view, note_view, notes_view}
+use Rattle.asl_check.specs.Noting.{AreNoted, IsToldBy, note_view, notes_view}
 
 -- a name with its broken rule
 abbrev pub Note : Type 0

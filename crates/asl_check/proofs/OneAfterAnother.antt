@@ -1,14 +1,10 @@
 -- What is told of lists of rules that are looked at one after another.
-use Rattle.std.proofs.Common.{◌≡◌, ◌<◌, ◌≤◌, ◌+◌, ℕ, List, [], ◌∷◌, ◌++◌, length, get_or, drop, Option, Some, None, option_map, option_to_list, Result, IfOk, refl, sym, ap, ◌∙◌, subst, drop-cons, add-one}
+use Rattle.std.proofs.Common.{◌≡◌, ◌<◌, ◌≤◌, ◌+◌, ℕ, List, [], ◌∷◌, ◌++◌, length, get_or, drop, Option, Some, None, option_to_list, refl, sym, ap, ◌∙◌, subst, drop-cons, add-one}
 use Rattle.std.specs.List.{Contains}
 use Rattle.std.proofs.lemmas.List.{drop_all}
 use Rattle.std.proofs.lemmas.List.Elements.{Contains-append_left}
-use Rattle.std.proofs.lemmas.Result.{IfOk-weaker}
 use Rattle.asl_model.specs.Finding.{Breach}
-use Rattle.asl_tree.specs.declared.OutOfMemory.{OutOfMemory}
 use Rattle.asl_check.specs.Checking.{Told}
-use Rattle.asl_check.specs.Noting.{broken_view}
-use Rattle.asl_check.specs.declared.noting.Broken.{Broken}
 use Rattle.asl_check.proofs.Members.{first}
 
 -- a list of at most one
@@ -44,14 +40,3 @@ module _ {A : Type 0} (rules : List A → List Breach) (rule : A → List Breach
   -- none is left
   pub all_passed : (all : List Breach) (xs : List A) (i : ℕ) → length xs ≤ i → rules [] ≡ [] → all ≡ rules (drop i xs) → Told all None
   all_passed all xs i end none e = record { one = e ∙ ap rules (drop_all i xs end) ∙ none }
-
--- ---- what is answered of two lists
-
--- something is told of the first
-pub answered_before : (here left : List Breach) (told : Option Broken) (b : Broken) → told ≡ Some b → Told here (option_map broken_view told) → Told (here ++ left) (Some (broken_view b))
-answered_before here left told b is t = told_before here left (broken_view b) (subst (λ o. Told here (option_map broken_view o)) is t)
-
--- nothing is told of it
-pub answered_behind : (here left : List Breach) (told : Option Broken) (answer : Result (Option Broken) OutOfMemory) → told ≡ None → Told here (option_map broken_view told) → IfOk answer (λ t. Told left (option_map broken_view t)) → IfOk answer (λ t. Told (here ++ left) (option_map broken_view t))
-answered_behind here left told answer is t h =
-    IfOk-weaker answer (λ t. Told left (option_map broken_view t)) (λ t. Told (here ++ left) (option_map broken_view t)) (λ o q. told_behind here left (option_map broken_view o) (subst (λ p. Told here (option_map broken_view p)) is t) q) h

@@ -1,16 +1,10 @@
 -- What is told of one state's rules, part by part.
-use Rattle.std.proofs.Common.{◌≡◌, suc, List, [], ◌∷◌, ◌++◌, Contains, Bool, true, false, not, ◌||◌, length, String, Option, Some, option_to_list, Ok, Err, codes, refl, sym, ap, subst}
+use Rattle.std.proofs.Common.{◌≡◌, suc, List, [], ◌∷◌, ◌++◌, Contains, Bool, true, false, not, ◌||◌, length, String, Option, Some, option_to_list, codes, refl, sym, ap, subst}
 use Rattle.std.specs.declared.alloc.Global.{Global}
 use Rattle.asl_states.specs.Machine.{branches_view}
 use Rattle.asl_model.specs.Machine.{how_many}
-use Rattle.asl_model.specs.Shape.{Shape}
-use Rattle.asl_model.specs.ShapeFlow.{Flow}
-use Rattle.asl_model.specs.Finding.{Breach, NotCertified, TaskUndeclared, breach_unless, breaches_then}
-use Rattle.asl_check.specs.Checking.{Told, Flows, StopsWith}
-use Rattle.asl_check.specs.Noting.{broken_view}
-use Rattle.asl_check.specs.declared.flowing.Stopped.{Stopped}
-use Rattle.asl_check.specs.declared.flowing.Stopped.TheVariants as stops
-use Rattle.asl_check.specs.declared.noting.Broken.{Broken}
+use Rattle.asl_model.specs.Finding.{Breach, NotCertified, TaskUndeclared, breach_unless}
+use Rattle.asl_check.specs.Checking.{Told}
 use Rattle.asl_check.proofs.Members.{first}
 use Rattle.asl_check.proofs.OneAfterAnother.{one_told}
 
@@ -42,16 +36,3 @@ undeclared_passed true known declared e is = absurd (cc)
 pub task_declared : (task known declared : Bool) → task ≡ true → declared ≡ known → declared ≡ (not task || known)
 task_declared true known declared e is = is
 task_declared false known declared e is = absurd (cc)
-
--- ---- the way of a shape
-
--- it stops
-pub stops_told : (go_on : Shape → List Breach) (flow : Flow) (b : Breach) → StopsWith flow b → Told (breaches_then go_on flow) (Some b)
-stops_told go_on (Ok s) b h = absurd h
-stops_told go_on (Err faults) b h = record { one = h }
-
--- the code tells what stopped it
-pub stopped_told : (go_on : Shape → List Breach) (flow : Flow) (stopped : Stopped) (b : Broken) → stopped ≡ stops.Broken b → Flows flow (Err stopped) → Told (breaches_then go_on flow) (Some (broken_view b))
-stopped_told go_on flow stopped b is f =
-    let stopping : Flows flow (Err (stops.Broken b)) = subst (λ s. Flows flow (Err s)) is f in
-    stops_told go_on flow (broken_view b) stopping.flows

@@ -6,16 +6,19 @@ use Rattle.std.specs.Map.{keys_of}
 use Rattle.std.proofs.lemmas.List.Elements.{Contains-append_left, Contains-append_right, Contains-append_cases}
 use Rattle.asl_model.specs.Machine.{Scope, names_state, names_task}
 use Rattle.asl_model.specs.Numbering.{Table, table_of, IsWellNamed}
+use Rattle.asl_model.specs.Certificate.{Declared, Certificate}
 use Rattle.asl_model.specs.Finding.{Finding, NotAState, TaskUnknown, found_at, breach_unless, unknown_entries, unknown_tasks, start_findings, scope_findings, findings}
 use Rattle.asl_states.specs.Table.{Shows, table_view}
 use Rattle.asl_states.specs.declared.machine.Machine.{Machine}
-use Rattle.asl_records.specs.View.{declared_view, certificate_view, entries_view, tasks_view}
-use Rattle.asl_records.specs.declared.records.Declared.{Declared}
+use Rattle.asl_model.specs.Shape.{Shape}
+use Rattle.asl_records.specs.Numbered.{numbered_entries}
+use Rattle.asl_records.specs.View.{declared_view, tasks_view}
 use Rattle.asl_records.specs.declared.records.TaskShapes.{TaskShapes}
-use Rattle.asl_records.specs.declared.records.Certificate.{Certificate}
-use Rattle.asl_records.specs.declared.records.StateShapes.{StateShapes}
+use Rattle.asl_records.specs.declared.records.StateNumbers.{StateNumbers}
 use Rattle.asl_check.specs.Checking.{state_rule, task_rule, found_by}
 use Rattle.asl_check.specs.Noting.{AreNoted}
+use Rattle.asl_check.specs.Numbers.{certificate_of}
+use Rattle.asl_check.specs.declared.checker.Checker.{Checker}
 use Rattle.asl_check.specs.Rules.{entry_rules, flow_rules, found_in_all, found_at_start}
 use Rattle.asl_check.proofs.Passes.{both_noted, same_noted}
 use Rattle.asl_check.proofs.TableEnds.{distinct}
@@ -25,11 +28,11 @@ use Rattle.asl_check.proofs.TableNames.{state-named, task-named}
 -- ---- names that are looked up in the table
 
 -- what is found of the entries' names
-entries-named : (machine : Scope) (es : List (String Global × StateShapes)) → found_by (state_rule (table_of machine)) (keys_of es) ≡ unknown_entries machine (entries_view es)
-entries-named machine [] = refl
-entries-named machine (e ∷ es) =
+entries-named : (table : List Shape) (machine : Scope) (es : List (String Global × StateNumbers)) → found_by (state_rule (table_of machine)) (keys_of es) ≡ unknown_entries machine (numbered_entries table es)
+entries-named table machine [] = refl
+entries-named table machine (e ∷ es) =
     ap (λ known. found_at (string_bytes e.0) (breach_unless known (codes "states") NotAState) ++ found_by (state_rule (table_of machine)) (keys_of es)) (state-named machine (string_bytes e.0))
-    ∙ ap (λ found. found_at (string_bytes e.0) (breach_unless (names_state machine (string_bytes e.0)) (codes "states") NotAState) ++ found) (entries-named machine es)
+    ∙ ap (λ found. found_at (string_bytes e.0) (breach_unless (names_state machine (string_bytes e.0)) (codes "states") NotAState) ++ found) (entries-named table machine es)
 
 -- what is found of the declared tasks' names
 tasks-named : (machine : Scope) → IsWellNamed machine → (es : List (String Global × TaskShapes)) → found_by (task_rule (table_of machine)) (keys_of es) ≡ unknown_tasks machine (tasks_view es)
@@ -58,27 +61,35 @@ five_noted entries states tasks start flows scopes a b c d e f m p q r s t =
     let whole = made_up_behind [] states _ _ _ (made_up_behind [] tasks _ _ _ (made_up_behind [] start _ _ _ m)) in
     made_up_noted _ _ _ a f whole (both_noted _ _ a b f p (both_noted _ _ b c f q (both_noted _ _ c d f r (both_noted _ _ d e f s t))))
 
--- the five lists over a table
-abbrev AllNoted : Table → Declared → Certificate → Scope → List Finding → List Finding → Type 0
-AllNoted table declared certificate machine a f =
-    (b c d e : List Finding)
-    → AreNoted (found_in_all (entry_rules (declared_view declared) (certificate_view certificate)) table) a b
-    → AreNoted (found_by (state_rule table) (keys_of certificate.states.entries)) b c
-    → AreNoted (found_by (task_rule table) (keys_of declared.tasks.entries)) c d
-    → AreNoted (found_at_start table (declared_view declared) (certificate_view certificate)) d e
-    → AreNoted (found_in_all (flow_rules table (declared_view declared) (certificate_view certificate)) table) e f
-    → AreNoted (findings machine (declared_view declared) (certificate_view certificate)) a f
+module _ (shapes : List Shape) (c : Checker) where
+  -- what is declared and what is certified
+  abbrev declared : Declared
+  declared = declared_view c.declared.now
 
-of_table : (machine : Scope) → IsWellNamed machine → (declared : Declared) (certificate : Certificate) (a f : List Finding) → AllNoted (table_of machine) declared certificate machine a f
-of_table machine w declared certificate a f b c d e p q r s t =
-    five_noted _ (unknown_entries machine (certificate_view certificate).states) (unknown_tasks machine (declared_view declared).tasks) (start_findings machine (declared_view declared) (certificate_view certificate)) _ (scope_findings machine machine (declared_view declared) (certificate_view certificate) (Some (certificate_view certificate).output)) a b c d e f
-    (rows-made-up machine (declared_view declared) (certificate_view certificate) w)
-    p
-    (subst (λ found. AreNoted found b c) (entries-named machine certificate.states.entries) q)
-    (subst (λ found. AreNoted found c d) (tasks-named machine w declared.tasks.entries) r)
-    (subst (λ found. AreNoted found d e) (start-found machine (declared_view declared) (certificate_view certificate) w) s)
-    t
+  abbrev certificate : Certificate
+  certificate = certificate_of shapes c
 
--- the five lists over the table of a machine that shows that one
-pub all_noted : (m : Machine) (machine : Scope) → Shows m machine → (declared : Declared) (certificate : Certificate) (a f : List Finding) → AllNoted (table_view m) declared certificate machine a f
-all_noted m machine shows declared certificate a f = subst (λ table. AllNoted table declared certificate machine a f) (sym shows.table) (of_table machine shows.well_named declared certificate a f)
+  -- the five lists over a table
+  abbrev AllNoted : Table → Scope → List Finding → List Finding → Type 0
+  AllNoted table machine a f =
+      (b1 c1 d1 e1 : List Finding)
+      → AreNoted (found_in_all (entry_rules declared certificate) table) a b1
+      → AreNoted (found_by (state_rule table) (keys_of c.states.now.entries)) b1 c1
+      → AreNoted (found_by (task_rule table) (keys_of c.declared.now.tasks.entries)) c1 d1
+      → AreNoted (found_at_start table declared certificate) d1 e1
+      → AreNoted (found_in_all (flow_rules table declared certificate) table) e1 f
+      → AreNoted (findings machine declared certificate) a f
+
+  of_table : (machine : Scope) → IsWellNamed machine → (a f : List Finding) → AllNoted (table_of machine) machine a f
+  of_table machine w a f b1 c1 d1 e1 p q r s t =
+      five_noted _ (unknown_entries machine certificate.states) (unknown_tasks machine declared.tasks) (start_findings machine declared certificate) _ (scope_findings machine machine declared certificate (Some certificate.output)) a b1 c1 d1 e1 f
+      (rows-made-up machine declared certificate w)
+      p
+      (subst (λ found. AreNoted found b1 c1) (entries-named shapes machine c.states.now.entries) q)
+      (subst (λ found. AreNoted found c1 d1) (tasks-named machine w c.declared.now.tasks.entries) r)
+      (subst (λ found. AreNoted found d1 e1) (start-found machine declared certificate w) s)
+      t
+
+  -- the five lists over the table of a machine that shows that one
+  pub all_noted : (m : Machine) (machine : Scope) → Shows m machine → (a f : List Finding) → AllNoted (table_view m) machine a f
+  all_noted m machine shows a f = subst (λ table. AllNoted table machine a f) (sym shows.table) (of_table machine shows.well_named a f)

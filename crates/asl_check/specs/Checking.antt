@@ -1,18 +1,10 @@
--- What the checker's helpers answer: a shape on its way through a state, and a broken rule out of a part of the list.
-use Rattle.std.specs.Prelude.{◌≡◌, ℕ, List, [], ◌∷◌, ◌++◌, map, Option, Some, None, Result, Ok, Err, Contains, codes, String, string_bytes}
+-- What the checker's helpers answer: a broken rule out of a part of the list.
+use Rattle.std.specs.Prelude.{◌≡◌, ℕ, List, [], ◌∷◌, ◌++◌, Option, Some, None, Contains, codes, String, string_bytes}
 use Rattle.std.specs.declared.alloc.Global.{Global}
-use Rattle.asl_model.specs.Shape as model
-use Rattle.asl_model.specs.ShapeFlow as flows
 use Rattle.asl_model.specs.Numbering.{Table}
 use Rattle.asl_model.specs.Finding as finding
 use Rattle.asl_states.specs.Machine.{state_view, scope_view}
-use Rattle.asl_shape.specs.View.{view}
 use Rattle.asl_check.specs.declared.lookups.Row.{Row}
-use Rattle.asl_check.specs.declared.flowing.Flowing.{Flowing}
-use Rattle.asl_check.specs.declared.flowing.Flowing.TheVariants.{Lent, Made}
-use Rattle.asl_check.specs.declared.flowing.Stopped.{Stopped}
-use Rattle.asl_check.specs.declared.flowing.Stopped.TheVariants as stopped
-use Rattle.asl_check.specs.Noting.{broken_view}
 use Rattle.asl_check.specs.Rules as rules
 
 -- nothing is told where the list is empty, and else one of the list
@@ -22,25 +14,6 @@ TellsOne breaches (Some b) = Contains breaches b
 
 pub record Told (breaches : List finding.Breach) (told : Option finding.Breach) : Type 0 where
   pub one : TellsOne breaches told
-
--- the shape that is on its way
-abbrev pub flowing_view : Flowing → model.Shape
-flowing_view (Lent s) = view s.now
-flowing_view (Made s) = view s
-
--- the way of a shape stops, with that rule among the broken ones
-abbrev pub StopsWith : flows.Flow → finding.Breach → Type 0
-StopsWith (Ok s) b = ⊥
-StopsWith (Err faults) b = Contains (map finding.breach_of faults) b
-
--- the way of a shape comes to that shape, or stops with that broken rule
-abbrev pub ComesTo : flows.Flow → Result Flowing Stopped → Type 0
-ComesTo flow (Ok f) = flow ≡ Ok (flowing_view f)
-ComesTo flow (Err (stopped.Broken b)) = StopsWith flow (broken_view b)
-ComesTo flow (Err stopped.OutOfMemory) = Unit {0}
-
-pub record Flows (flow : flows.Flow) (answer : Result Flowing Stopped) : Type 0 where
-  pub flows : ComesTo flow answer
 
 -- a row of a machine
 abbrev pub row_view : Row → rules.Row
@@ -57,4 +30,5 @@ task_rule table n = finding.breach_unless (rules.names_task_in table n) (codes "
 -- what is found by a rule, of each of those names
 abbrev pub found_by : (List ℕ → List finding.Breach) → List (String Global) → List finding.Finding
 found_by rule [] = []
-found_by rule (name ∷ names) = finding.found_at (string_bytes name) (rule (string_bytes name)) ++ found_by rule names
+found_by rule (name ∷ names) =
+    finding.found_at (string_bytes name) (rule (string_bytes name)) ++ found_by rule names

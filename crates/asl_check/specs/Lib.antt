@@ -1,5 +1,7 @@
 pub mod Checking
-pub mod Children
 pub mod Noting
+pub mod Numbers
 pub mod Rules
+pub mod Standing
+pub mod Tasks
 pub mod View

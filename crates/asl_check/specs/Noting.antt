@@ -4,16 +4,17 @@ use Rattle.std.specs.declared.alloc.Global.{Global}
 use mathlib.Core.Logic.{◌⊎◌}
 use Rattle.asl_model.specs.Finding as finding
 use Rattle.asl_model.specs.Verdict.{Verdict, Accepted, Rejected, AreInNameOrder, TellsOf}
-use Rattle.asl_check.specs.declared.noting.Broken.{Broken}
-use Rattle.asl_check.specs.View.{finding_fault_view}
-
--- a broken rule
-abbrev pub broken_view : Broken → finding.Breach
-broken_view b = record { field = b.field.now; fault = finding_fault_view b.fault }
+pub use Rattle.asl_edges.specs.View.{broken_view}
+use Rattle.asl_edges.specs.View.{finding_fault_view}
+use Rattle.asl_edges.specs.declared.faults.Broken.{Broken}
 
 -- a noted rule, as a finding of its name
 abbrev pub note_view : String Global × Broken → finding.Finding
-note_view note = record { state = string_bytes note.0; field = note.1.field.now; fault = finding_fault_view note.1.fault }
+note_view note = record {
+  state = string_bytes note.0;
+  field = note.1.field.now;
+  fault = finding_fault_view note.1.fault;
+}
 
 abbrev pub notes_view : List (String Global × Broken) → List finding.Finding
 notes_view notes = map note_view notes

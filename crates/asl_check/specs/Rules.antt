@@ -44,7 +44,8 @@ start_in table = start_by table (slice_get table.placements 0)
 -- what is found of the start state, if there is one
 abbrev pub found_of_start : Table → Declared → Certificate → Option (List ℕ) → List Finding
 found_of_start table declared certificate None = []
-found_of_start table declared certificate (Some n) = found_at n (breach_unless_sub (codes "StartAt") StartInput declared.input (inputs_in table certificate n))
+found_of_start table declared certificate (Some n) =
+    found_at n (breach_unless_sub (codes "StartAt") StartInput declared.input (inputs_in table certificate n))
 
 -- what is found of the machine's start state
 abbrev pub found_at_start : Table → Declared → Certificate → List Finding
@@ -61,7 +62,8 @@ end_of_child certificate None state i = None
 -- the shape certified for the end of the scope that belongs to a state of the table, or to none
 abbrev pub end_by_owner : Table → Certificate → Option (ℕ × ℕ) → Option Shape
 end_by_owner table certificate None = Some certificate.output
-end_by_owner table certificate (Some owner) = end_of_child certificate (slice_get table.names owner.0) (slice_get table.states owner.0) owner.1
+end_by_owner table certificate (Some owner) =
+    end_of_child certificate (slice_get table.names owner.0) (slice_get table.states owner.0) owner.1
 
 -- the shape certified for the end of the scope in which a state stands
 abbrev pub end_in : Table → Certificate → Placement → Option Shape
@@ -88,11 +90,14 @@ row_at table i = row_of (slice_get table.names i) (slice_get table.states i) (sl
 
 -- the rules on the entry of a row's state
 abbrev pub entry_rules : Declared → Certificate → Row → List Breach
-entry_rules declared certificate row = entry_breaches (kind_of row.state) (certified certificate row.name) (under row.name declared.tasks)
+entry_rules declared certificate row =
+    entry_breaches (kind_of row.state) (certified certificate row.name) (under row.name declared.tasks)
 
 -- the rules on what flows through it
 abbrev pub flow_rules : Table → Declared → Certificate → Row → List Breach
-flow_rules table declared certificate row = flow_breaches declared (inputs_in table certificate) (end_in table certificate row.placement) row.name (settings_of row.state) (kind_of row.state) (certified certificate row.name)
+flow_rules table declared certificate row =
+    flow_breaches declared (inputs_in table certificate) (end_in table certificate row.placement) row.name
+    (settings_of row.state) (kind_of row.state) (certified certificate row.name)
 
 -- what the rules find in a row, if there is one
 abbrev pub found_in : (Row → List Breach) → Option Row → List Finding

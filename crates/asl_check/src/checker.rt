@@ -1,38 +1,44 @@
 // Checking a certificate against a machine and its declared shapes, one list of rules after another.
 
-ghost use Rattle.std.specs.Prelude.{◌≡◌, IfOk, OnOk};
+ghost use Rattle.std.specs.Prelude.{◌≡◌, List, IfOk, OnOk, codes, option_map, option_to_list};
 ghost use Rattle.std.specs.BTreeMap.{keys};
-ghost use Rattle.asl_model.specs.Finding.{findings};
+ghost use Rattle.asl_model.specs.Finding.{StartInput, breach_unless_sub, findings};
 ghost use Rattle.asl_model.specs.Machine as machines;
 ghost use Rattle.asl_model.specs.Shape as model;
 ghost use Rattle.asl_model.specs.Verdict.{IsRight};
+ghost use Rattle.asl_numbered.specs.Expansion.{expansions, Keeps};
 ghost use Rattle.asl_shape.specs.View.{view};
 ghost use Rattle.asl_states.specs.Table.{Shows, table_view};
+ghost use Rattle.asl_records.specs.Numbered.{AreWithin, numbered_view};
 ghost use Rattle.asl_records.specs.View.{declared_view, certificate_view};
 ghost use Rattle.asl_check.specs.Checking.{state_rule, task_rule, found_by};
-ghost use Rattle.asl_check.specs.Noting.{AreNoted, notes_view};
-ghost use Rattle.asl_check.specs.Rules.{entry_rules, flow_rules, found_in_all, found_at_start};
+ghost use Rattle.asl_check.specs.Noting.{AreNoted, broken_view, notes_view};
+ghost use Rattle.asl_check.specs.Numbers.{IsWithin, certificate_of};
+ghost use Rattle.asl_check.specs.Rules.{entry_rules, flow_rules, found_in_all, found_at_start, inputs_in};
 ghost use Rattle.asl_check.specs.View.{verdict_view};
 
 use crate::comparing::broken_unless_sub;
 use crate::lookups::row_of;
 use crate::noting::{BrokenRules, breach_unless, note, verdict_on};
-use crate::verdicts::{FindingFault, Verdict};
-use asl_records::{Certificate, Declared};
+use crate::verdicts::Verdict;
+use asl_edges::{Broken, FindingFault};
+use asl_numbered::Shapes;
+use asl_records::{Certificate, Declared, NumberedCertificate, StateNumbers, number_certificate};
 use asl_shape::Shape;
 use asl_states::Machine;
 use asl_tree::OutOfMemory;
 use std::alloc::Global;
 use std::collections::BTreeMap;
 
-/// What is checked, with the shape of no tree.
-#[derive(Clone, Copy)]
+/// What is checked: the certificate's numbers stand in a table, and so does that of the shape of no tree.
+#[derive(Clone, Copy, Drop)]
 pub(crate) struct Checker<'c> {
     pub(crate) alloc: Global,
     pub(crate) machine: &'c Machine,
     pub(crate) declared: &'c Declared,
-    pub(crate) certificate: &'c Certificate,
-    pub(crate) never: &'c Shape,
+    pub(crate) output: usize,
+    pub(crate) states: &'c BTreeMap<String, StateNumbers>,
+    pub(crate) never: usize,
 }
 
 /// Checks the certificate: Yes where no rule is broken, else No with one broken rule of each name that has one.
@@ -42,36 +48,77 @@ pub fn check(
     declared: &Declared,
     certificate: &Certificate,
 ) -> Result<Verdict, OutOfMemory>
-    ensures verdict { IfOk result (λ verdict. (m : machines.Scope) → Shows machine.now m → IsRight m (declared_view declared.now) (certificate_view certificate.now) (verdict_view verdict)) }
+    ensures verdict { IfOk result (λ verdict. (m : machines.Scope) → Shows machine.now m
+        → IsRight m (declared_view declared.now) (certificate_view certificate.now)
+        (verdict_view verdict)) }
 {
+    let mut numbered = number_certificate(alloc, certificate)?;
+    check_numbered(alloc, machine, declared, &mut numbered)
+}
+
+/// Checks the certificate as [`check`] does. Further shapes may stand in its table afterwards, also where memory runs
+/// out; its numbers stand for the shapes that they stood for.
+pub fn check_numbered(
+    alloc: Global,
+    machine: &Machine,
+    declared: &Declared,
+    certificate: &mut NumberedCertificate,
+) -> Result<Verdict, OutOfMemory>
+    requires within { AreWithin certificate.old }
+    ensures verdict { IfOk result (λ verdict. (m : machines.Scope) → Shows machine.now m
+        → IsRight m (declared_view declared.now) (numbered_view certificate.old)
+        (verdict_view verdict)) }
+    ensures same { numbered_view certificate.new ≡ numbered_view certificate.old }
+    ensures within { AreWithin certificate.new }
+{
+    let never = certificate.shapes.add(&Shape::Never)?;
     let checker = Checker {
         alloc,
         machine,
         declared,
-        certificate,
-        never: &Shape::Never,
+        output: certificate.output,
+        states: &certificate.states,
+        never,
     };
-    let mut notes = BTreeMap::new(alloc);
-    checker.note_all(&mut notes)?;
-    verdict_on(alloc, notes)
+    checker.verdict(&mut certificate.shapes)
 }
 
 impl Checker<'_> {
+    /// The verdict on what is checked.
+    fn verdict(&self, shapes: &mut Shapes) -> Result<Verdict, OutOfMemory>
+        requires within { IsWithin shapes.old self.now }
+        ensures verdict { IfOk result (λ verdict. (m : machines.Scope)
+            → Shows self.now.machine.now m → IsRight m (declared_view self.now.declared.now)
+            (certificate_of (expansions shapes.old) self.now) (verdict_view verdict)) }
+        ensures keeps { Keeps (expansions shapes.old) (expansions shapes.new) }
+    {
+        let mut notes = BTreeMap::new(self.alloc);
+        self.note_all(shapes, &mut notes)?;
+        verdict_on(self.alloc, notes)
+    }
+
     /// Notes every name that has a broken rule, with the first one in the order of these lists.
-    fn note_all(&self, notes: &mut BrokenRules) -> Result<(), OutOfMemory>
-        requires never { view self.now.never.now ≡ model.Never }
-        ensures { OnOk result ((m : machines.Scope) → Shows self.now.machine.now m → AreNoted (findings m (declared_view self.now.declared.now) (certificate_view self.now.certificate.now)) (notes_view notes.old.entries) (notes_view notes.new.entries)) }
+    fn note_all(&self, shapes: &mut Shapes, notes: &mut BrokenRules) -> Result<(), OutOfMemory>
+        requires within { IsWithin shapes.old self.now }
+        ensures noted { OnOk result ((m : machines.Scope) → Shows self.now.machine.now m
+            → AreNoted (findings m (declared_view self.now.declared.now)
+            (certificate_of (expansions shapes.old) self.now))
+            (notes_view notes.old.entries) (notes_view notes.new.entries)) }
+        ensures keeps { Keeps (expansions shapes.old) (expansions shapes.new) }
     {
         self.note_entries(notes)?;
         self.note_unknown_entries(notes)?;
         self.note_unknown_tasks(notes)?;
-        self.note_start(notes)?;
-        self.note_flows(notes)
+        self.note_start(shapes, notes)?;
+        self.note_flows(shapes, notes)
     }
 
     /// Notes the states without an entry of the right form, and the Tasks that aren't declared.
     fn note_entries(&self, notes: &mut BrokenRules) -> Result<(), OutOfMemory>
-        ensures { OnOk result (AreNoted (found_in_all (entry_rules (declared_view self.now.declared.now) (certificate_view self.now.certificate.now)) (table_view self.now.machine.now)) (notes_view notes.old.entries) (notes_view notes.new.entries)) }
+        ensures { (table : List model.Shape) → OnOk result
+            (AreNoted (found_in_all (entry_rules (declared_view self.now.declared.now)
+            (certificate_of table self.now)) (table_view self.now.machine.now))
+            (notes_view notes.old.entries) (notes_view notes.new.entries)) }
     {
         for number in 0..self.machine.states() {
             if let Some(row) = row_of(self.machine, number) {
@@ -83,9 +130,12 @@ impl Checker<'_> {
 
     /// Notes the entries' names that no state has.
     fn note_unknown_entries(&self, notes: &mut BrokenRules) -> Result<(), OutOfMemory>
-        ensures { OnOk result (AreNoted (found_by (state_rule (table_view self.now.machine.now)) (keys self.now.certificate.now.states)) (notes_view notes.old.entries) (notes_view notes.new.entries)) }
+        ensures { OnOk result
+            (AreNoted (found_by (state_rule (table_view self.now.machine.now))
+            (keys self.now.states.now))
+            (notes_view notes.old.entries) (notes_view notes.new.entries)) }
     {
-        for name in self.certificate.states.keys() {
+        for name in self.states.keys() {
             let known = self.machine.state_named(name).is_some();
             let rule = breach_unless(known, "states", FindingFault::NotAState);
             note(self.alloc, notes, name, rule)?;
@@ -95,7 +145,10 @@ impl Checker<'_> {
 
     /// Notes the declared tasks' names that no Task has.
     fn note_unknown_tasks(&self, notes: &mut BrokenRules) -> Result<(), OutOfMemory>
-        ensures { OnOk result (AreNoted (found_by (task_rule (table_view self.now.machine.now)) (keys self.now.declared.now.tasks)) (notes_view notes.old.entries) (notes_view notes.new.entries)) }
+        ensures { OnOk result
+            (AreNoted (found_by (task_rule (table_view self.now.machine.now))
+            (keys self.now.declared.now.tasks))
+            (notes_view notes.old.entries) (notes_view notes.new.entries)) }
     {
         for name in self.declared.tasks.keys() {
             let known = self.names_task(name);
@@ -106,30 +159,58 @@ impl Checker<'_> {
     }
 
     /// Notes the start state, where the declared input isn't within its certified input.
-    fn note_start(&self, notes: &mut BrokenRules) -> Result<(), OutOfMemory>
-        requires never { view self.now.never.now ≡ model.Never }
-        ensures { OnOk result (AreNoted (found_at_start (table_view self.now.machine.now) (declared_view self.now.declared.now) (certificate_view self.now.certificate.now)) (notes_view notes.old.entries) (notes_view notes.new.entries)) }
+    fn note_start(&self, shapes: &mut Shapes, notes: &mut BrokenRules) -> Result<(), OutOfMemory>
+        requires within { IsWithin shapes.old self.now }
+        ensures noted { OnOk result
+            (AreNoted (found_at_start (table_view self.now.machine.now)
+            (declared_view self.now.declared.now)
+            (certificate_of (expansions shapes.old) self.now))
+            (notes_view notes.old.entries) (notes_view notes.new.entries)) }
+        ensures keeps { Keeps (expansions shapes.old) (expansions shapes.new) }
     {
         let Some(start) = self.start() else {
             return Ok(());
         };
-        let rule = broken_unless_sub(
-            &self.declared.input,
-            self.input_to_compare(start),
-            "StartAt",
-            FindingFault::StartInput,
-        );
+        let rule = self.broken_at_start(shapes, start)?;
         note(self.alloc, notes, start, rule)
     }
 
+    /// The broken rule where the declared input isn't within the certified input of the state of that name.
+    fn broken_at_start(
+        &self,
+        shapes: &mut Shapes,
+        start: &str,
+    ) -> Result<Option<Broken>, OutOfMemory>
+        requires within { IsWithin shapes.old self.now }
+        ensures told { IfOk result (λ told. option_to_list (option_map broken_view told)
+            ≡ breach_unless_sub (codes "StartAt") StartInput (view self.now.declared.now.input)
+            (inputs_in (table_view self.now.machine.now)
+            (certificate_of (expansions shapes.old) self.now) start.now)) }
+        ensures keeps { Keeps (expansions shapes.old) (expansions shapes.new) }
+    {
+        let input = shapes.add(&self.declared.input)?;
+        let expected = self.input_to_compare(start);
+        broken_unless_sub(shapes, input, expected, "StartAt", FindingFault::StartInput)
+    }
+
     /// Notes the states with a broken rule on what flows through them.
-    fn note_flows(&self, notes: &mut BrokenRules) -> Result<(), OutOfMemory>
-        requires never { view self.now.never.now ≡ model.Never }
-        ensures { OnOk result (AreNoted (found_in_all (flow_rules (table_view self.now.machine.now) (declared_view self.now.declared.now) (certificate_view self.now.certificate.now)) (table_view self.now.machine.now)) (notes_view notes.old.entries) (notes_view notes.new.entries)) }
+    fn note_flows(&self, shapes: &mut Shapes, notes: &mut BrokenRules) -> Result<(), OutOfMemory>
+        requires within { IsWithin shapes.old self.now }
+        ensures noted { OnOk result
+            (AreNoted (found_in_all (flow_rules (table_view self.now.machine.now)
+            (declared_view self.now.declared.now)
+            (certificate_of (expansions shapes.old) self.now)) (table_view self.now.machine.now))
+            (notes_view notes.old.entries) (notes_view notes.new.entries)) }
+        ensures keeps { Keeps (expansions shapes.old) (expansions shapes.new) }
     {
         for number in 0..self.machine.states() {
             if let Some(row) = row_of(self.machine, number) {
-                note(self.alloc, notes, row.name, self.broken_by_flow(&row)?)?;
+                note(
+                    self.alloc,
+                    notes,
+                    row.name,
+                    self.broken_by_flow(shapes, &row)?,
+                )?;
             }
         }
         Ok(())

@@ -1,44 +1,49 @@
 // Comparing what flows with what is certified.
 
-ghost use Rattle.std.specs.Prelude.{◌≡◌, ◌++◌, Some, codes, option_map, option_to_list};
-ghost use Rattle.asl_model.specs.Finding.{OutputNotCertified, breach_unless_sub};
-ghost use Rattle.asl_shape.specs.View.{view};
-ghost use Rattle.asl_check.specs.Checking.{Told};
-ghost use Rattle.asl_check.specs.Noting.{broken_view};
-ghost use Rattle.asl_check.specs.View.{finding_fault_view};
+ghost use Rattle.std.specs.Prelude.{◌≡◌, ◌<◌, length, IfOk, IfSome, option_map, option_to_list};
+ghost use Rattle.asl_model.specs.Finding.{breach_unless_sub};
+ghost use Rattle.asl_model.specs.ShapeOrder as order;
+ghost use Rattle.asl_numbered.specs.Expansion.{expansions, shape_at};
+ghost use Rattle.asl_edges.specs.View.{broken_view, finding_fault_view};
 
-use crate::noting::{Broken, breach, breach_unless};
-use crate::verdicts::FindingFault;
-use asl_shape::{Shape, sub};
+use crate::noting::breach_unless;
+use asl_edges::{Broken, FindingFault};
+use asl_numbered::Shapes;
+use asl_tree::OutOfMemory;
 
-/// The first broken rule on an output, which is compared with the certified one and with what is expected where it goes.
-pub(crate) fn broken_by_output(
-    output: &Shape,
-    certified: &Shape,
-    expected: Option<&Shape>,
+/// The broken rule where the shape of a number isn't inside that of what is expected, if anything is.
+pub(crate) fn broken_unless_sub(
+    shapes: &mut Shapes,
+    number: usize,
+    expected: Option<usize>,
     field: &'static str,
     fault: FindingFault,
-) -> Option<Broken>
-    ensures { Told (breach_unless_sub (codes "OutputPath") OutputNotCertified (view output.now) (Some (view certified.now)) ++ breach_unless_sub field.now (finding_fault_view fault) (view output.now) (option_map (λ s. view s.now) expected.entry)) (option_map broken_view result) }
+) -> Result<Option<Broken>, OutOfMemory>
+    requires number { number < length shapes.old }
+    requires expected { IfSome expected (λ n. n < length shapes.old) }
+    ensures told { IfOk result (λ told. option_to_list (option_map broken_view told)
+        ≡ breach_unless_sub field.now (finding_fault_view fault)
+        (shape_at (expansions shapes.old) number)
+        (option_map (shape_at (expansions shapes.old)) expected)) }
+    ensures unchanged { shapes.new ≡ shapes.old }
 {
-    if sub(output, certified) {
-        broken_unless_sub(output, expected, field, fault)
-    } else {
-        Some(breach("OutputPath", FindingFault::OutputNotCertified))
+    match expected {
+        Some(expected) => {
+            let holds = is_inside(shapes, number, expected)?;
+            Ok(breach_unless(holds, field, fault))
+        }
+        None => Ok(None),
     }
 }
 
-/// The broken rule where a shape isn't inside what is expected, if anything is.
-pub(crate) fn broken_unless_sub(
-    shape: &Shape,
-    expected: Option<&Shape>,
-    field: &'static str,
-    fault: FindingFault,
-) -> Option<Broken>
-    ensures { option_to_list (option_map broken_view result) ≡ breach_unless_sub field.now (finding_fault_view fault) (view shape.now) (option_map (λ s. view s.now) expected.entry) }
+/// Whether the first number's shape is inside the second's.
+fn is_inside(shapes: &mut Shapes, inner: usize, outer: usize) -> Result<bool, OutOfMemory>
+    requires inner { inner < length shapes.old }
+    requires outer { outer < length shapes.old }
+    ensures inside { IfOk result
+        (λ b. b ≡ order.sub (shape_at (expansions shapes.old) inner)
+        (shape_at (expansions shapes.old) outer)) }
+    ensures unchanged { shapes.new ≡ shapes.old }
 {
-    match expected {
-        Some(expected) => breach_unless(sub(shape, expected), field, fault),
-        None => None,
-    }
+    Ok(shapes.sub(inner, outer)?.unwrap())
 }

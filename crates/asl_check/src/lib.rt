@@ -1,24 +1,19 @@
 //! Checking a certificate of shapes against a machine and its declared shapes.
+//!
+//! [`check_numbered`] goes over the edges of each state ([`asl_edges::edges_of`]) and compares what flows there with
+//! what stands there, by the numbers of the certificate's table; [`check`] does so for a certificate with shapes of its
+//! own.
 #![tactic(auto)]
 
-mod catching;
 mod checker;
-mod choosing;
 mod comparing;
-mod flowing;
-mod items;
 mod lookups;
 mod noting;
+mod standing;
 mod states;
+mod tasks;
 mod verdicts;
-mod working;
 
-pub use catching::error_output;
-pub use checker::check;
-pub use flowing::{Flowing, Stopped, broken_by_fault, effective_shape};
-pub use items::{element_shape, item_input, outputs_shape};
-pub use lookups::{Row, row_of};
-pub use noting::Broken;
-pub use states::{branches_in, is_map};
-pub use verdicts::{Finding, FindingFault, Verdict};
-pub use working::{broken_by_delay, broken_by_payload, declared_task};
+pub use asl_edges::{Broken, FindingFault};
+pub use checker::{check, check_numbered};
+pub use verdicts::{Finding, Verdict};

@@ -1,30 +1,29 @@
 // What the rules look up in the machine's table and in the certificate.
 
-ghost use Rattle.std.specs.Prelude.{◌≡◌, Some, option_map};
+ghost use Rattle.std.specs.Prelude.{◌≡◌, ◌<◌, List, length, IfSome, option_map};
 ghost use Rattle.asl_model.specs.Certificate.{certified, child_end};
 ghost use Rattle.asl_model.specs.Machine as machine;
-ghost use Rattle.asl_model.specs.Shape as model;
-ghost use Rattle.asl_shape.specs.View.{view};
+ghost use Rattle.asl_numbered.specs.Expansion.{expansions, shape_at};
+ghost use Rattle.asl_numbered.specs.declared.node.Node.{Node};
 ghost use Rattle.asl_states.specs.Machine.{kind_view, scope_view};
 ghost use Rattle.asl_states.specs.Table.{table_view};
-ghost use Rattle.asl_records.specs.View.{certificate_view};
 ghost use Rattle.asl_check.specs.Checking.{row_view};
+ghost use Rattle.asl_check.specs.Numbers.{IsWithin, certificate_of};
 ghost use Rattle.asl_check.specs.Rules.{end_in, inputs_in, names_task_in, row_at, start_in};
 
 use crate::checker::Checker;
-use asl_shape::Shape;
 use asl_states::{Kind, Machine, Scope, State};
 
 /// A state of the machine: its name, itself, and the scope that it stands in.
 #[derive(Clone, Copy)]
-pub struct Row<'m> {
-    pub name: &'m str,
-    pub state: &'m State,
-    pub scope: &'m Scope,
+pub(crate) struct Row<'m> {
+    pub(crate) name: &'m str,
+    pub(crate) state: &'m State,
+    pub(crate) scope: &'m Scope,
 }
 
 /// The state of that number, with its name and the scope that it stands in.
-pub fn row_of(machine: &Machine, number: usize) -> Option<Row<'_>>
+pub(crate) fn row_of(machine: &Machine, number: usize) -> Option<Row<'_>>
     ensures row { option_map row_view result ≡ row_at (table_view machine.now) number }
 {
     let name = machine.name(number)?;
@@ -55,52 +54,59 @@ impl Checker<'_> {
         }
     }
 
-    /// The input that is compared with what goes on to a name: a state's certified one, if any; what is no state takes
-    /// no tree.
-    pub(crate) fn input_to_compare(&self, name: &str) -> Option<&Shape>
-        requires never { view self.now.never.now ≡ model.Never }
-        ensures { option_map (λ s. view s.now) result ≡ inputs_in (table_view self.now.machine.now) (certificate_view self.now.certificate.now) name.now }
+    /// The number of the input that is compared with what goes on to a name: of a state's certified one, if any; what
+    /// is no state takes no tree.
+    pub(crate) fn input_to_compare(&self, name: &str) -> Option<usize>
+        ensures within { (nodes : List Node) → IsWithin nodes self.now
+            → IfSome result (λ n. n < length nodes) }
+        ensures seen { (nodes : List Node) → IsWithin nodes self.now
+            → option_map (shape_at (expansions nodes)) result
+            ≡ inputs_in (table_view self.now.machine.now)
+            (certificate_of (expansions nodes) self.now) name.now }
     {
-        match self.certificate.states.get(name) {
-            Some(entry) => Some(&entry.input),
+        match self.states.get(name) {
+            Some(entry) => Some(entry.input),
             None if self.machine.state_named(name).is_some() => None,
             None => Some(self.never),
         }
     }
 
-    /// The shape certified for the end of a scope, if any is.
-    pub(crate) fn end_of(&self, scope: &Scope) -> Option<&Shape>
-        ensures { option_map (λ s. view s.now) result ≡ end_in (table_view self.now.machine.now) (certificate_view self.now.certificate.now) (scope_view scope.now) }
+    /// The number of the shape certified for the end of a scope, if any is.
+    pub(crate) fn end_of(&self, scope: &Scope) -> Option<usize>
+        ensures within { (nodes : List Node) → IsWithin nodes self.now
+            → IfSome result (λ n. n < length nodes) }
+        ensures seen { (nodes : List Node)
+            → option_map (shape_at (expansions nodes)) result
+            ≡ end_in (table_view self.now.machine.now)
+            (certificate_of (expansions nodes) self.now) (scope_view scope.now) }
     {
         let Some((number, child)) = scope.owner else {
-            return Some(&self.certificate.output);
+            return Some(self.output);
         };
         let name = self.machine.name(number)?;
         let state = self.machine.state(number)?;
         self.end_of_child(name, &state.kind, child)
     }
 
-    /// The shape certified for the end of the child of that number, of a state of that name.
-    fn end_of_child(&self, name: &str, kind: &Kind, child: usize) -> Option<&Shape>
-        ensures { option_map (λ s. view s.now) result ≡ child_end (kind_view kind.now) (certified (certificate_view self.now.certificate.now) name.now) child }
+    /// The number of the shape certified for the end of the child of that number, of a state of that name.
+    fn end_of_child(&self, name: &str, kind: &Kind, child: usize) -> Option<usize>
+        ensures within { (nodes : List Node) → IsWithin nodes self.now
+            → IfSome result (λ n. n < length nodes) }
+        ensures seen { (nodes : List Node)
+            → option_map (shape_at (expansions nodes)) result
+            ≡ child_end (kind_view kind.now)
+            (certified (certificate_of (expansions nodes) self.now) name.now) child }
     {
-        let entry = self.certificate.states.get(name)?;
+        let entry = self.states.get(name)?;
         match kind {
-            Kind::Parallel { branches: _ } => entry.branches.get(child),
-            Kind::Map {
-                items_path: _,
-                item_selector: _,
-                processor: _,
-            } => entry.item.as_ref(),
-            Kind::Pass { result: _ }
-            | Kind::Task { resource: _ }
-            | Kind::Choice {
-                choices: _,
-                default: _,
-            }
-            | Kind::Wait { delay: _ }
+            Kind::Parallel { .. } => entry.branches.get(child).copied(),
+            Kind::Map { .. } => entry.item,
+            Kind::Pass { .. }
+            | Kind::Task { .. }
+            | Kind::Choice { .. }
+            | Kind::Wait { .. }
             | Kind::Succeed
-            | Kind::Fail { error: _, cause: _ } => None,
+            | Kind::Fail { .. } => None,
         }
     }
 }
@@ -109,5 +115,5 @@ impl Checker<'_> {
 pub(crate) fn is_task(kind: &Kind) -> bool
     ensures { result ≡ machine.is_task (kind_view kind.now) }
 {
-    matches!(kind, Kind::Task { resource: _ })
+    matches!(kind, Kind::Task { .. })
 }

@@ -6,31 +6,27 @@ ghost use Rattle.asl_model.specs.Finding.{found_at};
 ghost use Rattle.asl_check.specs.Noting.{AreNoted, IsToldBy, broken_view, notes_view};
 ghost use Rattle.asl_check.specs.View.{finding_fault_view, verdict_view};
 
-use crate::verdicts::{Finding, FindingFault, Verdict};
+use crate::verdicts::{Finding, Verdict};
+use asl_edges::{Broken, FindingFault};
 use asl_tree::OutOfMemory;
 use std::alloc::Global;
 use std::collections::BTreeMap;
-
-/// A broken rule of a state: the field that it is told at, and what is wrong.
-#[derive(Clone, Copy)]
-pub struct Broken {
-    pub field: &'static str,
-    pub fault: FindingFault,
-}
 
 /// The first broken rule of each name that has one.
 pub(crate) type BrokenRules = BTreeMap<String, Broken>;
 
 /// A broken rule.
 pub(crate) fn breach(field: &'static str, fault: FindingFault) -> Broken
-    ensures { broken_view result ≡ record { field = field.now; fault = finding_fault_view fault } }
+    ensures { broken_view result
+        ≡ record { field = field.now; fault = finding_fault_view fault } }
 {
     Broken { field, fault }
 }
 
 /// A broken rule, unless the test holds.
 pub(crate) fn breach_unless(holds: bool, field: &'static str, fault: FindingFault) -> Option<Broken>
-    ensures { option_to_list (option_map broken_view result) ≡ model.breach_unless holds field.now (finding_fault_view fault) }
+    ensures { option_to_list (option_map broken_view result)
+        ≡ model.breach_unless holds field.now (finding_fault_view fault) }
 {
     if holds {
         None
@@ -46,7 +42,9 @@ pub(crate) fn note(
     name: &str,
     rule: Option<Broken>,
 ) -> Result<(), OutOfMemory>
-    ensures { OnOk result (AreNoted (found_at name.now (option_to_list (option_map broken_view rule))) (notes_view notes.old.entries) (notes_view notes.new.entries)) }
+    ensures { OnOk result
+        (AreNoted (found_at name.now (option_to_list (option_map broken_view rule)))
+        (notes_view notes.old.entries) (notes_view notes.new.entries)) }
 {
     if let Some(rule) = rule {
         if !notes.contains_key(name) {
@@ -59,7 +57,8 @@ pub(crate) fn note(
 
 /// The verdict that tells these broken rules.
 pub(crate) fn verdict_on(alloc: Global, notes: BrokenRules) -> Result<Verdict, OutOfMemory>
-    ensures { IfOk result (λ verdict. IsToldBy (notes_view notes.entries) (verdict_view verdict)) }
+    ensures { IfOk result
+        (λ verdict. IsToldBy (notes_view notes.entries) (verdict_view verdict)) }
 {
     if notes.is_empty() {
         return Ok(Verdict::Yes);

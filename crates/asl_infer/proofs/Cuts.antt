@@ -1,83 +1,128 @@
--- Shapes cut to a depth, part by part.
-use Rattle.std.proofs.Common.{◌≡◌, ℕ, suc, List, [], ◌∷◌, ◌++◌, Bool, String, Global, Vec, Box, map, string_bytes, string_cmp, refl, sym, ap, ◌∙◌, Ordering, Less, Greater}
-use Rattle.std.specs.BTreeMap.{BTreeMap, insert_entry}
-use Rattle.std.specs.Cmp.Lexicographic.{slice_cmp}
-use Rattle.std.specs.List.{AllByRecursion}
-use Rattle.std.specs.List.Sorted.{IsStrictlySortedBy}
-use Rattle.std.specs.Map.{keys_of}
-use Rattle.std.specs.Ordering.{nat_cmp, ordering_reverse}
-use Rattle.std.proofs.lemmas.Cmp.{nat_list_cmp_total}
+-- Shapes cut to a depth, by number.
+use Rattle.std.proofs.Common.{◌≡◌, ◌<◌, ◌≤◌, ◌+◌, ℕ, zero, suc, List, [], ◌∷◌, ◌++◌, length, map, take, get_or, refl, sym, ap, ◌∙◌, subst, arith}
+use Rattle.std.proofs.lemmas.List.{length-map, map-append, take_all, take_more}
 use Rattle.asl_model.specs.Shape as model
-use Rattle.asl_shape.specs.View.{view, shapes_of, shapes_view, fields_view}
-use Rattle.asl_shape.specs.declared.shape.Field.{Field}
-use Rattle.asl_shape.specs.declared.shape.Shape.{Shape}
-use Rattle.asl_shape.specs.declared.shape.Shape.TheViews
-use Rattle.asl_shape.proofs.Spellings.{Mention, put, put_shown}
-use Rattle.asl_shape.proofs.Views.{view_list, view_object}
+use Rattle.asl_model.specs.ShapeOrder.{depth, depth_of_elements, depth_of_fields}
+use Rattle.asl_numbered.specs.declared.node.Node.{Node}
+use Rattle.asl_numbered.specs.Expansion.{expansions, shape_at, AreBelow, Keeps}
+use Rattle.asl_numbered.specs.Joins.{Shows}
+use Rattle.asl_numbered.proofs.Expansions.{as_many, below-append, below-wider}
+use Rattle.asl_edges.proofs.Kept.{among, longer, shown, within}
 use Rattle.asl_infer.specs.Cutting.{cut_to, cut_elements_to, cut_fields_to}
+use Rattle.asl_infer.specs.Cuts.{AreCutTo}
+use Rattle.asl_infer.specs.Depths.{told_depth}
+use Rattle.asl_infer.specs.Parts.{parts_of, with_parts}
+use Rattle.asl_infer.proofs.Rebuilt.{cut_parts}
 
--- ---- elements
+-- ---- shapes that are left as they are
 
-pub elements_cut : (levels : ℕ) (ss : List Shape) → shapes_of (map (λ s. cut_to levels (view s)) ss) ≡ cut_elements_to levels (shapes_view ss)
-elements_cut levels [] = refl
-elements_cut levels (s ∷ ss) = ap (model.AndShape (cut_to levels (view s))) (elements_cut levels ss)
+mutual
+  -- a shape with no more levels
+  few_levels : (levels : ℕ) (s : model.Shape) → depth s ≤ levels → cut_to levels s ≡ s
+  few_levels zero model.Any h = refl
+  few_levels zero model.Never h = absurd (omega (arith, h))
+  few_levels zero model.NullShape h = absurd (omega (arith, h))
+  few_levels zero model.BooleanShape h = absurd (omega (arith, h))
+  few_levels zero model.IntegerShape h = absurd (omega (arith, h))
+  few_levels zero model.StringShape h = absurd (omega (arith, h))
+  few_levels zero (model.ArrayShape first rest) h = absurd (omega (arith, h))
+  few_levels zero (model.ObjectShape fields extra) h = absurd (omega (arith, h))
+  few_levels (suc levels) model.Any h = refl
+  few_levels (suc levels) model.Never h = refl
+  few_levels (suc levels) model.NullShape h = refl
+  few_levels (suc levels) model.BooleanShape h = refl
+  few_levels (suc levels) model.IntegerShape h = refl
+  few_levels (suc levels) model.StringShape h = refl
+  few_levels (suc levels) (model.ArrayShape first rest) h = rw (few_elements levels first (omega (arith, h)), few_levels levels rest (omega (arith, h))) refl
+  few_levels (suc levels) (model.ObjectShape fields extra) h = ap (λ fs. model.ObjectShape fs extra) (few_fields levels fields (omega (arith, h)))
 
--- ---- shapes
+  few_elements : (levels : ℕ) (first : model.Shapes) → depth_of_elements first ≤ levels → cut_elements_to levels first ≡ first
+  few_elements levels model.NoShapes h = refl
+  few_elements levels (model.AndShape s others) h = rw (few_levels levels s (omega (arith, h)), few_elements levels others (omega (arith, h))) refl
 
--- a shape of arrays that has no more levels
-pub list_within : (levels below : ℕ) (s : Shape) (first : Vec Shape Global) (rest : Box Shape Global) → levels ≡ suc below → s ≡ TheViews.List first rest → map (λ s. cut_to below (view s)) first.items ≡ map view first.items → cut_to below (view rest.value) ≡ view rest.value → cut_to levels (view s) ≡ view s
-list_within levels below s first rest counted is elements further =
-    let shown : view s ≡ model.ArrayShape (shapes_view first.items) (view rest.value) = ap view is ∙ view_list first rest in
-    rw (counted, shown)
-    (ap (λ ss. model.ArrayShape ss (cut_to below (view rest.value))) (sym (elements_cut below first.items) ∙ ap shapes_of elements)
-    ∙ ap (model.ArrayShape (shapes_view first.items)) further)
+  few_fields : (levels : ℕ) (fields : model.FieldShapes) → depth_of_fields fields ≤ levels → cut_fields_to levels fields ≡ fields
+  few_fields levels model.NoFieldShapes h = refl
+  few_fields levels (model.AndFieldShape n needed s others) h = rw (few_levels levels s (omega (arith, h)), few_fields levels others (omega (arith, h))) refl
 
--- one of objects
-pub object_within : (levels below : ℕ) (s : Shape) (fields : BTreeMap (String Global) Field) (extra : Bool) → levels ≡ suc below → s ≡ TheViews.Object fields extra → cut_fields_to below (fields_view fields.entries) ≡ fields_view fields.entries → cut_to levels (view s) ≡ view s
-object_within levels below s fields extra counted is h =
-    let shown : view s ≡ model.ObjectShape (fields_view fields.entries) extra = ap view is ∙ view_object fields extra in
-    rw (counted, shown) (ap (λ shapes. model.ObjectShape shapes extra) h)
+-- one with few levels, as its depth is told
+pub left_as_it_is : (nodes : List Node) (n levels d : ℕ) → n < length nodes → d ≡ told_depth (shape_at (expansions nodes) n) → d ≤ levels → levels ≤ 48 → Shows (expansions nodes) (cut_to levels (shape_at (expansions nodes) n)) n
+left_as_it_is nodes n levels d there told few most = record { within = omega (arith, there, as_many nodes); same = sym (few_levels levels (shape_at (expansions nodes) n) (omega (arith, told, few, most))) }
 
--- a shape of arrays that is cut
-pub list_cut : (levels below : ℕ) (s : Shape) (first cuts : Vec Shape Global) (rest cut : Box Shape Global) → levels ≡ suc below → s ≡ TheViews.List first rest → map view cuts.items ≡ map (λ s. cut_to below (view s)) first.items → view cut.value ≡ cut_to below (view rest.value) → view (TheViews.List cuts cut) ≡ cut_to levels (view s)
-list_cut levels below s first cuts rest cut counted is elements further =
-    let shown : view s ≡ model.ArrayShape (shapes_view first.items) (view rest.value) = ap view is ∙ view_list first rest in
-    rw (counted, shown)
-    (view_list cuts cut
-    ∙ ap (λ ss. model.ArrayShape ss (view cut.value)) (ap shapes_of elements ∙ elements_cut below first.items)
-    ∙ ap (model.ArrayShape (cut_elements_to below (shapes_view first.items))) further)
+-- ---- several numbers
 
--- one of objects
-pub object_cut : (levels below : ℕ) (s : Shape) (fields cuts : BTreeMap (String Global) Field) (extra : Bool) → levels ≡ suc below → s ≡ TheViews.Object fields extra → fields_view cuts.entries ≡ cut_fields_to below (fields_view fields.entries) → view (TheViews.Object cuts extra) ≡ cut_to levels (view s)
-object_cut levels below s fields cuts extra counted is h =
-    let shown : view s ≡ model.ObjectShape (fields_view fields.entries) extra = ap view is ∙ view_object fields extra in
-    rw (counted, shown) (view_object cuts extra ∙ ap (λ shapes. model.ObjectShape shapes extra) h)
+map_shown : (a b : List Node) (ns : List ℕ) → Keeps (expansions a) (expansions b) → AreBelow (length a) ns → map (shape_at (expansions b)) ns ≡ map (shape_at (expansions a)) ns
+map_shown a b [] keeps h = refl
+map_shown a b (n ∷ ns) keeps h = rw (shown a b n keeps h.0, map_shown a b ns keeps h.1) refl
 
--- ---- fields
+-- none so far
+pub none_cut : (levels : ℕ) (nodes : List Node) (cuts : List ℕ) → cuts ≡ [] → AreCutTo levels nodes [] nodes cuts
+none_cut levels nodes cuts none = rw none (record { shapes = refl; below = tt })
 
--- one more field behind
-pub fields_cut_behind : (levels : ℕ) (done : List Mention) (m : Mention) → cut_to levels (view m.1.shape) ≡ view m.1.shape → cut_fields_to levels (fields_view done) ≡ fields_view done → cut_fields_to levels (fields_view (done ++ m ∷ [])) ≡ fields_view (done ++ m ∷ [])
-fields_cut_behind levels [] m here h = ap (λ s. model.AndFieldShape (string_bytes m.0) m.1.needed s model.NoFieldShapes) here
-fields_cut_behind levels (first ∷ done) m here h =
-    let head : cut_to levels (view first.1.shape) ≡ view first.1.shape = cc in
-    let others : cut_fields_to levels (fields_view done) ≡ fields_view done = cc in
-    ap (λ s. model.AndFieldShape (string_bytes first.0) first.1.needed s (cut_fields_to levels (fields_view (done ++ m ∷ [])))) head
-    ∙ ap (model.AndFieldShape (string_bytes first.0) first.1.needed (view first.1.shape)) (fields_cut_behind levels done m here others)
+-- one of them
+pub one_below : (bound : ℕ) (numbers : List ℕ) (i : ℕ) → i < length numbers → AreBelow bound numbers → get_or numbers i 0 < bound
+one_below bound [] i there h = absurd (omega (arith, there))
+one_below bound (n ∷ numbers) zero there h = h.0
+one_below bound (n ∷ numbers) (suc i) there h = one_below bound numbers i (omega (arith, there)) h.1
 
-below_middle : (first : Mention) (es : List Mention) (e : Mention) (more : List Mention) → AllByRecursion (λ y. string_cmp first.0 y ≡ Less) (keys_of (es ++ e ∷ more)) → string_cmp first.0 e.0 ≡ Less
-below_middle first [] e more h = h.0
-below_middle first (x ∷ es) e more h = below_middle first es e more h.1
+pub one_more_cut : (levels : ℕ) (old now new : List Node) (numbers : List ℕ) (i : ℕ) (cuts more : List ℕ) (m : ℕ) → AreBelow (length old) numbers → i < length numbers → Keeps (expansions old) (expansions now) → AreCutTo levels old (take i numbers) now cuts → Keeps (expansions now) (expansions new) → Shows (expansions new) (cut_to levels (shape_at (expansions now) (get_or numbers i 0))) m → more ≡ cuts ++ m ∷ [] → AreCutTo levels old (take (i + 1) numbers) new more
+one_more_cut levels old now new numbers i cuts more m below there keeps so_far further is last =
+    let n = get_or numbers i 0 in
+    let cut : ℕ → model.Shape = λ k. cut_to levels (shape_at (expansions old) k) in
+    let same : shape_at (expansions new) m ≡ cut n = is.same ∙ ap (cut_to levels) (shown old now n keeps (one_below (length old) numbers i there below)) in
+    record {
+      shapes =
+          ap (map (shape_at (expansions new))) last
+          ∙ map-append (shape_at (expansions new)) cuts (m ∷ [])
+          ∙ ap (λ ss. ss ++ shape_at (expansions new) m ∷ []) (map_shown now new cuts further so_far.below ∙ so_far.shapes)
+          ∙ ap (λ s. map cut (take i numbers) ++ s ∷ []) same
+          ∙ sym (map-append cut (take i numbers) (n ∷ []))
+          ∙ ap (map cut) (sym (take_more numbers i 0 there));
+      below = subst (AreBelow (length new)) (sym last) (below-append (length new) cuts (m ∷ []) (below-wider (length now) (length new) cuts (longer now new further) so_far.below) (among new m is.within, tt));
+    }
 
--- a name that is above those before it goes last
-put_last : (levels : ℕ) (done : List Mention) (m : Mention) (more : List Mention) → IsStrictlySortedBy string_cmp (keys_of (done ++ m ∷ more)) → put (string_bytes m.0) m.1.needed (cut_to levels (view m.1.shape)) (cut_fields_to levels (fields_view done)) ≡ cut_fields_to levels (fields_view (done ++ m ∷ []))
-unfolding IsStrictlySortedBy
-put_last levels [] m more h = refl
-put_last levels (first ∷ done) m more h =
-    let above : slice_cmp nat_cmp (string_bytes m.0) (string_bytes first.0) ≡ Greater =
-    nat_list_cmp_total.antisymm (string_bytes m.0) (string_bytes first.0) ∙ ap ordering_reverse (below_middle first done m more h.0) in
-    rw above (ap (model.AndFieldShape (string_bytes first.0) first.1.needed (cut_to levels (view first.1.shape))) (put_last levels done m more h.1))
+-- all of them
+pub all_cut : (levels : ℕ) (old new : List Node) (numbers : List ℕ) (i : ℕ) (cuts : List ℕ) → length numbers ≤ i → AreCutTo levels old (take i numbers) new cuts → AreCutTo levels old numbers new cuts
+all_cut levels old new numbers i cuts past h = subst (λ ns. AreCutTo levels old ns new cuts) (take_all i numbers past) h
 
--- a cut field goes behind the cut fields before it
-pub field_cut : (levels : ℕ) (done : List Mention) (m : Mention) (more : List Mention) (cuts : List Mention) (k : String Global) (f : Field) → IsStrictlySortedBy string_cmp (keys_of (done ++ m ∷ more)) → fields_view cuts ≡ cut_fields_to levels (fields_view done) → string_bytes k ≡ string_bytes m.0 → f.needed ≡ m.1.needed → view f.shape ≡ cut_to levels (view m.1.shape) → fields_view (insert_entry string_cmp cuts k f) ≡ cut_fields_to levels (fields_view (done ++ m ∷ []))
-field_cut levels done m more cuts k f sorted so_far named needed shape =
-    put_shown cuts k f ∙ rw (named, needed, shape, so_far) (put_last levels done m more sorted)
+-- ---- a shape with its parts cut
+
+-- from the table at the start, which is measured, to that in which the parts are cut, and that with the shape made of them
+module _ (start measured cut : List Node) (below levels n : ℕ) (ns cuts : List ℕ) (same : measured ≡ start) (keeps : Keeps (expansions measured) (expansions cut)) (there : n < length start) (parts : map (shape_at (expansions measured)) ns ≡ parts_of (shape_at (expansions measured) n)) (are : AreCutTo below measured ns cut cuts) where
+  there_measured : n < length measured
+  there_measured = rw same there
+
+  -- the number is in the table
+  pub there_cut : n < length cut
+  there_cut = within measured cut n keeps there_measured
+
+  shown_cut : shape_at (expansions cut) n ≡ shape_at (expansions measured) n
+  shown_cut = shown measured cut n keeps there_measured
+
+  mapped : (ks : List ℕ) → map (λ k. cut_to below (shape_at (expansions measured) k)) ks ≡ map (cut_to below) (map (shape_at (expansions measured)) ks)
+  mapped [] = refl
+  mapped (k ∷ ks) = ap (λ ss. cut_to below (shape_at (expansions measured) k) ∷ ss) (mapped ks)
+
+  parts_cut : map (shape_at (expansions cut)) cuts ≡ map (cut_to below) (parts_of (shape_at (expansions cut) n))
+  parts_cut = are.shapes ∙ mapped ns ∙ ap (map (cut_to below)) (parts ∙ ap parts_of (sym shown_cut))
+
+  -- there are as many cuts as parts
+  pub cuts_counted : length cuts ≡ length (parts_of (shape_at (expansions cut) n))
+  cuts_counted = sym (length-map cuts (shape_at (expansions cut))) ∙ ap length parts_cut ∙ length-map (parts_of (shape_at (expansions cut) n)) (cut_to below)
+
+  module _ (made : List Node) (m : ℕ) (count : levels ≡ suc below) (further : Keeps (expansions cut) (expansions made)) (rebuilt : Shows (expansions made) (with_parts (shape_at (expansions cut) n) (map (shape_at (expansions cut)) cuts)) m) where
+    whole : with_parts (shape_at (expansions cut) n) (map (shape_at (expansions cut)) cuts) ≡ cut_to levels (shape_at (expansions cut) n)
+    whole = ap (with_parts (shape_at (expansions cut) n)) parts_cut ∙ cut_parts below (shape_at (expansions cut) n) ∙ ap (λ k. cut_to k (shape_at (expansions cut) n)) (sym count)
+
+    made_cut : Shows (expansions made) (cut_to levels (shape_at (expansions cut) n)) m
+    made_cut = subst (λ s. Shows (expansions made) s m) whole rebuilt
+
+    -- what is made is the shape that was cut
+    pub made_of_start : Shows (expansions made) (cut_to levels (shape_at (expansions start) n)) m
+    made_of_start = subst (λ s. Shows (expansions made) (cut_to levels s) m) (shown_cut ∙ ap (λ nodes. shape_at (expansions nodes) n) same) made_cut
+
+    -- so in its own table
+    pub made_of_own : Shows (expansions made) (cut_to levels (shape_at (expansions made) n)) m
+    made_of_own = subst (λ s. Shows (expansions made) (cut_to levels s) m) (sym (shown cut made n further there_cut)) made_cut
+
+    pub there_made : n < length made
+    there_made = within cut made n further there_cut

@@ -16,8 +16,7 @@ use Rattle.asl_model.specs.Shape.{Shape, Any, Never, NullShape, BooleanShape, In
 use Rattle.asl_model.specs.ShapeOrder.{depth, depth_of_elements, depth_of_fields}
 use Rattle.asl_model.specs.Written.{written_certificate}
 use Rattle.asl_model.proofs.WrittenNesting.{certificate_nests}
-use Rattle.asl_records.specs.View.{certificate_view, entries_view, entry_view}
-use Rattle.asl_records.specs.declared.records.Certificate.{Certificate}
+use Rattle.asl_records.specs.View.{entries_view, entry_view}
 use Rattle.asl_records.specs.declared.records.StateShapes.{StateShapes}
 use Rattle.asl_shape.specs.View.{view}
 use Rattle.asl_shape.specs.declared.shape.Shape as code
@@ -50,17 +49,13 @@ mutual
 pub cut_shallow : (s : Shape) → IsShallow (cut s)
 cut_shallow s = cut_to_within deepest s
 
-any_shallow : IsShallow Any
+pub any_shallow : IsShallow Any
 any_shallow = omega arith
 
 pub code_any_shallow : IsShallow (view code.Any)
 code_any_shallow = subst IsShallow (sym view_any) any_shallow
 
 -- ---- lists and entries
-
-pub shapes_last : (ss : List code.Shape) (s : code.Shape) → AllByRecursion IsShallow (map view ss) → IsShallow (view s) → AllByRecursion IsShallow (map view (ss ++ s ∷ []))
-shapes_last [] s h last = (last, tt)
-shapes_last (first ∷ ss) s h last = (h.0, shapes_last ss s h.1 last)
 
 any_shapes_shallow : (count : ℕ) → AllByRecursion IsShallow (replicate count Any)
 any_shapes_shallow zero = tt
@@ -78,25 +73,29 @@ widest_shallow kind = record { input = any_shallow; output = any_shallow; branch
 pub none_shallow : AreShallow []
 none_shallow = record { shallow = tt }
 
--- one more entry
+-- one more entry, whatever is seen of the entries
+module _ {X : Type 0} (P : model.StateShapes → Type 0) (shown : X → model.StateShapes) where
+  abbrev seen : List (String Global × X) → List (List ℕ × model.StateShapes)
+  seen es = map (λ e. (string_bytes e.0, shown e.1)) es
+
+  pub entry_put : (es : List (String Global × X)) (k : String Global) (v : X) → AllByRecursion (λ (entry : List ℕ × model.StateShapes). P entry.1) (seen es) → P (shown v) → AllByRecursion (λ (entry : List ℕ × model.StateShapes). P entry.1) (seen (insert_entry string_cmp es k v))
+  entry_put [] k v h p = (p, tt)
+  entry_put (e ∷ es) k v h p = by (string_cmp k e.0) (entry_put es k v h.1 p)
+    where
+      by : (order : Ordering) → AllByRecursion (λ (entry : List ℕ × model.StateShapes). P entry.1) (seen (insert_entry string_cmp es k v)) → AllByRecursion (λ (entry : List ℕ × model.StateShapes). P entry.1) (seen (match_ordering order ((k, v) ∷ e ∷ es) ((e.0, v) ∷ es) (e ∷ insert_entry string_cmp es k v)))
+      by Less further = (p, h)
+      by Equal further = (p, h.1)
+      by Greater further = (h.0, further)
+
 abbrev Entry : Type 0
 Entry = String Global × StateShapes
 
 pub entry_shallow : (es : List Entry) (k : String Global) (v : StateShapes) → AreShallow (entries_view es) → HoldsForState IsShallow (entry_view v) → AreShallow (entries_view (insert_entry string_cmp es k v))
-entry_shallow es k v h p = record { shallow = go es h.shallow }
-  where
-    go : (es : List Entry) → AllByRecursion (λ (entry : List ℕ × model.StateShapes). HoldsForState IsShallow entry.1) (entries_view es) → AllByRecursion (λ (entry : List ℕ × model.StateShapes). HoldsForState IsShallow entry.1) (entries_view (insert_entry string_cmp es k v))
-    go [] h = (p, tt)
-    go (e ∷ es) h = by (string_cmp k e.0) (go es h.1)
-      where
-        by : (order : Ordering) → AllByRecursion (λ (entry : List ℕ × model.StateShapes). HoldsForState IsShallow entry.1) (entries_view (insert_entry string_cmp es k v)) → AllByRecursion (λ (entry : List ℕ × model.StateShapes). HoldsForState IsShallow entry.1) (entries_view (match_ordering order ((k, v) ∷ e ∷ es) ((e.0, v) ∷ es) (e ∷ insert_entry string_cmp es k v)))
-        by Less further = (p, h)
-        by Equal further = (p, h.1)
-        by Greater further = (h.0, further)
+entry_shallow es k v h p = record { shallow = entry_put (HoldsForState IsShallow) entry_view es k v h.shallow p }
 
 -- ---- certificates
 
 -- what is written of a certificate of such shapes reads back
-pub written_shallow : {E : Type 0} (r : Result Certificate E) → IfOk r (λ certificate. HoldsForCertificate IsShallow (certificate_view certificate)) → IfOk r (λ certificate. json.depth (value_of (written_certificate (certificate_view certificate))) ≤ max_depth)
-written_shallow (Ok certificate) h = omega (arith, certificate_nests (suc deepest) (certificate_view certificate) h)
-written_shallow (Err e) h = tt
+pub written_shallow : {A E : Type 0} (shown : A → model.Certificate) (r : Result A E) → IfOk r (λ certificate. HoldsForCertificate IsShallow (shown certificate)) → IfOk r (λ certificate. json.depth (value_of (written_certificate (shown certificate))) ≤ max_depth)
+written_shallow shown (Ok certificate) h = omega (arith, certificate_nests (suc deepest) (shown certificate) h)
+written_shallow shown (Err e) h = tt

@@ -1,23 +1,25 @@
 -- How often the shapes of a draft may still change: at first, and after a change or none.
-use Rattle.std.proofs.Common.{◌≡◌, ◌<◌, ◌≤◌, ◌+◌, ◌*◌, ℕ, zero, suc, List, [], ◌∷◌, ◌++◌, length, get_or, take, slice_get, slice_set, sum_by, Bool, true, false, Option, Some, None, Result, Ok, Err, IfOk, refl, sym, ap, ◌∙◌, arith}
-use Rattle.std.proofs.lemmas.List.{take_all}
+use Rattle.std.proofs.Common.{◌≡◌, ◌<◌, ◌≤◌, ◌+◌, ◌*◌, ℕ, zero, suc, List, [], ◌∷◌, ◌++◌, length, get_or, take, slice_get, slice_set, sum_by, Bool, true, false, Bor, Option, Some, None, option_map, Result, Ok, Err, IfOk, refl, sym, ap, ◌∙◌, subst, arith}
 use Rattle.std.proofs.lemmas.List.Sums.{sum_by_more, sum_by_push, sum_by-set}
 use Rattle.std.proofs.lemmas.Option.{slice_get-get_or, slice_get_past}
 use borrow.Author.Tests.{ltb-true, ltb-false}
 use lib.Dec.{ltb}
 use Rattle.asl_model.specs.Machine.{State, kind_of}
 use Rattle.asl_model.specs.Shape.{Shape}
+use Rattle.asl_states.specs.Machine.{state_view}
+use Rattle.asl_states.specs.declared.states.State as code
 use Rattle.asl_model.proofs.RunOptions.{none_some, some_inj}
-use Rattle.asl_infer.specs.Growing.{Takes, IsSpent, growth_room, growth_view, state_room, states_room}
+use Rattle.asl_infer.specs.Growing.{Takes, growth_view}
 use Rattle.asl_infer.specs.Inferring.{entry_shapes}
-use Rattle.asl_infer.specs.declared.draft.GrowingState.{GrowingState}
+use Rattle.asl_infer.specs.Rooms.{IsSpent, growth_room, state_room, states_room}
+use Rattle.asl_infer.specs.declared.states.GrowingState.{GrowingState}
 use Rattle.asl_infer.specs.declared.growing.Growing.{Growing}
 
 -- a shape that takes in what flows
-pub takes_spent : {E : Type 0} (before after : Growing) (flowing : Shape) (r : Result Bool E) → IfOk r (λ changed. Takes (growth_view before) flowing changed (growth_view after)) → IfOk r (λ changed. IsSpent (growth_room before) changed (growth_room after))
-takes_spent before after flowing (Ok true) h = record { spent = omega (arith, h.takes.0) }
-takes_spent before after flowing (Ok false) h = record { spent = omega (arith, ap (λ g. g.changes_left) h.takes.0) }
-takes_spent before after flowing (Err e) h = tt
+pub takes_spent : {E : Type 0} (old new : List Shape) (before after : Growing) (flowing : Shape) (r : Result Bool E) → IfOk r (λ changed. Takes (growth_view old before) flowing changed (growth_view new after)) → IfOk r (λ changed. IsSpent (growth_room before) changed (growth_room after))
+takes_spent old new before after flowing (Ok true) h = record { spent = omega (arith, h.takes.0) }
+takes_spent old new before after flowing (Ok false) h = record { spent = omega (arith, ap (λ g. g.changes_left) h.takes.0) }
+takes_spent old new before after flowing (Err e) h = tt
 
 -- one of several
 pub spent_at : {X E : Type 0} (f : X → ℕ) (xs : List X) (i : ℕ) (x y : X) (r : Result Bool E) → i < length xs → x ≡ get_or xs i x → IfOk r (λ changed. IsSpent (f x) changed (f y)) → IfOk r (λ changed. IsSpent (sum_by f xs) changed (sum_by f (slice_set xs i y)))
@@ -58,13 +60,6 @@ room_next drafted all i new state h e made =
     let more : shapes_of (take (i + 1) all) ≡ shapes_of (take i all) + entry_shapes (kind_of state) = sum_by_more (λ (s : State). entry_shapes (kind_of s)) all i state within ∙ ap (λ (s : State). shapes_of (take i all) + entry_shapes (kind_of s)) at in
     count_next (states_room drafted) (shapes_of (take i all)) (states_room (drafted ++ new ∷ [])) (state_room new) (shapes_of (take (i + 1) all)) (entry_shapes (kind_of state)) h made (sum_by_push state_room drafted new) more
 
-past_all : {A : Type 0} (xs : List A) (j : ℕ) → slice_get xs j ≡ None → length xs ≤ j
-past_all [] j e = omega arith
-past_all (x ∷ xs) zero e = none_some (sym e)
-past_all (x ∷ xs) (suc j) e = omega (arith, past_all xs j e)
-
--- no more
-pub room_same : (drafted : List GrowingState) (all : List State) (i : ℕ) → states_room drafted ≡ 33 * shapes_of (take i all) → None ≡ slice_get all i → states_room drafted ≡ 33 * shapes_of (take (i + 1) all)
-room_same drafted all i h e =
-    let past : length all ≤ i = past_all all i (sym e) in
-    h ∙ ap (λ xs. 33 * shapes_of xs) (take_all i all past ∙ sym (take_all (i + 1) all (omega (arith, past))))
+-- the state that is found at a number
+pub state_found : (o : Option (Bor code.State)) (state : Bor code.State) (all : List State) (i : ℕ) → o ≡ Some state → option_map (λ (s : Bor code.State). state_view s.now) o ≡ slice_get all i → Some (state_view state.now) ≡ slice_get all i
+state_found o state all i is found = subst (λ (x : Option (Bor code.State)). option_map (λ (s : Bor code.State). state_view s.now) x ≡ slice_get all i) is found

@@ -1,58 +1,61 @@
 // A shape that grows as more flows into it.
 
-ghost use Rattle.asl_shape.specs.View.{view};
-ghost use Rattle.asl_infer.specs.Cutting.{IsShallow};
-
-use crate::cutting::cut;
-use asl_shape::{Shape, join, same};
+use crate::cutting::join_cut;
+use crate::store::Store;
+use asl_numbered::Node;
 use asl_tree::OutOfMemory;
-use std::alloc::Global;
 
 /// How often a shape of a draft may change; the last change makes it Any.
 const MOST_CHANGES: u8 = 33;
 
-/// A shape of a draft, and how often it may still change.
-#[derive(Drop)]
+/// The number of a shape of a draft, and how often the shape may still change.
+#[derive(Clone, Copy, Drop)]
 pub(crate) struct Growing {
-    pub(crate) shape: Shape,
+    pub(crate) number: usize,
     changes_left: u8,
-    ghost shallow: { IsShallow (view shape) },
 }
 
 impl Growing {
-    ghost use Rattle.std.specs.Prelude.{◌≡◌, IfOk};
-    ghost use Rattle.asl_infer.specs.Growing.{Takes, growth_view, sprout};
+    ghost use Rattle.std.specs.Prelude.{◌≡◌, ◌<◌, length, IfOk};
+    ghost use Rattle.asl_numbered.specs.Expansion.{expansions, shape_at, Keeps};
+    ghost use Rattle.asl_infer.specs.Growing.{Takes, IsGrown, growth_view};
 
-    /// The shape of no tree, unchanged so far.
-    pub(crate) fn new() -> Growing
-        ensures { growth_view result ≡ sprout }
+    /// The shape of that number, unchanged so far.
+    pub(crate) fn new(number: usize) -> Growing
+        ensures { result ≡ record { number = number; changes_left = 33 } }
     {
         Growing {
-            shape: Shape::Never,
+            number,
             changes_left: MOST_CHANGES,
         }
     }
 
     /// Joins what flows in into the shape, and says whether this changed it. The last change makes it Any, and nothing
     /// changes it then.
-    pub(crate) fn take(&mut self, alloc: Global, flowing: &Shape) -> Result<bool, OutOfMemory>
-        ensures { IfOk result (λ changed. Takes (growth_view self.old) (view flowing.now) changed (growth_view self.new)) }
+    pub(crate) fn take(&mut self, store: &mut Store, flowing: usize) -> Result<bool, OutOfMemory>
+        requires grown { IsGrown store.old self.old }
+        requires flowing { flowing < length store.old }
+        ensures takes { IfOk result
+            (λ changed. Takes (growth_view (expansions store.old) self.old)
+            (shape_at (expansions store.old) flowing) changed
+            (growth_view (expansions store.new) self.new)) }
+        ensures grown { IsGrown store.new self.new }
+        ensures keeps { Keeps (expansions store.old) (expansions store.new) }
     {
         if self.changes_left == 0 {
             return Ok(false);
         }
-        let joined = join(alloc, &self.shape, flowing)?;
-        let joined = cut(alloc, joined)?;
-        if same(&joined, &self.shape) {
+        let joined = join_cut(store, self.number, flowing)?;
+        if joined == self.number {
             return Ok(false);
         }
-        self.changes_left -= 1;
-        let grown = if self.changes_left == 0 {
-            Shape::Any
+        let grown = if self.changes_left == 1 {
+            store.put(Node::Any)?
         } else {
             joined
         };
-        self.shape = grown;
+        self.changes_left -= 1;
+        self.number = grown;
         Ok(true)
     }
 }

@@ -1,16 +1,19 @@
 //! Inferring certificates: from a machine and its declared shapes, a certificate that is closed.
 #![tactic(auto)]
 
-mod catching;
-mod choosing;
 mod cutting;
+mod declarations;
+mod depths;
 mod draft;
 mod growing;
 mod inferring;
-mod items;
+mod rebuilding;
+mod rounds;
 mod settling;
-mod walking;
+mod states;
+mod store;
+mod tasks;
+mod waiting;
 mod widest;
-mod working;
 
-pub use inferring::{InferRefusal, infer};
+pub use inferring::{InferRefusal, infer, infer_numbered};

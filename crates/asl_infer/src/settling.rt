@@ -1,43 +1,34 @@
-// What a draft comes to, and the refusals that need no draft.
+// What a draft comes to.
 
-ghost use Rattle.std.specs.Prelude.{◌≡◌, Contains, IfErr, IfOk, IfSome, IsTrue, map};
-ghost use Rattle.asl_model.specs.Certificate.{IsClosed};
+ghost use Rattle.std.specs.Prelude.{◌≡◌, Contains, IfErr, IfNone, IfOk, IfSome, IsTrue, false};
+ghost use Rattle.std.specs.List.{All};
 ghost use Rattle.asl_model.specs.Inference.{is_of_machine};
-ghost use Rattle.asl_model.specs.Machine as machines;
-ghost use Rattle.asl_model.specs.RecordShapes.{HoldsForCertificate};
-ghost use Rattle.asl_states.specs.Table.{Shows};
-ghost use Rattle.asl_records.specs.View.{declared_view, certificate_view};
-ghost use Rattle.asl_check.specs.View.{finding_fault_view};
-ghost use Rattle.asl_infer.specs.Cutting.{IsShallow};
-ghost use Rattle.asl_infer.specs.Inferring.{Halts};
+ghost use Rattle.asl_records.specs.Numbered.{numbered_view, AreWithin};
+ghost use Rattle.asl_records.specs.View.{declared_view};
+ghost use Rattle.asl_edges.specs.View.{finding_fault_view};
+ghost use Rattle.asl_infer.specs.Inferring.{Halts, IsSettled};
+ghost use Rattle.asl_infer.specs.Settling.{Judges};
 
 use crate::draft::Draft;
 use crate::inferring::InferRefusal;
-use crate::widest::widest_certificate;
-use asl_check::{Finding, FindingFault, Verdict, check};
+use crate::widest::widest_numbers;
+use asl_check::{Finding, FindingFault, Verdict, check_numbered};
 use asl_model::inference_laws::the_widest_certificate_has_no_fault_of_its_own;
 use asl_model::shape_laws::no_broken_rule_means_closed;
-use asl_records::{Certificate, Declared};
+use asl_records::{Declared, NumberedCertificate};
 use asl_states::Machine;
 use asl_tree::OutOfMemory;
 use std::alloc::Global;
 
-/// Refuses where a Task isn't declared or a declared task names no Task, with the first such name in byte order.
-pub(crate) fn check_tasks(
-    alloc: Global,
-    machine: &Machine,
-    declared: &Declared,
-) -> Result<(), InferRefusal>
-    ensures refused { IfErr result (Halts machine.now (declared_view declared.now)) }
-{
-    let widest = widest_certificate(alloc, machine)?;
-    match check(alloc, machine, declared, &widest)? {
-        Verdict::Yes => Ok(()),
-        Verdict::No(findings) => match first_of_tasks(findings) {
-            Some(finding) => Err(InferRefusal::Finding(finding)),
-            None => Ok(()),
-        },
-    }
+/// What a check says of a certificate.
+#[derive(Drop)]
+pub(crate) enum Judged {
+    /// No rule is broken by it.
+    Closed(NumberedCertificate),
+    /// This rule is broken, which is about the machine, or about what is declared.
+    Told(Finding),
+    /// Only rules are broken that are about the certificate.
+    Unfit(NumberedCertificate),
 }
 
 /// The certificate of a draft that has settled. Where a rule is broken by it, a refusal with a finding that is no
@@ -47,61 +38,64 @@ pub(crate) fn settle(
     machine: &Machine,
     declared: &Declared,
     draft: Draft,
-) -> Result<Certificate, InferRefusal>
-    ensures closed { IfOk result (λ certificate. (m : machines.Scope) → Shows machine.now m → IsClosed (declared_view declared.now) (certificate_view certificate) m) }
-    ensures shallow { IfOk result (λ certificate. HoldsForCertificate IsShallow (certificate_view certificate)) }
+) -> Result<NumberedCertificate, InferRefusal>
+    ensures settled { IfOk result (IsSettled machine.now (declared_view declared.now)) }
     ensures refused { IfErr result (Halts machine.now (declared_view declared.now)) }
 {
     no_broken_rule_means_closed();
-    let certificate = draft.certificate(alloc, machine)?;
-    match check(alloc, machine, declared, &certificate)? {
-        Verdict::Yes => Ok(certificate),
-        Verdict::No(findings) => match first_of_machine(findings) {
-            Some(finding) => Err(InferRefusal::Finding(finding)),
-            None => settle_widest(alloc, machine, declared),
-        },
+    let certificate = draft.certificate(machine)?;
+    match judge(alloc, machine, declared, certificate)? {
+        Judged::Closed(certificate) => Ok(certificate),
+        Judged::Told(finding) => Err(InferRefusal::Finding(finding)),
+        Judged::Unfit(_) => settle_widest(alloc, machine, declared),
     }
 }
 
-/// The widest certificate, or the first finding on it.
+/// The widest certificate, or a finding on it.
 fn settle_widest(
     alloc: Global,
     machine: &Machine,
     declared: &Declared,
-) -> Result<Certificate, InferRefusal>
-    ensures closed { IfOk result (λ certificate. (m : machines.Scope) → Shows machine.now m → IsClosed (declared_view declared.now) (certificate_view certificate) m) }
-    ensures shallow { IfOk result (λ certificate. HoldsForCertificate IsShallow (certificate_view certificate)) }
+) -> Result<NumberedCertificate, InferRefusal>
+    ensures settled { IfOk result (IsSettled machine.now (declared_view declared.now)) }
     ensures refused { IfErr result (Halts machine.now (declared_view declared.now)) }
 {
     no_broken_rule_means_closed();
     the_widest_certificate_has_no_fault_of_its_own();
-    let widest = widest_certificate(alloc, machine)?;
-    match check(alloc, machine, declared, &widest)? {
-        Verdict::Yes => Ok(widest),
-        Verdict::No(findings) => match findings.into_iter().next() {
-            Some(finding) => Err(InferRefusal::Finding(finding)),
-            None => Ok(widest),
-        },
+    let widest = widest_numbers(alloc, machine)?;
+    match judge(alloc, machine, declared, widest)? {
+        Judged::Closed(certificate) | Judged::Unfit(certificate) => Ok(certificate),
+        Judged::Told(finding) => Err(InferRefusal::Finding(finding)),
     }
 }
 
-/// The first of the findings that is about a task and its declaration.
-fn first_of_tasks(findings: Vec<Finding>) -> Option<Finding>
-    ensures among { IfSome result (Contains findings.items) }
-    ensures meant { IfSome result (λ finding. IsTrue (is_of_machine (finding_fault_view finding.fault))) }
+/// Checks a certificate.
+fn judge(
+    alloc: Global,
+    machine: &Machine,
+    declared: &Declared,
+    certificate: NumberedCertificate,
+) -> Result<Judged, OutOfMemory>
+    requires { AreWithin certificate }
+    ensures { IfOk result
+        (Judges machine.now (declared_view declared.now) (numbered_view certificate)) }
 {
-    for finding in findings {
-        if is_of_task(finding.fault) {
-            return Some(finding);
-        }
+    let mut certificate = certificate;
+    match check_numbered(alloc, machine, declared, &mut certificate)? {
+        Verdict::Yes => Ok(Judged::Closed(certificate)),
+        Verdict::No(findings) => match first_of_machine(findings) {
+            Some(finding) => Ok(Judged::Told(finding)),
+            None => Ok(Judged::Unfit(certificate)),
+        },
     }
-    None
 }
 
 /// The first of the findings that is about the machine, or about what is declared.
 fn first_of_machine(findings: Vec<Finding>) -> Option<Finding>
     ensures among { IfSome result (Contains findings.items) }
     ensures meant { IfSome result (λ finding. IsTrue (is_of_machine (finding_fault_view finding.fault))) }
+    ensures none { IfNone result
+        (All (λ finding. is_of_machine (finding_fault_view finding.fault) ≡ false) findings.items) }
 {
     for finding in findings {
         if is_of_machine(finding.fault) {
@@ -109,16 +103,6 @@ fn first_of_machine(findings: Vec<Finding>) -> Option<Finding>
         }
     }
     None
-}
-
-/// Whether the fault is about a task and its declaration.
-fn is_of_task(fault: FindingFault) -> bool
-    ensures { IsTrue result → IsTrue (is_of_machine (finding_fault_view fault)) }
-{
-    matches!(
-        fault,
-        FindingFault::TaskUndeclared | FindingFault::TaskUnknown
-    )
 }
 
 /// Whether the fault is about the machine, or about what is declared.

@@ -8,24 +8,37 @@ ghost use Rattle.asl_model.specs.RecordShapes.{HoldsForCertificate};
 ghost use Rattle.asl_model.specs.Shape as model;
 ghost use Rattle.asl_states.specs.Machine.{kind_view};
 ghost use Rattle.asl_states.specs.Table.{Shows, table_view};
+ghost use Rattle.asl_records.specs.Numbered.{numbered_view, AreWithin};
 ghost use Rattle.asl_records.specs.View.{certificate_view, entries_view, entry_view};
 ghost use Rattle.asl_shape.specs.View.{view};
 ghost use Rattle.asl_infer.specs.Cutting.{AreShallow, IsShallow};
 ghost use Rattle.asl_infer.specs.Widest.{AreWidestTo, AreWidened};
 
-use asl_check::{branches_in, is_map};
-use asl_records::{Certificate, StateShapes};
+use crate::states::{branches_in, is_map};
+use asl_records::{Certificate, NumberedCertificate, StateShapes, number_certificate};
 use asl_shape::Shape;
 use asl_states::{Kind, Machine};
 use asl_tree::OutOfMemory;
 use std::alloc::Global;
 use std::collections::BTreeMap;
 
-/// The widest certificate of a machine: Any throughout.
-pub(crate) fn widest_certificate(
+/// The widest certificate of a machine, with the number of Any throughout.
+pub(crate) fn widest_numbers(
     alloc: Global,
     machine: &Machine,
-) -> Result<Certificate, OutOfMemory>
+) -> Result<NumberedCertificate, OutOfMemory>
+    ensures widest { IfOk result (λ certificate. (m : machines.Scope) → Shows machine.now m
+        → IsWidest (table_of m) (numbered_view certificate)) }
+    ensures within { IfOk result AreWithin }
+    ensures shallow { IfOk result
+        (λ certificate. HoldsForCertificate IsShallow (numbered_view certificate)) }
+{
+    let widest = widest_certificate(alloc, machine)?;
+    number_certificate(alloc, &widest)
+}
+
+/// The widest certificate of a machine: Any throughout.
+fn widest_certificate(alloc: Global, machine: &Machine) -> Result<Certificate, OutOfMemory>
     ensures widest { IfOk result (λ certificate. (m : machines.Scope) → Shows machine.now m → IsWidest (table_of m) (certificate_view certificate)) }
     ensures shallow { IfOk result (λ certificate. HoldsForCertificate IsShallow (certificate_view certificate)) }
 {

@@ -136,6 +136,14 @@ const BRANCHES: &str =
 const PAST_BRANCHES: &str =
     r#"{"StartAt":"P","States":{"P":{"Type":"Parallel","Branches":[{"StartAt":"T0","States":{"T0":{"Type":"Task","Resource":"r","End":true}}},{"StartAt":"T1","States":{"T1":{"Type":"Task","Resource":"r","End":true}}}],"Next":"N"},"N":{"Type":"Pass","InputPath":"$[2]","End":true}}}"#;
 
+// The state that comes first in byte order of names takes what the other one gives.
+const AGAINST_NAMES: &str =
+    r#"{"StartAt":"Z","States":{"A":{"Type":"Pass","End":true},"Z":{"Type":"Pass","Next":"A"}}}"#;
+
+// Two rules lead to one state, each for another field.
+const TWO_RULES: &str =
+    r#"{"StartAt":"A","States":{"A":{"Type":"Choice","Choices":[{"Variable":"$.a","IsPresent":true,"Next":"Z"},{"Variable":"$.b","IsPresent":true,"Next":"Z"}],"Default":"Y"},"Y":{"Type":"Pass","End":true},"Z":{"Type":"Pass","End":true}}}"#;
+
 const TASKS: &str =
     r#"{"input":{"type":"integer"},"tasks":{"T0":{"gives":{"type":"integer"}},"T1":{"gives":{"type":"string"}}}}"#;
 
@@ -145,6 +153,9 @@ const MAP: &str =
 const INTEGER: &str = r#"{"input":{"type":"integer"},"tasks":{}}"#;
 
 const INTEGERS: &str = r#"{"input":{"type":"array","items":{"type":"integer"}}}"#;
+
+const TWO_FIELDS: &str =
+    r#"{"input":{"type":"object","properties":{"a":{"type":"integer"},"b":{"type":"integer"}},"additionalProperties":false}}"#;
 
 const NO_FIELD: &str = r#"{"input":{"type":"object","additionalProperties":false}}"#;
 
@@ -157,6 +168,12 @@ fn certificates(rt: HostRuntime) {
             INTEGER,
             2,
             r#"{"version":1,"output":{"type":"integer"},"states":{"A":{"input":{"type":"integer"},"output":{"type":"integer"}}}}"#,
+        ),
+        (
+            AGAINST_NAMES,
+            INTEGER,
+            3,
+            r#"{"version":1,"output":{"type":"integer"},"states":{"A":{"input":{"type":"integer"},"output":{"type":"integer"}},"Z":{"input":{"type":"integer"},"output":{"type":"integer"}}}}"#,
         ),
         (
             LOOP,
@@ -191,7 +208,9 @@ fn refusals(rt: HostRuntime) {
         (PASS, INTEGER, 0, "not settled"),
         (LOOP, NO_FIELD, 33, "not settled"),
         (STEEP_LOOP, NO_FIELD, 24, "not settled"),
+        (AGAINST_NAMES, INTEGER, 2, "not settled"),
         (BRANCHES, TASKS, 2, "not settled"),
+        (TWO_RULES, TWO_FIELDS, 1, "not settled"),
         (MAP, INTEGERS, 2, "not settled"),
         (MAP, INTEGER, 3, "M ItemsPath WrongKind"),
         (PAST_BRANCHES, TASKS, 3, "N InputPath PathMayBeMissing"),
@@ -213,6 +232,19 @@ fn refusals(rt: HostRuntime) {
         let told = refusal(&rt, alloc, definition, declared, rounds);
         assert_eq!(rt; told.as_str(), wanted, "of {definition}");
     }
+}
+
+/// What flows to one state along two edges is joined.
+#[test]
+fn edges_to_one_state(rt: HostRuntime) {
+    let alloc = rt.alloc();
+    let one =
+        r#"{"type":"object","properties":{"a":{"type":"integer"},"b":{"type":"integer"}},"additionalProperties":false}"#;
+    let certificate = format!(in alloc;
+        "{{\"version\":1,\"output\":{one},\"states\":{{\"A\":{{\"input\":{one},\"output\":{one}}},\"Y\":{{\"input\":{one},\"output\":{one}}},\"Z\":{{\"input\":{one},\"output\":{one}}}}}}}"
+    ).expect(&rt, "memory");
+    let is_inferred = infers(&rt, alloc, TWO_RULES, TWO_FIELDS, 2, &certificate);
+    assert!(rt; is_inferred);
 }
 
 /// The shape `inside`, within so many closed objects with an optional field `p`, in each a closed one with a field `q`.

@@ -4,7 +4,7 @@ use Rattle.asl_model.specs.Certificate.{Declared, Obeys, TellsNoFault}
 use Rattle.asl_model.specs.Headline.{NeverFaults}
 use Rattle.asl_model.specs.Machine.{Scope}
 use Rattle.asl_model.specs.Printed.{RunEnd}
-use Rattle.asl_model.specs.Run.{Entry, Action, Event, run_of, trace}
+use Rattle.asl_model.specs.Run.{Entry, Event, run_of, trace}
 use Rattle.asl_model.specs.Texts.{ReadsAsMachine, ReadsAsDeclared}
 use Rattle.asl_model.specs.TracePrinted.{HasNoRaiseLine, trace_text}
 use Rattle.asl_model.specs.Tree.{Tree}

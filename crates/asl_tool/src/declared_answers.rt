@@ -1,14 +1,14 @@
 //! Answers from a list, each of which has to be of the shape that is declared for it.
 
 ghost use Rattle.std.specs.Prelude.{◌≡◌, false, map, option_map};
-ghost use Rattle.asl_model.specs.Certificate.{gives_of, under};
+ghost use Rattle.asl_model.specs.Certificate.{gives_of};
 ghost use Rattle.asl_model.specs.Shape.{has as has_shape};
-ghost use Rattle.asl_records.specs.View.{declared_view, task_view};
+ghost use Rattle.asl_records.specs.View.{declared_view};
 ghost use Rattle.asl_run.specs.Entries.{answer_view};
 ghost use Rattle.asl_tree.specs.View.{view};
 ghost use Rattle.asl_tool.specs.Runs.{MayGive, shape_given, fits_task, is_spent, next_fits};
 
-use asl_records::{Declared, TaskShapes};
+use asl_records::Declared;
 use asl_run::{Answer, Answers};
 use asl_shape::has;
 use asl_tree::{OutOfMemory, Tree};
@@ -83,15 +83,8 @@ fn is_given(declared: Option<&Declared>, state: &str, tree: &Tree) -> bool
 fn is_given_by(declared: &Declared, state: &str, tree: &Tree) -> bool
     ensures { result ≡ has_shape (gives_of (declared_view declared.now) state.now) (view tree.now) }
 {
-    match declared_task(declared, state) {
+    match declared.task(state) {
         Some(task) => has(&task.gives, tree),
         None => true,
     }
-}
-
-/// The shapes that are declared of the task of that name.
-fn declared_task<'d>(declared: &'d Declared, state: &str) -> Option<&'d TaskShapes>
-    ensures { option_map (λ task. task_view task.now) result ≡ under state.now (declared_view declared.now).tasks }
-{
-    declared.tasks.get(state)
 }

@@ -5,7 +5,8 @@ ghost use Rattle.serde_json.specs.View.{view as json_view};
 ghost use Rattle.asl_model.specs.AnswersSpelling.{ReadsAsAnswers};
 ghost use Rattle.asl_model.specs.Json.{ReadsAsTree, ReadsAsValue};
 ghost use Rattle.asl_model.specs.Texts.{ReadsAsDeclared, ReadsAsCertificate};
-ghost use Rattle.asl_records.specs.View.{declared_view, certificate_view};
+ghost use Rattle.asl_records.specs.Numbered.{AreWithin, numbered_view};
+ghost use Rattle.asl_records.specs.View.{declared_view};
 ghost use Rattle.asl_run.specs.Entries.{answer_view};
 ghost use Rattle.asl_tree.specs.View.{view};
 ghost use Rattle.asl_tool.specs.Answers.{answers_fault_of};
@@ -16,7 +17,7 @@ ghost use Rattle.asl_tool.specs.View.{text_fault_view};
 use crate::answering::{AnswersRefusal, read_answers};
 use crate::refusals::TextFault;
 use asl_machine::{DefFault, Machine};
-use asl_records::{Certificate, Declared, ReadFault, read_certificate, read_declared};
+use asl_records::{Declared, NumberedCertificate, ReadFault, read_declared, read_numbered};
 use asl_run::Answer;
 use asl_tree::{Tree, TreeRefusal};
 use serde_json::Value;
@@ -56,16 +57,18 @@ pub(crate) fn declared_text(alloc: Global, text: &[u8]) -> Result<Declared, Text
     }
 }
 
-/// The certificate that a text stands for.
-pub(crate) fn certificate_text(alloc: Global, text: &[u8]) -> Result<Certificate, TextFault>
-    ensures certificate { IfOk result (λ certificate. ReadsAsCertificate text.now (certificate_view certificate)) }
+/// The certificate that a text stands for, its shapes in a table.
+pub(crate) fn certificate_text(alloc: Global, text: &[u8]) -> Result<NumberedCertificate, TextFault>
+    ensures certificate { IfOk result
+        (λ certificate. ReadsAsCertificate text.now (numbered_view certificate)) }
+    ensures within { IfOk result AreWithin }
     ensures refused { IfErr result (λ fault. RefusesCertificate text.now (text_fault_view fault)) }
 {
     let value = match json_value(alloc, text) {
         Ok(value) => value,
         Err(fault) => return Err(fault),
     };
-    match read_certificate(alloc, value) {
+    match read_numbered(alloc, value) {
         Ok(certificate) => Ok(certificate),
         Err(fault) => Err(record_fault(fault)),
     }

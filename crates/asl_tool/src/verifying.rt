@@ -17,7 +17,7 @@ use crate::reading::{certificate_text, declared_text, machine_text};
 use crate::refusals::{RunFault, TextFault, TextRefusal, Which};
 use crate::sinks::{Sink, write_all};
 use crate::sources::Source;
-use asl_check::{Verdict, check};
+use asl_check::{Verdict, check_numbered};
 use asl_model::run_laws::{closed_runs_never_fault, closed_runs_tell_no_fault};
 use asl_model::shape_laws::no_broken_rule_means_closed;
 use std::alloc::Global;
@@ -58,7 +58,7 @@ pub fn verify_texts(
             fault,
         }),
     };
-    let certificate = match certificate_text(alloc, certificate) {
+    let mut certificate = match certificate_text(alloc, certificate) {
         Ok(certificate) => certificate,
         Err(fault) => return Err(TextRefusal {
             which: Which::Certificate,
@@ -68,7 +68,7 @@ pub fn verify_texts(
     no_broken_rule_means_closed();
     closed_runs_never_fault();
     closed_runs_tell_no_fault();
-    match check(alloc, &machine, &declared, &certificate) {
+    match check_numbered(alloc, &machine, &declared, &mut certificate) {
         Ok(verdict) => Ok(verdict),
         Err(_) => Err(TextRefusal {
             which: Which::Certificate,

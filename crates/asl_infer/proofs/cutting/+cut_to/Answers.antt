@@ -1,39 +1,55 @@
-use Rattle.std.proofs.Common.{◌≡◌, suc, [], ◌∷◌, ◌++◌, refl, sym, ap, ◌∙◌, map, subst, append_assoc, arith}
-use Rattle.std.specs.List.Sorted.{IsStrictlySortedBy}
-use Rattle.std.specs.Map.{keys_of}
-use Rattle.std.specs.String.{string_cmp}
-use Rattle.asl_shape.specs.declared.shape.Shape.TheViews.{roll-Field}
-use Rattle.asl_shape.specs.View.{view, fields_view}
-use Rattle.asl_shape.proofs.Spellings.{Mention}
+use Rattle.std.proofs.Common.{◌≡◌, ◌<◌, ◌+◌, ◌*◌, ◌∙◌, suc, length, map, refl, sym, ap, subst, arith}
+use Rattle.asl_numbered.specs.Expansion.{expansions, shape_at}
+use Rattle.asl_numbered.specs.Joins.{Shows}
+use Rattle.asl_numbered.proofs.Expansions.{keeps_trans}
+use Rattle.asl_edges.proofs.Kept.{within}
+use Rattle.asl_infer.specs.Cuts.{AreCutTo}
 use Rattle.asl_infer.specs.Cutting.{cut_to}
-use Rattle.asl_infer.proofs.Cuts.{list_cut, object_cut, field_cut}
+use Rattle.asl_infer.specs.Parts.{parts_of, with_parts}
+use Rattle.asl_infer.proofs.Cuts.{left_as_it_is, one_below, one_more_cut, there_cut, cuts_counted, made_of_start, made_of_own, there_made}
 use Rattle.asl_infer.proofs.cutting.+cut_to.Goals as goal
 
-pub cut_to-returns-in_ok-new-in-List : goal.cut_to-returns-in_ok-new-in-List
-cut_to-returns-in_ok-new-in-List t c =
-    let counted : c.args.levels ≡ suc c.in-Some.below = omega arith in
-    let cuts = c.in_ok-cut_elements_to-in-List.field-0 in
-    let cut = c.in_ok-new-in-List.field-0 in
-    let elements : map view cuts.items ≡ map (λ s. cut_to c.in-Some.below (view s)) c.in-List.first.items = c.in_ok-cut_elements_to-in-List.ensures ∙ ap (map (λ s. cut_to c.in-Some.below (view s))) c.deref.ensures.value in
-    let further : view cut.value ≡ cut_to c.in-Some.below (view c.in-List.rest.value) = ap view c.in_ok-new-in-List.ensures.ok ∙ c.in_ok-cut_to-in-List.ensures ∙ ap (λ s. cut_to c.in-Some.below (view s)) c.deref-in-List.ensures in
-    list_cut _ c.in-Some.below _ c.in-List.first cuts c.in-List.rest cut counted c.in-List.is elements further
+pub cut_each-cut_to-requires : goal.cut_each-cut_to-requires
+cut_each-cut_to-requires t c =
+    let l = c.loop-number in
+    let numbers = c.args.numbers.now in
+    (omega (arith, c.decreases), (within c.args.store.now l.store _ l.invariant.0 (one_below (length c.args.store.now) numbers l.number-index c.loop-number-test.true c.requires.below), c.requires.few))
 
-pub cut_to-returns-in_ok-cut_fields_to-in-Object :
-    goal.cut_to-returns-in_ok-cut_fields_to-in-Object
-cut_to-returns-in_ok-cut_fields_to-in-Object t c =
-    let counted : c.args.levels ≡ suc c.in-Some.below = omega arith in
-    object_cut _ c.in-Some.below _ c.in-Object.fields _ _ counted c.in-Object.is c.in_ok-cut_fields_to-in-Object.ensures
-
-pub cut_fields_to-loop-name-preserved : goal.cut_fields_to-loop-name-preserved
-cut_fields_to-loop-name-preserved t c =
-    let l = c.loop-name in
-    let done = l.invariant.0 in
-    let m : Mention = (c.in-Some.name.now, c.in-Some.field.now) in
-    let left = c.next.new.self in
-    let all : c.args.fields.now.entries ≡ done ++ m ∷ left = l.invariant.1 ∙ ap (λ ms. done ++ ms) c.in-Some.ensures.steps in
-    let sorted = subst (λ ms. IsStrictlySortedBy string_cmp (keys_of ms)) all c.iter-name-items.ensures.ordered in
-    let cut = roll-Field (record { needed = m.1.needed; shape = c.in_ok-cut_to.field-0 }) in (
-      done ++ m ∷ [],
-      all ∙ sym (append_assoc done (m ∷ []) left),
-      ap fields_view c.in_ok-insert.ensures.entries ∙ field_cut c.args.levels done m left l.cuts.entries c.in_ok-key.key cut sorted l.invariant.2 c.in_ok-key.ensures.cases refl c.in_ok-cut_to.ensures,
+pub cut_each-loop-number-preserved : goal.cut_each-loop-number-preserved
+cut_each-loop-number-preserved t c =
+    let l = c.loop-number in (
+      keeps_trans _ _ _ l.invariant.0 c.in_ok-cut_to.ensures.keeps,
+      one_more_cut c.args.levels c.args.store.now l.store c.cut_to.new.store c.args.numbers.now l.number-index l.cuts.items c.push.new.self.items c.in_ok-cut_to.field-0 c.requires.below c.loop-number-test.true l.invariant.0 l.invariant.1 c.in_ok-cut_to.ensures.keeps c.in_ok-cut_to.ensures.cut c.in_ok-push.ensures.items,
     )
+
+pub cut_to-returns-then-branch-levels-clause-cut : goal.cut_to-returns-then-branch-levels-clause-cut
+cut_to-returns-then-branch-levels-clause-cut t c =
+    rw c.in_ok-depth.ensures.same (left_as_it_is c.args.store.now c.args.number c.args.levels c.in_ok-depth.field-0 c.requires.within c.in_ok-depth.ensures.depth c.if-branch-levels.true c.requires.few)
+
+pub cut_to-rebuild-requires-clause-within : goal.cut_to-rebuild-requires-clause-within
+cut_to-rebuild-requires-clause-within t c =
+    there_cut c.args.store.now c.depth.new.self c.cut_each.new.store c.in-Some.below c.args.levels c.args.number c.in_ok-parts.parts.items c.in_ok-parts-2.parts.items c.in_ok-depth.ensures.same c.in_ok-parts-2.ensures.keeps c.requires.within c.in_ok-parts.ensures.parts (subst (λ ns. AreCutTo c.in-Some.below c.depth.new.self ns c.cut_each.new.store c.in_ok-parts-2.parts.items) c.deref.ensures.value c.in_ok-parts-2.ensures.cut)
+
+pub cut_to-rebuild-requires-clause-counted : goal.cut_to-rebuild-requires-clause-counted
+cut_to-rebuild-requires-clause-counted t c =
+    ap length c.deref-2.ensures.value
+    ∙ cuts_counted c.args.store.now c.depth.new.self c.cut_each.new.store c.in-Some.below c.args.levels c.args.number c.in_ok-parts.parts.items c.in_ok-parts-2.parts.items c.in_ok-depth.ensures.same c.in_ok-parts-2.ensures.keeps c.requires.within c.in_ok-parts.ensures.parts (subst (λ ns. AreCutTo c.in-Some.below c.depth.new.self ns c.cut_each.new.store c.in_ok-parts-2.parts.items) c.deref.ensures.value c.in_ok-parts-2.ensures.cut)
+
+pub cut_to-remember-requires-clause-within : goal.cut_to-remember-requires-clause-within
+cut_to-remember-requires-clause-within t c =
+    let cut : c.args.number < length c.cut_each.new.store = there_cut c.args.store.now c.depth.new.self c.cut_each.new.store c.in-Some.below c.args.levels c.args.number c.in_ok-parts.parts.items c.in_ok-parts-2.parts.items c.in_ok-depth.ensures.same c.in_ok-parts-2.ensures.keeps c.requires.within c.in_ok-parts.ensures.parts (subst (λ ns. AreCutTo c.in-Some.below c.depth.new.self ns c.cut_each.new.store c.in_ok-parts-2.parts.items) c.deref.ensures.value c.in_ok-parts-2.ensures.cut) in
+    within c.cut_each.new.store c.rebuild.new.self c.args.number c.in_ok-made.ensures.keeps cut
+
+pub cut_to-remember-requires-clause-shown : goal.cut_to-remember-requires-clause-shown
+cut_to-remember-requires-clause-shown t c =
+    let table = expansions c.cut_each.new.store in
+    let counted : c.args.levels ≡ suc c.in-Some.below = omega arith in
+    let made : Shows (expansions c.rebuild.new.self) (with_parts (shape_at table c.args.number) (map (shape_at table) c.in_ok-parts-2.parts.items)) c.in_ok-made.made = subst (λ ns. Shows (expansions c.rebuild.new.self) (with_parts (shape_at table c.args.number) (map (shape_at table) ns)) c.in_ok-made.made) c.deref-2.ensures.value c.in_ok-made.ensures.rebuilt in
+    made_of_own c.args.store.now c.depth.new.self c.cut_each.new.store c.in-Some.below c.args.levels c.args.number c.in_ok-parts.parts.items c.in_ok-parts-2.parts.items c.in_ok-depth.ensures.same c.in_ok-parts-2.ensures.keeps c.requires.within c.in_ok-parts.ensures.parts (subst (λ ns. AreCutTo c.in-Some.below c.depth.new.self ns c.cut_each.new.store c.in_ok-parts-2.parts.items) c.deref.ensures.value c.in_ok-parts-2.ensures.cut) c.rebuild.new.self c.in_ok-made.made counted c.in_ok-made.ensures.keeps made
+
+pub cut_to-returns-clause-cut : goal.cut_to-returns-clause-cut
+cut_to-returns-clause-cut t c =
+    let table = expansions c.cut_each.new.store in
+    let counted : c.args.levels ≡ suc c.in-Some.below = omega arith in
+    let made : Shows (expansions c.rebuild.new.self) (with_parts (shape_at table c.args.number) (map (shape_at table) c.in_ok-parts-2.parts.items)) c.in_ok-made.made = subst (λ ns. Shows (expansions c.rebuild.new.self) (with_parts (shape_at table c.args.number) (map (shape_at table) ns)) c.in_ok-made.made) c.deref-2.ensures.value c.in_ok-made.ensures.rebuilt in
+    rw c.in_ok-remember.ensures (made_of_start c.args.store.now c.depth.new.self c.cut_each.new.store c.in-Some.below c.args.levels c.args.number c.in_ok-parts.parts.items c.in_ok-parts-2.parts.items c.in_ok-depth.ensures.same c.in_ok-parts-2.ensures.keeps c.requires.within c.in_ok-parts.ensures.parts (subst (λ ns. AreCutTo c.in-Some.below c.depth.new.self ns c.cut_each.new.store c.in_ok-parts-2.parts.items) c.deref.ensures.value c.in_ok-parts-2.ensures.cut) c.rebuild.new.self c.in_ok-made.made counted c.in_ok-made.ensures.keeps made)

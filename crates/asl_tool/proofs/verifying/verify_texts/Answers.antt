@@ -1,4 +1,5 @@
-use Rattle.asl_records.specs.View.{declared_view, certificate_view}
+use Rattle.asl_records.specs.Numbered.{numbered_view}
+use Rattle.asl_records.specs.View.{declared_view}
 use Rattle.asl_check.specs.View.{verdict_view}
 use Rattle.asl_tool.specs.View.{text_fault_view}
 use Rattle.asl_tool.proofs.Promises.{closed, headline, rejected}
@@ -18,28 +19,28 @@ returns-in-Err-certificate_text-clause-refused c =
     certificate-first c.args.definition.now c.args.declared.now c.args.certificate.now c.in-Ok.ensures.machine.definition (declared_view c.in-Ok-declared_text.declared) (text_fault_view c.in-Err-certificate_text.fault)
     c.in-Ok.ensures.machine.reads c.in-Ok-declared_text.ensures.declared c.in-Err-certificate_text.ensures.refused
 
-pub returns-in-Ok-check-clause-verdict : goal.returns-in-Ok-check-clause-verdict
-returns-in-Ok-check-clause-verdict c = record {
+pub returns-in-Ok-check_numbered-clause-verdict : goal.returns-in-Ok-check_numbered-clause-verdict
+returns-in-Ok-check_numbered-clause-verdict c = record {
   machine = c.in-Ok.ensures.machine.definition;
   shapes = declared_view c.in-Ok-declared_text.declared;
-  certified = certificate_view c.in-Ok-certificate_text.certificate;
+  certified = numbered_view c.in-Ok-certificate_text.certificate;
   read = record { as_machine = c.in-Ok.ensures.machine.reads; as_declared = c.in-Ok-declared_text.ensures.declared; as_certificate = c.in-Ok-certificate_text.ensures.certificate };
-  right = c.in-Ok-check.ensures.verdict c.in-Ok.ensures.machine.definition c.in-Ok.ensures.machine.shown;
+  right = c.in-Ok-check_numbered.ensures.verdict c.in-Ok.ensures.machine.definition c.in-Ok.ensures.machine.shown;
 }
 
-pub returns-in-Ok-check-clause-yes : goal.returns-in-Ok-check-clause-yes
-returns-in-Ok-check-clause-yes c =
-    closed c.args.definition.now c.args.declared.now c.args.certificate.now (verdict_view c.in-Ok-check.verdict) c.no_broken_rule_means_closed.ensures.closed
-    (returns-in-Ok-check-clause-verdict c)
+pub returns-in-Ok-check_numbered-clause-yes : goal.returns-in-Ok-check_numbered-clause-yes
+returns-in-Ok-check_numbered-clause-yes c =
+    closed c.args.definition.now c.args.declared.now c.args.certificate.now (verdict_view c.in-Ok-check_numbered.verdict) c.no_broken_rule_means_closed.ensures.closed
+    (returns-in-Ok-check_numbered-clause-verdict c)
 
-pub returns-in-Ok-check-clause-headline : goal.returns-in-Ok-check-clause-headline
-returns-in-Ok-check-clause-headline c =
-    headline c.args.definition.now c.args.declared.now c.args.certificate.now (verdict_view c.in-Ok-check.verdict) c.closed_runs_tell_no_fault.ensures c.closed_runs_never_fault.ensures
-    (returns-in-Ok-check-clause-yes c)
+pub returns-in-Ok-check_numbered-clause-headline : goal.returns-in-Ok-check_numbered-clause-headline
+returns-in-Ok-check_numbered-clause-headline c =
+    headline c.args.definition.now c.args.declared.now c.args.certificate.now (verdict_view c.in-Ok-check_numbered.verdict) c.closed_runs_tell_no_fault.ensures c.closed_runs_never_fault.ensures
+    (returns-in-Ok-check_numbered-clause-yes c)
 
-pub returns-in-Ok-check-clause-no : goal.returns-in-Ok-check-clause-no
-returns-in-Ok-check-clause-no c =
-    rejected c.args.definition.now c.args.declared.now c.args.certificate.now (verdict_view c.in-Ok-check.verdict) (returns-in-Ok-check-clause-verdict c)
+pub returns-in-Ok-check_numbered-clause-no : goal.returns-in-Ok-check_numbered-clause-no
+returns-in-Ok-check_numbered-clause-no c =
+    rejected c.args.definition.now c.args.declared.now c.args.certificate.now (verdict_view c.in-Ok-check_numbered.verdict) (returns-in-Ok-check_numbered-clause-verdict c)
 
 pub returns-clause-refused : goal.returns-clause-refused
 returns-clause-refused c =

@@ -1,29 +1,33 @@
-use Rattle.std.proofs.Common.{[], Some, None, refl, sym, ap, ◌∙◌}
+use Rattle.std.proofs.Common.{Some, None, sym, ap}
 use Rattle.asl_model.specs.Finding.{flow_breaches}
+use Rattle.asl_numbered.specs.Expansion.{expansions}
 use Rattle.asl_states.specs.Machine.{kind_view, scope_view, settings_view}
 use Rattle.asl_states.specs.Table.{table_view}
-use Rattle.asl_records.specs.View.{certificate_view, declared_view, entry_view}
+use Rattle.asl_records.specs.View.{declared_view}
+use Rattle.asl_check.specs.Numbers.{certificate_of}
 use Rattle.asl_check.specs.Rules.{end_in, inputs_in}
-use Rattle.asl_check.proofs.KindRules.{same_told, same_answered}
+use Rattle.asl_check.proofs.Below.{entry_below}
+use Rattle.asl_check.proofs.FlowsTold.{same_answered}
 use Rattle.asl_check.proofs.LookedUp.{certified_there}
 use Rattle.asl_check.proofs.checker.Checker.broken_by_flow.Goals as goal
 
-pub returns-in-Some : goal.returns-in-Some
-returns-in-Some c =
-    let table = table_view c.args.self.now.machine.now in
-    let certificate = c.args.self.now.certificate.now in
-    let row = c.args.row.now in
-    let entry = c.in-Some.entry.now in
-    let rules = flow_breaches (declared_view c.args.self.now.declared.now) (inputs_in table (certificate_view certificate)) in
-    let name = row.name.now in
-    let settings = settings_view row.state.now.settings in
-    let kind = kind_view row.state.now.kind in
-    let end = end_in table (certificate_view certificate) (scope_view row.scope.now) in
-    same_answered c.broken_by_state.result _ _ (ap (λ end. rules end name settings kind (Some (entry_view entry))) c.end_of.ensures ∙ ap (rules end name settings kind) (sym (certified_there certificate name (Some entry) c.in-Some.ensures.value))) c.broken_by_state.ensures
+pub broken_by_state-requires-clause-entry : goal.broken_by_state-requires-clause-entry
+broken_by_state-requires-clause-entry c = entry_below _ c.args.row.now.name.now c.args.self.now.states.now.entries c.in-Some.entry.now c.in-Some.ensures.value c.requires.within.states
 
-pub returns-in-None : goal.returns-in-None
-returns-in-None c =
-    let table = table_view c.args.self.now.machine.now in
-    let certificate = c.args.self.now.certificate.now in
+pub returns-in-Some-clause-told : goal.returns-in-Some-clause-told
+returns-in-Some-clause-told c =
+    let checker = c.args.self.now in
+    let rows = table_view checker.machine.now in
+    let table = expansions c.args.shapes.now in
     let row = c.args.row.now in
-    same_told [] _ None (ap (flow_breaches (declared_view c.args.self.now.declared.now) (inputs_in table (certificate_view certificate)) (end_in table (certificate_view certificate) (scope_view row.scope.now)) row.name.now (settings_view row.state.now.settings) (kind_view row.state.now.kind)) (sym (certified_there certificate row.name.now None c.in-None.ensures.value))) (record { one = refl })
+    let rules = flow_breaches (declared_view checker.declared.now) (inputs_in rows (certificate_of table checker)) (end_in rows (certificate_of table checker) (scope_view row.scope.now)) row.name.now (settings_view row.state.now.settings) (kind_view row.state.now.kind) in
+    same_answered c.broken_by_state.result _ _ (ap rules (sym (certified_there table checker row.name.now (Some c.in-Some.entry.now) c.in-Some.ensures.value))) c.broken_by_state.ensures.told
+
+pub returns-in-None-clause-told : goal.returns-in-None-clause-told
+returns-in-None-clause-told c =
+    let checker = c.args.self.now in
+    let rows = table_view checker.machine.now in
+    let table = expansions c.args.shapes.now in
+    let row = c.args.row.now in
+    let rules = flow_breaches (declared_view checker.declared.now) (inputs_in rows (certificate_of table checker)) (end_in rows (certificate_of table checker) (scope_view row.scope.now)) row.name.now (settings_view row.state.now.settings) (kind_view row.state.now.kind) in
+    record { one = ap rules (certified_there table checker row.name.now None c.in-None.ensures.value) }

@@ -1,14 +1,16 @@
-use Rattle.std.proofs.Common.{◌-◌, length}
+use Rattle.std.proofs.Common.{◌-◌, List, length}
 use Rattle.asl_states.specs.Table.{table_view}
-use Rattle.asl_records.specs.View.{declared_view, certificate_view}
+use Rattle.asl_model.specs.Shape.{Shape}
+use Rattle.asl_records.specs.View.{declared_view}
 use Rattle.asl_check.specs.Noting.{notes_view}
+use Rattle.asl_check.specs.Numbers.{certificate_of}
 use Rattle.asl_check.specs.Rules.{entry_rules, found_in, found_from, found_in_all, row_at}
 use Rattle.asl_check.proofs.Passes.{AreLeft}
 use Rattle.asl_check.proofs.checker.Checker.note_entries.Given as goal
 
 -- those of the rows left are still to be noted
 abbrev pub invariant-loop-number : goal.invariant-loop-number
-invariant-loop-number l =
+invariant-loop-number l = (shapes : List Shape) →
     let table = table_view l.self.machine.now in
-    let rules = entry_rules (declared_view l.self.declared.now) (certificate_view l.self.certificate.now) in
+    let rules = entry_rules (declared_view l.self.declared.now) (certificate_of shapes l.self) in
     AreLeft (found_in_all rules table) (found_from (λ i. found_in rules (row_at table i)) (length table.states - l.number) l.number) (notes_view l.initial.notes.entries) (notes_view l.notes.entries)

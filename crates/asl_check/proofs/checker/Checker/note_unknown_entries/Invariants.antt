@@ -9,4 +9,4 @@ use Rattle.asl_check.proofs.checker.Checker.note_unknown_entries.Given as goal
 abbrev pub invariant-loop-name : goal.invariant-loop-name
 invariant-loop-name l =
     let rule = state_rule (table_view l.self.machine.now) in
-    AreLeft (found_by rule (keys l.self.certificate.now.states)) (found_by rule l.name-iterator) (notes_view l.initial.notes.entries) (notes_view l.notes.entries)
+    AreLeft (found_by rule (keys l.self.states.now)) (found_by rule l.name-iterator) (notes_view l.initial.notes.entries) (notes_view l.notes.entries)

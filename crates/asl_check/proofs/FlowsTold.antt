@@ -1,0 +1,90 @@
+-- What is told of the edges of a state is told of what flows through it.
+use Rattle.std.proofs.Common.{◌≡◌, ◌<◌, ℕ, List, length, map, Option, Some, None, option_map, option_to_list, Result, IfOk, IfSome, Bor, refl, ap, ◌∙◌, subst}
+use Rattle.asl_model.specs.Certificate.{Declared, StateShapes, gives_of}
+use Rattle.asl_model.specs.Edges as edges
+use Rattle.asl_model.specs.Edges.{breaches_along, standing_at, walk}
+use Rattle.asl_model.specs.Finding.{Breach, flow_breaches}
+use Rattle.asl_model.specs.Machine.{Kind, Settings}
+use Rattle.asl_model.specs.Numbering.{Placement}
+use Rattle.asl_model.specs.Shape.{Shape}
+use Rattle.asl_numbered.specs.Expansion.{expansions, shape_at, Keeps}
+use Rattle.asl_numbered.specs.declared.node.Node.{Node}
+use Rattle.asl_numbered.proofs.Expansions.{keeps_trans}
+use Rattle.asl_states.specs.Table.{table_view}
+use Rattle.asl_tree.specs.declared.OutOfMemory.{OutOfMemory}
+use Rattle.asl_records.specs.Numbered.{AreNumbersBelow, numbers_view}
+use Rattle.asl_records.specs.declared.records.StateNumbers.{StateNumbers}
+use Rattle.asl_records.proofs.Kept.{numbers_within, shown, within}
+use Rattle.asl_edges.specs.Entry.{IsEntryBelow, entry_view}
+use Rattle.asl_edges.specs.View.{broken_view}
+use Rattle.asl_edges.specs.declared.faults.Broken.{Broken}
+use Rattle.asl_edges.specs.declared.found.Entry.{Entry}
+use Rattle.asl_check.specs.Checking.{Told}
+use Rattle.asl_check.specs.Numbers.{IsWithin, certificate_of}
+use Rattle.asl_check.specs.Rules.{end_in, inputs_in}
+use Rattle.asl_check.specs.Standing.{AreStanding, standing_view}
+use Rattle.asl_check.specs.Tasks.{AreOfTask}
+use Rattle.asl_check.specs.declared.standing.Standing.{Standing}
+use Rattle.asl_check.specs.declared.tasks.TaskNumbers.{TaskNumbers}
+use Rattle.asl_check.proofs.Grown.{certificate_kept, checker_within}
+
+-- ---- one list for another
+
+pub same_answered : (answer : Result (Option Broken) OutOfMemory) (xs ys : List Breach) → xs ≡ ys → IfOk answer (λ told. Told xs (option_map broken_view told)) → IfOk answer (λ told. Told ys (option_map broken_view told))
+same_answered answer xs ys e t = subst (λ bs. IfOk answer (λ told. Told bs (option_map broken_view told))) e t
+
+-- so where what is told is the list
+pub same_listed : (answer : Result (Option Broken) OutOfMemory) (xs ys : List Breach) → xs ≡ ys → IfOk answer (λ told. option_to_list (option_map broken_view told) ≡ xs) → IfOk answer (λ told. option_to_list (option_map broken_view told) ≡ ys)
+same_listed answer xs ys e t = subst (λ bs. IfOk answer (λ told. option_to_list (option_map broken_view told) ≡ bs)) e t
+
+-- what is told along the walk with what stands there
+pub answered_along : (declared : Declared) (inputs : List ℕ → Option Shape) (end : Option Shape) (n : List ℕ) (own entry : StateShapes) (settings : Settings) (kind : Kind) (s : edges.Standing) (given : Shape) (answer : Result (Option Broken) OutOfMemory) → s ≡ standing_at declared inputs end n own → given ≡ gives_of declared n → entry ≡ own
+    → breaches_along (standing_at declared inputs end n own) (walk (gives_of declared n) settings kind own) ≡ flow_breaches declared inputs end n settings kind (Some own)
+    → IfOk answer (λ told. Told (breaches_along s (walk given settings kind entry)) (option_map broken_view told)) → IfOk answer (λ told. Told (flow_breaches declared inputs end n settings kind (Some own)) (option_map broken_view told))
+answered_along declared inputs end n own entry settings kind s given answer standing gives same law told =
+    let walked : breaches_along s (walk given settings kind entry) ≡ breaches_along (standing_at declared inputs end n own) (walk (gives_of declared n) settings kind own) = rw (standing, gives, same) refl in
+    same_answered answer _ _ (walked ∙ law) told
+
+-- ---- an entry that is lent to the walk
+
+module _ (entry : StateNumbers) (branches : Bor (List ℕ)) (are : branches.now ≡ entry.branches.items) where
+  abbrev lent : Entry
+  lent = record { input = entry.input; output = entry.output; branches = branches; item = entry.item }
+
+  pub entered : (table : List Shape) → entry_view table lent ≡ numbers_view table entry
+  entered table = ap (λ ns. record { input = shape_at table entry.input; output = shape_at table entry.output; branches = map (shape_at table) ns; item = option_map (shape_at table) entry.item }) are
+
+  -- its numbers are those of a table that has grown
+  pub entered_below : (a b : List Node) → Keeps (expansions a) (expansions b) → AreNumbersBelow (length a) entry → IsEntryBelow (length b) lent
+  entered_below a b keeps h =
+      let now = numbers_within a b keeps entry h in
+      record { input = now.input; output = now.output; branches = rw are now.branches; item = now.item }
+
+-- ---- what stands at the destinations
+
+module _ (a b d : List Node) (task_kept : Keeps (expansions a) (expansions b)) (kept : Keeps (expansions b) (expansions d)) (s : Standing) (all_within : IsWithin a s.checker.now) (entry : StateNumbers) (below : AreNumbersBelow (length a) entry) where
+  all_kept : Keeps (expansions a) (expansions d)
+  all_kept = keeps_trans (expansions a) (expansions b) (expansions d) task_kept kept
+
+  -- the numbers are in the table
+  pub standing_within : (declared : Declared) (n : List ℕ) (task : TaskNumbers) → AreOfTask b declared n task → s.output ≡ entry.output → s.takes ≡ task.takes → ((nodes : List Node) → IsWithin nodes s.checker.now → IfSome s.end (λ m. m < length nodes)) → AreStanding d s
+  standing_within declared n task are output takes end =
+      let now = numbers_within a d all_kept entry below in
+      let checker = checker_within a d all_kept s.checker.now all_within in
+      record {
+        checker = checker;
+        output = rw output now.output;
+        end = end d checker;
+        takes = rw takes (within b d kept task.takes are.takes_within);
+      }
+
+  -- they stand for what stands there
+  pub standing_seen : (placement : Placement) (declared : Declared) (n : List ℕ) (task : TaskNumbers) → AreOfTask b declared n task → s.output ≡ entry.output → s.takes ≡ task.takes
+      → option_map (shape_at (expansions d)) s.end ≡ end_in (table_view s.checker.now.machine.now) (certificate_of (expansions d) s.checker.now) placement
+      → standing_view (expansions d) s ≡ standing_at declared (inputs_in (table_view s.checker.now.machine.now) (certificate_of (expansions a) s.checker.now)) (end_in (table_view s.checker.now.machine.now) (certificate_of (expansions a) s.checker.now) placement) n (numbers_view (expansions a) entry)
+  standing_seen placement declared n task are output takes end =
+      let rows = table_view s.checker.now.machine.now in
+      let same = certificate_kept a d all_kept s.checker.now all_within in
+      let own : shape_at (expansions d) s.output ≡ shape_at (expansions a) entry.output = ap (shape_at (expansions d)) output ∙ shown a d all_kept entry.output below.output in
+      let taken : shape_at (expansions d) s.takes ≡ edges.Standing.takes (standing_at declared (inputs_in rows (certificate_of (expansions a) s.checker.now)) None n (numbers_view (expansions a) entry)) = ap (shape_at (expansions d)) takes ∙ shown b d kept task.takes are.takes_within ∙ are.takes in
+      rw (own, taken, end, same) refl

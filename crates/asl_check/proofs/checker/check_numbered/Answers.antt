@@ -1,0 +1,32 @@
+use Rattle.std.proofs.Common.{IfOk, refl, subst}
+use Rattle.asl_model.specs.Certificate.{Certificate}
+use Rattle.asl_model.specs.Machine.{Scope}
+use Rattle.asl_model.specs.Verdict.{IsRight}
+use Rattle.asl_numbered.proofs.Expansions.{keeps_trans}
+use Rattle.asl_states.specs.Table.{Shows}
+use Rattle.asl_records.proofs.Kept.{certificate_shown, certificate_within}
+use Rattle.asl_records.specs.View.{declared_view}
+use Rattle.asl_check.specs.View.{verdict_view}
+use Rattle.asl_check.proofs.Grown.{checked_within, in_table}
+use Rattle.asl_check.proofs.checker.check_numbered.Goals as goal
+
+pub returns-in_err-never-clause-same : goal.returns-in_err-never-clause-same
+returns-in_err-never-clause-same c = certificate_shown c.args.certificate.now (in_table c.args.certificate.now c.add.new.self) c.add.ensures.keeps refl refl c.requires.within
+
+pub returns-in_err-never-clause-within : goal.returns-in_err-never-clause-within
+returns-in_err-never-clause-within c = certificate_within c.args.certificate.now (in_table c.args.certificate.now c.add.new.self) c.add.ensures.keeps refl refl c.requires.within
+
+pub verdict-requires : goal.verdict-requires
+verdict-requires c = record { within = checked_within c.args.certificate.now c.add.new.self _ c.add.ensures.keeps refl refl c.requires.within c.in_ok-never.ensures.number }
+
+pub returns-clause-verdict : goal.returns-clause-verdict
+returns-clause-verdict c =
+    let old = c.args.certificate.now in
+    let same = certificate_shown old (in_table old c.add.new.self) c.add.ensures.keeps refl refl c.requires.within in
+    subst (λ (certificate : Certificate). IfOk c.verdict.result (λ verdict. (m : Scope) → Shows c.args.machine.now m → IsRight m (declared_view c.args.declared.now) certificate (verdict_view verdict))) same c.verdict.ensures.verdict
+
+pub returns-clause-same : goal.returns-clause-same
+returns-clause-same c = certificate_shown c.args.certificate.now (in_table c.args.certificate.now c.verdict.new.shapes) (keeps_trans _ _ _ c.add.ensures.keeps c.verdict.ensures.keeps) refl refl c.requires.within
+
+pub returns-clause-within : goal.returns-clause-within
+returns-clause-within c = certificate_within c.args.certificate.now (in_table c.args.certificate.now c.verdict.new.shapes) (keeps_trans _ _ _ c.add.ensures.keeps c.verdict.ensures.keeps) refl refl c.requires.within

@@ -1,6 +1,0 @@
-use Rattle.std.proofs.Common.{◌≡◌, map, take}
-use Rattle.asl_shape.specs.View.{view}
-use Rattle.asl_check.proofs.working.copies.Given as goal
-
-abbrev pub invariant-loop-shape : goal.invariant-loop-shape
-invariant-loop-shape l = map view l.copies.items ≡ map view (take l.shape-index l.shapes)

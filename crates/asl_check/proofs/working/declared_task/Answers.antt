@@ -1,7 +1,0 @@
-use Rattle.std.proofs.Common.{option_map, sym, ap, ◌∙◌}
-use Rattle.asl_records.specs.View.{task_view}
-use Rattle.asl_check.proofs.KindRules.{task_looked_up, task_seen}
-use Rattle.asl_check.proofs.working.declared_task.Goals as goal
-
-pub returns : goal.returns
-returns c = record { task = task_seen c.get.result ∙ ap (option_map task_view) c.get.ensures.value ∙ sym (task_looked_up c.args.name.now c.args.declared.now.tasks.entries) }

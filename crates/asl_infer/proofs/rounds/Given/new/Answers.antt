@@ -1,0 +1,16 @@
+use Rattle.std.proofs.Common.{refl}
+use Rattle.asl_numbered.specs.Expansion.{expansions}
+use Rattle.asl_records.specs.View.{declared_view}
+use Rattle.asl_states.specs.Table.{table_view}
+use Rattle.asl_infer.proofs.Declared.{tasks_kept}
+use Rattle.asl_infer.proofs.rounds.Given.new.Goals as goal
+
+pub returns-clause-given : goal.returns-clause-given
+returns-clause-given c = record {
+  machine = refl;
+  declares = refl;
+  numbers = record {
+    tasks = tasks_kept (declared_view c.args.declared.now) (table_view c.args.machine.now).names (expansions c.task_numbers.new.store) (expansions c.add.new.self) c.in_ok-tasks.tasks.items c.in_ok-input.ensures.keeps c.in_ok-tasks.ensures.tasks;
+    input = c.in_ok-input.ensures.number.within;
+  };
+}

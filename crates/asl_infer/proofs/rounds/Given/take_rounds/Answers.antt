@@ -1,0 +1,6 @@
+use Rattle.asl_numbered.specs.Expansion.{expansions}
+use Rattle.asl_infer.proofs.Declared.{given_kept}
+use Rattle.asl_infer.proofs.rounds.Given.take_rounds.Goals as goal
+
+pub take_round-requires : goal.take_round-requires
+take_round-requires c = given_kept (expansions c.args.draft.now.store) (expansions c.loop.draft.store) c.args.self.now c.loop.invariant.1 c.requires

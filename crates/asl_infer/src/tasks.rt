@@ -1,0 +1,62 @@
+// The shapes that are declared of tasks, by number.
+
+ghost use Rattle.std.specs.Prelude.{IfOk};
+ghost use Rattle.asl_numbered.specs.Expansion.{expansions, Keeps};
+ghost use Rattle.asl_records.specs.View.{declared_view};
+ghost use Rattle.asl_states.specs.Table.{table_view};
+ghost use Rattle.asl_infer.specs.Tasks.{AreTasks, IsTaskOf};
+
+use crate::store::Store;
+use asl_numbered::Node;
+use asl_records::Declared;
+use asl_states::Machine;
+use asl_tree::OutOfMemory;
+
+/// The numbers of a task's shapes.
+#[derive(Clone, Copy)]
+pub(crate) struct TaskNumbers {
+    /// Of its payload.
+    pub(crate) takes: usize,
+    /// Of its result.
+    pub(crate) gives: usize,
+}
+
+/// The numbers of the shapes of each state's task, by the state's number: those of Any where none is declared.
+pub(crate) fn task_numbers(
+    machine: &Machine,
+    declared: &Declared,
+    store: &mut Store,
+) -> Result<Vec<TaskNumbers>, OutOfMemory>
+    ensures tasks { IfOk result
+        (λ tasks. AreTasks (declared_view declared.now) (table_view machine.now).names
+        (expansions store.new) tasks.items) }
+    ensures keeps { Keeps (expansions store.old) (expansions store.new) }
+{
+    let mut tasks = Vec::new(store.alloc);
+    for number in 0..machine.states() {
+        let name = machine.name(number).unwrap_or("");
+        tasks.push(task_of(declared, name, store)?)?;
+    }
+    Ok(tasks)
+}
+
+// The numbers of the shapes of the task of the state of that name.
+fn task_of(declared: &Declared, name: &str, store: &mut Store) -> Result<TaskNumbers, OutOfMemory>
+    ensures task { IfOk result
+        (IsTaskOf (declared_view declared.now) name.now (expansions store.new)) }
+    ensures keeps { Keeps (expansions store.old) (expansions store.new) }
+{
+    match declared.task(name) {
+        Some(task) => Ok(TaskNumbers {
+            takes: store.add(&task.takes)?,
+            gives: store.add(&task.gives)?,
+        }),
+        None => {
+            let any = store.put(Node::Any)?;
+            Ok(TaskNumbers {
+                takes: any,
+                gives: any,
+            })
+        }
+    }
+}
