@@ -9,4 +9,6 @@ mod drives;
 #[cfg(test)]
 mod machines;
 #[cfg(test)]
+mod misplaced;
+#[cfg(test)]
 mod runs;

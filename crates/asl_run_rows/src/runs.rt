@@ -112,10 +112,10 @@ fn stepped(
 }
 
 /// A place, what happens there, the entries of this step or its refusal, and the places that are enabled then.
-type Step = (&'static [usize], Happening, &'static str, &'static str);
+pub(crate) type Step = (&'static [usize], Happening, &'static str, &'static str);
 
 /// Takes the steps and compares each with what is wanted of it, and then how the run has ended.
-fn compare(rt: &impl Abort, alloc: Global, run: &mut Run, steps: &[Step], wanted: &str) {
+pub(crate) fn compare(rt: &impl Abort, alloc: Global, run: &mut Run, steps: &[Step], wanted: &str) {
     for (at, happening, entries, enabled) in steps {
         let answer = stepped(rt, alloc, run, at, *happening);
         assert_eq!(rt; answer.as_str(), *entries);

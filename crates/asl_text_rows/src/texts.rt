@@ -8,11 +8,11 @@ use std::process::Abort;
 
 /// Gives a text in pieces of at most `step` bytes, and fails where no read is left.
 #[derive(Drop)]
-struct Pieces<'t> {
-    rest: &'t [u8],
-    step: usize,
-    reads_left: usize,
-    failed: bool,
+pub(crate) struct Pieces<'t> {
+    pub(crate) rest: &'t [u8],
+    pub(crate) step: usize,
+    pub(crate) reads_left: usize,
+    pub(crate) failed: bool,
 }
 
 impl Source for Pieces<'_> {
@@ -35,11 +35,11 @@ impl Source for Pieces<'_> {
 
 /// Takes at most `step` bytes at once, and fails where no write is left.
 #[derive(Drop)]
-struct Held {
-    bytes: Vec<u8>,
-    step: usize,
-    writes_left: usize,
-    failed: bool,
+pub(crate) struct Held {
+    pub(crate) bytes: Vec<u8>,
+    pub(crate) step: usize,
+    pub(crate) writes_left: usize,
+    pub(crate) failed: bool,
 }
 
 impl Sink for Held {
@@ -74,7 +74,7 @@ fn ended(alloc: Global, text: &str, step: usize, reads: usize, sink: &mut Held) 
     }
 }
 
-fn empty(alloc: Global, step: usize, writes_left: usize) -> Held {
+pub(crate) fn empty(alloc: Global, step: usize, writes_left: usize) -> Held {
     Held {
         bytes: Vec::new(alloc),
         step,
@@ -83,11 +83,11 @@ fn empty(alloc: Global, step: usize, writes_left: usize) -> Held {
     }
 }
 
-const DEFINITION: &str = r#"{"StartAt":"A","States":{"A":{"Type":"Pass","End":true}}}"#;
+pub(crate) const DEFINITION: &str = r#"{"StartAt":"A","States":{"A":{"Type":"Pass","End":true}}}"#;
 
-const DECLARED: &str = r#"{"input":{"type":"integer"},"tasks":{}}"#;
+pub(crate) const DECLARED: &str = r#"{"input":{"type":"integer"},"tasks":{}}"#;
 
-const CERTIFICATE: &str =
+pub(crate) const CERTIFICATE: &str =
     r#"{"version":1,"output":{"type":"integer"},"states":{"A":{"input":{"type":"integer"},"output":{"type":"integer"}}}}"#;
 
 #[test]

@@ -1,0 +1,133 @@
+//! Events at places where nothing stands, and where what stands there doesn't want them: each leaves the run as it was.
+use crate::runs::Happening::{Gives, Moves};
+use crate::runs::{Step, TWO_TASKS, compare, machine, started};
+
+/// Events at places where nothing stands, and where what stands there doesn't want them, while a task waits beside a
+/// branch that hasn't begun.
+const MISPLACED: [Step; 9] = [
+    (
+        &[],
+        Moves,
+        r#"[Enter { at: [], state: "P", input: Int(5) }]"#,
+        "[([0], Move), ([1], Move)]",
+    ),
+    (
+        &[0],
+        Moves,
+        r#"[Enter { at: [0], state: "T0", input: Int(5) }, Task { at: [0], state: "T0", payload: Int(5) }]"#,
+        "[([0], Answer), ([1], Move)]",
+    ),
+    (
+        &[0],
+        Moves,
+        "(NotEnabled, Move([0]))",
+        "[([0], Answer), ([1], Move)]",
+    ),
+    (
+        &[1],
+        Gives("1"),
+        "(NotEnabled, Answers([1], Gives(Int(1))))",
+        "[([0], Answer), ([1], Move)]",
+    ),
+    (
+        &[],
+        Moves,
+        "(NotEnabled, Move([]))",
+        "[([0], Answer), ([1], Move)]",
+    ),
+    (
+        &[0, 0],
+        Moves,
+        "(NoSuchPlace, Move([0, 0]))",
+        "[([0], Answer), ([1], Move)]",
+    ),
+    (
+        &[2],
+        Moves,
+        "(NoSuchPlace, Move([2]))",
+        "[([0], Answer), ([1], Move)]",
+    ),
+    (
+        &[18446744073709551615],
+        Gives("1"),
+        "(NoSuchPlace, Answers([18446744073709551615], Gives(Int(1))))",
+        "[([0], Answer), ([1], Move)]",
+    ),
+    (
+        &[0],
+        Gives("1"),
+        r#"[Leave { at: [0], state: "T0", output: Int(1) }, Ended { at: [0], outcome: Output(Int(1)) }]"#,
+        "[([1], Move)]",
+    ),
+];
+
+/// Events at the branch that has ended and below it, and the other branch to its end.
+const BEHIND_AN_END: [Step; 6] = [
+    (&[0], Moves, "(NotEnabled, Move([0]))", "[([1], Move)]"),
+    (
+        &[0],
+        Gives("1"),
+        "(NotEnabled, Answers([0], Gives(Int(1))))",
+        "[([1], Move)]",
+    ),
+    (
+        &[0, 0],
+        Moves,
+        "(NoSuchPlace, Move([0, 0]))",
+        "[([1], Move)]",
+    ),
+    (
+        &[1],
+        Moves,
+        r#"[Enter { at: [1], state: "T1", input: Int(5) }, Task { at: [1], state: "T1", payload: Int(5) }]"#,
+        "[([1], Answer)]",
+    ),
+    (
+        &[1],
+        Gives("2"),
+        r#"[Leave { at: [1], state: "T1", output: Int(2) }, Ended { at: [1], outcome: Output(Int(2)) }]"#,
+        "[([], Move)]",
+    ),
+    (
+        &[],
+        Moves,
+        r#"[Leave { at: [], state: "P", output: List([Int(1), Int(2)]) }, Ended { at: [], outcome: Output(List([Int(1), Int(2)])) }]"#,
+        "[]",
+    ),
+];
+
+/// Events after the end of the machine.
+const AFTER_THE_END: [Step; 7] = [
+    (&[], Moves, "(NotEnabled, Move([]))", "[]"),
+    (
+        &[],
+        Gives("1"),
+        "(NotEnabled, Answers([], Gives(Int(1))))",
+        "[]",
+    ),
+    (&[0], Moves, "(NoSuchPlace, Move([0]))", "[]"),
+    (
+        &[1],
+        Gives("1"),
+        "(NoSuchPlace, Answers([1], Gives(Int(1))))",
+        "[]",
+    ),
+    (&[2], Moves, "(NoSuchPlace, Move([2]))", "[]"),
+    (&[0, 0], Moves, "(NoSuchPlace, Move([0, 0]))", "[]"),
+    (
+        &[18446744073709551615],
+        Moves,
+        "(NoSuchPlace, Move([18446744073709551615]))",
+        "[]",
+    ),
+];
+
+#[test]
+fn misplaced_events(rt: HostRuntime) {
+    let alloc = rt.alloc();
+    let machine = machine(&rt, alloc, TWO_TASKS);
+    let mut run = started(&rt, alloc, &machine, "5");
+    compare(&rt, alloc, &mut run, &MISPLACED, "");
+    compare(&rt, alloc, &mut run, &BEHIND_AN_END, "[1,2]");
+    compare(&rt, alloc, &mut run, &AFTER_THE_END, "[1,2]");
+}
