@@ -2,10 +2,10 @@
 use Rattle.std.specs.Prelude.{◌≡◌, ℕ, List, [], ◌∷◌, Option, Some, None, option_map, codes, refl}
 use Rattle.serde_json.specs.Read.{read}
 use Rattle.serde_json.proofs.OnLiterals.{serde_json_on_literals}
-use Rattle.asl_model.specs.Shape.{Any, IntegerShape, BooleanShape}
+use Rattle.asl_model.specs.Shape.{Any, IntegerShape, BooleanShape, ArrayShape, NoShapes, AndShape}
 use Rattle.asl_model.specs.Certificate.{Declared, Certificate}
-use Rattle.asl_model.specs.ShapeSpelling.{NotAShape, MinItems}
-use Rattle.asl_model.specs.Records.{RecordFault, NotObject, MissingField, UnknownField, WrongKind, BadShape, BadVersion, RecordComplaint, declared_from, declared_complaints, certificate_from, certificate_complaints}
+use Rattle.asl_model.specs.ShapeSpelling.{NotAShape, BadType, MinItems}
+use Rattle.asl_model.specs.Records.{RecordFault, NotObject, MissingField, UnknownField, WrongKind, BadShape, BadVersion, BadNumber, RecordComplaint, declared_from, declared_complaints, certificate_from, certificate_complaints}
 
 declared_in : List ℕ → Option (Declared × List RecordComplaint)
 declared_in text = option_map (λ v. (declared_from v, declared_complaints v)) (read text)
@@ -94,10 +94,6 @@ other_version : certificate_faults_in (codes "{\"version\":2,\"output\":true,\"s
 unfolding serde_json_on_literals certificate_faults_in only
 other_version = refl
 
-shapes_unknown : certificate_faults_in (codes "{\"version\":1,\"output\":true,\"shapes\":[],\"states\":{}}") ≡ only UnknownField [] (codes "shapes")
-unfolding serde_json_on_literals certificate_faults_in only
-shapes_unknown = refl
-
 branches_no_list : certificate_faults_in (codes "{\"version\":1,\"output\":true,\"states\":{\"P\":{\"input\":true,\"output\":true,\"branches\":true}}}") ≡ only WrongKind (codes "P") (codes "branches")
 unfolding serde_json_on_literals certificate_faults_in only
 branches_no_list = refl
@@ -105,3 +101,42 @@ branches_no_list = refl
 branch_no_shape : certificate_faults_in (codes "{\"version\":1,\"output\":true,\"states\":{\"P\":{\"input\":true,\"output\":true,\"branches\":[true,7]}}}") ≡ only (BadShape NotAShape) (codes "P") (codes "branches")
 unfolding serde_json_on_literals certificate_faults_in only
 branch_no_shape = refl
+
+-- ---- listed shapes
+
+listed_shapes : certificate_in (codes "{\"version\":1,\"shapes\":[{\"type\":\"integer\"},{\"type\":\"array\",\"items\":{\"shape\":0}}],\"output\":{\"shape\":1},\"states\":{\"A\":{\"input\":{\"shape\":0},\"output\":{\"shape\":1}}}}")
+    ≡ Some (record { output = ArrayShape NoShapes IntegerShape; states = (codes "A", record { input = IntegerShape; output = ArrayShape NoShapes IntegerShape; branches = []; item = None }) ∷ [] }, [])
+unfolding serde_json_on_literals certificate_in
+listed_shapes = refl
+
+reference_inside_itself : certificate_faults_in (codes "{\"version\":1,\"shapes\":[{\"shape\":0}],\"output\":true,\"states\":{}}") ≡ only BadNumber [] (codes "shapes")
+unfolding serde_json_on_literals certificate_faults_in only
+reference_inside_itself = refl
+
+reference_ahead : certificate_faults_in (codes "{\"version\":1,\"shapes\":[{\"shape\":1},true],\"output\":true,\"states\":{}}") ≡ only BadNumber [] (codes "shapes")
+unfolding serde_json_on_literals certificate_faults_in only
+reference_ahead = refl
+
+reference_behind_all : certificate_faults_in (codes "{\"version\":1,\"shapes\":[true],\"output\":{\"shape\":1},\"states\":{}}") ≡ only BadNumber [] (codes "output")
+unfolding serde_json_on_literals certificate_faults_in only
+reference_behind_all = refl
+
+negative_reference : certificate_faults_in (codes "{\"version\":1,\"shapes\":[true],\"output\":{\"shape\":-1},\"states\":{}}") ≡ only BadNumber [] (codes "output")
+unfolding serde_json_on_literals certificate_faults_in only
+negative_reference = refl
+
+reference_by_name : certificate_faults_in (codes "{\"version\":1,\"shapes\":[true],\"output\":true,\"states\":{\"A\":{\"input\":true,\"output\":{\"shape\":\"0\"}}}}") ≡ only BadNumber (codes "A") (codes "output")
+unfolding serde_json_on_literals certificate_faults_in only
+reference_by_name = refl
+
+reference_not_alone : certificate_faults_in (codes "{\"version\":1,\"shapes\":[true],\"output\":{\"shape\":0,\"title\":\"x\"},\"states\":{}}") ≡ only (BadShape BadType) [] (codes "output")
+unfolding serde_json_on_literals certificate_faults_in only
+reference_not_alone = refl
+
+reference_to_none_listed : certificate_faults_in (codes "{\"version\":1,\"output\":{\"shape\":0},\"states\":{}}") ≡ only (BadShape BadType) [] (codes "output")
+unfolding serde_json_on_literals certificate_faults_in only
+reference_to_none_listed = refl
+
+shapes_no_list : certificate_faults_in (codes "{\"version\":1,\"shapes\":true,\"output\":true,\"states\":{}}") ≡ only WrongKind [] (codes "shapes")
+unfolding serde_json_on_literals certificate_faults_in only
+shapes_no_list = refl

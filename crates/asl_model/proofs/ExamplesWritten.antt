@@ -2,7 +2,9 @@
 use Rattle.std.specs.Prelude.{◌≡◌, [], ◌∷◌, true, false, Some, None, codes, refl}
 use Rattle.std.specs.Fmt.{digits}
 use Rattle.serde_json.proofs.OnLiterals.{serde_json_on_literals}
-use Rattle.asl_model.specs.Shape.{Any, Never, IntegerShape, StringShape, ArrayShape, ObjectShape, NoShapes, AndShape, NoFieldShapes, AndFieldShape}
+use Rattle.asl_model.specs.Certificate.{Certificate}
+use Rattle.asl_model.specs.WrittenNumbered.{written_numbered}
+use Rattle.asl_model.specs.Shape.{Shape, Any, Never, IntegerShape, StringShape, ArrayShape, ObjectShape, NoShapes, AndShape, NoFieldShapes, AndFieldShape}
 use Rattle.asl_model.specs.Json.{compact_text}
 use Rattle.asl_model.specs.Written.{written_shape, written_declared, written_certificate}
 
@@ -39,3 +41,31 @@ certificate = refl
 with_branches_and_item : compact_text (written_certificate (record { output = Any; states = (codes "P", record { input = Any; output = Any; branches = Never ∷ Any ∷ []; item = Some Never }) ∷ [] })) ≡ codes "{\"output\":true,\"states\":{\"P\":{\"branches\":[false,true],\"input\":true,\"item\":false,\"output\":true}},\"version\":1}"
 unfolding serde_json_on_literals digits
 with_branches_and_item = refl
+
+-- ---- certificates that list their shapes
+
+-- of a Parallel of two tasks, its output is listed
+one_list : Shape
+one_list = ArrayShape (AndShape IntegerShape (AndShape StringShape NoShapes)) Never
+
+two_tasks : Certificate
+two_tasks = record {
+  output = one_list;
+  states =
+      (codes "P", record { input = IntegerShape; output = one_list; branches = IntegerShape ∷ StringShape ∷ []; item = None })
+      ∷ (codes "T0", record { input = IntegerShape; output = IntegerShape; branches = []; item = None }) ∷ [];
+}
+
+listed_once : compact_text (written_numbered two_tasks) ≡ codes "{\"output\":{\"shape\":0},\"shapes\":[{\"items\":false,\"minItems\":2,\"prefixItems\":[{\"type\":\"integer\"},{\"type\":\"string\"}],\"type\":\"array\"}],\"states\":{\"P\":{\"branches\":[{\"type\":\"integer\"},{\"type\":\"string\"}],\"input\":{\"type\":\"integer\"},\"output\":{\"shape\":0}},\"T0\":{\"input\":{\"type\":\"integer\"},\"output\":{\"type\":\"integer\"}}},\"version\":1}"
+unfolding serde_json_on_literals digits two_tasks one_list
+listed_once = refl
+
+-- a part is listed before the whole, and one that was there isn't listed again
+parts_first : compact_text (written_numbered (record { output = ArrayShape NoShapes (ArrayShape NoShapes IntegerShape); states = (codes "A", record { input = ArrayShape NoShapes IntegerShape; output = Any; branches = []; item = None }) ∷ [] })) ≡ codes "{\"output\":{\"shape\":1},\"shapes\":[{\"items\":{\"type\":\"integer\"},\"type\":\"array\"},{\"items\":{\"shape\":0},\"type\":\"array\"}],\"states\":{\"A\":{\"input\":{\"shape\":0},\"output\":true}},\"version\":1}"
+unfolding serde_json_on_literals digits
+parts_first = refl
+
+-- where none is of arrays or objects, none is listed
+none_listed : compact_text (written_numbered (record { output = Never; states = [] })) ≡ codes "{\"output\":false,\"states\":{},\"version\":1}"
+unfolding serde_json_on_literals digits
+none_listed = refl

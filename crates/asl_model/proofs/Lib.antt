@@ -33,7 +33,9 @@ pub mod FindingStates
 pub mod FindingTold
 pub mod JoinFuel
 pub mod Listed
+pub mod Listing
 pub mod NamesLead
+pub mod NumberedBack
 pub mod NumberedRows
 pub mod NumberedScopes
 pub mod NumberedStates
@@ -66,6 +68,7 @@ pub mod RunPieces
 pub mod RunStands
 pub mod RunTemplates
 pub mod RunTrouble
+pub mod SameShapes
 pub mod ShapeFields
 pub mod ShapeInhabited
 pub mod ShapeInside

@@ -17,7 +17,7 @@ use Rattle.asl_model.proofs.SpellingWritten.{written_spells}
 -- ---- the value of which a tree was made
 
 -- an object
-object_in : (v : Data) (fs : Fields) → tree_of v ≡ Some (Object fs) → (ms : Members) × (v ≡ json.object ms) × (members_of ms ≡ Some fs)
+pub object_in : (v : Data) (fs : Fields) → tree_of v ≡ Some (Object fs) → (ms : Members) × (v ≡ json.object ms) × (members_of ms ≡ Some fs)
 object_in json.null fs e = absurd (cc)
 object_in (json.boolean b) fs e = absurd (cc)
 object_in (json.number n) fs e = by (as_i64 n) e
@@ -38,7 +38,7 @@ object_in (json.object ms) fs e = (ms, refl, by (members_of ms) e)
     by (Some gs) h = cc
 
 -- an array
-array_in : (v : Data) (ts : Trees) → tree_of v ≡ Some (Array ts) → (vs : Items) × (v ≡ json.array vs) × (elements_of vs ≡ Some ts)
+pub array_in : (v : Data) (ts : Trees) → tree_of v ≡ Some (Array ts) → (vs : Items) × (v ≡ json.array vs) × (elements_of vs ≡ Some ts)
 array_in json.null ts e = absurd (cc)
 array_in (json.boolean b) ts e = absurd (cc)
 array_in (json.number n) ts e = by (as_i64 n) e
@@ -59,7 +59,7 @@ array_in (json.object ms) ts e = by (members_of ms) e
     by (Some fs) h = absurd (cc)
 
 -- a number
-number_in : (v : Data) (m : ℤ) → tree_of v ≡ Some (Integer m) → (n : Num) × (v ≡ json.number n) × (as_i64 n ≡ Some m)
+pub number_in : (v : Data) (m : ℤ) → tree_of v ≡ Some (Integer m) → (n : Num) × (v ≡ json.number n) × (as_i64 n ≡ Some m)
 number_in json.null m e = absurd (cc)
 number_in (json.boolean b) m e = absurd (cc)
 number_in (json.number n) m e = (n, refl, by (as_i64 n) e)
@@ -80,7 +80,7 @@ number_in (json.object ms) m e = by (members_of ms) e
     by (Some fs) h = absurd (cc)
 
 -- no members
-none_in : (ms : Members) → members_of ms ≡ Some NoFields → ms ≡ json.no_members
+pub none_in : (ms : Members) → members_of ms ≡ Some NoFields → ms ≡ json.no_members
 none_in json.no_members e = refl
 none_in (json.member n v ms) e = by (tree_of v) (members_of ms) e
   where
@@ -90,7 +90,7 @@ none_in (json.member n v ms) e = by (tree_of v) (members_of ms) e
     by (Some t) (Some fs) h = absurd (cc)
 
 -- one member in front of others
-member_in : (ms : Members) (n : List ℕ) (t : Tree) (fs : Fields) → members_of ms ≡ Some (AndField n t fs) → (v : Data) × (others : Members) × (ms ≡ json.member n v others) × (tree_of v ≡ Some t) × (members_of others ≡ Some fs)
+pub member_in : (ms : Members) (n : List ℕ) (t : Tree) (fs : Fields) → members_of ms ≡ Some (AndField n t fs) → (v : Data) × (others : Members) × (ms ≡ json.member n v others) × (tree_of v ≡ Some t) × (members_of others ≡ Some fs)
 member_in json.no_members n t fs e = absurd (cc)
 member_in (json.member m v ms) n t fs e = let same = by (tree_of v) (members_of ms) e in (v, ms, ap (λ k. json.member k v ms) same.0, same.1, same.2)
   where
@@ -100,7 +100,7 @@ member_in (json.member m v ms) n t fs e = let same = by (tree_of v) (members_of 
     by (Some u) (Some gs) h = (cc, cc, cc)
 
 -- no elements
-no_item_in : (vs : Items) → elements_of vs ≡ Some NoTrees → vs ≡ json.no_items
+pub no_item_in : (vs : Items) → elements_of vs ≡ Some NoTrees → vs ≡ json.no_items
 no_item_in json.no_items e = refl
 no_item_in (json.item v vs) e = by (tree_of v) (elements_of vs) e
   where
@@ -110,7 +110,7 @@ no_item_in (json.item v vs) e = by (tree_of v) (elements_of vs) e
     by (Some t) (Some ts) h = absurd (cc)
 
 -- one element in front of others
-item_in : (vs : Items) (t : Tree) (ts : Trees) → elements_of vs ≡ Some (AndTree t ts) → (v : Data) × (others : Items) × (vs ≡ json.item v others) × (tree_of v ≡ Some t) × (elements_of others ≡ Some ts)
+pub item_in : (vs : Items) (t : Tree) (ts : Trees) → elements_of vs ≡ Some (AndTree t ts) → (v : Data) × (others : Items) × (vs ≡ json.item v others) × (tree_of v ≡ Some t) × (elements_of others ≡ Some ts)
 item_in json.no_items t ts e = absurd (cc)
 item_in (json.item v vs) t ts e = let same = by (tree_of v) (elements_of vs) e in (v, vs, refl, same.0, same.1)
   where
@@ -126,25 +126,12 @@ abbrev pub IsSpelled : Shape → Type 0
 IsSpelled s = SpellsShape (written_shape s) s
 
 -- the value is what is written for the shape, and is read as it
-pub record IsShape (v : Data) (s : Shape) : Type 0 where
-  pub none_wrong : shape_misfits v ≡ []
-  pub same : shape_from v ≡ s
+pub record IsShape (listed : Option (List Tree)) (v : Data) (s : Shape) : Type 0 where
+  pub none_wrong : shape_misfits listed v ≡ []
+  pub same : shape_from listed v ≡ s
 
-shape_there : (v : Data) (s : Shape) → IsSpelled s → tree_of v ≡ Some (written_shape s) → IsShape v s
+shape_there : (v : Data) (s : Shape) → IsSpelled s → tree_of v ≡ Some (written_shape s) → IsShape None v s
 shape_there v s h e = record { none_wrong = rw (e, h.none_wrong) refl; same = rw (e, h.same) refl }
-
--- so of several
-pub record AreShapes (vs : Items) (shapes : List Shape) : Type 0 where
-  pub none_wrong : shapes_misfits vs ≡ []
-  pub same : shapes_from vs ≡ shapes
-
-shapes_there : (shapes : List Shape) (vs : Items) → AllByRecursion IsSpelled shapes → elements_of vs ≡ Some (written_list shapes) → AreShapes vs shapes
-shapes_there [] vs h e = rw (no_item_in vs e) (record { none_wrong = refl; same = refl })
-shapes_there (s ∷ shapes) vs h e =
-    let it = item_in vs (written_shape s) (written_list shapes) e in
-    let first = shape_there it.0 s h.0 it.3 in
-    let others = shapes_there shapes it.1 h.1 it.4 in
-    rw it.2 (record { none_wrong = rw (first.none_wrong, others.none_wrong) refl; same = rw (first.same, others.same) refl })
 
 -- ---- objects of a few fields
 
@@ -181,14 +168,14 @@ two_in v n m t u e =
     let two = two_left o.0 n m t u o.2 in
     (two.0, two.1, o.1 ∙ ap json.object two.2, two.3, two.4)
 
-three_in : (v : Data) (n m k : List ℕ) (t u w : Tree) → tree_of v ≡ Some (Object (AndField n t (AndField m u (AndField k w NoFields))))
+pub three_in : (v : Data) (n m k : List ℕ) (t u w : Tree) → tree_of v ≡ Some (Object (AndField n t (AndField m u (AndField k w NoFields))))
     → (a : Data) × (b : Data) × (c : Data) × (v ≡ json.object (json.member n a (json.member m b (json.member k c json.no_members)))) × (tree_of a ≡ Some t) × (tree_of b ≡ Some u) × (tree_of c ≡ Some w)
 three_in v n m k t u w e =
     let o = object_in v (AndField n t (AndField m u (AndField k w NoFields))) e in
     let three = three_left o.0 n m k t u w o.2 in
     (three.0, three.1, three.2, o.1 ∙ ap json.object three.3, three.4, three.5, three.6)
 
-four_in : (v : Data) (n m k l : List ℕ) (t u w x : Tree) → tree_of v ≡ Some (Object (AndField n t (AndField m u (AndField k w (AndField l x NoFields)))))
+pub four_in : (v : Data) (n m k l : List ℕ) (t u w x : Tree) → tree_of v ≡ Some (Object (AndField n t (AndField m u (AndField k w (AndField l x NoFields)))))
     → (a : Data) × (b : Data) × (c : Data) × (d : Data) × (v ≡ json.object (json.member n a (json.member m b (json.member k c (json.member l d json.no_members))))) × (tree_of a ≡ Some t) × (tree_of b ≡ Some u) × (tree_of c ≡ Some w) × (tree_of d ≡ Some x)
 four_in v n m k l t u w x e =
     let o = object_in v (AndField n t (AndField m u (AndField k w (AndField l x NoFields)))) e in
@@ -198,27 +185,27 @@ four_in v n m k l t u w x e =
 -- ---- entries
 
 -- the value is read as that, with nothing wrong in the entry of any name
-pub record IsEntry {A : Type 0} (rows : List RecordRow) (from : Data → A) (v : Data) (a : A) : Type 0 where
-  pub none_wrong : (n : List ℕ) → object_complaints n rows v ≡ []
+pub record IsEntry {A : Type 0} (listed : Option (List Tree)) (rows : List RecordRow) (from : Data → A) (v : Data) (a : A) : Type 0 where
+  pub none_wrong : (n : List ℕ) → object_complaints listed n rows v ≡ []
   pub same : from v ≡ a
 
 -- so for each entry under its name
-pub record AreEntries {A : Type 0} (rows : List RecordRow) (from : Data → A) (ms : Members) (entries : List (List ℕ × A)) : Type 0 where
-  pub none_wrong : entries_complaints rows ms ≡ []
+pub record AreEntries {A : Type 0} (listed : Option (List Tree)) (rows : List RecordRow) (from : Data → A) (ms : Members) (entries : List (List ℕ × A)) : Type 0 where
+  pub none_wrong : entries_complaints listed rows ms ≡ []
   pub same : entries_from from ms ≡ entries
 
-entries_there : {A : Type 0} (rows : List RecordRow) (from : Data → A) (written : A → Tree) (P : A → Type 0) → ((a : A) (v : Data) → P a → tree_of v ≡ Some (written a) → IsEntry rows from v a)
-    → (entries : List (List ℕ × A)) (ms : Members) → AllByRecursion (λ (entry : List ℕ × A). P entry.1) entries → members_of ms ≡ Some (written_entries written entries) → AreEntries rows from ms entries
-entries_there rows from written P there [] ms h e = rw (none_in ms e) (record { none_wrong = refl; same = refl })
-entries_there rows from written P there (entry ∷ entries) ms h e =
+pub entries_there : {A : Type 0} (listed : Option (List Tree)) (rows : List RecordRow) (from : Data → A) (written : A → Tree) (P : A → Type 0) → ((a : A) (v : Data) → P a → tree_of v ≡ Some (written a) → IsEntry listed rows from v a)
+    → (entries : List (List ℕ × A)) (ms : Members) → AllByRecursion (λ (entry : List ℕ × A). P entry.1) entries → members_of ms ≡ Some (written_entries written entries) → AreEntries listed rows from ms entries
+entries_there listed rows from written P there [] ms h e = rw (none_in ms e) (record { none_wrong = refl; same = refl })
+entries_there listed rows from written P there (entry ∷ entries) ms h e =
     let it = member_in ms entry.0 (written entry.1) (written_entries written entries) e in
     let first = there entry.1 it.0 h.0 it.3 in
-    let others = entries_there rows from written P there entries it.1 h.1 it.4 in
+    let others = entries_there listed rows from written P there entries it.1 h.1 it.4 in
     rw it.2 (record { none_wrong = ap₂ ◌++◌ (first.none_wrong entry.0) others.none_wrong; same = rw (first.same, others.same) refl })
 
 -- ---- declared shapes
 
-task_there : (task : TaskShapes) (v : Data) → HoldsForTask IsSpelled task → tree_of v ≡ Some (written_task task) → IsEntry task_rows task_from v task
+task_there : (task : TaskShapes) (v : Data) → HoldsForTask IsSpelled task → tree_of v ≡ Some (written_task task) → IsEntry None task_rows task_from v task
 task_there task v h e =
     let two = two_in v (codes "gives") (codes "takes") (written_shape task.gives) (written_shape task.takes) e in
     let gives = shape_there two.0 task.gives h.gives two.3 in
@@ -230,7 +217,7 @@ declared_back v d h e =
     let two = two_in v (codes "input") (codes "tasks") (written_shape d.input) (Object (written_entries written_task d.tasks)) e in
     let input = shape_there two.0 d.input h.input two.3 in
     let object = object_in two.1 (written_entries written_task d.tasks) two.4 in
-    let tasks = entries_there task_rows task_from written_task (HoldsForTask IsSpelled) task_there d.tasks object.0 h.tasks object.2 in
+    let tasks = entries_there None task_rows task_from written_task (HoldsForTask IsSpelled) task_there d.tasks object.0 h.tasks object.2 in
     record {
       whole = ap is_some e;
       none_wrong = rw (two.2, object.1, input.none_wrong, tasks.none_wrong) refl;
@@ -239,48 +226,63 @@ declared_back v d h e =
 
 -- ---- certificates
 
-state_there : (shapes : StateShapes) (v : Data) → HoldsForState IsSpelled shapes → tree_of v ≡ Some (written_state shapes) → IsEntry state_rows state_from v shapes
-state_there shapes v h e = by shapes.branches shapes.item h.branches h.item e
-  where
-    -- the entry with those branches and that item
-    entry : List Shape → Option Shape → StateShapes
-    entry branches item = record { input = shapes.input; output = shapes.output; branches = branches; item = item }
+-- where each shape is written so that its value is read as it, with those listed shapes
+module _ (listed : Option (List Tree)) (written : Shape → Tree) (P : Shape → Type 0) (there : (v : Data) (s : Shape) → P s → tree_of v ≡ Some (written s) → IsShape listed v s) where
+  -- so of several
+  pub record AreShapes (vs : Items) (shapes : List Shape) : Type 0 where
+    pub none_wrong : shapes_misfits listed vs ≡ []
+    pub same : shapes_from listed vs ≡ shapes
 
-    by : (branches : List Shape) (item : Option Shape) → AllByRecursion IsSpelled branches → IfSome item IsSpelled → tree_of v ≡ Some (written_state (entry branches item)) → IsEntry state_rows state_from v (entry branches item)
-    by [] None b i e =
-        let two = two_in v (codes "input") (codes "output") (written_shape shapes.input) (written_shape shapes.output) e in
-        let input = shape_there two.0 shapes.input h.input two.3 in
-        let output = shape_there two.1 shapes.output h.output two.4 in
-        rw two.2 (record { none_wrong = (λ n. rw (input.none_wrong, output.none_wrong) refl); same = rw (input.same, output.same) refl })
-    by [] (Some s) b i e =
-        let three = three_in v (codes "input") (codes "item") (codes "output") (written_shape shapes.input) (written_shape s) (written_shape shapes.output) e in
-        let input = shape_there three.0 shapes.input h.input three.4 in
-        let item = shape_there three.1 s i three.5 in
-        let output = shape_there three.2 shapes.output h.output three.6 in
-        rw three.3 (record { none_wrong = (λ n. rw (input.none_wrong, item.none_wrong, output.none_wrong) refl); same = rw (input.same, item.same, output.same) refl })
-    by (s ∷ further) None b i e =
-        let three = three_in v (codes "branches") (codes "input") (codes "output") (Array (written_list (s ∷ further))) (written_shape shapes.input) (written_shape shapes.output) e in
-        let array = array_in three.0 (written_list (s ∷ further)) three.4 in
-        let branches = shapes_there (s ∷ further) array.0 b array.2 in
-        let input = shape_there three.1 shapes.input h.input three.5 in
-        let output = shape_there three.2 shapes.output h.output three.6 in
-        rw (three.3, array.1) (record { none_wrong = (λ n. rw (branches.none_wrong, input.none_wrong, output.none_wrong) refl); same = rw (branches.same, input.same, output.same) refl })
-    by (s ∷ further) (Some t) b i e =
-        let four = four_in v (codes "branches") (codes "input") (codes "item") (codes "output") (Array (written_list (s ∷ further))) (written_shape shapes.input) (written_shape t) (written_shape shapes.output) e in
-        let array = array_in four.0 (written_list (s ∷ further)) four.5 in
-        let branches = shapes_there (s ∷ further) array.0 b array.2 in
-        let input = shape_there four.1 shapes.input h.input four.6 in
-        let item = shape_there four.2 t i four.7 in
-        let output = shape_there four.3 shapes.output h.output four.8 in
-        rw (four.4, array.1) (record { none_wrong = (λ n. rw (branches.none_wrong, input.none_wrong, item.none_wrong, output.none_wrong) refl); same = rw (branches.same, input.same, item.same, output.same) refl })
+  shapes_there : (shapes : List Shape) (vs : Items) → AllByRecursion P shapes → elements_of vs ≡ Some (written_list written shapes) → AreShapes vs shapes
+  shapes_there [] vs h e = rw (no_item_in vs e) (record { none_wrong = refl; same = refl })
+  shapes_there (s ∷ shapes) vs h e =
+      let it = item_in vs (written s) (written_list written shapes) e in
+      let first = there it.0 s h.0 it.3 in
+      let others = shapes_there shapes it.1 h.1 it.4 in
+      rw it.2 (record { none_wrong = rw (first.none_wrong, others.none_wrong) refl; same = rw (first.same, others.same) refl })
+
+  pub state_there : (shapes : StateShapes) (v : Data) → HoldsForState P shapes → tree_of v ≡ Some (written_state written shapes) → IsEntry listed state_rows (state_from listed) v shapes
+  state_there shapes v h e = by shapes.branches shapes.item h.branches h.item e
+    where
+      -- the entry with those branches and that item
+      entry : List Shape → Option Shape → StateShapes
+      entry branches item = record { input = shapes.input; output = shapes.output; branches = branches; item = item }
+
+      by : (branches : List Shape) (item : Option Shape) → AllByRecursion P branches → IfSome item P → tree_of v ≡ Some (written_state written (entry branches item)) → IsEntry listed state_rows (state_from listed) v (entry branches item)
+      by [] None b i e =
+          let two = two_in v (codes "input") (codes "output") (written shapes.input) (written shapes.output) e in
+          let input = there two.0 shapes.input h.input two.3 in
+          let output = there two.1 shapes.output h.output two.4 in
+          rw two.2 (record { none_wrong = (λ n. rw (input.none_wrong, output.none_wrong) refl); same = rw (input.same, output.same) refl })
+      by [] (Some s) b i e =
+          let three = three_in v (codes "input") (codes "item") (codes "output") (written shapes.input) (written s) (written shapes.output) e in
+          let input = there three.0 shapes.input h.input three.4 in
+          let item = there three.1 s i three.5 in
+          let output = there three.2 shapes.output h.output three.6 in
+          rw three.3 (record { none_wrong = (λ n. rw (input.none_wrong, item.none_wrong, output.none_wrong) refl); same = rw (input.same, item.same, output.same) refl })
+      by (s ∷ further) None b i e =
+          let three = three_in v (codes "branches") (codes "input") (codes "output") (Array (written_list written (s ∷ further))) (written shapes.input) (written shapes.output) e in
+          let array = array_in three.0 (written_list written (s ∷ further)) three.4 in
+          let branches = shapes_there (s ∷ further) array.0 b array.2 in
+          let input = there three.1 shapes.input h.input three.5 in
+          let output = there three.2 shapes.output h.output three.6 in
+          rw (three.3, array.1) (record { none_wrong = (λ n. rw (branches.none_wrong, input.none_wrong, output.none_wrong) refl); same = rw (branches.same, input.same, output.same) refl })
+      by (s ∷ further) (Some t) b i e =
+          let four = four_in v (codes "branches") (codes "input") (codes "item") (codes "output") (Array (written_list written (s ∷ further))) (written shapes.input) (written t) (written shapes.output) e in
+          let array = array_in four.0 (written_list written (s ∷ further)) four.5 in
+          let branches = shapes_there (s ∷ further) array.0 b array.2 in
+          let input = there four.1 shapes.input h.input four.6 in
+          let item = there four.2 t i four.7 in
+          let output = there four.3 shapes.output h.output four.8 in
+          rw (four.4, array.1) (record { none_wrong = (λ n. rw (branches.none_wrong, input.none_wrong, item.none_wrong, output.none_wrong) refl); same = rw (branches.same, input.same, item.same, output.same) refl })
 
 pub certificate_back : (v : Data) (c : Certificate) → HoldsForCertificate IsSpelled c → tree_of v ≡ Some (written_certificate c) → StandsForCertificate v c
 certificate_back v c h e =
-    let three = three_in v (codes "output") (codes "states") (codes "version") (written_shape c.output) (Object (written_entries written_state c.states)) (Integer (pos 1)) e in
+    let three = three_in v (codes "output") (codes "states") (codes "version") (written_shape c.output) (Object (written_entries (written_state written_shape) c.states)) (Integer (pos 1)) e in
     let output = shape_there three.0 c.output h.output three.4 in
-    let object = object_in three.1 (written_entries written_state c.states) three.5 in
+    let object = object_in three.1 (written_entries (written_state written_shape) c.states) three.5 in
     let number = number_in three.2 (pos 1) three.6 in
-    let states = entries_there state_rows state_from written_state (HoldsForState IsSpelled) state_there c.states object.0 h.states object.2 in
+    let states = entries_there None state_rows (state_from None) (written_state written_shape) (HoldsForState IsSpelled) (state_there None written_shape IsSpelled shape_there) c.states object.0 h.states object.2 in
     record {
       whole = ap is_some e;
       none_wrong = rw (three.3, object.1, number.1, number.2, output.none_wrong, states.none_wrong) refl;

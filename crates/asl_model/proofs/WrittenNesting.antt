@@ -77,26 +77,26 @@ module _ (n : ℕ) where
   within_nests : (s : Shape) → IsWithin s → nesting (written_shape s) ≤ 2 * n
   within_nests s h = omega (arith, shape_nests s, h)
 
-  list_nests : (shapes : List Shape) → AllByRecursion IsWithin shapes → elements_nesting (written_list shapes) ≤ 2 * n
+  list_nests : (shapes : List Shape) → AllByRecursion IsWithin shapes → elements_nesting (written_list written_shape shapes) ≤ 2 * n
   list_nests [] h = omega arith
   list_nests (s ∷ further) h = omega (arith, within_nests s h.0, list_nests further h.1)
 
-  item_nests : (item : Option Shape) (fs : Fields) → IfSome item IsWithin → fields_nesting fs ≤ 1 + 2 * n → fields_nesting (with_item item fs) ≤ 1 + 2 * n
+  item_nests : (item : Option Shape) (fs : Fields) → IfSome item IsWithin → fields_nesting fs ≤ 1 + 2 * n → fields_nesting (with_item written_shape item fs) ≤ 1 + 2 * n
   item_nests None fs h further = further
   item_nests (Some s) fs h further = omega (arith, within_nests s h, further)
 
-  branches_nest : (branches : List Shape) (fs : Fields) → AllByRecursion IsWithin branches → fields_nesting fs ≤ 1 + 2 * n → fields_nesting (with_branches branches fs) ≤ 1 + 2 * n
+  branches_nest : (branches : List Shape) (fs : Fields) → AllByRecursion IsWithin branches → fields_nesting fs ≤ 1 + 2 * n → fields_nesting (with_branches written_shape branches fs) ≤ 1 + 2 * n
   branches_nest [] fs h further = further
   branches_nest (s ∷ more) fs h further = omega (arith, list_nests (s ∷ more) h, further)
 
-  state_nests : (shapes : StateShapes) → HoldsForState IsWithin shapes → nesting (written_state shapes) ≤ 2 + 2 * n
+  state_nests : (shapes : StateShapes) → HoldsForState IsWithin shapes → nesting (written_state written_shape shapes) ≤ 2 + 2 * n
   state_nests shapes h =
       let output = AndField (codes "output") (written_shape shapes.output) NoFields in
-      let item : fields_nesting (with_item shapes.item output) ≤ 1 + 2 * n = item_nests shapes.item output h.item (omega (arith, within_nests shapes.output h.output)) in
-      let input = AndField (codes "input") (written_shape shapes.input) (with_item shapes.item output) in
+      let item : fields_nesting (with_item written_shape shapes.item output) ≤ 1 + 2 * n = item_nests shapes.item output h.item (omega (arith, within_nests shapes.output h.output)) in
+      let input = AndField (codes "input") (written_shape shapes.input) (with_item written_shape shapes.item output) in
       omega (arith, branches_nest shapes.branches input h.branches (omega (arith, within_nests shapes.input h.input, item)))
 
-  states_nest : (states : List (List ℕ × StateShapes)) → AllByRecursion (λ (entry : List ℕ × StateShapes). HoldsForState IsWithin entry.1) states → fields_nesting (written_entries written_state states) ≤ 2 + 2 * n
+  states_nest : (states : List (List ℕ × StateShapes)) → AllByRecursion (λ (entry : List ℕ × StateShapes). HoldsForState IsWithin entry.1) states → fields_nesting (written_entries (written_state written_shape) states) ≤ 2 + 2 * n
   states_nest [] h = omega arith
   states_nest (entry ∷ more) h = omega (arith, state_nests entry.1 h.0, states_nest more h.1)
 

@@ -22,6 +22,7 @@ pub mod RecordShapes
 pub mod Records
 pub mod RuleGrammar
 pub mod RuleSpelling
+pub mod References
 pub mod Run
 pub mod Shape
 pub mod ShapeFlow
@@ -37,3 +38,4 @@ pub mod TracePrinted
 pub mod Tree
 pub mod Verdict
 pub mod Written
+pub mod WrittenNumbered

@@ -95,6 +95,7 @@ record_fault_name records.UnknownField = codes "UnknownField"
 record_fault_name records.WrongKind = codes "WrongKind"
 record_fault_name (records.BadShape f) = codes "BadShape"
 record_fault_name records.BadVersion = codes "BadVersion"
+record_fault_name records.BadNumber = codes "BadNumber"
 
 -- the field behind a space, nothing where it is empty
 abbrev pub field_text : List ℕ → List ℕ

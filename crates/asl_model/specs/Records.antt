@@ -1,6 +1,7 @@
 -- How declared shapes and certificates are written as JSON values (the profile's own formats).
 -- Every value has here a reading, with defaults where something is wrong, and a list of all that is wrong with it. It
 -- stands for what is read where that list is empty and all its numbers are whole and in range.
+-- A certificate may list shapes in its field `shapes`; then references to them may stand wherever a shape may.
 use Rattle.std.specs.Prelude.{◌≡◌, ℕ, ℤ, pos, List, [], ◌∷◌, ◌++◌, map, Bool, true, false, ◌||◌, IsTrue, is_some, if◌then◌else◌, Option, Some, None, option_map, option_and_then, bytes_eq, codes}
 use Rattle.std.specs.Option.{unwrap_or}
 use Rattle.std.specs.List.{Contains}
@@ -11,7 +12,9 @@ use Rattle.serde_json.specs.Find.{as_i64, as_number, as_array, as_object, get_me
 use Rattle.asl_model.specs.Shape.{Shape, Any}
 use Rattle.asl_model.specs.Certificate.{Declared, TaskShapes, Certificate, StateShapes}
 use Rattle.asl_model.specs.Json.{tree_of}
+use Rattle.asl_model.specs.References.{spelled_out, has_wrong_number}
 use Rattle.asl_model.specs.ShapeSpelling.{ShapeFault, shape_of, shape_faults}
+use Rattle.asl_model.specs.Tree.{Tree, Null}
 
 -- what can be wrong with a record
 pub data RecordFault : Type 0 where
@@ -24,6 +27,8 @@ pub data RecordFault : Type 0 where
   BadShape : ShapeFault → RecordFault
   -- a whole number other than 1
   BadVersion : RecordFault
+  -- a reference that means none of the listed shapes
+  BadNumber : RecordFault
 
 -- a fault, at the entry of that name (empty for the record itself), and at a field
 pub record RecordComplaint : Type 0 where
@@ -39,6 +44,8 @@ pub data RecordValue : Type 0 where
   VersionValue : RecordValue
   ShapeValue : RecordValue
   ShapesValue : RecordValue
+  -- the shapes that references mean; in each the ones before it may be meant
+  ListedValue : RecordValue
   -- an object with an entry for each state or task
   EntriesValue : RecordValue
 
@@ -70,6 +77,7 @@ task_rows =
 abbrev pub certificate_rows : List RecordRow
 certificate_rows =
     row (codes "version") VersionValue true
+    ∷ row (codes "shapes") ListedValue false
     ∷ row (codes "output") ShapeValue true
     ∷ row (codes "states") EntriesValue true
     ∷ []
@@ -83,16 +91,52 @@ state_rows =
     ∷ row (codes "item") ShapeValue false
     ∷ []
 
+-- ---- listed shapes
+
+-- what a spelling is without references, where shapes are listed
+abbrev pub plain : Option (List Tree) → Tree → Tree
+plain None t = t
+plain (Some listed) t = spelled_out listed t
+
+-- the value as a tree without references
+abbrev pub plain_tree : List Tree → Data → Tree
+plain_tree listed v = unwrap_or (option_map (spelled_out listed) (tree_of v)) Null
+
+-- these trees, and then those of the elements, each without references to the ones before it
+abbrev pub listed_after : List Tree → Items → List Tree
+listed_after listed json.no_items = listed
+listed_after listed (json.item v vs) = listed_after (listed ++ plain_tree listed v ∷ []) vs
+
+-- the trees of the shapes that a certificate lists, where it has the field `shapes`
+abbrev pub listed_in : Members → Option (List Tree)
+listed_in ms =
+    option_map (λ v. listed_after [] (unwrap_or (as_array v) json.no_items)) (get_member (codes "shapes") ms)
+
 -- ---- what is wrong
 
+-- what is wrong with the numbers of references
+abbrev pub number_misfits : Option (List Tree) → Tree → List RecordFault
+number_misfits None t = []
+number_misfits (Some listed) t = if has_wrong_number listed t then BadNumber ∷ [] else []
+
+-- what is wrong with a spelling
+abbrev pub tree_misfits : Option (List Tree) → Tree → List RecordFault
+tree_misfits listed t = number_misfits listed t ++ map BadShape (shape_faults (plain listed t))
+
 -- what is wrong with a value that should be a shape
-abbrev pub shape_misfits : Data → List RecordFault
-shape_misfits v = unwrap_or (option_map (λ t. map BadShape (shape_faults t)) (tree_of v)) []
+abbrev pub shape_misfits : Option (List Tree) → Data → List RecordFault
+shape_misfits listed v = unwrap_or (option_map (tree_misfits listed) (tree_of v)) []
 
 -- what is wrong with each element that should be a shape
-abbrev pub shapes_misfits : Items → List RecordFault
-shapes_misfits json.no_items = []
-shapes_misfits (json.item v vs) = shape_misfits v ++ shapes_misfits vs
+abbrev pub shapes_misfits : Option (List Tree) → Items → List RecordFault
+shapes_misfits listed json.no_items = []
+shapes_misfits listed (json.item v vs) = shape_misfits listed v ++ shapes_misfits listed vs
+
+-- what is wrong with each element behind listed shapes, that should be a shape which may mean these
+abbrev pub listed_misfits : List Tree → Items → List RecordFault
+listed_misfits listed json.no_items = []
+listed_misfits listed (json.item v vs) =
+    shape_misfits (Some listed) v ++ listed_misfits (listed ++ plain_tree listed v ∷ []) vs
 
 -- what is wrong with a number as the version; one that isn't whole is told of the whole text
 abbrev pub version_misfits : Option ℤ → List RecordFault
@@ -100,26 +144,29 @@ version_misfits None = []
 version_misfits (Some n) = if int_eq n (pos 1) then [] else BadVersion ∷ []
 
 -- what is wrong with the value of a field
-abbrev pub misfits : RecordValue → Data → List RecordFault
-misfits VersionValue v = unwrap_or (option_map (λ n. version_misfits (as_i64 n)) (as_number v)) (WrongKind ∷ [])
-misfits ShapeValue v = shape_misfits v
-misfits ShapesValue v = unwrap_or (option_map shapes_misfits (as_array v)) (WrongKind ∷ [])
-misfits EntriesValue v = if is_some (as_object v) then [] else WrongKind ∷ []
+abbrev pub misfits : Option (List Tree) → RecordValue → Data → List RecordFault
+misfits listed VersionValue v =
+    unwrap_or (option_map (λ n. version_misfits (as_i64 n)) (as_number v)) (WrongKind ∷ [])
+misfits listed ShapeValue v = shape_misfits listed v
+misfits listed ShapesValue v = unwrap_or (option_map (shapes_misfits listed) (as_array v)) (WrongKind ∷ [])
+misfits listed ListedValue v = unwrap_or (option_map (listed_misfits []) (as_array v)) (WrongKind ∷ [])
+misfits listed EntriesValue v = if is_some (as_object v) then [] else WrongKind ∷ []
 
 -- a fault of that field, in the entry of that name
 abbrev complaint : List ℕ → List ℕ → RecordFault → RecordComplaint
 complaint name field fault = record { fault = fault; name = name; field = field }
 
 -- what is wrong with the value of a row, or with its absence
-abbrev pub field_faults : RecordRow → Option Data → List RecordFault
-field_faults row None = if row.required then MissingField ∷ [] else []
-field_faults row (Some v) = misfits row.value v
+abbrev pub field_faults : Option (List Tree) → RecordRow → Option Data → List RecordFault
+field_faults listed row None = if row.required then MissingField ∷ [] else []
+field_faults listed row (Some v) = misfits listed row.value v
 
 -- what is wrong with the fields that rows name
-abbrev pub rows_complaints : List ℕ → List RecordRow → Members → List RecordComplaint
-rows_complaints name [] ms = []
-rows_complaints name (row ∷ rows) ms =
-    map (complaint name row.field) (field_faults row (get_member row.field ms)) ++ rows_complaints name rows ms
+abbrev pub rows_complaints : Option (List Tree) → List ℕ → List RecordRow → Members → List RecordComplaint
+rows_complaints listed name [] ms = []
+rows_complaints listed name (row ∷ rows) ms =
+    map (complaint name row.field) (field_faults listed row (get_member row.field ms))
+    ++ rows_complaints listed name rows ms
 
 -- the name is that of a row
 abbrev pub has_row : List ℕ → List RecordRow → Bool
@@ -134,9 +181,9 @@ unknown_complaints name rows (json.member n v ms) =
     else complaint name n UnknownField ∷ unknown_complaints name rows ms
 
 -- what is wrong with an object of those fields
-abbrev pub object_complaints : List ℕ → List RecordRow → Data → List RecordComplaint
-object_complaints name rows v =
-    unwrap_or (option_map (λ ms. rows_complaints name rows ms ++ unknown_complaints name rows ms) (as_object v))
+abbrev pub object_complaints : Option (List Tree) → List ℕ → List RecordRow → Data → List RecordComplaint
+object_complaints listed name rows v =
+    unwrap_or (option_map (λ ms. rows_complaints listed name rows ms ++ unknown_complaints name rows ms) (as_object v))
     (complaint name [] NotObject ∷ [])
 
 -- the members of an object, none of anything else; and of the field of that name
@@ -148,47 +195,52 @@ abbrev pub members_under : List ℕ → Data → Members
 members_under field v = unwrap_or (option_map members_in (get_member field (members_in v))) json.no_members
 
 -- what is wrong with each entry
-abbrev pub entries_complaints : List RecordRow → Members → List RecordComplaint
-entries_complaints rows json.no_members = []
-entries_complaints rows (json.member n v ms) = object_complaints n rows v ++ entries_complaints rows ms
+abbrev pub entries_complaints : Option (List Tree) → List RecordRow → Members → List RecordComplaint
+entries_complaints listed rows json.no_members = []
+entries_complaints listed rows (json.member n v ms) =
+    object_complaints listed n rows v ++ entries_complaints listed rows ms
 
--- all that is wrong with a value as declared shapes, and as a certificate
+-- all that is wrong with a value as declared shapes
 abbrev pub declared_complaints : Data → List RecordComplaint
 declared_complaints v =
-    object_complaints [] declared_rows v ++ entries_complaints task_rows (members_under (codes "tasks") v)
+    object_complaints None [] declared_rows v ++ entries_complaints None task_rows (members_under (codes "tasks") v)
 
--- and as a certificate
+-- and as a certificate, with those listed shapes
+abbrev pub listed_complaints : Option (List Tree) → Data → List RecordComplaint
+listed_complaints listed v =
+    object_complaints listed [] certificate_rows v ++ entries_complaints listed state_rows (members_under (codes "states") v)
+
+-- with its own
 abbrev pub certificate_complaints : Data → List RecordComplaint
-certificate_complaints v =
-    object_complaints [] certificate_rows v ++ entries_complaints state_rows (members_under (codes "states") v)
+certificate_complaints v = listed_complaints (listed_in (members_in v)) v
 
 -- ---- what is read
 
 -- the shape that a value spells, Any where it spells none
-abbrev pub shape_from : Data → Shape
-shape_from v = unwrap_or (option_map shape_of (tree_of v)) Any
+abbrev pub shape_from : Option (List Tree) → Data → Shape
+shape_from listed v = unwrap_or (option_map (λ t. shape_of (plain listed t)) (tree_of v)) Any
 
 -- the shape of the field of that name, Any where it is absent
-abbrev pub shape_at : List ℕ → Data → Shape
-shape_at field v = unwrap_or (option_map shape_from (get_member field (members_in v))) Any
+abbrev pub shape_at : Option (List Tree) → List ℕ → Data → Shape
+shape_at listed field v = unwrap_or (option_map (shape_from listed) (get_member field (members_in v))) Any
 
 -- the shape of each element
-abbrev pub shapes_from : Items → List Shape
-shapes_from json.no_items = []
-shapes_from (json.item v vs) = shape_from v ∷ shapes_from vs
+abbrev pub shapes_from : Option (List Tree) → Items → List Shape
+shapes_from listed json.no_items = []
+shapes_from listed (json.item v vs) = shape_from listed v ∷ shapes_from listed vs
 
 -- the shapes of a declared task; one without `takes` takes everything
 abbrev pub task_from : Data → TaskShapes
-task_from v = record { takes = shape_at (codes "takes") v; gives = shape_at (codes "gives") v }
+task_from v = record { takes = shape_at None (codes "takes") v; gives = shape_at None (codes "gives") v }
 
 -- the shapes in a state's entry
-abbrev pub state_from : Data → StateShapes
-state_from v = record {
-  input = shape_at (codes "input") v;
-  output = shape_at (codes "output") v;
+abbrev pub state_from : Option (List Tree) → Data → StateShapes
+state_from listed v = record {
+  input = shape_at listed (codes "input") v;
+  output = shape_at listed (codes "output") v;
   branches =
-      unwrap_or (option_map shapes_from (option_and_then as_array (get_member (codes "branches") (members_in v)))) [];
-  item = option_map shape_from (get_member (codes "item") (members_in v));
+      unwrap_or (option_map (shapes_from listed) (option_and_then as_array (get_member (codes "branches") (members_in v)))) [];
+  item = option_map (shape_from listed) (get_member (codes "item") (members_in v));
 }
 
 -- each entry under its name, in the same order
@@ -199,12 +251,18 @@ entries_from f (json.member n v ms) = (n, f v) ∷ entries_from f ms
 -- the declared shapes that a value without a fault stands for
 abbrev pub declared_from : Data → Declared
 declared_from v =
-    record { input = shape_at (codes "input") v; tasks = entries_from task_from (members_under (codes "tasks") v) }
+    record { input = shape_at None (codes "input") v; tasks = entries_from task_from (members_under (codes "tasks") v) }
 
--- the certificate that one stands for
+-- the certificate that one stands for, with those listed shapes
+abbrev pub listed_from : Option (List Tree) → Data → Certificate
+listed_from listed v = record {
+  output = shape_at listed (codes "output") v;
+  states = entries_from (state_from listed) (members_under (codes "states") v);
+}
+
+-- with its own
 abbrev pub certificate_from : Data → Certificate
-certificate_from v =
-    record { output = shape_at (codes "output") v; states = entries_from state_from (members_under (codes "states") v) }
+certificate_from v = listed_from (listed_in (members_in v)) v
 
 -- ---- the value stands for the record
 

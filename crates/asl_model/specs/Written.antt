@@ -82,12 +82,7 @@ abbrev mutual
   written_fields NoFieldShapes = NoFields
   written_fields (AndFieldShape n needed s shapes) = AndField n (written_shape s) (written_fields shapes)
 
--- ---- declared shapes and certificates
-
--- for each shape of a list
-abbrev pub written_list : List Shape → Trees
-written_list [] = NoTrees
-written_list (s ∷ further) = AndTree (written_shape s) (written_list further)
+-- ---- declared shapes
 
 -- an entry under each name, in the same order
 abbrev pub written_entries : {A : Type 0} → (A → Tree) → List (List ℕ × A) → Fields
@@ -106,26 +101,43 @@ written_declared declared =
     Object (AndField (codes "input") (written_shape declared.input)
     (AndField (codes "tasks") (Object (written_entries written_task declared.tasks)) NoFields))
 
--- `branches` where there are any, and `item` where there is one
-abbrev pub with_branches : List Shape → Fields → Fields
-with_branches [] fs = fs
-with_branches (s ∷ further) fs = AndField (codes "branches") (Array (written_list (s ∷ further))) fs
+-- ---- certificates
+
+-- what is written for each shape of a list, where each is written so
+abbrev pub written_list : (Shape → Tree) → List Shape → Trees
+written_list written [] = NoTrees
+written_list written (s ∷ further) = AndTree (written s) (written_list written further)
+
+-- `branches` where there are any
+abbrev pub with_branches : (Shape → Tree) → List Shape → Fields → Fields
+with_branches written [] fs = fs
+with_branches written (s ∷ further) fs = AndField (codes "branches") (Array (written_list written (s ∷ further))) fs
 
 -- `item` where there is one
-abbrev pub with_item : Option Shape → Fields → Fields
-with_item None fs = fs
-with_item (Some s) fs = AndField (codes "item") (written_shape s) fs
+abbrev pub with_item : (Shape → Tree) → Option Shape → Fields → Fields
+with_item written None fs = fs
+with_item written (Some s) fs = AndField (codes "item") (written s) fs
 
 -- a state's entry in a certificate
-abbrev pub written_state : StateShapes → Tree
-written_state shapes =
-    Object (with_branches shapes.branches
-    (AndField (codes "input") (written_shape shapes.input)
-    (with_item shapes.item (AndField (codes "output") (written_shape shapes.output) NoFields))))
+abbrev pub written_state : (Shape → Tree) → StateShapes → Tree
+written_state written shapes =
+    Object (with_branches written shapes.branches
+    (AndField (codes "input") (written shapes.input)
+    (with_item written shapes.item (AndField (codes "output") (written shapes.output) NoFields))))
 
--- the tree of a certificate
+-- `shapes` where there are any to list, each written so
+abbrev pub with_listed : (Shape → Tree) → List Shape → Fields → Fields
+with_listed written [] fs = fs
+with_listed written (s ∷ further) fs = AndField (codes "shapes") (Array (written_list written (s ∷ further))) fs
+
+-- the tree of a certificate that lists these shapes, each written as the first says, and any other as the second does
+abbrev pub certificate_written : (Shape → Tree) → List Shape → (Shape → Tree) → Certificate → Tree
+certificate_written as_listed listed written certificate =
+    Object (AndField (codes "output") (written certificate.output)
+    (with_listed as_listed listed
+    (AndField (codes "states") (Object (written_entries (written_state written) certificate.states))
+    (AndField (codes "version") (Integer (pos 1)) NoFields))))
+
+-- with none listed
 abbrev pub written_certificate : Certificate → Tree
-written_certificate certificate =
-    Object (AndField (codes "output") (written_shape certificate.output)
-    (AndField (codes "states") (Object (written_entries written_state certificate.states))
-    (AndField (codes "version") (Integer (pos 1)) NoFields)))
+written_certificate certificate = certificate_written written_shape [] written_shape certificate

@@ -7,6 +7,7 @@ ghost use Rattle.asl_model.specs.Tree.{Tree, IsProper};
 ghost use Rattle.asl_model.specs.Path.{Segment};
 ghost use Rattle.asl_model.specs.Shape.{Shape, IsProperShape};
 ghost use Rattle.asl_model.specs.Written.{written_shape, written_declared, written_certificate};
+ghost use Rattle.asl_model.specs.WrittenNumbered.{written_numbered};
 ghost use Rattle.asl_model.specs.Template.{Template, IsInOrder};
 ghost use Rattle.asl_model.specs.Test.{Rule};
 ghost use Rattle.asl_model.specs.Machine.{Scope, LeadsInside};
@@ -126,6 +127,8 @@ pub fn written_records_are_read_back()
         → tree_of v ≡ Some (written_declared d) → StandsForDeclared v d }
     ensures certificate { (v : Data) (c : Certificate) → HoldsForCertificate IsProperShape c
         → tree_of v ≡ Some (written_certificate c) → StandsForCertificate v c }
+    ensures numbered { (v : Data) (c : Certificate) → HoldsForCertificate IsProperShape c
+        → tree_of v ≡ Some (written_numbered c) → StandsForCertificate v c }
 {}
 
 /// Each text has a meaning or a fault, and so has each JSON value as a definition and each tree as a shape.

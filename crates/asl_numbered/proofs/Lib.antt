@@ -8,7 +8,9 @@ pub mod Marking
 pub mod Moving
 pub mod Parts
 pub mod Plain
+pub mod ProperShapes
 pub mod Readings
 pub mod Remembered
 pub mod Sameness
+pub mod SpelledOut
 pub mod Tables

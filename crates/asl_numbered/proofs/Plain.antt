@@ -82,7 +82,7 @@ rest_fault : (rest : Option Tree) (part : Tree) (f : ShapeFault) → Contains (o
 rest_fault None part f (k, h, e) fault = absurd (omega (arith, h))
 rest_fault (Some t) part f there fault = subst (λ x. Contains (shape_faults x) f) (sym (contained_alone t part there)) fault
 
-inner_fault : (level : Level) (part : Tree) (f : ShapeFault) → Contains (inside level) part → Contains (shape_faults part) f → Contains (inner_faults level) f
+pub inner_fault : (level : Level) (part : Tree) (f : ShapeFault) → Contains (inside level) part → Contains (shape_faults part) f → Contains (inner_faults level) f
 inner_fault (Plain s) part f (k, h, e) fault = absurd (omega (arith, h))
 inner_fault (ListLevel first rest) part f there fault = go (Contains-append_cases (each_of first) (option_to_list rest) part there)
   where

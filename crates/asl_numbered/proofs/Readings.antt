@@ -29,7 +29,8 @@ use Rattle.asl_numbered.specs.declared.NumberedRefusal.TheVariants as refusal
 use Rattle.asl_numbered.specs.Expansion.{shape_at, shapes_at, fields_at, shape_over, expansions, AreBelow, RefersBelow, IsNumberOf, AreNumbersOf, AreFieldsOf, Keeps}
 use Rattle.asl_numbered.specs.Reading.{AreGiven, IsRead, IsReadOver, IsReadRest, AreRead, AreFieldsRead, TellsOneOf}
 use Rattle.asl_numbered.specs.Refusal.{numbered}
-use Rattle.asl_numbered.specs.References.{reference_among, reference_in, meant_by, referred, numbers_given, shapes_given, SpellsWith, by_reference, by_level, SpellsOver, with_none_inside, with_elements, with_properties, SpellEach, no_element, and_element, SpellsRest, no_rest, some_rest, SpellFields, no_field, and_field, inside, each_of, values_of, is_itself, stands_inside, TellsOf}
+use Rattle.asl_model.specs.References.{reference_among, meant_by}
+use Rattle.asl_numbered.specs.References.{reference_in, referred, numbers_given, shapes_given, SpellsWith, by_reference, by_level, SpellsOver, with_none_inside, with_elements, with_properties, SpellEach, no_element, and_element, SpellsRest, no_rest, some_rest, SpellFields, no_field, and_field, inside, each_of, values_of, is_itself, stands_inside, TellsOf}
 use Rattle.asl_numbered.proofs.Appending.{names, appended}
 use Rattle.asl_numbered.proofs.Expansions.{as_many, below-append, below-wider, keeps_longer, kept_shape}
 use Rattle.asl_numbered.proofs.Growing.{numbers_kept, fields_kept, numbers_push}

@@ -13,7 +13,7 @@ use Rattle.asl_model.specs.Shape as model
 use Rattle.asl_numbered.specs.declared.node.Node.{Node}
 use Rattle.asl_numbered.specs.declared.node.Node.TheVariants as nodes
 use Rattle.asl_numbered.specs.Expansion.{shape_at, shape_over, parts, AreBelow, RefersBelow, AreDistinct, IsNumberOf, Keeps, expansions}
-use Rattle.asl_numbered.specs.Table.{IsTable}
+use Rattle.asl_numbered.specs.Table.{IsOrdered, IsTable}
 use Rattle.asl_numbered.proofs.Expansions.{below-wider, shape_at_stays, pushed, as_many, level}
 use Rattle.asl_numbered.proofs.Sameness.{equal, same-shape, alike-equal}
 
@@ -37,7 +37,7 @@ entry-of (first ∷ es) (suc n) k at = entry-of es n k at
 
 -- no entries are a table
 pub empty_table : (es : List (Node × Bool)) → es ≡ [] → IsTable es
-empty_table es none = rw none (record { earlier = λ n e at. absurd (cc); distinct = record { apart = λ m n h i e. absurd (omega (arith, h)) }; inhabited = λ n e at. absurd (cc) })
+empty_table es none = rw none (record { earlier = λ n e at. absurd (cc); distinct = record { apart = λ m n h i e. absurd (omega (arith, h)) }; inhabited = λ n e at. absurd (cc); ordered = λ n e at. absurd (cc) })
 
 -- as many nodes as entries
 pub keys_counted : (es : List (Node × Bool)) → length (keys_of es) ≡ length es
@@ -191,8 +191,8 @@ module _ (es new : List (Node × Bool)) (node : Node) (flag : Bool) (table : IsT
       let within : length es < length (shapes_in new) = omega (arith, shapes_length new, ap length is, length_push es (node, flag)) in
       record { within = within; same = last; alone = λ m h e. distinct.apart m (length es) h within (e ∙ sym last) }
 
-  pub added_table : flag ≡ model.inhabited own → IsTable new
-  added_table right = record { earlier = λ n e at. earlier n e (there n e at); distinct = distinct; inhabited = λ n e at. flagged n e (there n e at) }
+  pub added_table : flag ≡ model.inhabited own → IsOrdered node → IsTable new
+  added_table right order = record { earlier = λ n e at. earlier n e (there n e at); distinct = distinct; inhabited = λ n e at. flagged n e (there n e at); ordered = λ n e at. ordered n e (there n e at) }
     where
       there : (n : ℕ) (e : Node × Bool) → slice_get new n ≡ Some e → (slice_get es n ≡ Some e) ⊎ ((n ≡ length es) × ((node, flag) ≡ e))
       there n e at = slice_get-pushed es (node, flag) e n (subst (λ x. slice_get x n ≡ Some e) is at)
@@ -204,3 +204,7 @@ module _ (es new : List (Node × Bool)) (node : Node) (flag : Bool) (table : IsT
       flagged : (n : ℕ) (e : Node × Bool) → (slice_get es n ≡ Some e) ⊎ ((n ≡ length es) × ((node, flag) ≡ e)) → e.1 ≡ model.inhabited (shape_at (shapes_in new) n)
       flagged n e (inl old) = table.inhabited n e old ∙ ap model.inhabited (sym (stays n (slice_get_within es n e old)))
       flagged n e (inr at_end) = ap (λ x. x.1) (sym at_end.1) ∙ right ∙ ap model.inhabited (sym (ap (λ k. shape_at (shapes_in new) k) at_end.0 ∙ last))
+
+      ordered : (n : ℕ) (e : Node × Bool) → (slice_get es n ≡ Some e) ⊎ ((n ≡ length es) × ((node, flag) ≡ e)) → IsOrdered e.0
+      ordered n e (inl old) = table.ordered n e old
+      ordered n e (inr at_end) = subst (λ x. IsOrdered x.0) at_end.1 order

@@ -1,7 +1,8 @@
 -- Spellings of shapes in which `{"shape": n}` stands for the n-th of given shapes, counted from 0.
-use Rattle.std.specs.Prelude.{◌≡◌, ℕ, ℤ, pos, negsuc, List, [], ◌∷◌, ◌++◌, map, Bool, false, if◌then◌else◌, Option, Some, None, option_map, option_to_list, slice_get, bytes_eq, codes}
+use Rattle.std.specs.Prelude.{◌≡◌, ℕ, List, [], ◌∷◌, ◌++◌, map, Bool, false, Option, Some, None, option_map, option_to_list}
 use Rattle.std.specs.Borrow.{Bor}
 use Rattle.std.specs.List.{Contains}
+use Rattle.asl_model.specs.References.{reference_among, meant_by}
 use Rattle.asl_model.specs.Shape.{Shape, Any, ArrayShape, ObjectShape, Shapes, NoShapes, AndShape, FieldShapes, NoFieldShapes, AndFieldShape}
 use Rattle.asl_model.specs.ShapeSpelling.{ShapeFault, with_all_needed, shape_faults}
 use Rattle.asl_model.specs.Tree.{Tree, Null, Boolean, Integer, Text, Array, Object, Trees, NoTrees, AndTree, Fields, NoFields, AndField}
@@ -13,12 +14,6 @@ use Rattle.asl_numbered.specs.declared.NumberedRefusal.TheVariants as refusal
 
 -- ---- references
 
--- what stands in the field `shape`, where there is no other
-abbrev pub reference_among : Fields → Option Tree
-reference_among NoFields = None
-reference_among (AndField n t NoFields) = if bytes_eq n (codes "shape") then Some t else None
-reference_among (AndField n t (AndField m u fs)) = None
-
 -- what stands in a reference
 abbrev pub reference_in : Tree → Option Tree
 reference_in Null = None
@@ -27,20 +22,6 @@ reference_in (Integer n) = None
 reference_in (Text s) = None
 reference_in (Array ts) = None
 reference_in (Object fs) = reference_among fs
-
--- the element at that place
-abbrev pub element_at : {X : Type 0} → List X → ℤ → Option X
-element_at xs (pos n) = slice_get xs n
-element_at xs (negsuc n) = None
-
--- the element that a tree means by its place
-abbrev pub meant_by : {X : Type 0} → List X → Tree → Option X
-meant_by xs Null = None
-meant_by xs (Boolean b) = None
-meant_by xs (Integer n) = element_at xs n
-meant_by xs (Text s) = None
-meant_by xs (Array ts) = None
-meant_by xs (Object fs) = None
 
 -- What a tree stands for, where some are given and it is a reference: one of them, or none, where its number is wrong.
 abbrev pub referred : {X : Type 0} → Option (List X) → Tree → Option (Option X)

@@ -9,7 +9,8 @@ ghost use Rattle.asl_shape.specs.Spelled as trees;
 ghost use Rattle.asl_shape.specs.Spelled.{spelled};
 ghost use Rattle.asl_numbered.specs.Expansion.{expansions, shape_over, fields_at, RefersBelow, numbers_in, AreBelow, AreFieldsOf, Keeps};
 ghost use Rattle.asl_numbered.specs.Reading.{AreGiven, IsRead, IsReadOver, IsReadRest, AreRead, AreFieldsRead, TellsOneOf};
-ghost use Rattle.asl_numbered.specs.References.{reference_in, element_at, meant_by, referred as referred_in, numbers_given, shapes_given, inside, each_of, values_of, TellsOf};
+ghost use Rattle.asl_model.specs.References.{element_at, meant_by};
+ghost use Rattle.asl_numbered.specs.References.{reference_in, referred as referred_in, numbers_given, shapes_given, inside, each_of, values_of, TellsOf};
 ghost use Rattle.serde_json.specs.Data.{number};
 ghost use Rattle.serde_json.specs.View.{number_view};
 

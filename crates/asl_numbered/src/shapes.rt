@@ -87,6 +87,14 @@ impl Shapes {
         self.table.are_distinct();
     }
 
+    /// Each shape is proper: in the shapes of objects the names of fields are UTF-8 and stand in byte order. Reads nothing,
+    /// and takes no memory.
+    pub fn are_proper(&self)
+        ensures proper { (n : ℕ) → model.IsProperShape (shape_at (expansions self.now) n) }
+    {
+        self.table.are_proper();
+    }
+
     /// The first level of the shape of that number; `None` where there is none. Takes no memory.
     pub fn node(&self, number: usize) -> Option<&Node>
         ensures exactly { option_copied result ≡ slice_get self.now number }

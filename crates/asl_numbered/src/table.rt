@@ -3,6 +3,7 @@ ghost use Rattle.std.specs.Prelude.{◌≡◌, ◌<◌, ◌↔◌, ℕ, List, []
 ghost use Rattle.std.specs.Option.{option_copied};
 ghost use Rattle.asl_model.specs.Shape as model;
 ghost use Rattle.asl_numbered.specs.Expansion.{expansions, shape_at, shapes_at, fields_at, shape_over, numbers_in, AreBelow, RefersBelow, AreDistinct, IsNumberOf, Keeps};
+ghost use Rattle.asl_numbered.specs.Table.{AreFieldsInOrder, IsOrdered};
 
 use crate::node::{Node, NodeField};
 use asl_tree::OutOfMemory;
@@ -56,6 +57,14 @@ impl Table {
     /// No shape stands under two numbers.
     pub(crate) fn are_distinct(&self)
         ensures distinct { AreDistinct (expansions self.now) }
+    {
+        // The field is named for what is always true of it; nothing is read.
+        let _ = &self.nodes;
+    }
+
+    /// Each shape is proper.
+    pub(crate) fn are_proper(&self)
+        ensures proper { (n : ℕ) → model.IsProperShape (shape_at (expansions self.now) n) }
     {
         // The field is named for what is always true of it; nothing is read.
         let _ = &self.nodes;
@@ -162,7 +171,8 @@ fn fields_below(fields: &BTreeMap<String, NodeField>, bound: usize) -> bool
 
 // Whether the shape whose first level is the node is inhabited.
 fn node_inhabited(table: &Table, node: &Node) -> bool
-    ensures { result ≡ model.inhabited (shape_over (expansions table.now) node.now) }
+    ensures inhabited { result ≡ model.inhabited (shape_over (expansions table.now) node.now) }
+    ensures ordered { IsOrdered node.now }
 {
     match node {
         Node::Any | Node::Null | Node::Bool | Node::Int | Node::Text => true,
@@ -186,7 +196,9 @@ fn all_inhabited(table: &Table, numbers: &[usize]) -> bool
 
 // Whether the shape of each needed field is inhabited.
 fn needed_inhabited(table: &Table, fields: &BTreeMap<String, NodeField>) -> bool
-    ensures { result ≡ model.needed_inhabited (fields_at (expansions table.now) fields.now.entries) }
+    ensures inhabited { result
+        ≡ model.needed_inhabited (fields_at (expansions table.now) fields.now.entries) }
+    ensures ordered { AreFieldsInOrder fields.now.entries }
 {
     for (_, field) in fields.iter() {
         if field.needed && !table.is_inhabited(field.shape) {

@@ -44,5 +44,5 @@ recorded fault f name field n d shown named at =
     record { told = (complaint_of n d f, ap (option_map (complaint_of (string_bytes name) (string_bytes field))) shown ∙ (rw (named, at) refl), (0, lit< tt, refl)) }
 
 -- what a call is left with is what the one that it calls was refused with
-pub handed_on : {T : Type 0} (r : Result T ReadFault) (e : ReadFault) (wrong : List RecordComplaint) → IsErrAnd r (λ y. y ≡ e) → TellsOneOf wrong e → IfErr r (TellsOneOf wrong)
-handed_on r e wrong h told = let p = err_from_is_err_and r h in rw (p.1, p.2) told
+pub handed_on : {T : Type 0} (r : Result T ReadFault) (e : ReadFault) (P : ReadFault → Type 0) → IsErrAnd r (λ y. y ≡ e) → P e → IfErr r P
+handed_on r e P h told = let p = err_from_is_err_and r h in rw (p.1, p.2) told

@@ -18,7 +18,7 @@ other_number n h = by (int_eq n (pos 1)) refl
     by false e = e
 
 -- a whole number other than 1
-pub other_version : (v : Data) (n : ℤ) → Some n ≡ option_and_then as_i64 (as_number v) → (of_z w64 n ≡ 1 → ⊥) → misfits VersionValue v ≡ BadVersion ∷ []
+pub other_version : (v : Data) (n : ℤ) → Some n ≡ option_and_then as_i64 (as_number v) → (of_z w64 n ≡ 1 → ⊥) → misfits None VersionValue v ≡ BadVersion ∷ []
 other_version json.null n e other = absurd (cc)
 other_version (json.boolean b) n e other = absurd (cc)
 other_version (json.number x) n e other = ap version_misfits (sym e) ∙ (rw (other_number n other) refl)
@@ -27,7 +27,7 @@ other_version (json.array vs) n e other = absurd (cc)
 other_version (json.object ms) n e other = absurd (cc)
 
 -- a value that is whole and no whole number is no number
-pub no_number : (v : Data) → IsWhole v → None ≡ option_and_then as_i64 (as_number v) → misfits VersionValue v ≡ WrongKind ∷ []
+pub no_number : (v : Data) → IsWhole v → None ≡ option_and_then as_i64 (as_number v) → misfits None VersionValue v ≡ WrongKind ∷ []
 no_number json.null whole e = refl
 no_number (json.boolean b) whole e = refl
 no_number (json.number x) whole e =

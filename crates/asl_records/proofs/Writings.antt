@@ -7,7 +7,6 @@ use Rattle.std.specs.List.{AllByRecursion}
 use Rattle.std.specs.List.Sorted.{IsStrictlySortedBy}
 use Rattle.std.specs.Map.{keys_of}
 use Rattle.asl_model.specs.Tree as json
-use Rattle.asl_model.specs.Shape.{Shape}
 use Rattle.asl_model.specs.Certificate.{Declared, Certificate}
 use Rattle.asl_model.specs.Written.{written_shape, written_list, written_entries, written_task, written_declared, written_state, written_certificate}
 use Rattle.asl_tree.proofs.Texts.{after_first}
@@ -22,7 +21,7 @@ use Rattle.asl_shape.specs.View.{view}
 use Rattle.asl_shape.specs.declared.shape.Shape as code
 use Rattle.asl_shape.proofs.Views.{view_array}
 use Rattle.asl_shape.proofs.Writings.{Entry, field_added}
-use Rattle.asl_records.specs.Writing.{with_branches}
+use Rattle.asl_records.specs.Writing.{with_list}
 
 -- ---- objects
 
@@ -36,27 +35,26 @@ pub declared_made : (declared : Declared) (none one two : json.Fields) → none 
 declared_made declared none one two e f g = rw (g, f, e) refl
 
 pub certificate_made : (certificate : Certificate) (none one two three : json.Fields) → none ≡ json.NoFields → one ≡ with_field (codes "output") (written_shape certificate.output) none
-    → two ≡ with_field (codes "states") (json.Object (written_entries written_state certificate.states)) one → three ≡ with_field (codes "version") (json.Integer (pos 1)) two → json.Object three ≡ written_certificate certificate
+    → two ≡ with_field (codes "states") (json.Object (written_entries (written_state written_shape) certificate.states)) one → three ≡ with_field (codes "version") (json.Integer (pos 1)) two → json.Object three ≡ written_certificate certificate
 certificate_made certificate none one two three e f g h = rw (h, g, f, e) refl
 
 -- ---- elements
 
-elements_shown : (ss : List code.Shape) → json.trees_of (map (λ s. written_shape (view s)) ss) ≡ written_list (map view ss)
+elements_shown : (ss : List code.Shape) → json.trees_of (map (λ s. written_shape (view s)) ss) ≡ written_list written_shape (map view ss)
 elements_shown [] = refl
 elements_shown (s ∷ ss) = ap (json.AndTree (written_shape (view s))) (elements_shown ss)
 
 -- the shapes gone through, to the end
-pub shapes_written : (ts : List Tree) (ss all : List code.Shape) (i : ℕ) → all ≡ ss → length all ≤ i → map trees.view ts ≡ map (λ s. written_shape (view s)) (take i ss) → trees.elements_view ts ≡ written_list (map view ss)
+pub shapes_written : (ts : List Tree) (ss all : List code.Shape) (i : ℕ) → all ≡ ss → length all ≤ i → map trees.view ts ≡ map (λ s. written_shape (view s)) (take i ss) → trees.elements_view ts ≡ written_list written_shape (map view ss)
 shapes_written ts ss all i same end e = ap json.trees_of (e ∙ ap (map (λ s. written_shape (view s))) (take_all i ss (subst (λ xs. length xs ≤ i) same end))) ∙ elements_shown ss
 
--- some shapes are written in the field that a state's entry has for them
-pub branches_added : (shapes : List Shape) (v : Vec Tree Global) (fs new : json.Fields) → trees.elements_view v.items ≡ written_list shapes → (vec_len v == 0) ≡ false → new ≡ with_field (codes "branches") (trees.view (tree.List v)) fs → new ≡ with_branches shapes fs
-branches_added [] v fs new is some added = by v.items is (ap (λ n. n == 0) (sym v.ok.0) ∙ some)
+-- some elements are written in a field
+pub list_added : (n : List ℕ) (v : Vec Tree Global) (fs new : json.Fields) → (vec_len v == 0) ≡ false → new ≡ with_field n (trees.view (tree.List v)) fs → new ≡ with_list n (trees.elements_view v.items) fs
+list_added n v fs new some added = by v.items (ap (λ n. n == 0) (sym v.ok.0) ∙ some) (added ∙ ap (λ t. with_field n t fs) (view_array v))
   where
-    by : (ts : List Tree) → trees.elements_view ts ≡ json.NoTrees → (length ts == 0) ≡ false → new ≡ fs
-    by [] e some = absurd (cc)
-    by (t ∷ ts) e some = absurd (cc)
-branches_added (s ∷ further) v fs new is some added = rw (added, view_array v, is) refl
+    by : (ts : List Tree) → (length ts == 0) ≡ false → new ≡ with_field n (json.Array (trees.elements_view ts)) fs → new ≡ with_list n (trees.elements_view ts) fs
+    by [] some made = absurd (cc)
+    by (t ∷ ts) some made = made
 
 -- ---- entries
 

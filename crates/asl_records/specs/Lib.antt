@@ -1,6 +1,9 @@
+pub mod Listed
+pub mod Listing
 pub mod Numbered
 pub mod Numbering
 pub mod Parts
 pub mod Refusal
 pub mod View
 pub mod Writing
+pub mod WritingNumbered

@@ -1,5 +1,5 @@
 -- What is wrong with the parts of a record, and what a part is refused with. No public clause cites this module.
-use Rattle.std.specs.Prelude.{◌≡◌, ℕ, List, [], ◌∷◌, map, Bool, true, false, if◌then◌else◌, Option, None, option_map, option_and_then, codes, bytes_eq, ⊤, IsTrue, is_some, String}
+use Rattle.std.specs.Prelude.{◌≡◌, ℕ, List, [], ◌∷◌, ◌++◌, map, Bool, true, false, if◌then◌else◌, Option, Some, None, option_map, option_and_then, codes, bytes_eq, ⊤, IsTrue, is_some, String}
 use Rattle.std.specs.declared.alloc.Global.{Global}
 use Rattle.std.specs.Option.{unwrap_or}
 use Rattle.std.specs.List.{Contains}
@@ -9,9 +9,11 @@ use Rattle.serde_json.specs.Find.{as_array, get_member}
 use Rattle.serde_json.specs.View.{members_view}
 use Rattle.serde_json.specs.declared.value.Value.{Value}
 use Rattle.asl_model.specs.Shape.{Shape, Any}
-use Rattle.asl_model.specs.ShapeSpelling.{ShapeFault, is_among}
+use Rattle.asl_model.specs.ShapeSpelling.{is_among}
 use Rattle.asl_model.specs.Json.{tree_of, elements_of, members_of}
-use Rattle.asl_model.specs.Records.{RecordFault, UnknownField, RecordComplaint, RecordRow, ShapeValue, ShapesValue, EntriesValue, VersionValue, field_faults, members_in, shape_from, shapes_from, shape_misfits, shapes_misfits}
+use Rattle.asl_model.specs.Tree.{Tree}
+use Rattle.asl_model.specs.Certificate as model
+use Rattle.asl_model.specs.Records.{RecordFault, UnknownField, BadShape, BadNumber, RecordComplaint, RecordRow, ShapeValue, ShapesValue, ListedValue, EntriesValue, VersionValue, field_faults, members_in, shape_from, shapes_from, shape_misfits, shapes_misfits, listed_after, listed_misfits, state_rows, state_from, entries_complaints, entries_from}
 use Rattle.asl_shape.specs.Refusal.{fault_named}
 use Rattle.asl_numbered.specs.declared.NumberedRefusal.{NumberedRefusal}
 use Rattle.asl_numbered.specs.declared.NumberedRefusal.TheVariants as numbered
@@ -30,10 +32,10 @@ Blames wrong kept.OutOfMemory = ⊤
 pub record TellsOneOf (wrong : List RecordComplaint) (fault : ReadFault) : Type 0 where
   pub told : Blames wrong fault
 
--- the fault that a refusal names, where it is one of a spelling
-abbrev pub fault_told : NumberedRefusal → Option ShapeFault
-fault_told (numbered.Shape refusal) = fault_named refusal
-fault_told numbered.BadNumber = None
+-- the fault that a refusal of a spelling is told as; none for want of memory
+abbrev pub fault_told : NumberedRefusal → Option RecordFault
+fault_told (numbered.Shape refusal) = option_map BadShape (fault_named refusal)
+fault_told numbered.BadNumber = Some BadNumber
 fault_told numbered.OutOfMemory = None
 
 -- all numbers in the value are whole, in the members, and in the elements: it is a tree
@@ -52,17 +54,21 @@ pub record ElementsAreWhole (vs : Items) : Type 0 where
 abbrev pub complaint_of : List ℕ → List ℕ → RecordFault → RecordComplaint
 complaint_of name field fault = record { fault = fault; name = name; field = field }
 
--- what is wrong with a value that should be a shape
-abbrev pub shape_complaints : List ℕ → List ℕ → Data → List RecordComplaint
-shape_complaints name field v = map (complaint_of name field) (shape_misfits v)
+-- what is wrong with a value that should be a shape, where those trees are listed
+abbrev pub shape_complaints : Option (List Tree) → List ℕ → List ℕ → Data → List RecordComplaint
+shape_complaints listed name field v = map (complaint_of name field) (shape_misfits listed v)
 
 -- what is wrong with values that should be shapes
-abbrev pub shapes_complaints : List ℕ → List ℕ → Items → List RecordComplaint
-shapes_complaints name field vs = map (complaint_of name field) (shapes_misfits vs)
+abbrev pub shapes_complaints : Option (List Tree) → List ℕ → List ℕ → Items → List RecordComplaint
+shapes_complaints listed name field vs = map (complaint_of name field) (shapes_misfits listed vs)
+
+-- what is wrong with values that should be listed behind those trees
+abbrev pub listing_complaints : List Tree → Items → List RecordComplaint
+listing_complaints trees vs = map (complaint_of [] (codes "shapes")) (listed_misfits trees vs)
 
 -- what is wrong with what stands in a field
-abbrev pub field_complaints : List ℕ → RecordRow → Option Data → List RecordComplaint
-field_complaints name row value = map (complaint_of name row.field) (field_faults row value)
+abbrev pub field_complaints : Option (List Tree) → List ℕ → RecordRow → Option Data → List RecordComplaint
+field_complaints listed name row value = map (complaint_of name row.field) (field_faults listed row value)
 
 -- a field with a shape
 abbrev pub shape_row : List ℕ → Bool → RecordRow
@@ -79,6 +85,10 @@ entries_row field required = record { field = field; value = EntriesValue; requi
 -- the version
 abbrev pub version_row : RecordRow
 version_row = record { field = codes "version"; value = VersionValue; required = true }
+
+-- the shapes that references mean
+abbrev pub listed_row : RecordRow
+listed_row = record { field = codes "shapes"; value = ListedValue; required = false }
 
 -- a complaint for each field that isn't one of those
 abbrev pub foreign_complaints : List ℕ → List (List ℕ) → Members → List RecordComplaint
@@ -101,9 +111,38 @@ abbrev pub members_there : Option Data → Members
 members_there value = unwrap_or (option_map members_in value) json.no_members
 
 -- the shape that stands there, Any where nothing does
-abbrev pub shape_there : Option Data → Shape
-shape_there value = unwrap_or (option_map shape_from value) Any
+abbrev pub shape_there : Option (List Tree) → Option Data → Shape
+shape_there listed value = unwrap_or (option_map (shape_from listed) value) Any
 
 -- the shapes of the list that stands there, none where nothing does
-abbrev pub shapes_there : Option Data → List Shape
-shapes_there value = unwrap_or (option_map shapes_from (option_and_then as_array value)) []
+abbrev pub shapes_there : Option (List Tree) → Option Data → List Shape
+shapes_there listed value = unwrap_or (option_map (shapes_from listed) (option_and_then as_array value)) []
+
+-- the trees that are listed there, if anything stands there
+abbrev pub trees_there : Option Data → Option (List Tree)
+trees_there value = option_map (λ v. listed_after [] (unwrap_or (as_array v) json.no_items)) value
+
+-- ---- a certificate behind its list of shapes
+
+-- what is wrong with its states: with the field, and with each entry
+abbrev pub states_complaints : Option (List Tree) → Option Data → List RecordComplaint
+states_complaints listed states =
+    field_complaints listed [] (entries_row (codes "states") true) states
+    ++ entries_complaints listed state_rows (members_there states)
+
+-- what is wrong with its output and with its states
+abbrev pub certified_complaints : Option (List Tree) → List (String Global × Value) → List RecordComplaint
+certified_complaints listed fields =
+    field_complaints listed [] (shape_row (codes "output") true) (value_in (codes "output") fields)
+    ++ states_complaints listed (value_in (codes "states") fields)
+
+-- the states that stand there
+abbrev pub states_there : Option (List Tree) → Option Data → List (List ℕ × model.StateShapes)
+states_there listed states = entries_from (state_from listed) (members_there states)
+
+-- the certificate that its output and its states make
+abbrev pub certified : Option (List Tree) → List (String Global × Value) → model.Certificate
+certified listed fields = record {
+  output = shape_there listed (value_in (codes "output") fields);
+  states = states_there listed (value_in (codes "states") fields);
+}

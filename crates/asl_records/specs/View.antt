@@ -45,6 +45,7 @@ record_fault_view kept.UnknownField = Some records.UnknownField
 record_fault_view kept.WrongKind = Some records.WrongKind
 record_fault_view (kept.BadShape refusal) = option_map records.BadShape (fault_named refusal)
 record_fault_view kept.BadVersion = Some records.BadVersion
+record_fault_view kept.BadNumber = Some records.BadNumber
 record_fault_view kept.OutOfMemory = None
 
 -- the complaint that a refusal tells; out of memory is none

@@ -1,6 +1,6 @@
 // Reading declared shapes.
 
-ghost use Rattle.std.specs.Prelude.{◌≡◌, ◌++◌, [], IfOk, IfErr, OnOk, false, codes};
+ghost use Rattle.std.specs.Prelude.{◌≡◌, ◌++◌, [], IfOk, IfErr, OnOk, None, false, codes};
 ghost use Rattle.serde_json.specs.View.{view, members_view};
 ghost use Rattle.asl_model.specs.Records.{StandsForDeclared, declared_complaints, declared_from, object_complaints, entries_complaints, entries_from, task_rows, task_from};
 ghost use Rattle.asl_records.specs.View.{declared_view, task_view, tasks_view};
@@ -36,7 +36,11 @@ fn read_record(alloc: Global, value: Value) -> Result<Declared, ReadFault>
         (λ declared. declared_view declared ≡ declared_from (view value)) }
     ensures refused { IfErr result (TellsOneOf (declared_complaints (view value))) }
 {
-    let record = Reader { alloc, name: "" };
+    let record = Reader {
+        alloc,
+        name: "",
+        listed: None,
+    };
     let mut fields = record.members(value)?;
     record.check_fields(&fields, &["input", "tasks"])?;
     Ok(Declared {
@@ -51,17 +55,17 @@ fn read_tasks(
     fields: &mut Map<String, Value>,
 ) -> Result<BTreeMap<String, TaskShapes>, ReadFault>
     requires { AreWhole (members_view fields.old.entries) }
-    ensures right { OnOk result (field_complaints [] (entries_row (codes "tasks") false)
+    ensures right { OnOk result (field_complaints None [] (entries_row (codes "tasks") false)
         (value_in (codes "tasks") fields.old.entries)
-        ++ entries_complaints task_rows
+        ++ entries_complaints None task_rows
         (members_there (value_in (codes "tasks") fields.old.entries)) ≡ []) }
     ensures tasks { IfOk result (λ tasks. tasks_view tasks.entries
         ≡ entries_from task_from
         (members_there (value_in (codes "tasks") fields.old.entries))) }
     ensures refused { IfErr result (TellsOneOf
-        (field_complaints [] (entries_row (codes "tasks") false)
+        (field_complaints None [] (entries_row (codes "tasks") false)
         (value_in (codes "tasks") fields.old.entries)
-        ++ entries_complaints task_rows
+        ++ entries_complaints None task_rows
         (members_there (value_in (codes "tasks") fields.old.entries)))) }
 {
     match take(fields, "tasks") {
@@ -77,11 +81,11 @@ fn read_entries(
 ) -> Result<BTreeMap<String, TaskShapes>, ReadFault>
     requires { AreWhole (members_view entries.entries) }
     ensures right { OnOk result
-        (entries_complaints task_rows (members_view entries.entries) ≡ []) }
+        (entries_complaints None task_rows (members_view entries.entries) ≡ []) }
     ensures tasks { IfOk result (λ tasks. tasks_view tasks.entries
         ≡ entries_from task_from (members_view entries.entries)) }
     ensures refused { IfErr result
-        (TellsOneOf (entries_complaints task_rows (members_view entries.entries))) }
+        (TellsOneOf (entries_complaints None task_rows (members_view entries.entries))) }
 {
     let mut tasks = BTreeMap::new(alloc);
     for (name, task) in entries {
@@ -94,12 +98,16 @@ fn read_entries(
 /// The shapes of the task of this name.
 fn read_task(alloc: Global, name: &str, value: Value) -> Result<TaskShapes, ReadFault>
     requires { IsWhole (view value) }
-    ensures right { OnOk result (object_complaints name.now task_rows (view value) ≡ []) }
+    ensures right { OnOk result (object_complaints None name.now task_rows (view value) ≡ []) }
     ensures shapes { IfOk result (λ shapes. task_view shapes ≡ task_from (view value)) }
     ensures refused { IfErr result
-        (TellsOneOf (object_complaints name.now task_rows (view value))) }
+        (TellsOneOf (object_complaints None name.now task_rows (view value))) }
 {
-    let task = Reader { alloc, name };
+    let task = Reader {
+        alloc,
+        name,
+        listed: None,
+    };
     let mut fields = task.members(value)?;
     task.check_fields(&fields, &["takes", "gives"])?;
     Ok(TaskShapes {

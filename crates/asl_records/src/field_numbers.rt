@@ -1,10 +1,10 @@
 // The shapes in the fields of a certificate, read into a table.
 
-ghost use Rattle.std.specs.Prelude.{◌≡◌, ◌≢◌, List, [], map, true, false, Some, option_map, Contains, IfOk, IfErr, IfSome, OnOk};
+ghost use Rattle.std.specs.Prelude.{◌≡◌, List, [], map, true, false, Some, option_map, Contains, IfOk, IfErr, IfSome, OnOk};
 ghost use Rattle.serde_json.specs.View.{view, items_view, members_view};
-ghost use Rattle.asl_model.specs.Records.{BadShape, RecordComplaint, ShapesValue, misfits, shape_from, shape_misfits, shapes_from, shapes_misfits};
+ghost use Rattle.asl_model.specs.Records.{RecordComplaint, ShapesValue, misfits, shape_from, shapes_from};
 ghost use Rattle.asl_numbered.specs.Expansion.{expansions, IsNumberOf, Keeps};
-ghost use Rattle.asl_numbered.specs.declared.NumberedRefusal.{NumberedRefusal};
+ghost use Rattle.asl_records.specs.Listed.{AreInTable, ForListed};
 ghost use Rattle.asl_records.specs.Numbering.{AreListOf, IsItemOf};
 ghost use Rattle.asl_records.specs.Parts.{AreWhole, ElementsAreWhole, IsWhole, Takes, TellsOneOf, complaint_of, fault_told, field_complaints, shape_complaints, shape_row, shape_there, shapes_complaints, shapes_row, shapes_there, value_in};
 
@@ -21,14 +21,18 @@ impl Reader<'_> {
         field: &'static str,
         fields: &mut Map<String, Value>,
     ) -> Result<usize, ReadFault>
-        requires { AreWhole (members_view fields.old.entries) }
+        requires whole { AreWhole (members_view fields.old.entries) }
+        requires listed { AreInTable shapes.old self.now.listed }
         ensures taken { Takes field.now fields.old.entries fields.new.entries }
-        ensures right { OnOk result (field_complaints self.now.name.now
-            (shape_row field.now true) (value_in field.now fields.old.entries) ≡ []) }
-        ensures number { IfOk result (IsNumberOf (expansions shapes.new)
-            (shape_there (value_in field.now fields.old.entries))) }
-        ensures refused { IfErr result (TellsOneOf (field_complaints self.now.name.now
-            (shape_row field.now true) (value_in field.now fields.old.entries))) }
+        ensures right { OnOk result (ForListed shapes.old self.now.listed
+            (λ listed. field_complaints listed self.now.name.now
+            (shape_row field.now true) (value_in field.now fields.old.entries) ≡ [])) }
+        ensures number { IfOk result (λ number. ForListed shapes.old self.now.listed
+            (λ listed. IsNumberOf (expansions shapes.new)
+            (shape_there listed (value_in field.now fields.old.entries)) number)) }
+        ensures refused { IfErr result (λ fault. ForListed shapes.old self.now.listed
+            (λ listed. TellsOneOf (field_complaints listed self.now.name.now
+            (shape_row field.now true) (value_in field.now fields.old.entries)) fault)) }
         ensures keeps { Keeps (expansions shapes.old) (expansions shapes.new) }
     {
         match take(fields, field) {
@@ -44,14 +48,18 @@ impl Reader<'_> {
         field: &'static str,
         fields: &mut Map<String, Value>,
     ) -> Result<Option<usize>, ReadFault>
-        requires { AreWhole (members_view fields.old.entries) }
+        requires whole { AreWhole (members_view fields.old.entries) }
+        requires listed { AreInTable shapes.old self.now.listed }
         ensures taken { Takes field.now fields.old.entries fields.new.entries }
-        ensures right { OnOk result (field_complaints self.now.name.now
-            (shape_row field.now false) (value_in field.now fields.old.entries) ≡ []) }
-        ensures number { IfOk result (IsItemOf shapes.new
-            (option_map shape_from (value_in field.now fields.old.entries))) }
-        ensures refused { IfErr result (TellsOneOf (field_complaints self.now.name.now
-            (shape_row field.now false) (value_in field.now fields.old.entries))) }
+        ensures right { OnOk result (ForListed shapes.old self.now.listed
+            (λ listed. field_complaints listed self.now.name.now
+            (shape_row field.now false) (value_in field.now fields.old.entries) ≡ [])) }
+        ensures number { IfOk result (λ number. ForListed shapes.old self.now.listed
+            (λ listed. IsItemOf shapes.new
+            (option_map (shape_from listed) (value_in field.now fields.old.entries)) number)) }
+        ensures refused { IfErr result (λ fault. ForListed shapes.old self.now.listed
+            (λ listed. TellsOneOf (field_complaints listed self.now.name.now
+            (shape_row field.now false) (value_in field.now fields.old.entries)) fault)) }
         ensures keeps { Keeps (expansions shapes.old) (expansions shapes.new) }
     {
         match take(fields, field) {
@@ -70,14 +78,18 @@ impl Reader<'_> {
         field: &'static str,
         fields: &mut Map<String, Value>,
     ) -> Result<Vec<usize>, ReadFault>
-        requires { AreWhole (members_view fields.old.entries) }
+        requires whole { AreWhole (members_view fields.old.entries) }
+        requires listed { AreInTable shapes.old self.now.listed }
         ensures taken { Takes field.now fields.old.entries fields.new.entries }
-        ensures right { OnOk result (field_complaints self.now.name.now
-            (shapes_row field.now) (value_in field.now fields.old.entries) ≡ []) }
-        ensures numbers { IfOk result (λ numbers. AreListOf shapes.new
-            (shapes_there (value_in field.now fields.old.entries)) numbers.items) }
-        ensures refused { IfErr result (TellsOneOf (field_complaints self.now.name.now
-            (shapes_row field.now) (value_in field.now fields.old.entries))) }
+        ensures right { OnOk result (ForListed shapes.old self.now.listed
+            (λ listed. field_complaints listed self.now.name.now
+            (shapes_row field.now) (value_in field.now fields.old.entries) ≡ [])) }
+        ensures numbers { IfOk result (λ numbers. ForListed shapes.old self.now.listed
+            (λ listed. AreListOf shapes.new
+            (shapes_there listed (value_in field.now fields.old.entries)) numbers.items)) }
+        ensures refused { IfErr result (λ fault. ForListed shapes.old self.now.listed
+            (λ listed. TellsOneOf (field_complaints listed self.now.name.now
+            (shapes_row field.now) (value_in field.now fields.old.entries)) fault)) }
         ensures keeps { Keeps (expansions shapes.old) (expansions shapes.new) }
     {
         match take(fields, field) {
@@ -93,12 +105,17 @@ impl Reader<'_> {
         field: &str,
         value: Value,
     ) -> Result<Vec<usize>, ReadFault>
-        requires { IsWhole (view value) }
-        ensures right { OnOk result (misfits ShapesValue (view value) ≡ []) }
-        ensures numbers { IfOk result (λ numbers. AreListOf shapes.new
-            (shapes_there (Some (view value))) numbers.items) }
-        ensures refused { IfErr result (TellsOneOf
-            (map (complaint_of self.now.name.now field.now) (misfits ShapesValue (view value)))) }
+        requires whole { IsWhole (view value) }
+        requires listed { AreInTable shapes.old self.now.listed }
+        ensures right { OnOk result (ForListed shapes.old self.now.listed
+            (λ listed. map (complaint_of self.now.name.now field.now)
+            (misfits listed ShapesValue (view value)) ≡ [])) }
+        ensures numbers { IfOk result (λ numbers. ForListed shapes.old self.now.listed
+            (λ listed. AreListOf shapes.new
+            (shapes_there listed (Some (view value))) numbers.items)) }
+        ensures refused { IfErr result (λ fault. ForListed shapes.old self.now.listed
+            (λ listed. TellsOneOf (map (complaint_of self.now.name.now field.now)
+            (misfits listed ShapesValue (view value))) fault)) }
         ensures keeps { Keeps (expansions shapes.old) (expansions shapes.new) }
     {
         match value {
@@ -115,12 +132,17 @@ impl Reader<'_> {
         field: &str,
         elements: Vec<Value>,
     ) -> Result<Vec<usize>, ReadFault>
-        requires { ElementsAreWhole (items_view elements.items) }
-        ensures right { OnOk result (shapes_misfits (items_view elements.items) ≡ []) }
-        ensures numbers { IfOk result (λ numbers. AreListOf shapes.new
-            (shapes_from (items_view elements.items)) numbers.items) }
-        ensures refused { IfErr result (TellsOneOf
-            (shapes_complaints self.now.name.now field.now (items_view elements.items))) }
+        requires whole { ElementsAreWhole (items_view elements.items) }
+        requires listed { AreInTable shapes.old self.now.listed }
+        ensures right { OnOk result (ForListed shapes.old self.now.listed
+            (λ listed. shapes_complaints listed self.now.name.now field.now
+            (items_view elements.items) ≡ [])) }
+        ensures numbers { IfOk result (λ numbers. ForListed shapes.old self.now.listed
+            (λ listed. AreListOf shapes.new
+            (shapes_from listed (items_view elements.items)) numbers.items)) }
+        ensures refused { IfErr result (λ fault. ForListed shapes.old self.now.listed
+            (λ listed. TellsOneOf (shapes_complaints listed self.now.name.now field.now
+            (items_view elements.items)) fault)) }
         ensures keeps { Keeps (expansions shapes.old) (expansions shapes.new) }
     {
         let mut numbers = Vec::with_capacity(self.alloc, elements.len())?;
@@ -131,21 +153,25 @@ impl Reader<'_> {
     }
 
     /// The number of the shape that a field's value stands for.
-    fn read_number(
+    pub(crate) fn read_number(
         &self,
         shapes: &mut Shapes,
         field: &str,
         value: Value,
     ) -> Result<usize, ReadFault>
-        requires { IsWhole (view value) }
-        ensures right { OnOk result (shape_misfits (view value) ≡ []) }
-        ensures number { IfOk result
-            (IsNumberOf (expansions shapes.new) (shape_from (view value))) }
-        ensures refused { IfErr result
-            (TellsOneOf (shape_complaints self.now.name.now field.now (view value))) }
+        requires whole { IsWhole (view value) }
+        requires listed { AreInTable shapes.old self.now.listed }
+        ensures right { OnOk result (ForListed shapes.old self.now.listed
+            (λ listed. shape_complaints listed self.now.name.now field.now (view value) ≡ [])) }
+        ensures number { IfOk result (λ number. ForListed shapes.old self.now.listed
+            (λ listed. IsNumberOf (expansions shapes.new)
+            (shape_from listed (view value)) number)) }
+        ensures refused { IfErr result (λ fault. ForListed shapes.old self.now.listed
+            (λ listed. TellsOneOf (shape_complaints listed self.now.name.now field.now
+            (view value)) fault)) }
         ensures keeps { Keeps (expansions shapes.old) (expansions shapes.new) }
     {
-        let answer = shapes.read_value_with(&value, None);
+        let answer = shapes.read_value_with(&value, self.listed);
         drop(value);
         match answer {
             Ok(number) => Ok(number),
@@ -153,16 +179,15 @@ impl Reader<'_> {
         }
     }
 
-    /// What is told of a field whose value is refused as a shape, where it can't have referred to one by a number.
+    /// What is told of a field whose value is refused as a shape, or for a reference in it.
     fn no_number(&self, refusal: NumberedRefusal, field: &str) -> ReadFault
-        requires { refusal ≢ NumberedRefusal.BadNumber }
         ensures { (wrong : List RecordComplaint) → IfSome (fault_told refusal)
-            (λ fault. Contains wrong (complaint_of self.now.name.now field.now (BadShape fault)))
+            (λ fault. Contains wrong (complaint_of self.now.name.now field.now fault))
             → TellsOneOf wrong result }
     {
         match refusal {
             NumberedRefusal::Shape(refusal) => self.no_shape(refusal, field),
-            NumberedRefusal::BadNumber => unreachable!(),
+            NumberedRefusal::BadNumber => self.refuse(RecordFault::BadNumber, field),
             NumberedRefusal::OutOfMemory => ReadFault::OutOfMemory,
         }
     }

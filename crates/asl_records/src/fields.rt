@@ -1,12 +1,13 @@
 // The fields of a record, and of its entries.
 
-ghost use Rattle.std.specs.Prelude.{◌≡◌, List, [], ◌∷◌, map, true, false, Some, option_map, IfOk, IfErr, IfSome, OnOk, codes};
+ghost use Rattle.std.specs.Prelude.{◌≡◌, List, [], ◌∷◌, map, true, false, Option, Some, None, option_map, IfOk, IfErr, IfSome, OnOk, codes};
 ghost use Rattle.std.specs.List.{Contains};
 ghost use Rattle.serde_json.specs.Find.{as_object};
 ghost use Rattle.serde_json.specs.View.{view, members_view};
 ghost use Rattle.asl_model.specs.ShapeSpelling.{is_among};
 ghost use Rattle.asl_model.specs.Records as model;
 ghost use Rattle.asl_model.specs.Records.{RecordRow, RecordComplaint, BadShape, EntriesValue, misfits, object_complaints, shape_from, shape_misfits};
+ghost use Rattle.asl_model.specs.Tree.{Tree};
 ghost use Rattle.asl_shape.specs.View.{view as shape_view};
 ghost use Rattle.asl_shape.specs.Refusal.{fault_named};
 ghost use Rattle.asl_records.specs.View.{record_fault_view};
@@ -17,12 +18,14 @@ use asl_shape::{Shape, ShapeRefusal};
 use serde_json::{Map, Value};
 use std::alloc::Global;
 
-/// Reads the fields of a record, which has an empty name, or of its entry of that name. What is refused is told with the
-/// name.
+/// Reads the fields of a record, which has an empty name, or of its entry of that name. What is refused is told with
+/// the name.
 #[derive(Clone, Copy, Drop)]
 pub(crate) struct Reader<'n> {
     pub(crate) alloc: Global,
     pub(crate) name: &'n str,
+    /// The numbers of the shapes that references mean, where a certificate lists shapes.
+    pub(crate) listed: Option<&'n [usize]>,
 }
 
 impl Reader<'_> {
@@ -32,8 +35,9 @@ impl Reader<'_> {
         ensures members { IfOk result
             (λ members. as_object (view value) ≡ Some (members_view members.entries)) }
         ensures whole { IfOk result (λ members. AreWhole (members_view members.entries)) }
-        ensures refused { IfErr result (λ fault. (rows : List RecordRow)
-            → TellsOneOf (object_complaints self.now.name.now rows (view value)) fault) }
+        ensures refused { IfErr result
+            (λ fault. (listed : Option (List Tree)) (rows : List RecordRow) → TellsOneOf
+            (object_complaints listed self.now.name.now rows (view value)) fault) }
     {
         match value {
             Value::Object(members) => Ok(members),
@@ -69,11 +73,11 @@ impl Reader<'_> {
     ) -> Result<Shape, ReadFault>
         requires { AreWhole (members_view fields.old.entries) }
         ensures taken { Takes field.now fields.old.entries fields.new.entries }
-        ensures right { OnOk result (field_complaints self.now.name.now
+        ensures right { OnOk result (field_complaints None self.now.name.now
             (shape_row field.now true) (value_in field.now fields.old.entries) ≡ []) }
         ensures shape { IfOk result
-            (λ shape. shape_view shape ≡ shape_there (value_in field.now fields.old.entries)) }
-        ensures refused { IfErr result (TellsOneOf (field_complaints self.now.name.now
+            (λ shape. shape_view shape ≡ shape_there None (value_in field.now fields.old.entries)) }
+        ensures refused { IfErr result (TellsOneOf (field_complaints None self.now.name.now
             (shape_row field.now true) (value_in field.now fields.old.entries))) }
     {
         match take(fields, field) {
@@ -90,11 +94,11 @@ impl Reader<'_> {
     ) -> Result<Option<Shape>, ReadFault>
         requires { AreWhole (members_view fields.old.entries) }
         ensures taken { Takes field.now fields.old.entries fields.new.entries }
-        ensures right { OnOk result (field_complaints self.now.name.now
+        ensures right { OnOk result (field_complaints None self.now.name.now
             (shape_row field.now false) (value_in field.now fields.old.entries) ≡ []) }
         ensures shape { IfOk result (λ shape. option_map shape_view shape
-            ≡ option_map shape_from (value_in field.now fields.old.entries)) }
-        ensures refused { IfErr result (TellsOneOf (field_complaints self.now.name.now
+            ≡ option_map (shape_from None) (value_in field.now fields.old.entries)) }
+        ensures refused { IfErr result (TellsOneOf (field_complaints None self.now.name.now
             (shape_row field.now false) (value_in field.now fields.old.entries))) }
     {
         match take(fields, field) {
@@ -109,10 +113,10 @@ impl Reader<'_> {
     /// The shape that a field's value stands for.
     fn read_shape(&self, field: &str, value: Value) -> Result<Shape, ReadFault>
         requires { IsWhole (view value) }
-        ensures right { OnOk result (shape_misfits (view value) ≡ []) }
-        ensures shape { IfOk result (λ shape. shape_view shape ≡ shape_from (view value)) }
+        ensures right { OnOk result (shape_misfits None (view value) ≡ []) }
+        ensures shape { IfOk result (λ shape. shape_view shape ≡ shape_from None (view value)) }
         ensures refused { IfErr result
-            (TellsOneOf (shape_complaints self.now.name.now field.now (view value))) }
+            (TellsOneOf (shape_complaints None self.now.name.now field.now (view value))) }
     {
         match asl_shape::read_value(self.alloc, &value) {
             Ok(shape) => Ok(shape),
@@ -155,7 +159,7 @@ pub(crate) fn entries(
         (λ members. as_object (view value) ≡ Some (members_view members.entries)) }
     ensures whole { IfOk result (λ members. AreWhole (members_view members.entries)) }
     ensures refused { IfErr result
-        (TellsOneOf (map (complaint_of [] field.now) (misfits EntriesValue (view value)))) }
+        (TellsOneOf (map (complaint_of [] field.now) (misfits None EntriesValue (view value)))) }
 {
     match value {
         Value::Object(members) => Ok(members),

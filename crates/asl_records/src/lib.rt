@@ -3,17 +3,21 @@
 //!
 //! Both are read by taking the JSON value apart: each part is let go as soon as its shape stands, so that there is
 //! never a second whole copy of a text. The shapes of a certificate are read into a table, where each distinct one
-//! stands once; [`number_certificate`] and [`expand_certificate`] lead there and back.
+//! stands once; [`number_certificate`] and [`expand_certificate`] lead there and back. A certificate may list shapes, and
+//! then have references to them.
 #![tactic(auto)]
 
 mod certificates;
 mod declarations;
 mod field_numbers;
 mod fields;
+mod listed;
+mod listing;
 mod numbering;
 mod records;
 mod refusals;
 mod writing;
+mod writing_numbered;
 
 pub use certificates::{read_certificate, read_numbered};
 pub use declarations::read_declared;
@@ -23,3 +27,4 @@ pub use records::{
 };
 pub use refusals::{ReadFault, RecordFault, RecordRefusal};
 pub use writing::{write_certificate, write_declared};
+pub use writing_numbered::write_numbered;

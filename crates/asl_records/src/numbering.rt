@@ -180,7 +180,7 @@ fn expand_item(shapes: &Shapes, item: Option<usize>) -> Result<Option<Shape>, Ou
 }
 
 /// The shape of a number of the table.
-fn expand(shapes: &Shapes, number: usize) -> Result<Shape, OutOfMemory>
+pub(crate) fn expand(shapes: &Shapes, number: usize) -> Result<Shape, OutOfMemory>
     requires below { number < length shapes.now }
     ensures same { IfOk result (λ shape. view shape ≡ shape_at (expansions shapes.now) number) }
 {

@@ -21,6 +21,8 @@ pub enum RecordFault {
     BadShape(ShapeRefusal),
     /// The certificate has another version.
     BadVersion,
+    /// A reference means none of the shapes that the certificate lists.
+    BadNumber,
     /// There was no memory to tell.
     OutOfMemory,
 }
@@ -40,6 +42,7 @@ impl RecordFault {
             RecordFault::WrongKind => "WrongKind",
             RecordFault::BadShape(_) => "BadShape",
             RecordFault::BadVersion => "BadVersion",
+            RecordFault::BadNumber => "BadNumber",
             RecordFault::OutOfMemory => "OutOfMemory",
         }
     }

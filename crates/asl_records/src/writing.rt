@@ -10,7 +10,7 @@ ghost use Rattle.asl_shape.specs.Adding.{with_field};
 ghost use Rattle.asl_shape.specs.View.{view};
 ghost use Rattle.asl_tree.specs.View as trees;
 ghost use Rattle.asl_records.specs.View.{declared_view, task_view, tasks_view, certificate_view, entry_view, entries_view};
-ghost use Rattle.asl_records.specs.Writing.{IsSpelled, AreSpelled, TasksAreSpelled, StatesAreSpelled, with_branches, with_item};
+ghost use Rattle.asl_records.specs.Writing.{IsSpelled, AreSpelled, TasksAreSpelled, StatesAreSpelled, with_list, with_item};
 
 use crate::records::{Certificate, Declared, StateShapes, TaskShapes};
 use asl_shape::{Shape, write};
@@ -81,7 +81,7 @@ fn write_states(
     alloc: Global,
     states: &BTreeMap<String, StateShapes>,
 ) -> Result<BTreeMap<String, Tree>, OutOfMemory>
-    ensures written { IfOk result (λ m. trees.entries_view m.entries ≡ model.written_entries model.written_state (entries_view states.now.entries)) }
+    ensures written { IfOk result (λ m. trees.entries_view m.entries ≡ model.written_entries (model.written_state model.written_shape) (entries_view states.now.entries)) }
     ensures spelled { IfOk result (λ _. StatesAreSpelled (entries_view states.now.entries)) }
 {
     let mut entries = BTreeMap::new(alloc);
@@ -94,31 +94,16 @@ fn write_states(
 
 /// The entry of a state.
 fn write_state(alloc: Global, state: &StateShapes) -> Result<Tree, OutOfMemory>
-    ensures written { IfOk result (λ t. trees.view t ≡ model.written_state (entry_view state.now)) }
+    ensures written { IfOk result (λ t. trees.view t ≡ model.written_state model.written_shape (entry_view state.now)) }
     ensures spelled { IfOk result (λ _. HoldsForState IsSpelled (entry_view state.now)) }
 {
     let mut fields = BTreeMap::new(alloc);
-    add_branches(alloc, &mut fields, &state.branches)?;
+    let branches = write_shapes(alloc, &state.branches)?;
+    add_list(alloc, &mut fields, "branches", branches)?;
     add_shape(alloc, &mut fields, "input", &state.input)?;
     add_item(alloc, &mut fields, &state.item)?;
     add_shape(alloc, &mut fields, "output", &state.output)?;
     Ok(Tree::Object(fields))
-}
-
-/// Adds `branches` where there are any.
-fn add_branches(
-    alloc: Global,
-    fields: &mut BTreeMap<String, Tree>,
-    branches: &Vec<Shape>,
-) -> Result<(), OutOfMemory>
-    ensures added { IfOk result (λ _. trees.entries_view fields.new.entries ≡ with_branches (map view branches.now.items) (trees.entries_view fields.old.entries)) }
-    ensures spelled { IfOk result (λ _. AreSpelled (map view branches.now.items)) }
-{
-    let shapes = write_shapes(alloc, branches)?;
-    if !shapes.is_empty() {
-        add(alloc, fields, "branches", Tree::List(shapes))?;
-    }
-    Ok(())
 }
 
 /// Adds `item` where there is one.
@@ -127,7 +112,7 @@ fn add_item(
     fields: &mut BTreeMap<String, Tree>,
     item: &Option<Shape>,
 ) -> Result<(), OutOfMemory>
-    ensures added { IfOk result (λ _. trees.entries_view fields.new.entries ≡ with_item (option_map view item.now) (trees.entries_view fields.old.entries)) }
+    ensures added { IfOk result (λ _. trees.entries_view fields.new.entries ≡ with_item model.written_shape (option_map view item.now) (trees.entries_view fields.old.entries)) }
     ensures spelled { IfOk result (λ _. IfSome (option_map view item.now) IsSpelled) }
 {
     match item {
@@ -138,7 +123,7 @@ fn add_item(
 
 /// Each of the shapes.
 fn write_shapes(alloc: Global, shapes: &Vec<Shape>) -> Result<Vec<Tree>, OutOfMemory>
-    ensures written { IfOk result (λ v. trees.elements_view v.items ≡ model.written_list (map view shapes.now.items)) }
+    ensures written { IfOk result (λ v. trees.elements_view v.items ≡ model.written_list model.written_shape (map view shapes.now.items)) }
     ensures spelled { IfOk result (λ _. AreSpelled (map view shapes.now.items)) }
 {
     let mut elements = Vec::with_capacity(alloc, shapes.len())?;
@@ -162,8 +147,25 @@ fn add_shape(
     add(alloc, fields, name, value)
 }
 
+/// Adds a list where it has elements.
+pub(crate) fn add_list(
+    alloc: Global,
+    fields: &mut BTreeMap<String, Tree>,
+    name: &str,
+    elements: Vec<Tree>,
+) -> Result<(), OutOfMemory>
+    ensures { IfOk result (λ _. trees.entries_view fields.new.entries
+        ≡ with_list name.now (trees.elements_view elements.items)
+        (trees.entries_view fields.old.entries)) }
+{
+    if !elements.is_empty() {
+        add(alloc, fields, name, Tree::List(elements))?;
+    }
+    Ok(())
+}
+
 /// Adds a field.
-fn add(
+pub(crate) fn add(
     alloc: Global,
     fields: &mut BTreeMap<String, Tree>,
     name: &str,

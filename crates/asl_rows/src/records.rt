@@ -1,7 +1,12 @@
 //! Vectors for declared shapes and certificates: what is written for them, and that it reads as the same.
-use asl_records::{read_certificate, read_declared, write_certificate, write_declared};
+use asl_numbered::{Node, Shapes};
+use asl_records::{
+    NumberedCertificate, number_certificate, read_certificate, read_declared, write_certificate,
+    write_declared, write_numbered,
+};
 use asl_tree::{read_value, to_text, to_value};
 use std::alloc::Global;
+use std::collections::BTreeMap;
 use std::process::Abort;
 
 /// What is written for the declared shapes in the text, how they are printed, and how those are printed that are read of
@@ -43,6 +48,21 @@ fn certificate_in(rt: &impl Abort, alloc: Global, text: &str) -> (String, String
     )
 }
 
+/// The certificate in the text as it is written with its shapes listed.
+fn listed_in(rt: &impl Abort, alloc: Global, text: &str) -> String {
+    let certificate = read_certificate(
+        alloc,
+        read_value(alloc, text.as_bytes()).expect(rt, "a value"),
+    )
+    .expect(rt, "a certificate");
+    let numbered = number_certificate(alloc, &certificate).expect(rt, "a table");
+    let written = write_numbered(alloc, &numbered).expect(rt, "a tree");
+    to_text(alloc, &written).expect(rt, "a text")
+}
+
+/// How many lists stand inside each other in a long chain.
+const LONG: usize = 300_000;
+
 #[test]
 fn declared_shapes(rt: HostRuntime) {
     let alloc = rt.alloc();
@@ -79,10 +99,108 @@ fn certificates(rt: HostRuntime) {
             r#"{"version":1,"states":{"M":{"branches":[],"output":true,"item":false,"input":{}}},"output":true}"#,
             r#"{"output":true,"states":{"M":{"input":true,"item":false,"output":true}},"version":1}"#,
         ),
+        (
+            r#"{"version":1,"shapes":[{"type":"integer"},{"type":"array","items":{"shape":0}},false],"output":{"shape":1},"states":{"A":{"branches":[{"shape":0}],"input":{"shape":2},"item":{"type":"array","items":{"shape":1}},"output":{"shape":1}}}}"#,
+            r#"{"output":{"items":{"type":"integer"},"type":"array"},"states":{"A":{"branches":[{"type":"integer"}],"input":false,"item":{"items":{"items":{"type":"integer"},"type":"array"},"type":"array"},"output":{"items":{"type":"integer"},"type":"array"}}},"version":1}"#,
+        ),
+        (
+            r#"{"version":1,"shapes":[],"output":true,"states":{}}"#,
+            r#"{"output":true,"states":{},"version":1}"#,
+        ),
     ];
     for (text, wanted) in vectors {
         let (written, certificate, again) = certificate_in(&rt, alloc, text);
         assert_eq!(rt; written.as_str(), wanted);
         assert_eq!(rt; again, certificate);
     }
+}
+
+/// How the refusal of the certificate in the text is printed.
+fn refusal_of(rt: &impl Abort, alloc: Global, text: &str) -> String {
+    let value = read_value(alloc, text.as_bytes()).expect(rt, "a value");
+    let fault = read_certificate(alloc, value).err().expect(rt, "a refusal");
+    format!(in alloc; "{fault:?}").expect(rt, "memory")
+}
+
+#[test]
+fn wrong_references(rt: HostRuntime) {
+    let alloc = rt.alloc();
+    let vectors = [
+        (
+            r#"{"version":1,"shapes":[{"type":"array","items":{"shape":0}}],"output":true,"states":{}}"#,
+            r#"Record(RecordRefusal { fault: BadNumber, name: "", field: "shapes" })"#,
+        ),
+        (
+            r#"{"version":1,"shapes":[true],"output":{"shape":1},"states":{}}"#,
+            r#"Record(RecordRefusal { fault: BadNumber, name: "", field: "output" })"#,
+        ),
+        (
+            r#"{"version":1,"shapes":[true],"output":true,"states":{"A":{"input":{"shape":-1},"output":true}}}"#,
+            r#"Record(RecordRefusal { fault: BadNumber, name: "A", field: "input" })"#,
+        ),
+        (
+            r#"{"version":1,"output":{"shape":0},"states":{}}"#,
+            r#"Record(RecordRefusal { fault: BadShape(BadType), name: "", field: "output" })"#,
+        ),
+        (
+            r#"{"version":1,"shapes":{},"output":true,"states":{}}"#,
+            r#"Record(RecordRefusal { fault: WrongKind, name: "", field: "shapes" })"#,
+        ),
+    ];
+    for (text, wanted) in vectors {
+        assert_eq!(rt; refusal_of(&rt, alloc, text).as_str(), wanted);
+    }
+}
+
+#[test]
+fn listed_shapes(rt: HostRuntime) {
+    let alloc = rt.alloc();
+    let vectors = [
+        (
+            r#"{"version":1,"output":{"type":"integer"},"states":{"A":{"input":{"type":"integer"},"output":true}}}"#,
+            r#"{"output":{"type":"integer"},"states":{"A":{"input":{"type":"integer"},"output":true}},"version":1}"#,
+        ),
+        (
+            r#"{"version":1,"output":{"type":"array","items":{"type":"array","items":{"type":"string"}}},"states":{}}"#,
+            r#"{"output":{"shape":1},"shapes":[{"items":{"type":"string"},"type":"array"},{"items":{"shape":0},"type":"array"}],"states":{},"version":1}"#,
+        ),
+        (
+            r#"{"version":1,"output":true,"states":{"M":{"input":{"type":"object","properties":{"a":{"type":"array","items":{"type":"string"}},"b":true},"required":["a"],"additionalProperties":false},"item":{"type":"array"},"output":{"type":"array","items":{"type":"array"}}},"P":{"branches":[{"type":"object"},{"type":"array"}],"input":{"type":"array","prefixItems":[{"type":"object"},false],"minItems":2},"output":{"type":"array"}}}}"#,
+            r#"{"output":true,"shapes":[{"items":{"type":"string"},"type":"array"},{"additionalProperties":false,"properties":{"a":{"shape":0},"b":true},"required":["a"],"type":"object"},{"type":"array"},{"items":{"shape":2},"type":"array"},{"type":"object"},{"minItems":2,"prefixItems":[{"shape":4},false],"type":"array"}],"states":{"M":{"input":{"shape":1},"item":{"shape":2},"output":{"shape":3}},"P":{"branches":[{"shape":4},{"shape":2}],"input":{"shape":5},"output":{"shape":2}}},"version":1}"#,
+        ),
+    ];
+    for (text, wanted) in vectors {
+        assert_eq!(rt; listed_in(&rt, alloc, text).as_str(), wanted);
+    }
+}
+
+#[test]
+fn long_chain_is_listed(rt: HostRuntime) {
+    let alloc = rt.alloc();
+    let mut shapes = Shapes::new(alloc);
+    let mut output = shapes
+        .add_node(Node::Int)
+        .expect(&rt, "memory")
+        .expect(&rt, "a number");
+    for _ in 0..LONG {
+        let list = Node::List {
+            first: Vec::new(alloc),
+            rest: output,
+        };
+        output = shapes
+            .add_node(list)
+            .expect(&rt, "memory")
+            .expect(&rt, "a number");
+    }
+    assert!(rt; output < shapes.len());
+    let certificate = NumberedCertificate {
+        shapes,
+        output,
+        states: BTreeMap::new(alloc),
+    };
+    let written = write_numbered(alloc, &certificate).expect(&rt, "a tree");
+    let text = to_text(alloc, &written).expect(&rt, "a text");
+    let beginning =
+        r#"{"output":{"shape":299999},"shapes":[{"items":{"type":"integer"},"type":"array"},{"items":{"shape":0},"type":"array"},{"items":{"shape":1},"#;
+    assert!(rt; text.as_str().starts_with(beginning));
 }

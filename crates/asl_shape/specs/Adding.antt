@@ -1,4 +1,4 @@
--- Adding a keyword to an object that is written. No public clause cites this module.
+-- Adding a field to an object that is written.
 use Rattle.std.specs.Prelude.{ℕ, List, [], ◌∷◌, Bool, true, false, if◌then◌else◌}
 use Rattle.std.specs.Cmp.Lexicographic.{slice_cmp}
 use Rattle.std.specs.Ordering.{nat_cmp, match_ordering}

@@ -4,6 +4,7 @@
 //! it, [`read_value`] of the JSON value that this tree is, [`read_level`] tells one [`Level`] of such a value. [`has`]
 //! tests a tree, [`inhabited`] whether there is one at all, [`sub`] whether one shape is inside another, [`same`] whether
 //! they are equal. [`copy`] makes an equal shape, [`join`] one that two are inside, [`write`] the tree that spells it.
+//! [`write_array`] and [`write_object`] write one level of a shape, where the trees of its parts are given.
 #![tactic(auto)]
 
 ghost use Rattle.std.specs.Prelude.{◌≡◌};
@@ -30,7 +31,7 @@ pub use membership::has;
 pub use reading::{read, read_value};
 pub use shape::{Field, Shape};
 use std::alloc::{AllocError, AllocFailed};
-pub use writing::write;
+pub use writing::{write, write_array, write_object};
 
 /// Why a tree is no spelling of a shape.
 #[derive(Debug, PartialEq, Drop)]

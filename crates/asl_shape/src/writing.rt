@@ -101,15 +101,20 @@ fn needed_names(alloc: Global, fields: &BTreeMap<String, Field>) -> Result<Vec<T
     Ok(names)
 }
 
-// For a shape of lists, whose parts are written: `items` as well where it is to be there.
-fn write_array(
+/// The tree that is written for a shape of lists, with these trees for its first elements and for further ones; `items`
+/// stands there where `has_items` says so.
+///
+/// Refuses only where an allocation was refused.
+pub fn write_array(
     alloc: Global,
     prefix_items: Vec<Tree>,
     has_items: bool,
     items: Tree,
 ) -> Result<Tree, OutOfMemory>
-    ensures { IfOk result
-        (λ t. trees.view t ≡ json.Object (model.array_fields has_items (is_some prefix_items.items) (trees.view items) (length prefix_items.items) (json.Array (trees.elements_view prefix_items.items)))) }
+    ensures written { IfOk result
+        (λ t. trees.view t ≡ json.Object (model.array_fields has_items
+        (is_some prefix_items.items) (trees.view items)
+        (length prefix_items.items) (json.Array (trees.elements_view prefix_items.items)))) }
 {
     let has_first = !prefix_items.is_empty();
     let min_items = Tree::Int(count(&prefix_items));
@@ -126,15 +131,21 @@ fn write_array(
     Ok(Tree::Object(keywords))
 }
 
-// For a shape of objects, whose parts are written.
-fn write_object(
+/// The tree that is written for a shape of objects, with these trees for the mentioned fields, and these for the names of
+/// the needed ones; `extra` says whether other fields may be there.
+///
+/// Refuses only where an allocation was refused.
+pub fn write_object(
     alloc: Global,
     properties: BTreeMap<String, Tree>,
     required: Vec<Tree>,
     extra: bool,
 ) -> Result<Tree, OutOfMemory>
-    ensures { IfOk result
-        (λ t. trees.view t ≡ json.Object (model.object_fields extra (is_some properties.entries) (is_some required.items) (json.Object (trees.entries_view properties.entries)) (trees.elements_view required.items))) }
+    ensures written { IfOk result
+        (λ t. trees.view t ≡ json.Object (model.object_fields extra
+        (is_some properties.entries) (is_some required.items)
+        (json.Object (trees.entries_view properties.entries))
+        (trees.elements_view required.items))) }
 {
     let has_fields = !properties.is_empty();
     let has_needed = !required.is_empty();

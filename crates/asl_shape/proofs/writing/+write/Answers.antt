@@ -20,7 +20,7 @@ write_shape-returns-in_ok-items-in-List-clause-written t c =
     let prefix = c.in_ok-prefix_items-in-List in
     let items = c.in_ok-items-in-List in
     let shown = list_written first rest prefix.prefix_items.items (trees.view items.items) (not c.is_any.result) (prefix.ensures.written ∙ ap (λ ss. written_shapes (shapes_view ss)) c.deref.ensures.value) (items.ensures.written ∙ ap (λ s. written_shape (view s)) c.deref-in-List.ensures) (ap not c.is_any.ensures ∙ ap (λ s. not (is_any_shape (view s))) c.deref-in-List-2.ensures) in
-    rw c.in-List.is (subst (λ u. IfOk c.write_array.result (λ t. trees.view t ≡ u)) shown c.write_array.ensures)
+    rw c.in-List.is (subst (λ u. IfOk c.write_array.result (λ t. trees.view t ≡ u)) shown c.write_array.ensures.written)
 
 pub write_shape-returns-in_ok-required-in-Object-clause-written :
     goal.write_shape-returns-in_ok-required-in-Object-clause-written
@@ -28,7 +28,7 @@ write_shape-returns-in_ok-required-in-Object-clause-written t c =
     let fields = c.in-Object.fields in
     let extra = c.in-Object.extra in
     let shown = object_written fields extra c.in_ok-properties-in-Object.properties.entries c.in_ok-required-in-Object.required.items c.in_ok-properties-in-Object.ensures.written c.in_ok-required-in-Object.ensures in
-    rw c.in-Object.is (subst (λ u. IfOk c.write_object.result (λ t. trees.view t ≡ u)) shown c.write_object.ensures)
+    rw c.in-Object.is (subst (λ u. IfOk c.write_object.result (λ t. trees.view t ≡ u)) shown c.write_object.ensures.written)
 
 pub write_shape-returns-in_ok-required-in-Object-clause-proper :
     goal.write_shape-returns-in_ok-required-in-Object-clause-proper

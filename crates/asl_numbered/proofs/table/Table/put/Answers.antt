@@ -16,8 +16,8 @@ invariant_of-self-2 c =
     let node = c.args.node in
     let flag = c.node_inhabited-inhabited.result in
     let refers = subst (λ nodes. RefersBelow (length nodes) node) (sym c.self.view_is) c.requires in
-    let right = subst (λ nodes. flag ≡ model.inhabited (shape_over (expansions nodes) node)) (sym c.self.view_is) c.node_inhabited-inhabited.ensures in
-    added_table es c.insert.new.self.entries node flag c.self.invariant c.in_default.ensures.found refers c.in_ok-insert.ensures.entries right
+    let right = subst (λ nodes. flag ≡ model.inhabited (shape_over (expansions nodes) node)) (sym c.self.view_is) c.node_inhabited-inhabited.ensures.inhabited in
+    added_table es c.insert.new.self.entries node flag c.self.invariant c.in_default.ensures.found refers c.in_ok-insert.ensures.entries right c.node_inhabited-inhabited.ensures.ordered
 
 pub returns : goal.returns
 returns c =

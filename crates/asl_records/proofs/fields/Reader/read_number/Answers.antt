@@ -1,20 +1,25 @@
-use Rattle.std.proofs.Common.{refl}
 use Rattle.serde_json.specs.View.{view}
 use Rattle.asl_records.specs.Parts.{shape_complaints}
 use Rattle.asl_records.proofs.Numbers.{tree_in}
-use Rattle.asl_records.proofs.Shapes.{no_wrong_number, number_refusal_listed}
+use Rattle.asl_records.proofs.Shapes.{none_wrong_in, number_in, number_refusal_listed}
 use Rattle.asl_records.proofs.fields.Reader.read_number.Goals as goal
 
-pub no_number-requires : goal.no_number-requires
-no_number-requires c =
-    let tree = tree_in (view c.args.value) c.requires in
-    no_wrong_number c.in-Err.refusal tree.0 ((rw c.in-Err.is at (c.read_value_with-answer.ensures.refused_alone refl)) tree.0 tree.1)
+pub returns-in-Ok-clause-right : goal.returns-in-Ok-clause-right
+returns-in-Ok-clause-right c =
+    let v = view c.args.value in
+    let tree = tree_in v c.requires.whole in
+    record { each = λ listed means. none_wrong_in c.args.shapes.now c.read_value_with-answer.new.self c.args.self.now.listed listed c.args.self.now.name.now c.args.field.now v tree.0 c.in-Ok.number tree.1 means (c.in-Ok.ensures.spelled tree.0 tree.1) }
+
+pub returns-in-Ok-clause-number : goal.returns-in-Ok-clause-number
+returns-in-Ok-clause-number c =
+    let v = view c.args.value in
+    let tree = tree_in v c.requires.whole in
+    record { each = λ listed means. number_in c.args.shapes.now c.read_value_with-answer.new.self c.args.self.now.listed listed v tree.0 c.in-Ok.number tree.1 means (c.in-Ok.ensures.spelled tree.0 tree.1) c.in-Ok.ensures.number }
 
 pub returns-in-Err-clause-refused : goal.returns-in-Err-clause-refused
 returns-in-Err-clause-refused c =
     let v = view c.args.value in
-    let tree = tree_in v c.requires in
+    let tree = tree_in v c.requires.whole in
     let name = c.args.self.now.name.now in
     let field = c.args.field.now in
-    let told = (rw c.in-Err.is at (c.read_value_with-answer.ensures.refused_alone refl)) tree.0 tree.1 in
-    c.no_number.ensures (shape_complaints name field v) (number_refusal_listed c.in-Err.refusal name field v tree.0 tree.1 told)
+    record { each = λ listed means. c.no_number.ensures (shape_complaints listed name field v) (number_refusal_listed c.args.shapes.now c.args.self.now.listed listed c.in-Err.refusal name field v tree.0 tree.1 means (c.in-Err.ensures.refused tree.0 tree.1)) }

@@ -1,0 +1,294 @@
+-- Listing the shapes of a certificate: a task done, all of them, and the places of numbers.
+use Rattle.std.proofs.Common.{◌≡◌, ◌≢◌, ◌<◌, ℕ, suc, List, [], ◌∷◌, ◌++◌, length, map, get_or, set, Bool, true, false, if◌then◌else◌, is_some, Option, Some, None, option_map, refl, sym, ap, ◌∙◌, subst, ◌⊎◌, inl, inr, arith, append-nil}
+use Rattle.std.proofs.lemmas.Bool.{cases_eq}
+use Rattle.std.proofs.lemmas.List.{map-append, length-map, length-set, get_or-set_same, get_or-set_other}
+use Rattle.std.specs.List.{AllByRecursion}
+use Rattle.asl_model.specs.Shape.{Shape, IsProperShape}
+use Rattle.asl_model.specs.WrittenNumbered.{same_shape, place_of, with_last, list_after, list_after_all, list_after_state, list_after_states}
+use Rattle.asl_model.proofs.SameShapes.{same_are, same_itself}
+use Rattle.asl_model.proofs.Listing.{AreBehind, goes_last, proper_all}
+use Rattle.asl_numbered.specs.Expansion.{expansions, shape_at, numbers_in, AreBelow, RefersBelow, AreDistinct}
+use Rattle.asl_numbered.specs.declared.node.Node.{Node}
+use Rattle.asl_numbered.specs.declared.node.Node.TheVariants.{Any as AnyNode, Never as NeverNode, Null, Bool as Truth, Int, Text, List as Elements, Object}
+use Rattle.asl_numbered.proofs.Expansions.{as_many, below-append, below-front, below-behind, below-wider}
+use Rattle.asl_records.specs.Numbered.{numbers_view, numbered_entries, AreEntriesBelow}
+use Rattle.asl_records.specs.Listing.{IsPlaced, IsListing, Opens, Puts, listed_shapes, visits, tasks_at}
+use Rattle.asl_records.specs.declared.listing.Listing.{Listing}
+use Rattle.asl_records.specs.declared.listing.Task.{Task}
+use Rattle.asl_records.specs.declared.listing.Task.TheVariants.{Visit, List as Put}
+use Rattle.asl_records.proofs.Kept.{Entry}
+use Rattle.asl_records.proofs.Numberings.{next_below}
+use Rattle.asl_records.proofs.Walks.{step_of, steps_of, done, all_done, AreEachFed, done-append, fed-append, fed-front, fed-behind, work, work-append, some_cost, tasks_done, tasks_fed, tasks_work, nothing_more, placed_there}
+
+-- the number of a task
+abbrev pub number_of : Task → ℕ
+number_of (Visit n) = n
+number_of (Put n) = n
+
+-- the tasks can be done, and end with that list
+pub record IsGoing (nodes : List Node) (final : List Shape) (tasks : List Task) (listing : Listing) : Type 0 where
+  pub placed : IsPlaced nodes listing
+  pub within : AreBelow (length nodes) (map number_of tasks)
+  pub behind : AreBehind [] (listed_shapes nodes listing)
+  pub fed : AreEachFed (steps_of (expansions nodes) tasks) (listed_shapes nodes listing)
+  pub same : all_done (steps_of (expansions nodes) tasks) (listed_shapes nodes listing) ≡ final
+
+-- ---- the beginning and the end
+
+-- the parts of what is listed are listed
+pub listing_behind : (nodes : List Node) (listing : Listing) → IsListing nodes listing → AreBehind [] (listed_shapes nodes listing)
+listing_behind nodes listing h = subst (AreBehind []) (sym h.listed) (proper_all [] h.seen tt h.proper).0.behind
+
+pub begun : (nodes : List Node) (listing : Listing) (n : ℕ) (none tasks : List Task) → IsListing nodes listing → n < length nodes → ((m : ℕ) → IsProperShape (shape_at (expansions nodes) m)) → none ≡ [] → tasks ≡ none ++ Visit n ∷ []
+    → IsGoing nodes (list_after (listed_shapes nodes listing) (shape_at (expansions nodes) n)) tasks listing
+begun nodes listing n none tasks h within proper empty made =
+    rw (made, empty) (record { placed = h.placed; within = (within, tt); behind = listing_behind nodes listing h; fed = (proper n, tt); same = refl })
+
+-- one more shape was gone through
+all-last : (before seen : List Shape) (s : Shape) → list_after_all before (seen ++ s ∷ []) ≡ list_after (list_after_all before seen) s
+all-last before [] s = refl
+all-last before (t ∷ seen) s = all-last (list_after before t) seen s
+
+proper-last : (seen : List Shape) (s : Shape) → AllByRecursion IsProperShape seen → IsProperShape s → AllByRecursion IsProperShape (seen ++ s ∷ [])
+proper-last [] s h own = (own, tt)
+proper-last (t ∷ seen) s h own = (h.0, proper-last seen s h.1 own)
+
+pub ended : (nodes : List Node) (old new : Listing) (s : Shape) (tasks : List Task) → IsListing nodes old → IsProperShape s → tasks ≡ [] → IsGoing nodes (list_after (listed_shapes nodes old) s) tasks new → IsListing nodes new × (listed_shapes nodes new ≡ list_after (listed_shapes nodes old) s)
+ended nodes old new s tasks h proper none going =
+    let same : listed_shapes nodes new ≡ list_after (listed_shapes nodes old) s = subst (λ ts. all_done (steps_of (expansions nodes) ts) (listed_shapes nodes new) ≡ list_after (listed_shapes nodes old) s) none going.same in (
+      record {
+        placed = going.placed;
+        seen = h.seen ++ s ∷ [];
+        proper = proper-last h.seen s h.proper proper;
+        listed = same ∙ ap (λ l. list_after l s) h.listed ∙ sym (all-last [] h.seen s);
+      },
+      same,
+    )
+
+-- ---- one task
+
+module _ (nodes : List Node) (final : List Shape) (tasks front : List Task) (t : Task) (listing : Listing) (split : tasks ≡ front ++ t ∷ []) (going : IsGoing nodes final tasks listing) where
+  abbrev table : List Shape
+  table = expansions nodes
+
+  abbrev shown : List Shape
+  shown = listed_shapes nodes listing
+
+  numbers : AreBelow (length nodes) (map number_of front ++ number_of t ∷ [])
+  numbers = subst (AreBelow (length nodes)) (ap (map number_of) split ∙ map-append number_of front (t ∷ [])) going.within
+
+  steps : steps_of table tasks ≡ steps_of table front ++ step_of table t ∷ []
+  steps = ap (steps_of table) split ∙ map-append (step_of table) front (t ∷ [])
+
+  fed : AreEachFed (steps_of table front ++ step_of table t ∷ []) shown
+  fed = subst (λ ss. AreEachFed ss shown) steps going.fed
+
+  pub last_within : number_of t < length nodes
+  last_within = (below-behind (length nodes) (map number_of front) (number_of t ∷ []) numbers).0
+
+  pub last_fed : AreEachFed (step_of table t ∷ []) shown
+  last_fed = fed-behind (steps_of table front) (step_of table t ∷ []) shown fed
+
+  -- the task is replaced by others, which end with the same
+  pub go_on : (added new : List Task) (next : Listing) → new ≡ front ++ added → IsPlaced nodes next → AreBehind [] (listed_shapes nodes next) → AreBelow (length nodes) (map number_of added) → AreEachFed (steps_of table added) (listed_shapes nodes next)
+      → all_done (steps_of table added) (listed_shapes nodes next) ≡ done (step_of table t) shown → IsGoing nodes final new next
+  go_on added new next made placed behind below own same =
+      let parts : steps_of table new ≡ steps_of table front ++ steps_of table added = ap (steps_of table) made ∙ map-append (step_of table) front added in
+      let after = listed_shapes nodes next in
+      let rest = fed-front (steps_of table front) (step_of table t ∷ []) shown fed in
+      record {
+        placed = placed;
+        within = subst (AreBelow (length nodes)) (sym (ap (map number_of) made ∙ map-append number_of front added)) (below-append (length nodes) (map number_of front) (map number_of added) (below-front (length nodes) (map number_of front) (number_of t ∷ []) numbers) below);
+        behind = behind;
+        fed = subst (λ ss. AreEachFed ss after) (sym parts) (fed-append (steps_of table front) (steps_of table added) after (subst (AreEachFed (steps_of table front)) (sym same) rest) own);
+        same =
+            ap (λ ss. all_done ss after) parts ∙ done-append (steps_of table front) (steps_of table added) after
+            ∙ ap (all_done (steps_of table front)) same
+            ∙ sym (done-append (steps_of table front) (step_of table t ∷ []) shown)
+            ∙ sym (ap (λ ss. all_done ss shown) steps)
+            ∙ going.same;
+      }
+
+  pub less : (added new : List Task) → new ≡ front ++ added → work (steps_of table added) < work (step_of table t ∷ []) → work (steps_of table new) < work (steps_of table tasks)
+  less added new made h =
+      let parts : steps_of table new ≡ steps_of table front ++ steps_of table added = ap (steps_of table) made ∙ map-append (step_of table) front added in
+      rw (parts, steps, work-append (steps_of table front) (steps_of table added), work-append (steps_of table front) (step_of table t ∷ [])) (omega (arith, h))
+
+-- ---- going through a shape
+
+visits_below : (bound : ℕ) (ns : List ℕ) → AreBelow bound ns → AreBelow bound (map number_of (visits ns))
+visits_below bound [] h = tt
+visits_below bound (n ∷ ns) h = subst (AreBelow bound) (sym (map-append number_of (visits ns) (Visit n ∷ []))) (below-append bound (map number_of (visits ns)) (n ∷ []) (visits_below bound ns h.1) (h.0, tt))
+
+tasks_below : (bound n : ℕ) (node : Node) → n < bound → RefersBelow n node → AreBelow bound (map number_of (tasks_at n node))
+tasks_below bound n AnyNode h refers = tt
+tasks_below bound n NeverNode h refers = tt
+tasks_below bound n Null h refers = tt
+tasks_below bound n Truth h refers = tt
+tasks_below bound n Int h refers = tt
+tasks_below bound n Text h refers = tt
+tasks_below bound n (Elements first rest) h refers =
+    let wider = below-wider n bound (rest ∷ first.items) (omega (arith, h)) refers.each in
+    (h, (wider.0, visits_below bound first.items wider.1))
+tasks_below bound n (Object fields extra) h refers =
+    (h, visits_below bound (numbers_in fields.entries) (below-wider n bound (numbers_in fields.entries) (omega (arith, h)) refers.each))
+
+module _ (nodes : List Node) (final : List Shape) (tasks front new : List Task) (n : ℕ) (listing : Listing) (split : tasks ≡ front ++ Visit n ∷ []) (opens : Opens (get_or listing.places.items n None) nodes n front new) (going : IsGoing nodes final tasks listing) where
+  within-table : n < length nodes
+  within-table = last_within nodes final tasks front (Visit n) listing split going
+
+  none-added : (new : List Task) → new ≡ front → new ≡ front ++ []
+  none-added new same = same ∙ sym (append-nil front)
+
+  pub visited : ((m : ℕ) → IsProperShape (shape_at (expansions nodes) m)) → IsGoing nodes final new listing
+  visited proper = by (get_or listing.places.items n None) refl opens
+    where
+      shown : List Shape
+      shown = listed_shapes nodes listing
+
+      by : (o : Option ℕ) → get_or listing.places.items n None ≡ o → Opens o nodes n front new → IsGoing nodes final new listing
+      by (Some place) is same =
+          let s = shape_at (expansions nodes) n in
+          let at : place_of s shown ≡ Some place = sym (going.placed.places n within-table) ∙ is in
+          let idle = nothing_more shown s going.behind (placed_there shown s place at) in
+          go_on nodes final tasks front (Visit n) listing split going [] new listing (none-added new same) going.placed going.behind tt tt (sym idle)
+      by None is opened =
+          let node = opened.node in
+          let over = tasks_done (expansions nodes) n node shown opened.level ∙ ap (list_after shown) opened.level in
+          go_on nodes final tasks front (Visit n) listing split going (tasks_at n node) new listing opened.put going.placed going.behind (tasks_below (length nodes) n node within-table opened.below) (tasks_fed (expansions nodes) n node shown proper going.behind opened.level) over
+
+  pub visited_less : work (steps_of (expansions nodes) new) < work (steps_of (expansions nodes) tasks)
+  visited_less = by (get_or listing.places.items n None) opens
+    where
+      by : (o : Option ℕ) → Opens o nodes n front new → work (steps_of (expansions nodes) new) < work (steps_of (expansions nodes) tasks)
+      by (Some place) same = less nodes final tasks front (Visit n) listing split going [] new (none-added new same) (omega (arith, some_cost (shape_at (expansions nodes) n)))
+      by None opened = less nodes final tasks front (Visit n) listing split going (tasks_at n opened.node) new opened.put (rw (← opened.level) (omega (arith, tasks_work (expansions nodes) n opened.node)))
+
+-- ---- listing a shape
+
+place_other : (s t : Shape) (listed : List Shape) → same_shape s t ≡ false → place_of s (listed ++ t ∷ []) ≡ place_of s listed
+place_other s t [] differs = rw differs refl
+place_other s t (u ∷ listed) differs = ap (λ o. if same_shape s u then Some 0 else option_map suc o) (place_other s t listed differs)
+
+place_own : (s : Shape) (listed : List Shape) → place_of s listed ≡ None → place_of s (listed ++ s ∷ []) ≡ Some (length listed)
+place_own s [] none = rw (same_itself s) refl
+place_own s (u ∷ listed) none = go (same_shape s u) (place_of s listed) (place_own s listed) none
+  where
+    go : (b : Bool) (o : Option ℕ) → (o ≡ None → place_of s (listed ++ s ∷ []) ≡ Some (length listed)) → (if b then Some 0 else option_map suc o) ≡ None → (if b then Some 0 else option_map suc (place_of s (listed ++ s ∷ []))) ≡ Some (suc (length listed))
+    go true o further e = absurd (cc)
+    go false None further e = ap (option_map suc) (further refl)
+    go false (Some i) further e = absurd (cc)
+
+module _ (nodes : List Node) (old new : Listing) (n : ℕ) (distinct : AreDistinct (expansions nodes)) (within : n < length nodes) (placed : IsPlaced nodes old) (free : get_or old.places.items n None ≡ None) (order : new.order.items ≡ old.order.items ++ n ∷ []) (places : new.places.items ≡ set old.places.items n (Some (length old.order.items))) where
+  abbrev shape : ℕ → Shape
+  shape m = shape_at (expansions nodes) m
+
+  fresh : place_of (shape n) (listed_shapes nodes old) ≡ None
+  fresh = sym (placed.places n within) ∙ free
+
+  one_more : listed_shapes nodes new ≡ listed_shapes nodes old ++ shape n ∷ []
+  one_more = ap (map shape) order ∙ map-append shape old.order.items (n ∷ [])
+
+  pub listed_last : listed_shapes nodes new ≡ with_last (shape n) (listed_shapes nodes old)
+  listed_last = one_more ∙ rw fresh refl
+
+  apart : (m : ℕ) → m < length nodes → m ≢ n → same_shape (shape m) (shape n) ≡ false
+  apart m h other = go (same_shape (shape m) (shape n)) refl
+    where
+      go : (b : Bool) → same_shape (shape m) (shape n) ≡ b → b ≡ false
+      go true is = absurd (other (distinct.apart m n (omega (arith, h, as_many nodes)) (omega (arith, within, as_many nodes)) (same_are (shape m) (shape n) is)))
+      go false is = refl
+
+  elsewhere : (m : ℕ) → m < length nodes → m ≢ n → get_or new.places.items m None ≡ place_of (shape m) (listed_shapes nodes new)
+  elsewhere m h other =
+      ap (λ ps. get_or ps m None) places ∙ get_or-set_other old.places.items n m (Some (length old.order.items)) None other ∙ placed.places m h
+      ∙ sym (place_other (shape m) (shape n) (listed_shapes nodes old) (apart m h other)) ∙ ap (place_of (shape m)) (sym one_more)
+
+  here : get_or new.places.items n None ≡ place_of (shape n) (listed_shapes nodes new)
+  here =
+      ap (λ ps. get_or ps n None) places ∙ get_or-set_same old.places.items n (Some (length old.order.items)) None (omega (arith, within, placed.counted))
+      ∙ ap Some (sym (length-map old.order.items shape))
+      ∙ sym (place_own (shape n) (listed_shapes nodes old) fresh) ∙ ap (place_of (shape n)) (sym one_more)
+
+  pub placed_next : IsPlaced nodes new
+  placed_next = record {
+    below = subst (AreBelow (length nodes)) (sym order) (below-append (length nodes) old.order.items (n ∷ []) placed.below (within, tt));
+    counted = ap length places ∙ length-set old.places.items n (Some (length old.order.items)) ∙ placed.counted;
+    places = λ m h. by m h (cases_eq m n);
+  }
+    where
+      by : (m : ℕ) → m < length nodes → (m ≡ n) ⊎ (m ≢ n) → get_or new.places.items m None ≡ place_of (shape m) (listed_shapes nodes new)
+      by m h (inl same) = subst (λ k. get_or new.places.items k None ≡ place_of (shape k) (listed_shapes nodes new)) (sym same) here
+      by m h (inr other) = elsewhere m h other
+
+pub put_down : (nodes : List Node) (final : List Shape) (tasks front : List Task) (n : ℕ) (old new : Listing) → tasks ≡ front ++ Put n ∷ [] → AreDistinct (expansions nodes) → IsGoing nodes final tasks old → Puts (get_or old.places.items n None) n old new → IsGoing nodes final front new
+put_down nodes final tasks front n old new split distinct going puts = by (get_or old.places.items n None) refl puts
+  where
+    within : n < length nodes
+    within = last_within nodes final tasks front (Put n) old split going
+
+    s : Shape
+    s = shape_at (expansions nodes) n
+
+    shown : List Shape
+    shown = listed_shapes nodes old
+
+    end : front ≡ front ++ []
+    end = sym (append-nil front)
+
+    by : (o : Option ℕ) → get_or old.places.items n None ≡ o → Puts o n old new → IsGoing nodes final front new
+    by (Some place) is same =
+        let at : place_of s shown ≡ Some place = sym (going.placed.places n within) ∙ is in
+        let still : shown ≡ with_last s shown = sym (ap (λ o. if is_some o then shown else shown ++ s ∷ []) at) in
+        subst (IsGoing nodes final front) (sym same) (go_on nodes final tasks front (Put n) old split going [] front old end going.placed going.behind tt tt still)
+    by None is next =
+        let placed = placed_next nodes old new n distinct within going.placed is next.0 next.1 in
+        let last = listed_last nodes old new n distinct within going.placed is next.0 next.1 in
+        let own = (last_fed nodes final tasks front (Put n) old split going).0 in
+        let goes = (goes_last shown s going.behind own.1 own.0).0 in
+        go_on nodes final tasks front (Put n) old split going [] front new end placed (subst (AreBehind []) (sym last) goes.behind) tt tt last
+
+pub put_less : (nodes : List Node) (final : List Shape) (tasks front : List Task) (n : ℕ) (listing : Listing) → tasks ≡ front ++ Put n ∷ [] → IsGoing nodes final tasks listing → work (steps_of (expansions nodes) front) < work (steps_of (expansions nodes) tasks)
+put_less nodes final tasks front n listing split going = less nodes final tasks front (Put n) listing split going [] front (sym (append-nil front)) (omega arith)
+
+-- ---- several shapes
+
+-- those of the numbers that are left are to be gone through, and then that list is made
+pub record ListsAll (nodes : List Node) (final : List Shape) (left : List ℕ) (listing : Listing) : Type 0 where
+  pub is : IsListing nodes listing
+  pub below : AreBelow (length nodes) left
+  pub same : list_after_all (listed_shapes nodes listing) (map (shape_at (expansions nodes)) left) ≡ final
+
+pub next_listed : (nodes : List Node) (final : List Shape) (now left : List ℕ) (n : ℕ) (old new : Listing) → now ≡ n ∷ left → ListsAll nodes final now old → IsListing nodes new → listed_shapes nodes new ≡ list_after (listed_shapes nodes old) (shape_at (expansions nodes) n) → ListsAll nodes final left new
+next_listed nodes final now left n old new split h is made =
+    let so_far : ListsAll nodes final (n ∷ left) old = subst (λ ns. ListsAll nodes final ns old) split h in
+    record {
+      is = is;
+      below = so_far.below.1;
+      same = ap (λ l. list_after_all l (map (shape_at (expansions nodes)) left)) made ∙ so_far.same;
+    }
+
+pub next_number : (nodes : List Node) (final : List Shape) (now left : List ℕ) (n : ℕ) (listing : Listing) → now ≡ n ∷ left → ListsAll nodes final now listing → n < length nodes
+next_number nodes final now left n listing split h = (subst (AreBelow (length nodes)) split h.below).0
+
+-- so for the shapes of states
+pub record ListsStates (nodes : List Node) (final : List Shape) (left : List Entry) (listing : Listing) : Type 0 where
+  pub is : IsListing nodes listing
+  pub below : AreEntriesBelow (length nodes) left
+  pub same : list_after_states (listed_shapes nodes listing) (numbered_entries (expansions nodes) left) ≡ final
+
+pub states_begun : (nodes : List Node) (all left : List Entry) (listing : Listing) (before : List Shape) → left ≡ all → AreEntriesBelow (length nodes) all → IsListing nodes listing → listed_shapes nodes listing ≡ before → ListsStates nodes (list_after_states before (numbered_entries (expansions nodes) all)) left listing
+states_begun nodes all left listing before same below is made =
+    rw same (record { is = is; below = below; same = ap (λ l. list_after_states l (numbered_entries (expansions nodes) all)) made })
+
+pub next_state_listed : (nodes : List Node) (final : List Shape) (now left : List Entry) (m : Entry) (old new : Listing) → now ≡ m ∷ left → ListsStates nodes final now old → IsListing nodes new → listed_shapes nodes new ≡ list_after_state (listed_shapes nodes old) (numbers_view (expansions nodes) m.1) → ListsStates nodes final left new
+next_state_listed nodes final now left m old new split h is made =
+    let so_far : ListsStates nodes final (m ∷ left) old = subst (λ es. ListsStates nodes final es old) split h in
+    record {
+      is = is;
+      below = (next_below (length nodes) now left m split h.below).1;
+      same = ap (λ l. list_after_states l (numbered_entries (expansions nodes) left)) made ∙ so_far.same;
+    }
+
+pub states_ended : (nodes : List Node) (final : List Shape) (left : List Entry) (listing : Listing) → left ≡ [] → ListsStates nodes final left listing → listed_shapes nodes listing ≡ final
+states_ended nodes final left listing end h = subst (λ es. list_after_states (listed_shapes nodes listing) (numbered_entries (expansions nodes) es) ≡ final) end h.same

@@ -1,0 +1,49 @@
+-- Listed trees that are meant in a table are meant in one that has grown from it.
+use Rattle.std.proofs.Common.{◌≡◌, ℕ, List, length, Option, Some, None, option_map, IfSome, MatchOption, Bor, Vec, Global, vec_len, refl, sym, ap, subst, ◌∙◌}
+use Rattle.std.specs.Option.{IsSomeAnd}
+use Rattle.asl_model.specs.Tree.{Tree}
+use Rattle.asl_numbered.specs.Expansion.{expansions, AreBelow, Keeps}
+use Rattle.asl_numbered.specs.References.{numbers_given}
+use Rattle.asl_numbered.specs.declared.node.Node.{Node}
+use Rattle.asl_records.specs.Listed.{AreInTable, Mean, MeanListed}
+use Rattle.asl_records.proofs.Kept.{list_within, list_shown}
+
+module _ (old new : List Node) (keeps : Keeps (expansions old) (expansions new)) where
+  -- the numbers are still there
+  pub still_there : (numbers : Option (Bor (List ℕ))) → AreInTable old numbers → AreInTable new numbers
+  still_there None h = record { below = tt }
+  still_there (Some ns) h = record { below = list_within old new keeps ns.now h.below }
+
+  mean : (numbers : Option (Bor (List ℕ))) (listed : Option (List Tree)) → AreInTable old numbers → Mean (expansions old) (numbers_given numbers) listed → Mean (expansions new) (numbers_given numbers) listed
+  mean None None within meant = meant
+  mean None (Some trees) within meant = meant
+  mean (Some ns) None within meant = meant
+  mean (Some ns) (Some trees) within meant = record { shapes = meant.shapes ∙ sym (list_shown old new keeps ns.now within.below); right = meant.right }
+
+  -- and mean the same
+  pub still_meant : (numbers : Option (Bor (List ℕ))) (listed : Option (List Tree)) → AreInTable old numbers → MeanListed old (numbers_given numbers) listed → MeanListed new (numbers_given numbers) listed
+  still_meant numbers listed within means = record { meant = mean numbers listed within means.meant }
+
+-- ---- numbers that are kept, and lent
+
+abbrev pub kept_items : Option (Vec ℕ Global) → Option (List ℕ)
+kept_items kept = option_map (λ ns. ns.items) kept
+
+-- what is lent of them
+abbrev pub IsLent : Option (Vec ℕ Global) → Option (Bor (List ℕ)) → Type 0
+IsLent kept lent = MatchOption kept (lent ≡ None) (λ v. IsSomeAnd lent (λ y. (y.now ≡ v.items) × (length y.now ≡ vec_len v)))
+
+lent_same : (kept : Option (Vec ℕ Global)) (lent : Option (Bor (List ℕ))) → IsLent kept lent → numbers_given lent ≡ kept_items kept
+lent_same None None h = refl
+lent_same None (Some ns) h = absurd (cc)
+lent_same (Some v) None h = absurd h
+lent_same (Some v) (Some ns) h = ap Some h.0
+
+pub lent_meant : (nodes : List Node) (kept : Option (Vec ℕ Global)) (lent : Option (Bor (List ℕ))) (listed : Option (List Tree)) → IsLent kept lent → MeanListed nodes (kept_items kept) listed → MeanListed nodes (numbers_given lent) listed
+lent_meant nodes kept lent listed is means = subst (λ ns. MeanListed nodes ns listed) (sym (lent_same kept lent is)) means
+
+pub lent_there : (nodes : List Node) (kept : Option (Vec ℕ Global)) (lent : Option (Bor (List ℕ))) → IsLent kept lent → IfSome kept (λ ns. AreBelow (length nodes) ns.items) → AreInTable nodes lent
+lent_there nodes None None is below = record { below = tt }
+lent_there nodes None (Some ns) is below = absurd (cc)
+lent_there nodes (Some v) None is below = absurd is
+lent_there nodes (Some v) (Some ns) is below = record { below = subst (AreBelow (length nodes)) (sym is.0) below }

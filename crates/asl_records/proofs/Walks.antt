@@ -1,0 +1,246 @@
+-- What is left to do when shapes are listed, as steps over shapes: what they list, and that they end.
+use Rattle.std.proofs.Common.{◌≡◌, ◌<◌, ◌+◌, ℕ, suc, List, [], ◌∷◌, ◌++◌, map, Bool, true, false, if◌then◌else◌, Option, Some, None, option_map, String, Global, refl, sym, ap, ◌∙◌, subst, append_assoc, arith}
+use Rattle.std.proofs.lemmas.List.{map-append}
+use Rattle.asl_model.specs.Shape.{Shape, Any, Never, NullShape, BooleanShape, IntegerShape, StringShape, ArrayShape, ObjectShape, Shapes, NoShapes, AndShape, FieldShapes, NoFieldShapes, AndFieldShape, IsProperShape}
+use Rattle.asl_model.specs.WrittenNumbered.{same_shape, place_of, with_last, list_after, list_after_places, list_after_fields}
+use Rattle.asl_model.proofs.SameShapes.{same_are}
+use Rattle.asl_model.proofs.Listing.{IsThere, PlacesAreThere, FieldsAreThere, PartsAreThere, AreBehind, places_more, fields_more, there_more, places_later, walked, walked_places, walked_fields}
+use Rattle.asl_numbered.specs.Expansion.{shape_at, shapes_at, fields_at, shape_over, numbers_in}
+use Rattle.asl_numbered.specs.declared.node.Node.{Node}
+use Rattle.asl_numbered.specs.declared.node.Node.TheVariants.{Any as AnyNode, Never as NeverNode, Null, Bool as Truth, Int, Text, List as Elements, Object}
+use Rattle.asl_numbered.specs.declared.node.NodeField.{NodeField}
+use Rattle.asl_records.specs.Listing.{visits, tasks_at}
+use Rattle.asl_records.specs.declared.listing.Task.{Task}
+use Rattle.asl_records.specs.declared.listing.Task.TheVariants.{Visit, List as Put}
+
+-- ---- a walk through a shape that is there lists nothing
+
+parts_more : (s : Shape) (listed more : List Shape) → PartsAreThere listed s → PartsAreThere (listed ++ more) s
+parts_more Any listed more h = elim h [ ]
+parts_more Never listed more h = elim h [ ]
+parts_more NullShape listed more h = elim h [ ]
+parts_more BooleanShape listed more h = elim h [ ]
+parts_more IntegerShape listed more h = elim h [ ]
+parts_more StringShape listed more h = elim h [ ]
+parts_more (ArrayShape first rest) listed more h = (places_more first listed more h.0, there_more rest listed more h.1)
+parts_more (ObjectShape fields extra) listed more h = fields_more fields listed more h
+
+-- the parts of a listed shape are there
+parts_behind : (done left : List Shape) (s : Shape) (i : ℕ) → AreBehind done left → place_of s left ≡ Some i → PartsAreThere (done ++ left) s
+parts_behind done [] s i h at = absurd (cc)
+parts_behind done (t ∷ left) s i h at = go (same_shape s t) refl (place_of s left) (λ j e. parts_behind (done ++ t ∷ []) left s j h.2 e) at
+  where
+    go : (b : Bool) → same_shape s t ≡ b → (o : Option ℕ) → ((j : ℕ) → o ≡ Some j → PartsAreThere ((done ++ t ∷ []) ++ left) s) → (if b then Some 0 else option_map suc o) ≡ Some i → PartsAreThere (done ++ t ∷ left) s
+    go true is o further e = subst (PartsAreThere (done ++ t ∷ left)) (sym (same_are s t is)) (parts_more t done (t ∷ left) h.0)
+    go false is None further e = absurd (cc)
+    go false is (Some j) further e = subst (λ l. PartsAreThere l s) (append_assoc done (t ∷ []) left) (further j refl)
+
+mutual
+  pub nothing_more : (listed : List Shape) (s : Shape) → AreBehind [] listed → IsThere listed s → list_after listed s ≡ listed
+  nothing_more listed Any h there = refl
+  nothing_more listed Never h there = refl
+  nothing_more listed NullShape h there = refl
+  nothing_more listed BooleanShape h there = refl
+  nothing_more listed IntegerShape h there = refl
+  nothing_more listed StringShape h there = refl
+  nothing_more listed (ArrayShape first rest) h there =
+      let parts = parts_behind [] listed (ArrayShape first rest) there.0 h there.1 in
+      rw (no_more_places listed first h parts.0, nothing_more listed rest h parts.1, there.1) refl
+  nothing_more listed (ObjectShape fields extra) h there =
+      let parts = parts_behind [] listed (ObjectShape fields extra) there.0 h there.1 in
+      rw (no_more_fields listed fields h parts, there.1) refl
+
+  no_more_places : (listed : List Shape) (first : Shapes) → AreBehind [] listed → PlacesAreThere listed first → list_after_places listed first ≡ listed
+  no_more_places listed NoShapes h there = refl
+  no_more_places listed (AndShape s first) h there = rw (nothing_more listed s h there.0) (no_more_places listed first h there.1)
+
+  no_more_fields : (listed : List Shape) (fields : FieldShapes) → AreBehind [] listed → FieldsAreThere listed fields → list_after_fields listed fields ≡ listed
+  no_more_fields listed NoFieldShapes h there = refl
+  no_more_fields listed (AndFieldShape n needed s fields) h there = rw (nothing_more listed s h there.0) (no_more_fields listed fields h there.1)
+
+pub placed_there : (listed : List Shape) (s : Shape) (i : ℕ) → place_of s listed ≡ Some i → IsThere listed s
+placed_there listed Any i at = tt
+placed_there listed Never i at = tt
+placed_there listed NullShape i at = tt
+placed_there listed BooleanShape i at = tt
+placed_there listed IntegerShape i at = tt
+placed_there listed StringShape i at = tt
+placed_there listed (ArrayShape first rest) i at = (i, at)
+placed_there listed (ObjectShape fields extra) i at = (i, at)
+
+-- ---- steps
+
+-- a task, with the shape in place of its number
+pub data Step : Type 0 where
+  VisitStep : Shape → Step
+  PutStep : Shape → Step
+
+abbrev pub step_of : List Shape → Task → Step
+step_of table (Visit n) = VisitStep (shape_at table n)
+step_of table (Put n) = PutStep (shape_at table n)
+
+abbrev pub steps_of : List Shape → List Task → List Step
+steps_of table tasks = map (step_of table) tasks
+
+abbrev pub done : Step → List Shape → List Shape
+done (VisitStep s) listed = list_after listed s
+done (PutStep s) listed = with_last s listed
+
+-- what is listed once all steps are done, the last one first
+abbrev pub all_done : List Step → List Shape → List Shape
+all_done [] listed = listed
+all_done (step ∷ steps) listed = done step (all_done steps listed)
+
+-- a shape that is to be listed finds its parts
+abbrev pub IsFed : Step → List Shape → Type 0
+IsFed (VisitStep s) listed = IsProperShape s
+IsFed (PutStep s) listed = IsProperShape s × PartsAreThere listed s
+
+abbrev pub AreEachFed : List Step → List Shape → Type 0
+AreEachFed [] listed = Unit {0}
+AreEachFed (step ∷ steps) listed = IsFed step (all_done steps listed) × AreEachFed steps listed
+
+pub done-append : (front more : List Step) (listed : List Shape) → all_done (front ++ more) listed ≡ all_done front (all_done more listed)
+done-append [] more listed = refl
+done-append (step ∷ front) more listed = ap (done step) (done-append front more listed)
+
+pub fed-append : (front more : List Step) (listed : List Shape) → AreEachFed front (all_done more listed) → AreEachFed more listed → AreEachFed (front ++ more) listed
+fed-append [] more listed h further = further
+fed-append (step ∷ front) more listed h further =
+    (subst (IsFed step) (sym (done-append front more listed)) h.0, fed-append front more listed h.1 further)
+
+pub fed-front : (front more : List Step) (listed : List Shape) → AreEachFed (front ++ more) listed → AreEachFed front (all_done more listed)
+fed-front [] more listed h = tt
+fed-front (step ∷ front) more listed h = (subst (IsFed step) (done-append front more listed) h.0, fed-front front more listed h.1)
+
+pub fed-behind : (front more : List Step) (listed : List Shape) → AreEachFed (front ++ more) listed → AreEachFed more listed
+fed-behind [] more listed h = h
+fed-behind (step ∷ front) more listed h = fed-behind front more listed h.1
+
+-- ---- how much is left to do
+
+abbrev mutual
+  -- at most so many steps go through the shape
+  pub walk_cost : Shape → ℕ
+  walk_cost Any = 1
+  walk_cost Never = 1
+  walk_cost NullShape = 1
+  walk_cost BooleanShape = 1
+  walk_cost IntegerShape = 1
+  walk_cost StringShape = 1
+  walk_cost (ArrayShape first rest) = 2 + (walk_cost rest + places_cost first)
+  walk_cost (ObjectShape fields extra) = 2 + fields_cost fields
+
+  pub places_cost : Shapes → ℕ
+  places_cost NoShapes = 0
+  places_cost (AndShape s first) = walk_cost s + places_cost first
+
+  pub fields_cost : FieldShapes → ℕ
+  fields_cost NoFieldShapes = 0
+  fields_cost (AndFieldShape n needed s fields) = walk_cost s + fields_cost fields
+
+abbrev pub step_cost : Step → ℕ
+step_cost (VisitStep s) = walk_cost s
+step_cost (PutStep s) = 1
+
+abbrev pub work : List Step → ℕ
+work [] = 0
+work (step ∷ steps) = step_cost step + work steps
+
+pub work-append : (front more : List Step) → work (front ++ more) ≡ work front + work more
+work-append [] more = omega arith
+work-append (step ∷ front) more = ap (λ n. step_cost step + n) (work-append front more) ∙ omega arith
+
+pub some_cost : (s : Shape) → 0 < walk_cost s
+some_cost Any = omega arith
+some_cost Never = omega arith
+some_cost NullShape = omega arith
+some_cost BooleanShape = omega arith
+some_cost IntegerShape = omega arith
+some_cost StringShape = omega arith
+some_cost (ArrayShape first rest) = omega arith
+some_cost (ObjectShape fields extra) = omega arith
+
+-- ---- walks through places and fields
+
+module _ (table : List Shape) where
+  visit_last : (ns : List ℕ) (n : ℕ) → steps_of table (visits (n ∷ ns)) ≡ steps_of table (visits ns) ++ VisitStep (shape_at table n) ∷ []
+  visit_last ns n = map-append (step_of table) (visits ns) (Visit n ∷ [])
+
+  places_done : (ns : List ℕ) (listed : List Shape) → all_done (steps_of table (visits ns)) listed ≡ list_after_places listed (shapes_at table ns)
+  places_done [] listed = refl
+  places_done (n ∷ ns) listed =
+      let s = shape_at table n in
+      ap (λ steps. all_done steps listed) (visit_last ns n) ∙ done-append (steps_of table (visits ns)) (VisitStep s ∷ []) listed ∙ places_done ns (list_after listed s)
+
+  fields_done : (fs : List (String Global × NodeField)) (listed : List Shape) → all_done (steps_of table (visits (numbers_in fs))) listed ≡ list_after_fields listed (fields_at table fs)
+  fields_done [] listed = refl
+  fields_done (f ∷ fs) listed =
+      let s = shape_at table f.1.shape in
+      ap (λ steps. all_done steps listed) (visit_last (numbers_in fs) f.1.shape) ∙ done-append (steps_of table (visits (numbers_in fs))) (VisitStep s ∷ []) listed ∙ fields_done fs (list_after listed s)
+
+  visits_fed : (ns : List ℕ) (listed : List Shape) → ((n : ℕ) → IsProperShape (shape_at table n)) → AreEachFed (steps_of table (visits ns)) listed
+  visits_fed [] listed proper = tt
+  visits_fed (n ∷ ns) listed proper =
+      let s = shape_at table n in
+      subst (λ steps. AreEachFed steps listed) (sym (visit_last ns n)) (fed-append (steps_of table (visits ns)) (VisitStep s ∷ []) listed (visits_fed ns (list_after listed s) proper) (proper n, tt))
+
+  places_work : (ns : List ℕ) → work (steps_of table (visits ns)) ≡ places_cost (shapes_at table ns)
+  places_work [] = refl
+  places_work (n ∷ ns) =
+      let s = shape_at table n in
+      ap work (visit_last ns n) ∙ work-append (steps_of table (visits ns)) (VisitStep s ∷ []) ∙ rw (places_work ns) (omega arith)
+
+  fields_work : (fs : List (String Global × NodeField)) → work (steps_of table (visits (numbers_in fs))) ≡ fields_cost (fields_at table fs)
+  fields_work [] = refl
+  fields_work (f ∷ fs) =
+      let s = shape_at table f.1.shape in
+      ap work (visit_last (numbers_in fs) f.1.shape) ∙ work-append (steps_of table (visits (numbers_in fs))) (VisitStep s ∷ []) ∙ rw (fields_work fs) (omega arith)
+
+  -- ---- the tasks for a shape
+
+  pub tasks_done : (n : ℕ) (node : Node) (listed : List Shape) → shape_over table node ≡ shape_at table n → all_done (steps_of table (tasks_at n node)) listed ≡ list_after listed (shape_over table node)
+  tasks_done n AnyNode listed level = refl
+  tasks_done n NeverNode listed level = refl
+  tasks_done n Null listed level = refl
+  tasks_done n Truth listed level = refl
+  tasks_done n Int listed level = refl
+  tasks_done n Text listed level = refl
+  tasks_done n (Elements first rest) listed level = rw (places_done first.items listed, ← level) refl
+  tasks_done n (Object fields extra) listed level = rw (fields_done fields.entries listed, ← level) refl
+
+  pub tasks_fed : (n : ℕ) (node : Node) (listed : List Shape) → ((m : ℕ) → IsProperShape (shape_at table m)) → AreBehind [] listed → shape_over table node ≡ shape_at table n → AreEachFed (steps_of table (tasks_at n node)) listed
+  tasks_fed n AnyNode listed proper behind level = tt
+  tasks_fed n NeverNode listed proper behind level = tt
+  tasks_fed n Null listed proper behind level = tt
+  tasks_fed n Truth listed proper behind level = tt
+  tasks_fed n Int listed proper behind level = tt
+  tasks_fed n Text listed proper behind level = tt
+  tasks_fed n (Elements first rest) listed proper behind level =
+      let places = shapes_at table first.items in
+      let further = shape_at table rest in
+      let one = list_after_places listed places in
+      let own : IsProperShape (ArrayShape places further) = subst IsProperShape (sym level) (proper n) in
+      let f = walked_places listed places behind own.0 in
+      let r = walked one further f.0.behind own.1 in
+      let parts : PartsAreThere (list_after one further) (ArrayShape places further) = (places_later places one (list_after one further) r.0 f.1, r.1) in
+      let all = steps_of table (visits first.items) in
+      let there : PartsAreThere (list_after (all_done all listed) further) (ArrayShape places further) = subst (λ l. PartsAreThere (list_after l further) (ArrayShape places further)) (sym (places_done first.items listed)) parts in
+      ((proper n, subst (PartsAreThere (list_after (all_done all listed) further)) level there), (proper rest, visits_fed first.items listed proper))
+  tasks_fed n (Object fields extra) listed proper behind level =
+      let shapes = fields_at table fields.entries in
+      let own : IsProperShape (ObjectShape shapes extra) = subst IsProperShape (sym level) (proper n) in
+      let f = walked_fields listed shapes behind own in
+      let all = steps_of table (visits (numbers_in fields.entries)) in
+      let there : PartsAreThere (all_done all listed) (ObjectShape shapes extra) = subst (λ l. PartsAreThere l (ObjectShape shapes extra)) (sym (fields_done fields.entries listed)) f.1 in
+      ((proper n, subst (PartsAreThere (all_done all listed)) level there), visits_fed (numbers_in fields.entries) listed proper)
+
+  pub tasks_work : (n : ℕ) (node : Node) → work (steps_of table (tasks_at n node)) < walk_cost (shape_over table node)
+  tasks_work n AnyNode = omega arith
+  tasks_work n NeverNode = omega arith
+  tasks_work n Null = omega arith
+  tasks_work n Truth = omega arith
+  tasks_work n Int = omega arith
+  tasks_work n Text = omega arith
+  tasks_work n (Elements first rest) = rw (places_work first.items) (omega arith)
+  tasks_work n (Object fields extra) = rw (fields_work fields.entries) (omega arith)

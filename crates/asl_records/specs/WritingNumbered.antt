@@ -1,0 +1,31 @@
+-- What is written over a list of shapes, part by part. No public clause cites this module.
+use Rattle.std.specs.Prelude.{ℕ, List}
+use Rattle.asl_model.specs.Shape.{Shape}
+use Rattle.asl_model.specs.Tree.{Tree}
+use Rattle.asl_model.specs.WrittenNumbered.{referring, written_over}
+use Rattle.asl_numbered.specs.Expansion.{expansions, shape_at}
+use Rattle.asl_records.specs.Listing.{IsPlaced, listed_shapes}
+use Rattle.asl_records.specs.declared.writing_numbered.Writer.{Writer}
+
+-- the shapes of the table
+abbrev pub table_of : Writer → List Shape
+table_of writer = expansions writer.shapes.now
+
+-- those that are listed
+abbrev pub listed_by : Writer → List Shape
+listed_by writer = listed_shapes writer.shapes.now writer.listing.now
+
+-- each number of the table has the place of its shape in the list
+pub record IsReady (writer : Writer) : Type 0 where
+  pub placed : IsPlaced writer.shapes.now writer.listing.now
+
+-- what is written for a shape, and for one of the list
+abbrev pub referred : Writer → Shape → Tree
+referred writer = referring (listed_by writer)
+
+abbrev pub spelled_over : Writer → Shape → Tree
+spelled_over writer = written_over (listed_by writer)
+
+-- what is written for the shape of that number
+abbrev pub referred_at : Writer → ℕ → Tree
+referred_at writer n = referred writer (shape_at (table_of writer) n)

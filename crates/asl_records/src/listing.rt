@@ -1,0 +1,224 @@
+// The list of a certificate's shapes.
+//
+// A walk goes through the shapes, and lists each shape of lists or objects once its parts are listed. What is still to
+// be done stands in a list of tasks, so that no call goes from a shape to its parts.
+
+ghost use Rattle.std.specs.Prelude.{◌≡◌, ◌<◌, ◌++◌, [], IfOk, IfSome, OnOk, None, Some, get_or, length, map, option_map, slice_get};
+ghost use Rattle.asl_model.specs.WrittenNumbered.{list_after, list_after_all, list_after_item, list_after_state, shapes_listed};
+ghost use Rattle.asl_numbered.specs.Expansion.{expansions, shape_at, shape_over, numbers_in, AreBelow, RefersBelow};
+ghost use Rattle.asl_records.specs.Listing.{IsListing, Opens, Puts, listed_shapes, visits, tasks_at};
+ghost use Rattle.asl_records.specs.Numbered.{AreWithin, AreNumbersBelow, numbered_view, numbers_view};
+
+use crate::records::{NumberedCertificate, StateNumbers};
+use asl_numbered::{Node, NodeField, Shapes};
+use asl_tree::OutOfMemory;
+use std::alloc::Global;
+use std::collections::BTreeMap;
+
+/// What is left to do with a number's shape.
+#[derive(Clone, Copy)]
+pub(crate) enum Task {
+    /// To go through it.
+    Visit(usize),
+    /// To list it, as its parts are listed.
+    List(usize),
+}
+
+/// Shapes of a table that are listed, each under its number.
+#[derive(Drop)]
+pub(crate) struct Listing {
+    alloc: Global,
+    /// The numbers, in order.
+    pub(crate) order: Vec<usize>,
+    /// Of each number of the table its place among those, where it has one.
+    pub(crate) places: Vec<Option<usize>>,
+}
+
+impl Listing {
+    /// The list of the certificate's shapes.
+    pub(crate) fn of(
+        alloc: Global,
+        certificate: &NumberedCertificate,
+    ) -> Result<Listing, OutOfMemory>
+        requires within { AreWithin certificate.now }
+        ensures listing { IfOk result (IsListing certificate.now.shapes) }
+        ensures listed { IfOk result (λ listing.
+            listed_shapes certificate.now.shapes listing
+            ≡ shapes_listed (numbered_view certificate.now)) }
+    {
+        let shapes = &certificate.shapes;
+        let mut listing = Listing::new(alloc, shapes)?;
+        listing.list(shapes, certificate.output)?;
+        for (_, state) in certificate.states.iter() {
+            listing.list_state(shapes, state)?;
+        }
+        Ok(listing)
+    }
+
+    /// The list without any shape of the table.
+    fn new(alloc: Global, shapes: &Shapes) -> Result<Listing, OutOfMemory>
+        ensures listing { IfOk result (IsListing shapes.now) }
+        ensures none { IfOk result (λ listing. listed_shapes shapes.now listing ≡ []) }
+    {
+        Ok(Listing {
+            alloc,
+            order: Vec::new(alloc),
+            places: vec![in alloc; None; shapes.len()]?,
+        })
+    }
+
+    /// Lists the shapes of a state.
+    fn list_state(&mut self, shapes: &Shapes, state: &StateNumbers) -> Result<(), OutOfMemory>
+        requires listing { IsListing shapes.now self.old }
+        requires below { AreNumbersBelow (length shapes.now) state.now }
+        ensures listing { OnOk result (IsListing shapes.now self.new) }
+        ensures listed { OnOk result (listed_shapes shapes.now self.new
+            ≡ list_after_state (listed_shapes shapes.now self.old)
+            (numbers_view (expansions shapes.now) state.now)) }
+    {
+        self.list_all(shapes, &state.branches)?;
+        self.list(shapes, state.input)?;
+        self.list_item(shapes, state.item)?;
+        self.list(shapes, state.output)
+    }
+
+    /// Lists the shapes of the branches' ends.
+    fn list_all(&mut self, shapes: &Shapes, numbers: &[usize]) -> Result<(), OutOfMemory>
+        requires listing { IsListing shapes.now self.old }
+        requires below { AreBelow (length shapes.now) numbers.now }
+        ensures listing { OnOk result (IsListing shapes.now self.new) }
+        ensures listed { OnOk result (listed_shapes shapes.now self.new
+            ≡ list_after_all (listed_shapes shapes.now self.old)
+            (map (shape_at (expansions shapes.now)) numbers.now)) }
+    {
+        for number in numbers {
+            self.list(shapes, *number)?;
+        }
+        Ok(())
+    }
+
+    /// Lists the shape of the processor's end, where there is one.
+    fn list_item(&mut self, shapes: &Shapes, item: Option<usize>) -> Result<(), OutOfMemory>
+        requires listing { IsListing shapes.now self.old }
+        requires below { IfSome item (λ n. n < length shapes.now) }
+        ensures listing { OnOk result (IsListing shapes.now self.new) }
+        ensures listed { OnOk result (listed_shapes shapes.now self.new
+            ≡ list_after_item (listed_shapes shapes.now self.old)
+            (option_map (shape_at (expansions shapes.now)) item)) }
+    {
+        match item {
+            Some(number) => self.list(shapes, number),
+            None => Ok(()),
+        }
+    }
+
+    /// Lists the shape of that number, unless it has no parts, and those in it.
+    fn list(&mut self, shapes: &Shapes, number: usize) -> Result<(), OutOfMemory>
+        requires listing { IsListing shapes.now self.old }
+        requires below { number < length shapes.now }
+        ensures listing { OnOk result (IsListing shapes.now self.new) }
+        ensures listed { OnOk result (listed_shapes shapes.now self.new
+            ≡ list_after (listed_shapes shapes.now self.old)
+            (shape_at (expansions shapes.now) number)) }
+    {
+        shapes.are_distinct();
+        shapes.are_proper();
+        let mut tasks = Vec::new(self.alloc);
+        tasks.push(Task::Visit(number))?;
+        while let Some(task) = tasks.pop() {
+            match task {
+                Task::Visit(next) => self.visit(shapes, next, &mut tasks)?,
+                Task::List(next) => self.put(next)?,
+            }
+        }
+        Ok(())
+    }
+
+    /// Puts down what is to be done to go through the shape of that number.
+    fn visit(
+        &self,
+        shapes: &Shapes,
+        number: usize,
+        tasks: &mut Vec<Task>,
+    ) -> Result<(), OutOfMemory>
+        requires below { number < length shapes.now }
+        requires within { number < length self.now.places.items }
+        ensures put { IfOk result (λ _. Opens (get_or self.now.places.items number None)
+            shapes.now number tasks.old.items tasks.new.items) }
+    {
+        match self.places[number] {
+            Some(_) => Ok(()),
+            None => put_parts(tasks, number, node_at(shapes, number)),
+        }
+    }
+
+    /// Lists the shape of that number itself, unless it is listed.
+    fn put(&mut self, number: usize) -> Result<(), OutOfMemory>
+        requires within { number < length self.old.places.items }
+        ensures put { OnOk result (Puts (get_or self.old.places.items number None) number self.old self.new) }
+    {
+        if self.places[number].is_none() {
+            let place = self.order.len();
+            self.order.push(number)?;
+            self.places[number] = Some(place);
+        }
+        Ok(())
+    }
+}
+
+/// Puts down that the shape whose first level is the node is to be listed, and its parts before it, unless it has none.
+fn put_parts(tasks: &mut Vec<Task>, number: usize, node: &Node) -> Result<(), OutOfMemory>
+    ensures put { IfOk result
+        (λ _. tasks.new.items ≡ tasks.old.items ++ tasks_at number node.now) }
+{
+    match node {
+        Node::Any | Node::Never | Node::Null | Node::Bool | Node::Int | Node::Text => Ok(()),
+        Node::List { first, rest } => {
+            tasks.push(Task::List(number))?;
+            tasks.push(Task::Visit(*rest))?;
+            put_places(tasks, first)
+        }
+        Node::Object { fields, .. } => {
+            tasks.push(Task::List(number))?;
+            put_fields(tasks, fields)
+        }
+    }
+}
+
+/// Puts down the walks through the first elements' shapes, so that the first comes first.
+fn put_places(tasks: &mut Vec<Task>, places: &[usize]) -> Result<(), OutOfMemory>
+    ensures put { IfOk result (λ _. tasks.new.items ≡ tasks.old.items ++ visits places.now) }
+{
+    for place in places.iter().rev() {
+        tasks.push(Task::Visit(*place))?;
+    }
+    Ok(())
+}
+
+/// Puts down the walks through the fields' shapes, so that the first comes first.
+fn put_fields(
+    tasks: &mut Vec<Task>,
+    fields: &BTreeMap<String, NodeField>,
+) -> Result<(), OutOfMemory>
+    ensures put { IfOk result
+        (λ _. tasks.new.items ≡ tasks.old.items ++ visits (numbers_in fields.now.entries)) }
+{
+    for (_, field) in fields.iter().rev() {
+        tasks.push(Task::Visit(field.shape))?;
+    }
+    Ok(())
+}
+
+/// The first level of the shape of that number.
+pub(crate) fn node_at(shapes: &Shapes, number: usize) -> &Node
+    requires below { number < length shapes.now }
+    ensures node { slice_get shapes.now number ≡ Some result.now }
+    ensures level { shape_over (expansions shapes.now) result.now
+        ≡ shape_at (expansions shapes.now) number }
+    ensures below { RefersBelow number result.now }
+{
+    match shapes.node(number) {
+        Some(node) => node,
+        None => unreachable!(),
+    }
+}

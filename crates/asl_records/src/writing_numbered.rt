@@ -1,0 +1,257 @@
+// Writing certificates whose shapes stand in a table.
+
+ghost use Rattle.std.specs.Prelude.{◌≡◌, ◌<◌, ◌^◌, IfOk, IfSome, List, Some, length, map, option_map};
+ghost use Rattle.serde_json.specs.Data.{Data};
+ghost use Rattle.asl_model.specs.Json.{tree_of};
+ghost use Rattle.asl_model.specs.Records.{StandsForCertificate};
+ghost use Rattle.asl_model.specs.Shape as shape;
+ghost use Rattle.asl_model.specs.ShapeOrder.{is_any_shape};
+ghost use Rattle.asl_model.specs.Written as model;
+ghost use Rattle.asl_model.specs.WrittenNumbered as list;
+ghost use Rattle.asl_numbered.specs.Expansion.{shape_at, fields_at, numbers_in, AreBelow};
+ghost use Rattle.asl_shape.specs.Adding.{with_field};
+ghost use Rattle.asl_tree.specs.View as trees;
+ghost use Rattle.asl_records.specs.Numbered.{AreWithin, AreNumbersBelow, AreEntriesBelow, numbered_view, numbered_entries, numbers_view};
+ghost use Rattle.asl_records.specs.Writing.{with_item};
+ghost use Rattle.asl_records.specs.WritingNumbered.{IsReady, listed_by, referred, referred_at, spelled_over, table_of};
+
+use crate::listing::{Listing, node_at};
+use crate::numbering::expand;
+use crate::records::{NumberedCertificate, StateNumbers};
+use crate::writing::{add, add_list};
+use asl_model::reading_laws::written_records_are_read_back;
+use asl_numbered::{Node, NodeField, Shapes};
+use asl_shape::{write, write_array, write_object};
+use asl_tree::{OutOfMemory, Tree};
+use std::alloc::Global;
+use std::collections::BTreeMap;
+
+/// The tree that is written for a certificate, in which each distinct shape of lists or objects is listed once, in
+/// `shapes`, behind its parts, and stands everywhere as a reference. A JSON value that is this tree stands for the same
+/// certificate.
+///
+/// Refuses only where an allocation was refused.
+pub fn write_numbered(alloc: Global, certificate: &NumberedCertificate) -> Result<Tree, OutOfMemory>
+    requires within { AreWithin certificate.now }
+    ensures written { IfOk result
+        (λ t. trees.view t ≡ list.written_numbered (numbered_view certificate.now)) }
+    ensures reads_back { IfOk result
+        (λ t. (v : Data) → tree_of v ≡ Some (trees.view t)
+        → StandsForCertificate v (numbered_view certificate.now)) }
+{
+    certificate.shapes.are_proper();
+    written_records_are_read_back();
+    let listing = Listing::of(alloc, certificate)?;
+    let writer = Writer {
+        alloc,
+        shapes: &certificate.shapes,
+        listing: &listing,
+    };
+    let mut fields = BTreeMap::new(alloc);
+    writer.add_shape(&mut fields, "output", certificate.output)?;
+    add_list(alloc, &mut fields, "shapes", writer.write_listed()?)?;
+    let states = writer.write_states(&certificate.states)?;
+    add(alloc, &mut fields, "states", Tree::Object(states))?;
+    add(alloc, &mut fields, "version", Tree::Int(1))?;
+    Ok(Tree::Object(fields))
+}
+
+/// Writes the parts of a certificate over the list of its shapes.
+#[derive(Clone, Copy)]
+pub(crate) struct Writer<'c> {
+    alloc: Global,
+    shapes: &'c Shapes,
+    listing: &'c Listing,
+}
+
+impl Writer<'_> {
+    /// The entries of the states.
+    fn write_states(
+        &self,
+        states: &BTreeMap<String, StateNumbers>,
+    ) -> Result<BTreeMap<String, Tree>, OutOfMemory>
+        requires ready { IsReady self.now }
+        requires below { AreEntriesBelow (length self.now.shapes.now) states.now.entries }
+        ensures written { IfOk result (λ m. trees.entries_view m.entries
+            ≡ model.written_entries (model.written_state (referred self.now))
+            (numbered_entries (table_of self.now) states.now.entries)) }
+    {
+        let mut entries = BTreeMap::new(self.alloc);
+        for (name, state) in states.iter() {
+            let key = name.clone()?;
+            drop(entries.insert(key, self.write_state(state)?)?);
+        }
+        Ok(entries)
+    }
+
+    /// The entry of a state.
+    fn write_state(&self, state: &StateNumbers) -> Result<Tree, OutOfMemory>
+        requires ready { IsReady self.now }
+        requires below { AreNumbersBelow (length self.now.shapes.now) state.now }
+        ensures written { IfOk result (λ t. trees.view t
+            ≡ model.written_state (referred self.now) (numbers_view (table_of self.now) state.now)) }
+    {
+        let mut fields = BTreeMap::new(self.alloc);
+        let branches = self.refer_all(&state.branches)?;
+        add_list(self.alloc, &mut fields, "branches", branches)?;
+        self.add_shape(&mut fields, "input", state.input)?;
+        self.add_item(&mut fields, state.item)?;
+        self.add_shape(&mut fields, "output", state.output)?;
+        Ok(Tree::Object(fields))
+    }
+
+    /// Adds `item` where there is one.
+    fn add_item(
+        &self,
+        fields: &mut BTreeMap<String, Tree>,
+        item: Option<usize>,
+    ) -> Result<(), OutOfMemory>
+        requires ready { IsReady self.now }
+        requires below { IfSome item (λ n. n < length self.now.shapes.now) }
+        ensures added { IfOk result (λ _. trees.entries_view fields.new.entries
+            ≡ with_item (referred self.now) (option_map (shape_at (table_of self.now)) item)
+            (trees.entries_view fields.old.entries)) }
+    {
+        match item {
+            Some(number) => self.add_shape(fields, "item", number),
+            None => Ok(()),
+        }
+    }
+
+    /// Adds a field with a shape.
+    fn add_shape(
+        &self,
+        fields: &mut BTreeMap<String, Tree>,
+        name: &str,
+        number: usize,
+    ) -> Result<(), OutOfMemory>
+        requires ready { IsReady self.now }
+        requires below { number < length self.now.shapes.now }
+        ensures added { IfOk result (λ _. trees.entries_view fields.new.entries
+            ≡ with_field name.now (referred_at self.now number)
+            (trees.entries_view fields.old.entries)) }
+    {
+        let value = self.refer(number)?;
+        add(self.alloc, fields, name, value)
+    }
+
+    /// Each of the listed shapes.
+    fn write_listed(&self) -> Result<Vec<Tree>, OutOfMemory>
+        requires ready { IsReady self.now }
+        ensures written { IfOk result (λ v. trees.elements_view v.items
+            ≡ model.written_list (spelled_over self.now) (listed_by self.now)) }
+    {
+        let numbers = &self.listing.order;
+        let mut elements = Vec::with_capacity(self.alloc, numbers.len())?;
+        for number in numbers {
+            elements.push(self.write_over(*number)?)?;
+        }
+        Ok(elements)
+    }
+
+    /// A shape with its parts as references.
+    fn write_over(&self, number: usize) -> Result<Tree, OutOfMemory>
+        requires ready { IsReady self.now }
+        requires below { number < length self.now.shapes.now }
+        ensures written { IfOk result (λ t. trees.view t
+            ≡ spelled_over self.now (shape_at (table_of self.now) number)) }
+    {
+        match node_at(self.shapes, number) {
+            Node::Any | Node::Never | Node::Null | Node::Bool | Node::Int | Node::Text => {
+                write(self.alloc, &expand(self.shapes, number)?)
+            }
+            Node::List { first, rest } => {
+                let prefix_items = self.refer_all(first)?;
+                let items = self.refer(*rest)?;
+                write_array(self.alloc, prefix_items, !self.is_any(*rest), items)
+            }
+            Node::Object { fields, extra } => {
+                let properties = self.refer_fields(fields)?;
+                let required = needed_names(self.alloc, fields)?;
+                write_object(self.alloc, properties, required, *extra)
+            }
+        }
+    }
+
+    /// Whether the shape of that number is the one of all trees.
+    fn is_any(&self, number: usize) -> bool
+        requires below { number < length self.now.shapes.now }
+        ensures { result ≡ is_any_shape (shape_at (table_of self.now) number) }
+    {
+        matches!(node_at(self.shapes, number), Node::Any)
+    }
+
+    /// For each mentioned field what stands for its shape.
+    fn refer_fields(
+        &self,
+        fields: &BTreeMap<String, NodeField>,
+    ) -> Result<BTreeMap<String, Tree>, OutOfMemory>
+        requires ready { IsReady self.now }
+        requires below { AreBelow (length self.now.shapes.now) (numbers_in fields.now.entries) }
+        ensures written { IfOk result (λ m. trees.entries_view m.entries
+            ≡ list.fields_referring (listed_by self.now)
+            (fields_at (table_of self.now) fields.now.entries)) }
+    {
+        let mut properties = BTreeMap::new(self.alloc);
+        for (name, field) in fields.iter() {
+            let key = name.clone()?;
+            drop(properties.insert(key, self.refer(field.shape)?)?);
+        }
+        Ok(properties)
+    }
+
+    /// What stands for each of the shapes.
+    fn refer_all(&self, numbers: &[usize]) -> Result<Vec<Tree>, OutOfMemory>
+        requires ready { IsReady self.now }
+        requires below { AreBelow (length self.now.shapes.now) numbers.now }
+        ensures written { IfOk result (λ v. trees.elements_view v.items
+            ≡ model.written_list (referred self.now)
+            (map (shape_at (table_of self.now)) numbers.now)) }
+    {
+        let mut elements = Vec::with_capacity(self.alloc, numbers.len())?;
+        for number in numbers {
+            elements.push(self.refer(*number)?)?;
+        }
+        Ok(elements)
+    }
+
+    /// What stands for a shape: a reference, where it is listed, or else the tree that spells it.
+    fn refer(&self, number: usize) -> Result<Tree, OutOfMemory>
+        requires ready { IsReady self.now }
+        requires below { number < length self.now.shapes.now }
+        ensures written { IfOk result (λ t. trees.view t ≡ referred_at self.now number) }
+    {
+        match self.listing.places[number] {
+            Some(place) => write_reference(self.alloc, place),
+            None => write(self.alloc, &expand(self.shapes, number)?),
+        }
+    }
+}
+
+/// A reference to the shape at that place.
+fn write_reference(alloc: Global, place: usize) -> Result<Tree, OutOfMemory>
+    requires place { place < 2 ^ 63 }
+    ensures written { IfOk result (λ t. trees.view t ≡ list.reference place) }
+{
+    let mut fields = BTreeMap::new(alloc);
+    add(alloc, &mut fields, "shape", Tree::Int(place as i64))?;
+    Ok(Tree::Object(fields))
+}
+
+/// The names of the needed fields, as texts.
+fn needed_names(
+    alloc: Global,
+    fields: &BTreeMap<String, NodeField>,
+) -> Result<Vec<Tree>, OutOfMemory>
+    ensures written { IfOk result
+        (λ v. (table : List shape.Shape) → trees.elements_view v.items
+        ≡ model.as_texts (model.needed_names (fields_at table fields.now.entries))) }
+{
+    let mut names = Vec::new(alloc);
+    for (name, field) in fields.iter() {
+        if field.needed {
+            names.push(Tree::Text(name.clone()?))?;
+        }
+    }
+    Ok(names)
+}
