@@ -21,6 +21,7 @@ pub record AreCuts (table : List Shape) (entries : List (Cut × ℕ)) : Type 0 w
   pub each : All (IsCut table) entries
 
 -- the numbers in the new table are those of the shapes of the first numbers in the old one, cut to so many levels
-pub record AreCutTo (levels : ℕ) (old : List Node) (numbers : List ℕ) (new : List Node) (cuts : List ℕ) : Type 0 where
+pub record AreCutTo (levels : ℕ) (old : List Node) (numbers : List ℕ) (new : List Node) (cuts : List ℕ)
+    : Type 0 where
   pub shapes : map (shape_at (expansions new)) cuts ≡ map (λ n. cut_to levels (shape_at (expansions old) n)) numbers
   pub below : AreBelow (length new) cuts

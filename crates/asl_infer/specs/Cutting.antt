@@ -27,7 +27,8 @@ abbrev mutual
   -- so for the shape of each field
   pub cut_fields_to : ℕ → FieldShapes → FieldShapes
   cut_fields_to levels NoFieldShapes = NoFieldShapes
-  cut_fields_to levels (AndFieldShape n needed s shapes) = AndFieldShape n needed (cut_to levels s) (cut_fields_to levels shapes)
+  cut_fields_to levels (AndFieldShape n needed s shapes) =
+      AndFieldShape n needed (cut_to levels s) (cut_fields_to levels shapes)
 
 -- how many levels a shape of a draft has at most
 abbrev pub deepest : ℕ

@@ -10,4 +10,5 @@ use Rattle.asl_infer.specs.declared.declarations.Misnamed.{Misnamed}
 
 -- the rule is broken for that name, for some certificate
 pub record IsMisnamed (shown : Machine) (declared : Declared) (misnamed : Misnamed) : Type 0 where
-  pub stands : (machine : Scope) → Shows shown machine → IsOfMachine machine declared (finding_of misnamed.name.now (broken_view misnamed.rule))
+  pub stands : (machine : Scope) → Shows shown machine
+      → IsOfMachine machine declared (finding_of misnamed.name.now (broken_view misnamed.rule))

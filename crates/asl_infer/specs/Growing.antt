@@ -25,9 +25,11 @@ changed_to (suc left) s = s
 abbrev pub Stays : Growth → model.Shape → Type 0
 Stays before flowing = (before.changes_left ≡ 0) ⊎ (cut (join before.shape flowing) ≡ before.shape)
 
--- whether a shape is changed by what flows into it, and what it is then: the join of both, cut, or Any at the last change
+-- whether a shape is changed by what flows into it, and what it is then: the join of both, cut, or Any at the last
+-- change
 abbrev pub TakesIn : Growth → model.Shape → Bool → Growth → Type 0
-TakesIn before flowing true after = (before.changes_left ≡ suc after.changes_left) × (after.shape ≡ changed_to after.changes_left (cut (join before.shape flowing)))
+TakesIn before flowing true after = (before.changes_left ≡ suc after.changes_left)
+    × (after.shape ≡ changed_to after.changes_left (cut (join before.shape flowing)))
 TakesIn before flowing false after = (after ≡ before) × Stays before flowing
 
 pub record Takes (before : Growth) (flowing : model.Shape) (changed : Bool) (after : Growth) : Type 0 where

@@ -47,12 +47,14 @@ IsRefusalOf machine declared rounds changes (Finding found) = IsOfMachine machin
 IsRefusalOf machine declared rounds changes NotSettled = rounds ≤ changes
 IsRefusalOf machine declared rounds changes OutOfMemory = ⊤
 
-pub record Refuses (shown : Machine) (declared : model.Declared) (rounds changes : ℕ) (refusal : InferRefusal) : Type 0 where
+pub record Refuses (shown : Machine) (declared : model.Declared) (rounds changes : ℕ) (refusal : InferRefusal)
+    : Type 0 where
   pub refuses : (machine : Scope) → Shows shown machine → IsRefusalOf machine declared rounds changes refusal
 
 -- so of as many changes as all shapes together may have
 abbrev pub IsInferRefusal : Scope → model.Declared → ℕ → InferRefusal → Type 0
-IsInferRefusal machine declared rounds refusal = IsRefusalOf machine declared rounds (33 * certified_shapes (table_of machine)) refusal
+IsInferRefusal machine declared rounds refusal =
+    IsRefusalOf machine declared rounds (33 * certified_shapes (table_of machine)) refusal
 
 -- why a round doesn't end: the same, but that the rounds aren't counted
 abbrev pub IsHalt : Scope → model.Declared → InferRefusal → Type 0

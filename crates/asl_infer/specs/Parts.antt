@@ -56,6 +56,7 @@ abbrev pub mentions_of : List (String Global × NodeField) → List (List ℕ ×
 mentions_of fields = map mention_of fields
 
 -- the second fields are the first ones with those numbers in place of their own
-pub record AreFieldsWith (fields : List (String Global × NodeField)) (numbers : List ℕ) (new : List (String Global × NodeField)) : Type 0 where
+pub record AreFieldsWith (fields : List (String Global × NodeField)) (numbers : List ℕ)
+    (new : List (String Global × NodeField)) : Type 0 where
   pub mentions : mentions_of new ≡ mentions_of fields
   pub parts : numbers_in new ≡ numbers

@@ -19,7 +19,8 @@ item_room (Some g) = growth_room g
 
 -- the shapes of a state
 abbrev pub state_room : GrowingState → ℕ
-state_room entry = growth_room entry.input + (growth_room entry.output + (branches_room entry.branches.items + item_room entry.item))
+state_room entry = growth_room entry.input
+    + (growth_room entry.output + (branches_room entry.branches.items + item_room entry.item))
 
 -- those of states
 abbrev pub states_room : List GrowingState → ℕ

@@ -43,4 +43,5 @@ pub record IsNotTaken (table : List Shape) (edge : Edge) (takes : ℕ) (rule : B
 
 -- the rule is broken at one of the edges, which leads to the task, or on the way
 pub record IsBrokenAlong (table : List Shape) (edges : Edges) (takes : ℕ) (rule : Broken) : Type 0 where
-  pub broken : ((edge : Edge) × Contains edges.edges.items edge × IsNotTaken table edge takes rule) ⊎ (edges.broken ≡ Some rule)
+  pub broken : ((edge : Edge) × Contains edges.edges.items edge × IsNotTaken table edge takes rule)
+      ⊎ (edges.broken ≡ Some rule)

@@ -20,9 +20,13 @@ pub record IsHandedBack (certificate : model.Certificate) (numbered : NumberedCe
 
 -- No rule is broken; or one that is about the machine or what is declared; or only others.
 abbrev pub JudgesAs : Machine → model.Declared → model.Certificate → Judged → Type 0
-JudgesAs shown declared certificate (Closed numbered) = IsHandedBack certificate numbered × ((machine : Scope) → Shows shown machine → findings machine declared certificate ≡ [])
+JudgesAs shown declared certificate (Closed numbered) = IsHandedBack certificate numbered
+    × ((machine : Scope) → Shows shown machine → findings machine declared certificate ≡ [])
 JudgesAs shown declared certificate (Told found) = Halts shown declared (refusal.Finding found)
-JudgesAs shown declared certificate (Unfit numbered) = IsHandedBack certificate numbered × ((machine : Scope) → Shows shown machine → ((found : Finding) → Stands machine declared certificate found → IsTrue (is_of_machine found.fault)) → ⊥)
+JudgesAs shown declared certificate (Unfit numbered) = IsHandedBack certificate numbered
+    × ((machine : Scope) → Shows shown machine
+    → ((found : Finding) → Stands machine declared certificate found → IsTrue (is_of_machine found.fault)) → ⊥)
 
-pub record Judges (shown : Machine) (declared : model.Declared) (certificate : model.Certificate) (judged : Judged) : Type 0 where
+pub record Judges (shown : Machine) (declared : model.Declared) (certificate : model.Certificate) (judged : Judged)
+    : Type 0 where
   pub judges : JudgesAs shown declared certificate judged

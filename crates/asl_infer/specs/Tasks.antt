@@ -11,5 +11,7 @@ pub record IsTaskOf (declared : Declared) (n : List ℕ) (table : List Shape) (t
   pub gives : Shows table (gives_of declared n) task.gives
 
 -- so for the tasks of the states with those names
-pub record AreTasks (declared : Declared) (names : List (List ℕ)) (table : List Shape) (tasks : List TaskNumbers) : Type 0 where
-  pub each : (i : ℕ) (n : List ℕ) (task : TaskNumbers) → slice_get names i ≡ Some n → slice_get tasks i ≡ Some task → IsTaskOf declared n table task
+pub record AreTasks (declared : Declared) (names : List (List ℕ)) (table : List Shape) (tasks : List TaskNumbers)
+    : Type 0 where
+  pub each : (i : ℕ) (n : List ℕ) (task : TaskNumbers) → slice_get names i ≡ Some n
+      → slice_get tasks i ≡ Some task → IsTaskOf declared n table task

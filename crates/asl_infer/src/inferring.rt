@@ -48,11 +48,11 @@ impl From<OutOfMemory> for InferRefusal {
 /// Infers a certificate of the machine that is closed for what is declared.
 ///
 /// At first no tree has any of its shapes. In each round the declared input flows into the start state's input, and the
-/// states, in byte order of their names, are walked whose input changed since they were walked last, or the end of one of
-/// their branches or of their processor: what flows out of each is joined into the shapes that it would be compared with.
-/// The certificate is answered after a round that changed no shape. Refuses with a finding where a rule is broken that
-/// compares nothing with the certificate, where a Task isn't declared, and where a declared task names no Task; where all
-/// rounds changed a shape; and where an allocation was refused.
+/// states, in byte order of their names, are walked whose input changed since they were walked last, or the end of one
+/// of their branches or of their processor: what flows out of each is joined into the shapes that it would be compared
+/// with. The certificate is answered after a round that changed no shape. Refuses with a finding where a rule is broken
+/// that compares nothing with the certificate, where a Task isn't declared, and where a declared task names no Task;
+/// where all rounds changed a shape; and where an allocation was refused.
 ///
 /// What is written of the certificate nests at most 127 levels, so that its text reads back.
 pub fn infer(
@@ -61,9 +61,12 @@ pub fn infer(
     declared: &Declared,
     max_rounds: u32,
 ) -> Result<Certificate, InferRefusal>
-    ensures closed { IfOk result (λ certificate. (m : machines.Scope) → Shows machine.now m → IsClosed (declared_view declared.now) (certificate_view certificate) m) }
-    ensures shallow { IfOk result (λ certificate. depth (value_of (written_certificate (certificate_view certificate))) ≤ max_depth) }
-    ensures refused { IfErr result (λ refusal. (m : machines.Scope) → Shows machine.now m → IsInferRefusal m (declared_view declared.now) max_rounds refusal) }
+    ensures closed { IfOk result (λ certificate. (m : machines.Scope) → Shows machine.now m
+        → IsClosed (declared_view declared.now) (certificate_view certificate) m) }
+    ensures shallow { IfOk result (λ certificate.
+        depth (value_of (written_certificate (certificate_view certificate))) ≤ max_depth) }
+    ensures refused { IfErr result (λ refusal. (m : machines.Scope) → Shows machine.now m
+        → IsInferRefusal m (declared_view declared.now) max_rounds refusal) }
 {
     let certificate = infer_numbered(alloc, machine, declared, max_rounds)?;
     Ok(expand_certificate(alloc, &certificate)?)

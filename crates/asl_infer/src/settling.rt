@@ -93,9 +93,11 @@ fn judge(
 /// The first of the findings that is about the machine, or about what is declared.
 fn first_of_machine(findings: Vec<Finding>) -> Option<Finding>
     ensures among { IfSome result (Contains findings.items) }
-    ensures meant { IfSome result (λ finding. IsTrue (is_of_machine (finding_fault_view finding.fault))) }
+    ensures meant { IfSome result
+        (λ finding. IsTrue (is_of_machine (finding_fault_view finding.fault))) }
     ensures none { IfNone result
-        (All (λ finding. is_of_machine (finding_fault_view finding.fault) ≡ false) findings.items) }
+        (All (λ finding. is_of_machine (finding_fault_view finding.fault) ≡ false)
+        findings.items) }
 {
     for finding in findings {
         if is_of_machine(finding.fault) {

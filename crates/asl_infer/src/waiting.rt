@@ -5,8 +5,8 @@ use asl_tree::OutOfMemory;
 use std::alloc::Global;
 use std::collections::BTreeMap;
 
-/// The numbers of the states that are still to be walked, by their names: in this round, where the name comes after that
-/// of the state that was walked last, or else in the next.
+/// The numbers of the states that are still to be walked, by their names: in this round, where the name comes after
+/// that of the state that was walked last, or else in the next.
 #[derive(Drop)]
 pub(crate) struct Waiting<'m> {
     now: BTreeMap<&'m str, usize>,

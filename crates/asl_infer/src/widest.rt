@@ -39,8 +39,10 @@ pub(crate) fn widest_numbers(
 
 /// The widest certificate of a machine: Any throughout.
 fn widest_certificate(alloc: Global, machine: &Machine) -> Result<Certificate, OutOfMemory>
-    ensures widest { IfOk result (λ certificate. (m : machines.Scope) → Shows machine.now m → IsWidest (table_of m) (certificate_view certificate)) }
-    ensures shallow { IfOk result (λ certificate. HoldsForCertificate IsShallow (certificate_view certificate)) }
+    ensures widest { IfOk result (λ certificate. (m : machines.Scope) → Shows machine.now m
+        → IsWidest (table_of m) (certificate_view certificate)) }
+    ensures shallow { IfOk result
+        (λ certificate. HoldsForCertificate IsShallow (certificate_view certificate)) }
 {
     let mut states = BTreeMap::new(alloc);
     for number in 0..machine.states() {
@@ -59,8 +61,12 @@ fn add_entry(
     number: usize,
     states: &mut BTreeMap<String, StateShapes>,
 ) -> Result<(), OutOfMemory>
-    ensures widened { OnOk result (AreWidened (table_view machine.now) number (entries_view states.old.entries) (entries_view states.new.entries)) }
-    ensures shallow { OnOk result (AreShallow (entries_view states.old.entries) → AreShallow (entries_view states.new.entries)) }
+    ensures widened { OnOk result
+        (AreWidened (table_view machine.now) number (entries_view states.old.entries)
+        (entries_view states.new.entries)) }
+    ensures shallow { OnOk result
+        (AreShallow (entries_view states.old.entries)
+        → AreShallow (entries_view states.new.entries)) }
 {
     if let Some(name) = machine.name(number) {
         if let Some(state) = machine.state(number) {
