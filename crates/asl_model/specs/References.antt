@@ -66,11 +66,12 @@ abbrev mutual
   pub keywords_spelled_out : List Tree → Fields → Fields
   keywords_spelled_out listed NoFields = NoFields
   keywords_spelled_out listed (AndField n t fs) =
-      AndField n (elim (held_under n)
-          [ OneShape ↦ spelled_out listed t
-          | SeveralShapes ↦ list_spelled_out listed t
-          | NamedShapes ↦ object_spelled_out listed t
-          | NoShape ↦ t ])
+      AndField n (elim (held_under n) [
+        | OneShape ↦ spelled_out listed t
+        | SeveralShapes ↦ list_spelled_out listed t
+        | NamedShapes ↦ object_spelled_out listed t
+        | NoShape ↦ t
+      ])
       (keywords_spelled_out listed fs)
 
   -- for each element of a list
@@ -125,13 +126,15 @@ abbrev mutual
   pub number_wrong_under : List Tree → List ℕ → Fields → Bool
   number_wrong_under listed n NoFields = false
   number_wrong_under listed n (AndField m t fs) =
-      elim (bytes_eq m n)
-          [ true ↦ elim (held_under n)
-              [ OneShape ↦ has_wrong_number listed t
-              | SeveralShapes ↦ an_element_has_wrong_number listed t
-              | NamedShapes ↦ a_value_has_wrong_number listed t
-              | NoShape ↦ false ]
-          | false ↦ number_wrong_under listed n fs ]
+      elim (bytes_eq m n) [
+        | true ↦ elim (held_under n) [
+          | OneShape ↦ has_wrong_number listed t
+          | SeveralShapes ↦ an_element_has_wrong_number listed t
+          | NamedShapes ↦ a_value_has_wrong_number listed t
+          | NoShape ↦ false
+        ]
+        | false ↦ number_wrong_under listed n fs
+      ]
 
   -- in an element of a list
   pub an_element_has_wrong_number : List Tree → Tree → Bool
