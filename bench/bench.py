@@ -12,7 +12,9 @@ Each form is a kind of text in growing sizes; the names of all forms, or those t
 - check-wide: the check of so many Pass states with object shapes of 1,000 fields;
 - check-deep: the check of so many Pass states with shapes that nest 56 levels;
 - check-findings: the check of a chain with a finding in every state;
+- check-doublings: the check of a certificate that lists so many shapes, each an object of two of the one before;
 - infer-chain, infer-against: the inference of a chain, in byte order of the names and against it;
+- infer-doublings: the inference, with its shapes listed, of so many states that each put their input into two fields;
 - verify-ring: so many states in a ring, in byte order of the names, of which the last nests its input one level deeper;
 - verify-ring-against: the same, against the order of the names;
 - verify-fields: a chain of states that each place a field of their own;
@@ -26,7 +28,11 @@ Each form is a kind of text in growing sizes; the names of all forms, or those t
 - run-tasks-last: a Map of Tasks with declared shapes, its last place first;
 - run-parallel: a Parallel of so many branches;
 - run-retry: a Task that is retried so many times;
-- run-wide: an input of so many megabytes that goes through five states.
+- run-wide: an input of so many megabytes that goes through five states;
+- read-records, read-numbers, read-texts, read-unsorted: an input of so many megabytes, a list of records of six fields, of
+  numbers, of texts with escapes, of records whose fields don't stand in byte order, which is read and no step taken;
+- read-definition: a definition of so many megabytes, with templates, rules and retriers, which is read and no step taken;
+- read-certificate: a certificate of so many megabytes, which is read and checked.
 
 For each size: the processor time of the program (user and system, the fastest of three runs) less that of a bare start,
 its peak memory, the time that json.loads takes for what the program reads and prints (fastest of three), the ratio of
@@ -164,6 +170,24 @@ def with_findings(count):
     return texts
 
 
+def doublings(count):
+    """The check of one state whose shape is an object of two of the shape before, so many times over."""
+    twice = {"type": "object", "required": ["a", "b"], "additionalProperties": False}
+    listed = [{"type": "integer"}]
+    listed += ({**twice, "properties": {it: {"shape": at} for it in "ab"}} for at in range(count))
+    last = {"shape": count}
+    return {"definition": alone({"Type": "Pass", "End": True}), "declared": {"input": False, "tasks": {}},
+            "certificate": {"version": 1, "shapes": listed, "output": last, "states": {"A": {"input": last, "output": last}}}}
+
+
+def doubled(count):
+    """A chain of so many states that each put their input into two fields."""
+    machine = chain(count)
+    for state in machine["States"].values():
+        state["Parameters"] = {"a.$": "$", "b.$": "$"}
+    return {"definition": machine, "declared": {"input": {"type": "integer"}, "tasks": {}}}
+
+
 def inferred(definition, fields=3):
     """The machine with its declared shapes: an input of so many fields."""
     return {"definition": definition, "declared": {"input": shape(fields), "tasks": {}}}
@@ -246,11 +270,45 @@ def retried(times):
             "answers": [failure] * times + [{"Gives": 2}]}
 
 
+def repeated(one, megabytes):
+    """The value so many times that the text of all is of so many megabytes."""
+    return [one] * (megabytes * 1000000 // (len(json.dumps(one, separators=(",", ":"))) + 1))
+
+
 def long_input(megabytes):
     """An input of so many megabytes, a list of records, that goes through five states."""
-    one = record(20)
-    count = megabytes * 1000000 // (len(json.dumps(one, separators=(",", ":"))) + 1)
-    return {"definition": chain(5), "input": [one] * count, "answers": []}
+    return {"definition": chain(5), "input": repeated(record(20), megabytes), "answers": []}
+
+
+def read(one, megabytes):
+    """An input of so many megabytes, a list of one value, which is only read."""
+    return {"definition": chain(1), "input": repeated(one, megabytes), "answers": []}
+
+
+CUSTOMER = {"active": True, "city": "Bern", "id": 170032, "name": "Aline Favre", "score": 81, "tags": ["new", "north"]}
+
+
+def long_definition(megabytes):
+    """A definition of so many megabytes: Tasks with templates and retriers, and Choices with rules, which is only read."""
+    retry = {"ErrorEquals": ["Busy", "States.Timeout"], "IntervalSeconds": 3, "MaxAttempts": 2, "BackoffRate": 1.5}
+    template = {"order.$": "$.order.id", "lines": [{"n.$": "$.lines[0].n"}], "told.$": "States.Format('order {}', $.order.id)"}
+    task = {"Type": "Task", "Resource": "arn:book", "Parameters": template, "ResultPath": "$.booked", "Retry": [retry] * 2}
+    both = {"And": [{"Variable": "$.order.id", "IsNumeric": True}, {"Variable": "$.order.id", "NumericGreaterThan": 7}]}
+    pair = len(json.dumps([task, both], separators=(",", ":"))) + 120
+    machine = chain(megabytes * 1000000 // pair * 2)
+    each = list(machine["States"].values())
+    for state, choice in zip(each[::2], each[1::2]):
+        state.update(task)
+        after = choice.pop("Next", state["Next"])
+        choice.pop("End", None)
+        choice.update({"Type": "Choice", "Choices": [{**both, "Next": after}], "Default": after})
+    return {"definition": machine, "input": 1, "answers": []}
+
+
+def long_certificate(megabytes):
+    """A chain with a certificate of so many megabytes."""
+    entry = len(json.dumps({"S00000": {"input": shape(20), "output": shape(20)}}, separators=(",", ":")))
+    return checked(megabytes * 1000000 // entry, 20)
 
 
 # The words behind the program's name, where SIZE stands for the size; a check reads its texts as lines.
@@ -260,6 +318,8 @@ VERIFY = ["verify", "definition", "declared"]
 CUT_OFF = ["run", "definition", "input", "answers", "--max-steps", "SIZE"]
 RUN = ["run", "definition", "input", "answers", "--max-steps", "10000"]
 LAST = [*RUN, "--order", "last"]
+LISTED_TEXT = [*INFER, "--numbered"]
+READ = ["run", "definition", "input", "answers", "--max-steps", "0"]
 
 # Each form: how its texts are made of a size, its sizes, its words, and the status with which it ends.
 FORMS = {
@@ -270,8 +330,10 @@ FORMS = {
     "check-wide": (lambda n: certified(chain(n), shape(1000)), [12, 25, 50], CHECK, 0),
     "check-deep": (lambda n: certified(chain(n), deep(56)), [250, 500, 1000], CHECK, 0),
     "check-findings": (with_findings, [2500, 5000, 10000], CHECK, 1),
+    "check-doublings": (doublings, [10000, 20000, 40000], CHECK, 0),
     "infer-chain": (lambda n: inferred(chain(n)), [2500, 5000, 10000], INFER, 0),
     "infer-against": (lambda n: inferred(chain(n, True)), [1000, 2000, 4000], INFER, 0),
+    "infer-doublings": (doubled, [10, 20, 40], LISTED_TEXT, 0),
     "verify-ring": (ring, [1000, 2000, 4000], VERIFY, 0),
     "verify-ring-against": (lambda n: ring(n, True), [25, 50, 100], VERIFY, 0),
     "verify-fields": (placing, [100, 200, 400], VERIFY, 0),
@@ -286,6 +348,12 @@ FORMS = {
     "run-parallel": (parallel, [1000, 2000, 4000], RUN, 0),
     "run-retry": (retried, [1250, 2500, 4990], RUN, 0),
     "run-wide": (long_input, [4, 8, 16], RUN, 0),
+    "read-records": (lambda n: read(CUSTOMER, n), [2, 4, 8], READ, 4),
+    "read-numbers": (lambda n: read(170032, n), [2, 4, 8], READ, 4),
+    "read-texts": (lambda n: read('to "north"\n\tand \u00e9t\u00e9', n), [2, 4, 8], READ, 4),
+    "read-unsorted": (lambda n: read(dict(reversed(CUSTOMER.items())), n), [2, 4, 8], READ, 4),
+    "read-definition": (long_definition, [2, 4, 8], READ, 4),
+    "read-certificate": (long_certificate, [2, 4, 8], CHECK, 0),
 }
 
 
