@@ -7,9 +7,9 @@ use Rattle.asl_model.specs.Machine.{Catcher, Settings, Delay, Seconds, SecondsPa
 use Rattle.asl_model.specs.Shape.{Shape, Never, Shapes, ArrayShape, inhabited}
 use Rattle.asl_model.specs.ShapeOrder.{is_integer_shape, is_string_shape}
 use Rattle.asl_model.specs.ShapeFlow.{look, literal, rule_shape, leave, Flow, FlowFault}
-use Rattle.asl_model.specs.Certificate.{Declared, StateShapes, takes_of, gives_of}
-use Rattle.asl_model.specs.Finding.{Breach, FindingFault, OutputNotCertified, NextInput, ScopeOutput, BranchInput, PayloadNotTaken, breach_of, breach_unless, breach_unless_sub, breaches_then, effective_flow, next_breaches, end_breaches, output_breaches, result_breaches, kind_breaches, delay_breaches, child_breaches, branch_breaches, item_flow, element_shape, map_result, map_breaches, as_first_elements, array_parts, with_elements, with_items, chosen_breaches, rule_breaches, rules_breaches, default_breaches, error_placed_shape, caught_breaches, catcher_breaches, work_breaches, settled_breaches, flow_breaches}
-use Rattle.asl_model.specs.Edges.{Walked, Breaks, Standing, breaks_unless, walk_then, to_next, to_end, onward, walk_result, walk_named, walk_delay, to_child, to_branches, walk_items_result, walk_elements, with_elements_walked, walk_items, walk_chosen, walk_rule, walk_rules, walk_default, walk_caught, walk_catchers, walk_work, walk_settled, walk, breaches_at, breaches_along}
+use Rattle.asl_model.specs.Certificate.{takes_of, gives_of}
+use Rattle.asl_model.specs.Finding.{Surroundings, Breach, FindingFault, OutputNotCertified, NextInput, ScopeOutput, BranchInput, PayloadNotTaken, breach_of, breach_unless, breach_unless_sub, breaches_then, effective_flow, next_breaches, end_breaches, output_breaches, result_breaches, kind_breaches, delay_breaches, child_breaches, branch_breaches, item_flow, element_shape, map_result, map_breaches, as_first_elements, array_parts, with_elements, with_items, chosen_breaches, rule_breaches, rules_breaches, default_breaches, error_placed_shape, caught_breaches, catcher_breaches, work_breaches, settled_breaches, flow_breaches}
+use Rattle.asl_model.specs.Edges.{Walked, Breaks, Standing, standing_at, breaks_unless, walk_then, to_next, to_end, onward, walk_result, walk_named, walk_delay, to_child, to_branches, walk_items_result, walk_elements, with_elements_walked, walk_items, walk_chosen, walk_rule, walk_rules, walk_default, walk_caught, walk_catchers, walk_work, walk_settled, walk, breaches_at, breaches_along}
 
 -- those along one walk and then another
 along_append : (standing : Standing) (steps further : List Walked) → breaches_along standing (steps ++ further) ≡ breaches_along standing steps ++ breaches_along standing further
@@ -80,28 +80,28 @@ module _ (inputs : List ℕ → Option Shape) (output : Shape) (end : Option Sha
       both_along standing (walk_caught catcher.next (error_placed_shape catcher.result_path input)) (walk_catchers input catchers) (caught_breaches inputs catcher.next (error_placed_shape catcher.result_path input)) (catcher_breaches inputs input catchers)
       (caught_along catcher.next (error_placed_shape catcher.result_path input)) (catchers_along input catchers)
 
-module _ (inputs : List ℕ → Option Shape) (entry : StateShapes) (end : Option Shape) (takes : Shape) (settings : Settings) where
+module _ (around : Surroundings) (settings : Settings) where
   -- what stands at the destinations of the state's edges
   abbrev here : Standing
-  here = record { inputs = inputs; output = entry.output; end = end; takes = takes }
+  here = standing_at around
 
-  result_along : (kind : Kind) (s : Shape) → breaches_along here (walk_result settings kind entry.input s) ≡ result_breaches inputs end entry settings kind s
-  result_along kind s = then_along here (onward settings.next) (output_breaches inputs entry.output end settings.next) (onward_along inputs entry.output end takes settings.next) (leave settings kind entry.input s)
+  result_along : (kind : Kind) (s : Shape) → breaches_along here (walk_result settings kind around.entry.input s) ≡ result_breaches around settings kind s
+  result_along kind s = then_along here (onward settings.next) (output_breaches around.inputs around.entry.output around.end settings.next) (onward_along around.inputs around.entry.output around.end (takes_of around.declared around.name) settings.next) (leave settings kind around.entry.input s)
 
-  items_result_along : (kind : Kind) (item : Option Shape) (elements : Shapes × Shape) → breaches_along here (walk_items_result settings kind entry.input item elements) ≡ map_breaches inputs end entry settings kind item elements
+  items_result_along : (kind : Kind) (item : Option Shape) (elements : Shapes × Shape) → breaches_along here (walk_items_result settings kind around.entry.input item elements) ≡ map_breaches around settings kind item elements
   items_result_along kind None elements = refl
   items_result_along kind (Some item) elements = result_along kind (map_result item elements.0 elements.1)
 
   -- the breaches for the elements of what `ItemsPath` names
   abbrev element_breaches : Kind → Option Template → Scope → Shape → Shapes × Shape → List Breach
-  element_breaches kind selector processor s elements = breaches_then (child_breaches inputs (codes "ItemProcessor") processor) (item_flow selector s (element_shape elements.0 elements.1)) ++ map_breaches inputs end entry settings kind entry.item elements
+  element_breaches kind selector processor s elements = breaches_then (child_breaches around.inputs (codes "ItemProcessor") processor) (item_flow selector s (element_shape elements.0 elements.1)) ++ map_breaches around settings kind around.entry.item elements
 
-  elements_along : (kind : Kind) (selector : Option Template) (processor : Scope) (s : Shape) (elements : Shapes × Shape) → breaches_along here (walk_elements settings kind entry selector processor s elements) ≡ element_breaches kind selector processor s elements
+  elements_along : (kind : Kind) (selector : Option Template) (processor : Scope) (s : Shape) (elements : Shapes × Shape) → breaches_along here (walk_elements settings kind around.entry selector processor s elements) ≡ element_breaches kind selector processor s elements
   elements_along kind selector processor s elements =
-      both_along here (walk_then (to_child (codes "ItemProcessor") processor) (item_flow selector s (element_shape elements.0 elements.1))) (walk_items_result settings kind entry.input entry.item elements)
-      (breaches_then (child_breaches inputs (codes "ItemProcessor") processor) (item_flow selector s (element_shape elements.0 elements.1))) (map_breaches inputs end entry settings kind entry.item elements)
-      (then_along here (to_child (codes "ItemProcessor") processor) (child_breaches inputs (codes "ItemProcessor") processor) (child_along inputs entry.output end takes (codes "ItemProcessor") processor) (item_flow selector s (element_shape elements.0 elements.1)))
-      (items_result_along kind entry.item elements)
+      both_along here (walk_then (to_child (codes "ItemProcessor") processor) (item_flow selector s (element_shape elements.0 elements.1))) (walk_items_result settings kind around.entry.input around.entry.item elements)
+      (breaches_then (child_breaches around.inputs (codes "ItemProcessor") processor) (item_flow selector s (element_shape elements.0 elements.1))) (map_breaches around settings kind around.entry.item elements)
+      (then_along here (to_child (codes "ItemProcessor") processor) (child_breaches around.inputs (codes "ItemProcessor") processor) (child_along around.inputs around.entry.output around.end (takes_of around.declared around.name) (codes "ItemProcessor") processor) (item_flow selector s (element_shape elements.0 elements.1)))
+      (items_result_along kind around.entry.item elements)
 
   with_elements_along : (go_on : Shapes × Shape → List Walked) (told : Shapes × Shape → List Breach) → ((elements : Shapes × Shape) → breaches_along here (go_on elements) ≡ told elements) → (parts : Option (Shapes × Shape)) → breaches_along here (with_elements_walked go_on parts) ≡ with_elements told parts
   with_elements_along go_on told same None = refl
@@ -111,66 +111,66 @@ module _ (inputs : List ℕ → Option Shape) (entry : StateShapes) (end : Optio
   items_along go_on told same (Ok s) = with_elements_along go_on told same (array_parts s)
   items_along go_on told same (Err at) = refl
 
-  chosen_along : (kind : Kind) (field next : List ℕ) (s : Shape) → breaches_along here (walk_chosen settings kind entry.input field next s) ≡ chosen_breaches inputs entry settings kind field next s
-  chosen_along kind field next s = then_along here (to_next field next) (next_breaches inputs entry.output field next) (next_along inputs entry.output end takes field next) (leave settings kind entry.input s)
+  chosen_along : (kind : Kind) (field next : List ℕ) (s : Shape) → breaches_along here (walk_chosen settings kind around.entry.input field next s) ≡ chosen_breaches around settings kind field next s
+  chosen_along kind field next s = then_along here (to_next field next) (next_breaches around.inputs around.entry.output field next) (next_along around.inputs around.entry.output around.end (takes_of around.declared around.name) field next) (leave settings kind around.entry.input s)
 
-  rule_along : (kind : Kind) (next : List ℕ) (narrowed : Option Shape) → breaches_along here (walk_rule settings kind entry.input next narrowed) ≡ rule_breaches inputs entry settings kind next narrowed
+  rule_along : (kind : Kind) (next : List ℕ) (narrowed : Option Shape) → breaches_along here (walk_rule settings kind around.entry.input next narrowed) ≡ rule_breaches around settings kind next narrowed
   rule_along kind next None = refl
   rule_along kind next (Some s) = chosen_along kind (codes "Choices") next s
 
-  rules_along : (kind : Kind) (rules : List Rule) (s : Shape) → breaches_along here (walk_rules settings kind entry.input rules s) ≡ rules_breaches inputs entry settings kind rules s
+  rules_along : (kind : Kind) (rules : List Rule) (s : Shape) → breaches_along here (walk_rules settings kind around.entry.input rules s) ≡ rules_breaches around settings kind rules s
   rules_along kind [] s = refl
   rules_along kind (rule ∷ rules) s =
-      both_along here (walk_rule settings kind entry.input rule.next (rule_shape rule.test s)) (walk_rules settings kind entry.input rules s) (rule_breaches inputs entry settings kind rule.next (rule_shape rule.test s)) (rules_breaches inputs entry settings kind rules s)
+      both_along here (walk_rule settings kind around.entry.input rule.next (rule_shape rule.test s)) (walk_rules settings kind around.entry.input rules s) (rule_breaches around settings kind rule.next (rule_shape rule.test s)) (rules_breaches around settings kind rules s)
       (rule_along kind rule.next (rule_shape rule.test s)) (rules_along kind rules s)
 
-  default_along : (kind : Kind) (default : Option (List ℕ)) (s : Shape) → breaches_along here (walk_default settings kind entry.input default s) ≡ default_breaches inputs entry settings kind default s
+  default_along : (kind : Kind) (default : Option (List ℕ)) (s : Shape) → breaches_along here (walk_default settings kind around.entry.input default s) ≡ default_breaches around settings kind default s
   default_along kind None s = refl
   default_along kind (Some next) s = chosen_along kind (codes "Default") next s
 
-module _ (declared : Declared) (inputs : List ℕ → Option Shape) (end : Option Shape) (n : List ℕ) (entry : StateShapes) (settings : Settings) where
+module _ (around : Surroundings) (settings : Settings) where
   -- what stands at the destinations of the state's edges
   abbrev there : Standing
-  there = record { inputs = inputs; output = entry.output; end = end; takes = takes_of declared n }
+  there = standing_at around
 
-  work_along : (kind : Kind) (s : Shape) → breaches_along there (walk_work settings kind entry s) ≡ work_breaches declared inputs end n entry settings kind s
-  work_along (Pass None) s = result_along inputs entry end (takes_of declared n) settings (Pass None) s
+  work_along : (kind : Kind) (s : Shape) → breaches_along there (walk_work settings kind around.entry s) ≡ work_breaches around settings kind s
+  work_along (Pass None) s = result_along around settings (Pass None) s
   work_along (Pass (Some t)) s = refl
-  work_along (Task resource) s = append-nil (breach_unless_sub (codes "Parameters") PayloadNotTaken s (Some (takes_of declared n)))
+  work_along (Task resource) s = append-nil (breach_unless_sub (codes "Parameters") PayloadNotTaken s (Some (takes_of around.declared around.name)))
   work_along (Choice rules default) s =
-      both_along there (walk_rules settings (Choice rules default) entry.input rules s) (walk_default settings (Choice rules default) entry.input default s) (rules_breaches inputs entry settings (Choice rules default) rules s) (default_breaches inputs entry settings (Choice rules default) default s)
-      (rules_along inputs entry end (takes_of declared n) settings (Choice rules default) rules s) (default_along inputs entry end (takes_of declared n) settings (Choice rules default) default s)
+      both_along there (walk_rules settings (Choice rules default) around.entry.input rules s) (walk_default settings (Choice rules default) around.entry.input default s) (rules_breaches around settings (Choice rules default) rules s) (default_breaches around settings (Choice rules default) default s)
+      (rules_along around settings (Choice rules default) rules s) (default_along around settings (Choice rules default) default s)
   work_along (Wait delay) s =
-      both_along there (walk_delay delay s) (walk_result settings (Wait delay) entry.input s) (delay_breaches delay s) (result_breaches inputs end entry settings (Wait delay) s)
-      (delay_along there delay s) (result_along inputs entry end (takes_of declared n) settings (Wait delay) s)
-  work_along Succeed s = then_along there (to_end (codes "Type")) (end_breaches entry.output (codes "Type") end) (end_along inputs entry.output end (takes_of declared n) (codes "Type")) (leave settings Succeed entry.input s)
+      both_along there (walk_delay delay s) (walk_result settings (Wait delay) around.entry.input s) (delay_breaches delay s) (result_breaches around settings (Wait delay) s)
+      (delay_along there delay s) (result_along around settings (Wait delay) s)
+  work_along Succeed s = then_along there (to_end (codes "Type")) (end_breaches around.entry.output (codes "Type") around.end) (end_along around.inputs around.entry.output around.end (takes_of around.declared around.name) (codes "Type")) (leave settings Succeed around.entry.input s)
   work_along (Fail error cause) s = refl
-  work_along (Parallel branches) s = branches_along inputs entry.output end (takes_of declared n) branches s
+  work_along (Parallel branches) s = branches_along around.inputs around.entry.output around.end (takes_of around.declared around.name) branches s
   work_along (Map items selector processor) s =
-      items_along inputs entry end (takes_of declared n) settings (walk_elements settings (Map items selector processor) entry selector processor s) (element_breaches inputs entry end (takes_of declared n) settings (Map items selector processor) selector processor s)
-      (elements_along inputs entry end (takes_of declared n) settings (Map items selector processor) selector processor s) (look items s)
+      items_along around settings (walk_elements settings (Map items selector processor) around.entry selector processor s) (element_breaches around settings (Map items selector processor) selector processor s)
+      (elements_along around settings (Map items selector processor) selector processor s) (look items s)
 
-  settled_along : (kind : Kind) → breaches_along there (walk_settled (gives_of declared n) settings kind entry) ≡ settled_breaches declared inputs end n entry settings kind
+  settled_along : (kind : Kind) → breaches_along there (walk_settled (gives_of around.declared around.name) settings kind around.entry) ≡ settled_breaches around settings kind
   settled_along (Pass None) = refl
-  settled_along (Pass (Some t)) = result_along inputs entry end (takes_of declared n) settings (Pass (Some t)) (literal t)
-  settled_along (Task resource) = result_along inputs entry end (takes_of declared n) settings (Task resource) (gives_of declared n)
+  settled_along (Pass (Some t)) = result_along around settings (Pass (Some t)) (literal t)
+  settled_along (Task resource) = result_along around settings (Task resource) (gives_of around.declared around.name)
   settled_along (Choice rules None) = refl
   settled_along (Choice rules (Some next)) = refl
   settled_along (Wait delay) = refl
   settled_along Succeed = refl
   settled_along (Fail error cause) = refl
-  settled_along (Parallel branches) = result_along inputs entry end (takes_of declared n) settings (Parallel branches) (ArrayShape (as_first_elements entry.branches) Never)
+  settled_along (Parallel branches) = result_along around settings (Parallel branches) (ArrayShape (as_first_elements around.entry.branches) Never)
   settled_along (Map items selector processor) = refl
 
   -- the parts of a walk through a state whose input some tree has
-  parts_along : (kind : Kind) → breaches_along there (walk_then (walk_work settings kind entry) (effective_flow settings entry.input) ++ (walk_settled (gives_of declared n) settings kind entry ++ walk_catchers entry.input settings.catchers))
-      ≡ breaches_then (work_breaches declared inputs end n entry settings kind) (effective_flow settings entry.input) ++ (settled_breaches declared inputs end n entry settings kind ++ catcher_breaches inputs entry.input settings.catchers)
+  parts_along : (kind : Kind) → breaches_along there (walk_then (walk_work settings kind around.entry) (effective_flow settings around.entry.input) ++ (walk_settled (gives_of around.declared around.name) settings kind around.entry ++ walk_catchers around.entry.input settings.catchers))
+      ≡ breaches_then (work_breaches around settings kind) (effective_flow settings around.entry.input) ++ (settled_breaches around settings kind ++ catcher_breaches around.inputs around.entry.input settings.catchers)
   parts_along kind =
-      both_along there (walk_then (walk_work settings kind entry) (effective_flow settings entry.input)) (walk_settled (gives_of declared n) settings kind entry ++ walk_catchers entry.input settings.catchers)
-      (breaches_then (work_breaches declared inputs end n entry settings kind) (effective_flow settings entry.input)) (settled_breaches declared inputs end n entry settings kind ++ catcher_breaches inputs entry.input settings.catchers)
-      (then_along there (walk_work settings kind entry) (work_breaches declared inputs end n entry settings kind) (work_along kind) (effective_flow settings entry.input))
-      (both_along there (walk_settled (gives_of declared n) settings kind entry) (walk_catchers entry.input settings.catchers) (settled_breaches declared inputs end n entry settings kind) (catcher_breaches inputs entry.input settings.catchers)
-      (settled_along kind) (catchers_along inputs entry.output end (takes_of declared n) entry.input settings.catchers))
+      both_along there (walk_then (walk_work settings kind around.entry) (effective_flow settings around.entry.input)) (walk_settled (gives_of around.declared around.name) settings kind around.entry ++ walk_catchers around.entry.input settings.catchers)
+      (breaches_then (work_breaches around settings kind) (effective_flow settings around.entry.input)) (settled_breaches around settings kind ++ catcher_breaches around.inputs around.entry.input settings.catchers)
+      (then_along there (walk_work settings kind around.entry) (work_breaches around settings kind) (work_along kind) (effective_flow settings around.entry.input))
+      (both_along there (walk_settled (gives_of around.declared around.name) settings kind around.entry) (walk_catchers around.entry.input settings.catchers) (settled_breaches around settings kind) (catcher_breaches around.inputs around.entry.input settings.catchers)
+      (settled_along kind) (catchers_along around.inputs around.entry.output around.end (takes_of around.declared around.name) around.entry.input settings.catchers))
 
   -- where the state's input has a tree, and where it has none
   live_along : (live : Bool) (steps : List Walked) (told : List Breach) → breaches_along there steps ≡ told → breaches_along there (if live then steps else []) ≡ (if live then told else [])
@@ -178,5 +178,5 @@ module _ (declared : Declared) (inputs : List ℕ → Option Shape) (end : Optio
   live_along false steps told h = refl
 
   -- the whole walk
-  pub walked_breaches : (kind : Kind) → breaches_along there (walk (gives_of declared n) settings kind entry) ≡ flow_breaches declared inputs end n settings kind (Some entry)
-  walked_breaches kind = live_along (inhabited entry.input) (walk_then (walk_work settings kind entry) (effective_flow settings entry.input) ++ (walk_settled (gives_of declared n) settings kind entry ++ walk_catchers entry.input settings.catchers)) _ (parts_along kind)
+  pub walked_breaches : (kind : Kind) → breaches_along there (walk (gives_of around.declared around.name) settings kind around.entry) ≡ flow_breaches around settings kind
+  walked_breaches kind = live_along (inhabited around.entry.input) (walk_then (walk_work settings kind around.entry) (effective_flow settings around.entry.input) ++ (walk_settled (gives_of around.declared around.name) settings kind around.entry ++ walk_catchers around.entry.input settings.catchers)) _ (parts_along kind)

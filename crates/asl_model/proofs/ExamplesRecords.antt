@@ -2,7 +2,7 @@
 use Rattle.std.specs.Prelude.{◌≡◌, ℕ, List, [], ◌∷◌, Option, Some, None, option_map, codes, refl}
 use Rattle.serde_json.specs.Read.{read}
 use Rattle.serde_json.proofs.OnLiterals.{serde_json_on_literals}
-use Rattle.asl_model.specs.Shape.{Any, IntegerShape, BooleanShape, ArrayShape, NoShapes, AndShape}
+use Rattle.asl_model.specs.Shape.{Any, IntegerShape, BooleanShape, ArrayShape, NoShapes}
 use Rattle.asl_model.specs.Certificate.{Declared, Certificate}
 use Rattle.asl_model.specs.ShapeSpelling.{NotAShape, BadType, MinItems}
 use Rattle.asl_model.specs.Records.{RecordFault, NotObject, MissingField, UnknownField, WrongKind, BadShape, BadVersion, BadNumber, RecordComplaint, declared_from, declared_complaints, certificate_from, certificate_complaints}

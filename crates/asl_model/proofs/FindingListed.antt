@@ -8,12 +8,11 @@ use Rattle.asl_model.specs.Machine.{Catcher, Settings, SecondsPath, TimestampPat
 use Rattle.asl_model.specs.Shape.{Shape, Never, ArrayShape, Shapes, inhabited}
 use Rattle.asl_model.specs.ShapeOrder.{sub, is_integer_shape, is_string_shape}
 use Rattle.asl_model.specs.ShapeFlow.{look, put, Doubt, template_shape, is_array_shape, rule_shape, FlowFault, MissingAt, MisfitAt, Flow, flow_then, doubt_fault, template_flow, through_template, path_flow, through_path, leave}
-use Rattle.asl_model.specs.Certificate.{Declared, StateShapes, Certificate, takes_of}
-use Rattle.asl_model.specs.Finding.{FindingFault, PathMayBeMissing, WrongKind, ResultMayNotFit, NoDefault, PayloadNotTaken, OutputNotCertified, NextInput, ScopeOutput, BranchInput, CatchInput, Breach, breach_unless, breach_unless_sub, breach_of, breaches_then, input_to_compare, effective_flow, kind_breaches, delay_breaches, child_breaches, branch_breaches, element_shape, item_flow, array_parts, with_elements, with_items, rule_breaches, rules_breaches, default_breaches, error_placed_shape, caught_breaches, catcher_breaches, result_breaches, map_breaches, work_breaches, settled_breaches, flow_breaches}
+use Rattle.asl_model.specs.Certificate.{takes_of}
+use Rattle.asl_model.specs.Finding.{FindingFault, PathMayBeMissing, WrongKind, ResultMayNotFit, NoDefault, PayloadNotTaken, OutputNotCertified, NextInput, ScopeOutput, BranchInput, CatchInput, Breach, breach_unless, breach_unless_sub, breach_of, breaches_then, Surroundings, effective_flow, kind_breaches, delay_breaches, child_breaches, branch_breaches, element_shape, item_flow, array_parts, with_elements, with_items, rule_breaches, rules_breaches, default_breaches, error_placed_shape, caught_breaches, catcher_breaches, result_breaches, map_breaches, work_breaches, settled_breaches, flow_breaches}
 use Rattle.asl_model.specs.FindingRules.{IsBranch, branch_is_first, branch_is_later, IsEffective, Target, ToState, ToEnd, next_target, Makes, makes_literal, makes_what_it_takes, makes_answer, lets_through, lets_default, lets_wait, lets_succeed, makes_outputs, makes_items, Leaves, Wants, wants_number, wants_text, wants_list, LooksUp, looks_up_input, looks_up_wanted, looks_up_output, Evaluates, evaluates_parameters, evaluates_item_selector, evaluates_result_selector, HasDoubt, Puts, puts_result, puts_error_output, Starts, starts_branch, starts_item, BreaksFlow, path_may_be_missing, template_may_be_missing, rule_may_be_missing, may_be_of_wrong_kind, may_not_fit, may_fail, has_no_default, payload_is_not_taken, output_is_not_certified, is_no_next_input, is_no_scope_output, is_no_branch_input, is_no_catch_input}
 use Rattle.asl_model.proofs.Listed.{none_in, first_in, first_or_later, map_in}
 use Rattle.asl_model.proofs.FindingFlows.{template_stops, selector_stops, placing_stops, output_stops}
-use Rattle.asl_model.proofs.FindingNames.{compared_found}
 use Rattle.asl_model.proofs.FindingTold.{going_breaches, going_next}
 
 -- a breach, where the test fails
@@ -32,38 +31,34 @@ stopped_in go_on flow faults f e c = subst (λ o. Contains (breaches_then go_on 
 gone_in : (go_on : Shape → List Breach) (flow : Flow) (s : Shape) (b : Breach) → flow ≡ Ok s → Contains (go_on s) b → Contains (breaches_then go_on flow) b
 gone_in go_on flow s b e c = subst (λ o. Contains (breaches_then go_on o) b) (sym e) c
 
-module _ (machine : Scope) (declared : Declared) (certificate : Certificate) (end : Option Shape) (n : List ℕ) (entry : StateShapes) (settings : Settings) (live : IsTrue (inhabited entry.input)) where
-  -- the shapes that what flows to a state is compared with
-  abbrev inputs : List ℕ → Option Shape
-  inputs = input_to_compare machine certificate
-
+module _ (around : Surroundings) (settings : Settings) (live : IsTrue (inhabited around.entry.input)) where
   -- the breaches of the state
   abbrev flow : Kind → List Breach
-  flow kind = flow_breaches declared inputs end n settings kind (Some entry)
+  flow kind = flow_breaches around settings kind
 
   -- those of an effective input
   abbrev work_part : Kind → List Breach
-  work_part kind = breaches_then (work_breaches declared inputs end n entry settings kind) (effective_flow settings entry.input)
+  work_part kind = breaches_then (work_breaches around settings kind) (effective_flow settings around.entry.input)
 
   -- those that need none
   abbrev settled_part : Kind → List Breach
-  settled_part kind = settled_breaches declared inputs end n entry settings kind
+  settled_part kind = settled_breaches around settings kind
 
   -- those of the catchers
   abbrev catcher_part : List Breach
-  catcher_part = catcher_breaches inputs entry.input settings.catchers
+  catcher_part = catcher_breaches around.inputs around.entry.input settings.catchers
 
   -- each part stands in the list
   in_flow : (kind : Kind) (b : Breach) → Contains (work_part kind ++ (settled_part kind ++ catcher_part)) b → Contains (flow kind) b
   in_flow kind b c = subst (λ t. Contains (if t then work_part kind ++ (settled_part kind ++ catcher_part) else []) b) (sym live) c
 
   -- what comes of the effective input
-  in_work : (kind : Kind) (s : Shape) (b : Breach) → IsEffective settings entry s → Contains (work_breaches declared inputs end n entry settings kind s) b → Contains (flow kind) b
-  in_work kind s b eff c = in_flow kind b (Contains-append_left (work_part kind) (settled_part kind ++ catcher_part) b (gone_in (work_breaches declared inputs end n entry settings kind) (effective_flow settings entry.input) s b eff c))
+  in_work : (kind : Kind) (s : Shape) (b : Breach) → IsEffective around settings s → Contains (work_breaches around settings kind s) b → Contains (flow kind) b
+  in_work kind s b eff c = in_flow kind b (Contains-append_left (work_part kind) (settled_part kind ++ catcher_part) b (gone_in (work_breaches around settings kind) (effective_flow settings around.entry.input) s b eff c))
 
   -- what stops it
-  in_stopped : (kind : Kind) (faults : List FlowFault) (f : FlowFault) → effective_flow settings entry.input ≡ Err faults → Contains faults f → Contains (flow kind) (breach_of f)
-  in_stopped kind faults f e c = in_flow kind (breach_of f) (Contains-append_left (work_part kind) (settled_part kind ++ catcher_part) (breach_of f) (stopped_in (work_breaches declared inputs end n entry settings kind) (effective_flow settings entry.input) faults f e c))
+  in_stopped : (kind : Kind) (faults : List FlowFault) (f : FlowFault) → effective_flow settings around.entry.input ≡ Err faults → Contains faults f → Contains (flow kind) (breach_of f)
+  in_stopped kind faults f e c = in_flow kind (breach_of f) (Contains-append_left (work_part kind) (settled_part kind ++ catcher_part) (breach_of f) (stopped_in (work_breaches around settings kind) (effective_flow settings around.entry.input) faults f e c))
 
   -- what needs none
   in_settled : (kind : Kind) (b : Breach) → Contains (settled_part kind) b → Contains (flow kind) b
@@ -76,99 +71,99 @@ module _ (machine : Scope) (declared : Declared) (certificate : Certificate) (en
   -- ---- rules, branches, catchers
 
   -- the breaches of one rule
-  rule_in : (kind : Kind) (rules : List Rule) (s : Shape) (rule : Rule) (b : Breach) → Contains rules rule → Contains (rule_breaches inputs entry settings kind rule.next (rule_shape rule.test s)) b → Contains (rules_breaches inputs entry settings kind rules s) b
+  rule_in : (kind : Kind) (rules : List Rule) (s : Shape) (rule : Rule) (b : Breach) → Contains rules rule → Contains (rule_breaches around settings kind rule.next (rule_shape rule.test s)) b → Contains (rules_breaches around settings kind rules s) b
   rule_in kind [] s rule b c d = none_in rule c
   rule_in kind (first ∷ rules) s rule b c d = go (first_or_later first rule rules c) (λ e. rule_in kind rules s rule b e d)
     where
-      go : (first ≡ rule) ⊎ Contains rules rule → (Contains rules rule → Contains (rules_breaches inputs entry settings kind rules s) b) → Contains (rule_breaches inputs entry settings kind first.next (rule_shape first.test s) ++ rules_breaches inputs entry settings kind rules s) b
-      go (inl e) later = Contains-append_left (rule_breaches inputs entry settings kind first.next (rule_shape first.test s)) (rules_breaches inputs entry settings kind rules s) b (subst (λ r. Contains (rule_breaches inputs entry settings kind r.next (rule_shape r.test s)) b) (sym e) d)
-      go (inr e) later = Contains-append_right (rule_breaches inputs entry settings kind first.next (rule_shape first.test s)) (rules_breaches inputs entry settings kind rules s) b (later e)
+      go : (first ≡ rule) ⊎ Contains rules rule → (Contains rules rule → Contains (rules_breaches around settings kind rules s) b) → Contains (rule_breaches around settings kind first.next (rule_shape first.test s) ++ rules_breaches around settings kind rules s) b
+      go (inl e) later = Contains-append_left (rule_breaches around settings kind first.next (rule_shape first.test s)) (rules_breaches around settings kind rules s) b (subst (λ r. Contains (rule_breaches around settings kind r.next (rule_shape r.test s)) b) (sym e) d)
+      go (inr e) later = Contains-append_right (rule_breaches around settings kind first.next (rule_shape first.test s)) (rules_breaches around settings kind rules s) b (later e)
 
   -- of one branch
-  branch_in : {branch : Scope} {i : ℕ} {branches : Scopes} (s : Shape) (b : Breach) → IsBranch branch i branches → Contains (child_breaches inputs (codes "Branches") branch s) b → Contains (branch_breaches inputs branches s) b
-  branch_in {branch} s b (branch_is_first {others = others}) c = Contains-append_left (child_breaches inputs (codes "Branches") branch s) (branch_breaches inputs others s) b c
-  branch_in s b (branch_is_later {other = other} {others = others} h) c = Contains-append_right (child_breaches inputs (codes "Branches") other s) (branch_breaches inputs others s) b (branch_in s b h c)
+  branch_in : {branch : Scope} {i : ℕ} {branches : Scopes} (s : Shape) (b : Breach) → IsBranch branch i branches → Contains (child_breaches around.inputs (codes "Branches") branch s) b → Contains (branch_breaches around.inputs branches s) b
+  branch_in {branch} s b (branch_is_first {others = others}) c = Contains-append_left (child_breaches around.inputs (codes "Branches") branch s) (branch_breaches around.inputs others s) b c
+  branch_in s b (branch_is_later {other = other} {others = others} h) c = Contains-append_right (child_breaches around.inputs (codes "Branches") other s) (branch_breaches around.inputs others s) b (branch_in s b h c)
 
   -- of one catcher
-  catcher_in : (catchers : List Catcher) (catcher : Catcher) (b : Breach) → Contains catchers catcher → Contains (caught_breaches inputs catcher.next (error_placed_shape catcher.result_path entry.input)) b → Contains (catcher_breaches inputs entry.input catchers) b
+  catcher_in : (catchers : List Catcher) (catcher : Catcher) (b : Breach) → Contains catchers catcher → Contains (caught_breaches around.inputs catcher.next (error_placed_shape catcher.result_path around.entry.input)) b → Contains (catcher_breaches around.inputs around.entry.input catchers) b
   catcher_in [] catcher b c d = none_in catcher c
   catcher_in (first ∷ catchers) catcher b c d = go (first_or_later first catcher catchers c) (λ e. catcher_in catchers catcher b e d)
     where
-      go : (first ≡ catcher) ⊎ Contains catchers catcher → (Contains catchers catcher → Contains (catcher_breaches inputs entry.input catchers) b) → Contains (caught_breaches inputs first.next (error_placed_shape first.result_path entry.input) ++ catcher_breaches inputs entry.input catchers) b
-      go (inl e) later = Contains-append_left (caught_breaches inputs first.next (error_placed_shape first.result_path entry.input)) (catcher_breaches inputs entry.input catchers) b (subst (λ r. Contains (caught_breaches inputs r.next (error_placed_shape r.result_path entry.input)) b) (sym e) d)
-      go (inr e) later = Contains-append_right (caught_breaches inputs first.next (error_placed_shape first.result_path entry.input)) (catcher_breaches inputs entry.input catchers) b (later e)
+      go : (first ≡ catcher) ⊎ Contains catchers catcher → (Contains catchers catcher → Contains (catcher_breaches around.inputs around.entry.input catchers) b) → Contains (caught_breaches around.inputs first.next (error_placed_shape first.result_path around.entry.input) ++ catcher_breaches around.inputs around.entry.input catchers) b
+      go (inl e) later = Contains-append_left (caught_breaches around.inputs first.next (error_placed_shape first.result_path around.entry.input)) (catcher_breaches around.inputs around.entry.input catchers) b (subst (λ r. Contains (caught_breaches around.inputs r.next (error_placed_shape r.result_path around.entry.input)) b) (sym e) d)
+      go (inr e) later = Contains-append_right (caught_breaches around.inputs first.next (error_placed_shape first.result_path around.entry.input)) (catcher_breaches around.inputs around.entry.input catchers) b (later e)
 
   -- what follows for the elements of what `ItemsPath` names
   abbrev of_elements : List Segment → Option Template → Scope → Shape → Shapes × Shape → List Breach
-  of_elements items selector processor s elements = breaches_then (child_breaches inputs (codes "ItemProcessor") processor) (item_flow selector s (element_shape elements.0 elements.1)) ++ map_breaches inputs end entry settings (Map items selector processor) entry.item elements
+  of_elements items selector processor s elements = breaches_then (child_breaches around.inputs (codes "ItemProcessor") processor) (item_flow selector s (element_shape elements.0 elements.1)) ++ map_breaches around settings (Map items selector processor) around.entry.item elements
 
   -- what follows for the items of a Map
-  elements_in : (items : List Segment) (selector : Option Template) (processor : Scope) (s : Shape) (first : Shapes) (rest : Shape) (b : Breach) → IsEffective settings entry s → look items s ≡ Ok (ArrayShape first rest) → Contains (of_elements items selector processor s (first, rest)) b → Contains (flow (Map items selector processor)) b
+  elements_in : (items : List Segment) (selector : Option Template) (processor : Scope) (s : Shape) (first : Shapes) (rest : Shape) (b : Breach) → IsEffective around settings s → look items s ≡ Ok (ArrayShape first rest) → Contains (of_elements items selector processor s (first, rest)) b → Contains (flow (Map items selector processor)) b
   elements_in items selector processor s first rest b eff e c = in_work (Map items selector processor) s b eff (subst (λ r. Contains (with_items (of_elements items selector processor s) r) b) (sym e) c)
 
   -- ---- what a state makes
 
   -- the breaches on the way out of what a state makes
   abbrev way : Kind → Shape → Target → List Breach
-  way kind made target = breaches_then (going_breaches inputs entry.output end target) (leave settings kind entry.input made)
+  way kind made target = breaches_then (going_breaches around.inputs around.entry.output around.end target) (leave settings kind around.entry.input made)
 
   -- the way out by `Next` or `End`
-  next_way : (kind : Kind) (made : Shape) (b : Breach) → Contains (way kind made (next_target settings.next)) b → Contains (result_breaches inputs end entry settings kind made) b
-  next_way kind made b c = subst (λ go_on. Contains (breaches_then go_on (leave settings kind entry.input made)) b) (sym (going_next inputs entry.output end settings.next)) c
+  next_way : (kind : Kind) (made : Shape) (b : Breach) → Contains (way kind made (next_target settings.next)) b → Contains (result_breaches around settings kind made) b
+  next_way kind made b c = subst (λ go_on. Contains (breaches_then go_on (leave settings kind around.entry.input made)) b) (sym (going_next around.inputs around.entry.output around.end settings.next)) c
 
   -- the breaches on the way out
-  made_in : {kind : Kind} {made : Shape} {target : Target} → Makes declared n entry settings kind made target → (b : Breach) → Contains (way kind made target) b → Contains (flow kind) b
+  made_in : {kind : Kind} {made : Shape} {target : Target} → Makes around settings kind made target → (b : Breach) → Contains (way kind made target) b → Contains (flow kind) b
   made_in {kind} {made} makes_literal b c = in_settled kind b (next_way kind made b c)
   made_in {kind} {made} (makes_what_it_takes {s = s} eff) b c = in_work kind s b eff (next_way kind made b c)
   made_in {kind} {made} makes_answer b c = in_settled kind b (next_way kind made b c)
   made_in {kind} {made} (lets_through {rules = rules} {default = default} {rule = rule} {s = s} eff among e) b c =
-      in_work kind s b eff (Contains-append_left (rules_breaches inputs entry settings kind rules s) (default_breaches inputs entry settings kind default s) b (rule_in kind rules s rule b among (subst (λ o. Contains (rule_breaches inputs entry settings kind rule.next o) b) (sym e) c)))
-  made_in {kind} {made} (lets_default {rules = rules} {next = next} {s = s} eff) b c = in_work kind s b eff (Contains-append_right (rules_breaches inputs entry settings kind rules s) (default_breaches inputs entry settings kind (Some next) s) b c)
-  made_in {kind} {made} (lets_wait {delay = delay} {s = s} eff) b c = in_work kind s b eff (Contains-append_right (delay_breaches delay s) (result_breaches inputs end entry settings kind s) b (next_way kind made b c))
+      in_work kind s b eff (Contains-append_left (rules_breaches around settings kind rules s) (default_breaches around settings kind default s) b (rule_in kind rules s rule b among (subst (λ o. Contains (rule_breaches around settings kind rule.next o) b) (sym e) c)))
+  made_in {kind} {made} (lets_default {rules = rules} {next = next} {s = s} eff) b c = in_work kind s b eff (Contains-append_right (rules_breaches around settings kind rules s) (default_breaches around settings kind (Some next) s) b c)
+  made_in {kind} {made} (lets_wait {delay = delay} {s = s} eff) b c = in_work kind s b eff (Contains-append_right (delay_breaches delay s) (result_breaches around settings kind s) b (next_way kind made b c))
   made_in {kind} {made} (lets_succeed {s = s} eff) b c = in_work kind s b eff c
   made_in {kind} {made} makes_outputs b c = in_settled kind b (next_way kind made b c)
   made_in {kind} {made} (makes_items {items = items} {selector = selector} {processor = processor} {s = s} {item = item} {first = first} {rest = rest} eff e there) b c =
       elements_in items selector processor s first rest b eff e
-      (Contains-append_right (breaches_then (child_breaches inputs (codes "ItemProcessor") processor) (item_flow selector s (element_shape first rest))) (map_breaches inputs end entry settings kind entry.item (first, rest)) b
-      (subst (λ o. Contains (map_breaches inputs end entry settings kind o (first, rest)) b) (sym there) (next_way kind made b c)))
+      (Contains-append_right (breaches_then (child_breaches around.inputs (codes "ItemProcessor") processor) (item_flow selector s (element_shape first rest))) (map_breaches around settings kind around.entry.item (first, rest)) b
+      (subst (λ o. Contains (map_breaches around settings kind o (first, rest)) b) (sym there) (next_way kind made b c)))
 
   -- what stops it
-  made_stopped : {kind : Kind} {made : Shape} {target : Target} → Makes declared n entry settings kind made target → (faults : List FlowFault) (f : FlowFault) → leave settings kind entry.input made ≡ Err faults → Contains faults f → Contains (flow kind) (breach_of f)
-  made_stopped {kind} {made} {target} makes faults f e c = made_in makes (breach_of f) (stopped_in (going_breaches inputs entry.output end target) (leave settings kind entry.input made) faults f e c)
+  made_stopped : {kind : Kind} {made : Shape} {target : Target} → Makes around settings kind made target → (faults : List FlowFault) (f : FlowFault) → leave settings kind around.entry.input made ≡ Err faults → Contains faults f → Contains (flow kind) (breach_of f)
+  made_stopped {kind} {made} {target} makes faults f e c = made_in makes (breach_of f) (stopped_in (going_breaches around.inputs around.entry.output around.end target) (leave settings kind around.entry.input made) faults f e c)
 
   -- what leaves
-  left_in : {kind : Kind} {output : Shape} {target : Target} → Leaves declared n entry settings kind output target → (b : Breach) → Contains (going_breaches inputs entry.output end target output) b → Contains (flow kind) b
-  left_in {kind} {output} {target} leaves b c = made_in leaves.makes b (gone_in (going_breaches inputs entry.output end target) (leave settings kind entry.input leaves.made) output b leaves.comes_out c)
+  left_in : {kind : Kind} {output : Shape} {target : Target} → Leaves around settings kind output target → (b : Breach) → Contains (going_breaches around.inputs around.entry.output around.end target output) b → Contains (flow kind) b
+  left_in {kind} {output} {target} leaves b c = made_in leaves.makes b (gone_in (going_breaches around.inputs around.entry.output around.end target) (leave settings kind around.entry.input leaves.made) output b leaves.comes_out c)
 
   -- ---- templates
 
   -- a doubt of a template
-  evaluated_in : {kind : Kind} {field : List ℕ} {template : Template} {input : Shape} {item : Option Shape} {d : Doubt} → Evaluates declared n entry settings kind field template input item → IsTrue (inhabited input) → HasDoubt input item template d → Contains (flow kind) (breach_of (doubt_fault field d))
+  evaluated_in : {kind : Kind} {field : List ℕ} {template : Template} {input : Shape} {item : Option Shape} {d : Doubt} → Evaluates around settings kind field template input item → IsTrue (inhabited input) → HasDoubt input item template d → Contains (flow kind) (breach_of (doubt_fault field d))
   evaluated_in {kind} {template = template} {d = d} (evaluates_parameters {s = s} p given) some doubt =
       let w = template_stops (codes "Parameters") template s None d some doubt in
       in_stopped kind w.0 (doubt_fault (codes "Parameters") d) (ap (flow_then (through_template (codes "Parameters") settings.parameters)) p ∙ (ap (λ o. through_template (codes "Parameters") o s) given ∙ w.1)) w.2
   evaluated_in {kind} {template = template} {d = d} (evaluates_item_selector {items = items} {processor = processor} {s = s} {first = first} {rest = rest} eff e present) some doubt =
       let w = template_stops (codes "ItemSelector") template s (Some (element_shape first rest)) d some doubt in
       elements_in items (Some template) processor s first rest (breach_of (doubt_fault (codes "ItemSelector") d)) eff e
-      (Contains-append_left (breaches_then (child_breaches inputs (codes "ItemProcessor") processor) (item_flow (Some template) s (element_shape first rest))) (map_breaches inputs end entry settings (Map items (Some template) processor) entry.item (first, rest)) (breach_of (doubt_fault (codes "ItemSelector") d))
-      (stopped_in (child_breaches inputs (codes "ItemProcessor") processor) (item_flow (Some template) s (element_shape first rest)) w.0 (doubt_fault (codes "ItemSelector") d) (ap (λ t. if t then template_flow (codes "ItemSelector") (template_shape template s (Some (element_shape first rest))) else Ok Never) present ∙ w.1) w.2))
+      (Contains-append_left (breaches_then (child_breaches around.inputs (codes "ItemProcessor") processor) (item_flow (Some template) s (element_shape first rest))) (map_breaches around settings (Map items (Some template) processor) around.entry.item (first, rest)) (breach_of (doubt_fault (codes "ItemSelector") d))
+      (stopped_in (child_breaches around.inputs (codes "ItemProcessor") processor) (item_flow (Some template) s (element_shape first rest)) w.0 (doubt_fault (codes "ItemSelector") d) (ap (λ t. if t then template_flow (codes "ItemSelector") (template_shape template s (Some (element_shape first rest))) else Ok Never) present ∙ w.1) w.2))
   evaluated_in {kind} {template = template} {d = d} (evaluates_result_selector {made = made} makes with given) some doubt =
-      let w = selector_stops settings kind entry.input made template d live with given some doubt in
+      let w = selector_stops settings kind around.entry.input made template d live with given some doubt in
       made_stopped makes w.0 (doubt_fault (codes "ResultSelector") d) w.1 w.2
 
   -- ---- paths
 
   -- what a path wants of the effective input
-  missing_in : {kind : Kind} {field : List ℕ} {path : List Segment} {test : Shape → Bool} (s : Shape) (at : ℕ) → Wants kind field path test → IsEffective settings entry s → look path s ≡ Err at → Contains (flow kind) (record { field = field; fault = PathMayBeMissing })
-  missing_in {kind} s at (wants_number {path = path}) eff e = in_work kind s (record { field = codes "SecondsPath"; fault = PathMayBeMissing }) eff (Contains-append_left (delay_breaches (SecondsPath path) s) (result_breaches inputs end entry settings kind s) (record { field = codes "SecondsPath"; fault = PathMayBeMissing }) (subst (λ r. Contains (kind_breaches (codes "SecondsPath") is_integer_shape r) (record { field = codes "SecondsPath"; fault = PathMayBeMissing })) (sym e) (first_in (record { field = codes "SecondsPath"; fault = PathMayBeMissing }) [])))
-  missing_in {kind} s at (wants_text {path = path}) eff e = in_work kind s (record { field = codes "TimestampPath"; fault = PathMayBeMissing }) eff (Contains-append_left (delay_breaches (TimestampPath path) s) (result_breaches inputs end entry settings kind s) (record { field = codes "TimestampPath"; fault = PathMayBeMissing }) (subst (λ r. Contains (kind_breaches (codes "TimestampPath") is_string_shape r) (record { field = codes "TimestampPath"; fault = PathMayBeMissing })) (sym e) (first_in (record { field = codes "TimestampPath"; fault = PathMayBeMissing }) [])))
+  missing_in : {kind : Kind} {field : List ℕ} {path : List Segment} {test : Shape → Bool} (s : Shape) (at : ℕ) → Wants kind field path test → IsEffective around settings s → look path s ≡ Err at → Contains (flow kind) (record { field = field; fault = PathMayBeMissing })
+  missing_in {kind} s at (wants_number {path = path}) eff e = in_work kind s (record { field = codes "SecondsPath"; fault = PathMayBeMissing }) eff (Contains-append_left (delay_breaches (SecondsPath path) s) (result_breaches around settings kind s) (record { field = codes "SecondsPath"; fault = PathMayBeMissing }) (subst (λ r. Contains (kind_breaches (codes "SecondsPath") is_integer_shape r) (record { field = codes "SecondsPath"; fault = PathMayBeMissing })) (sym e) (first_in (record { field = codes "SecondsPath"; fault = PathMayBeMissing }) [])))
+  missing_in {kind} s at (wants_text {path = path}) eff e = in_work kind s (record { field = codes "TimestampPath"; fault = PathMayBeMissing }) eff (Contains-append_left (delay_breaches (TimestampPath path) s) (result_breaches around settings kind s) (record { field = codes "TimestampPath"; fault = PathMayBeMissing }) (subst (λ r. Contains (kind_breaches (codes "TimestampPath") is_string_shape r) (record { field = codes "TimestampPath"; fault = PathMayBeMissing })) (sym e) (first_in (record { field = codes "TimestampPath"; fault = PathMayBeMissing }) [])))
   missing_in {kind} s at (wants_list {items = items} {selector = selector} {processor = processor}) eff e = in_work kind s (record { field = codes "ItemsPath"; fault = PathMayBeMissing }) eff (subst (λ r. Contains (with_items (of_elements items selector processor s) r) (record { field = codes "ItemsPath"; fault = PathMayBeMissing })) (sym e) (first_in (record { field = codes "ItemsPath"; fault = PathMayBeMissing }) []))
 
   -- a path that may name nothing
-  looked_up_in : {kind : Kind} {field : List ℕ} {path : List Segment} {s : Shape} (at : ℕ) → LooksUp declared n entry settings kind field path s → look path s ≡ Err at → Contains (flow kind) (record { field = field; fault = PathMayBeMissing })
-  looked_up_in {kind} {path = path} at (looks_up_input given) e = in_stopped kind (MissingAt (codes "InputPath") ∷ []) (MissingAt (codes "InputPath")) (ap (flow_then (through_template (codes "Parameters") settings.parameters)) (ap (λ o. through_path (codes "InputPath") o entry.input) given ∙ ap (path_flow (codes "InputPath")) e)) (first_in (MissingAt (codes "InputPath")) [])
+  looked_up_in : {kind : Kind} {field : List ℕ} {path : List Segment} {s : Shape} (at : ℕ) → LooksUp around settings kind field path s → look path s ≡ Err at → Contains (flow kind) (record { field = field; fault = PathMayBeMissing })
+  looked_up_in {kind} {path = path} at (looks_up_input given) e = in_stopped kind (MissingAt (codes "InputPath") ∷ []) (MissingAt (codes "InputPath")) (ap (flow_then (through_template (codes "Parameters") settings.parameters)) (ap (λ o. through_path (codes "InputPath") o around.entry.input) given ∙ ap (path_flow (codes "InputPath")) e)) (first_in (MissingAt (codes "InputPath")) [])
   looked_up_in {s = s} at (looks_up_wanted eff wants) e = missing_in s at wants eff e
-  looked_up_in {kind} {path = path} at (looks_up_output {made = made} {s = s} makes goes given) e = made_stopped makes (MissingAt (codes "OutputPath") ∷ []) (MissingAt (codes "OutputPath")) (output_stops settings kind entry.input made s path at live goes given e) (first_in (MissingAt (codes "OutputPath")) [])
+  looked_up_in {kind} {path = path} at (looks_up_output {made = made} {s = s} makes goes given) e = made_stopped makes (MissingAt (codes "OutputPath") ∷ []) (MissingAt (codes "OutputPath")) (output_stops settings kind around.entry.input made s path at live goes given e) (first_in (MissingAt (codes "OutputPath")) [])
 
   -- a shape that is none of arrays
   no_array : (t : Shape) → IsFalse (is_array_shape t) → array_parts t ≡ None
@@ -176,38 +171,38 @@ module _ (machine : Scope) (declared : Declared) (certificate : Certificate) (en
   no_array t h = refl
 
   -- a path that may name something of another kind
-  wrong_in : {kind : Kind} {field : List ℕ} {path : List Segment} {test : Shape → Bool} (s t : Shape) → Wants kind field path test → IsEffective settings entry s → look path s ≡ Ok t → IsFalse (test t) → Contains (flow kind) (record { field = field; fault = WrongKind })
-  wrong_in {kind} s t (wants_number {path = path}) eff e h = in_work kind s (record { field = codes "SecondsPath"; fault = WrongKind }) eff (Contains-append_left (delay_breaches (SecondsPath path) s) (result_breaches inputs end entry settings kind s) (record { field = codes "SecondsPath"; fault = WrongKind }) (subst (λ r. Contains (kind_breaches (codes "SecondsPath") is_integer_shape r) (record { field = codes "SecondsPath"; fault = WrongKind })) (sym e) (unless_in (is_integer_shape t) (codes "SecondsPath") WrongKind h)))
-  wrong_in {kind} s t (wants_text {path = path}) eff e h = in_work kind s (record { field = codes "TimestampPath"; fault = WrongKind }) eff (Contains-append_left (delay_breaches (TimestampPath path) s) (result_breaches inputs end entry settings kind s) (record { field = codes "TimestampPath"; fault = WrongKind }) (subst (λ r. Contains (kind_breaches (codes "TimestampPath") is_string_shape r) (record { field = codes "TimestampPath"; fault = WrongKind })) (sym e) (unless_in (is_string_shape t) (codes "TimestampPath") WrongKind h)))
+  wrong_in : {kind : Kind} {field : List ℕ} {path : List Segment} {test : Shape → Bool} (s t : Shape) → Wants kind field path test → IsEffective around settings s → look path s ≡ Ok t → IsFalse (test t) → Contains (flow kind) (record { field = field; fault = WrongKind })
+  wrong_in {kind} s t (wants_number {path = path}) eff e h = in_work kind s (record { field = codes "SecondsPath"; fault = WrongKind }) eff (Contains-append_left (delay_breaches (SecondsPath path) s) (result_breaches around settings kind s) (record { field = codes "SecondsPath"; fault = WrongKind }) (subst (λ r. Contains (kind_breaches (codes "SecondsPath") is_integer_shape r) (record { field = codes "SecondsPath"; fault = WrongKind })) (sym e) (unless_in (is_integer_shape t) (codes "SecondsPath") WrongKind h)))
+  wrong_in {kind} s t (wants_text {path = path}) eff e h = in_work kind s (record { field = codes "TimestampPath"; fault = WrongKind }) eff (Contains-append_left (delay_breaches (TimestampPath path) s) (result_breaches around settings kind s) (record { field = codes "TimestampPath"; fault = WrongKind }) (subst (λ r. Contains (kind_breaches (codes "TimestampPath") is_string_shape r) (record { field = codes "TimestampPath"; fault = WrongKind })) (sym e) (unless_in (is_string_shape t) (codes "TimestampPath") WrongKind h)))
   wrong_in {kind} s t (wants_list {items = items} {selector = selector} {processor = processor}) eff e h = in_work kind s (record { field = codes "ItemsPath"; fault = WrongKind }) eff (subst (λ r. Contains (with_items (of_elements items selector processor s) r) (record { field = codes "ItemsPath"; fault = WrongKind })) (sym e) (subst (λ o. Contains (with_elements (of_elements items selector processor s) o) (record { field = codes "ItemsPath"; fault = WrongKind })) (sym (no_array t h)) (first_in (record { field = codes "ItemsPath"; fault = WrongKind }) [])))
 
   -- ---- placings, children
 
   -- a placing that may not fit
-  put_in : {kind : Kind} {field : List ℕ} {path : List Segment} {s : Shape} (at : ℕ) → Puts declared n entry settings kind field path s → put path s entry.input ≡ Err at → Contains (flow kind) (record { field = field; fault = ResultMayNotFit })
-  put_in {kind} {path = path} at (puts_result {made = made} {selected = selected} makes selects given) e = made_stopped makes (MisfitAt (codes "ResultPath") ∷ []) (MisfitAt (codes "ResultPath")) (placing_stops settings kind entry.input made selected path at live selects given e) (first_in (MisfitAt (codes "ResultPath")) [])
-  put_in {kind} {path = path} at (puts_error_output {catcher = catcher} among given) e = in_catchers kind (record { field = codes "Catch"; fault = ResultMayNotFit }) (catcher_in settings.catchers catcher (record { field = codes "Catch"; fault = ResultMayNotFit }) among (subst (λ r. Contains (caught_breaches inputs catcher.next r) (record { field = codes "Catch"; fault = ResultMayNotFit })) (sym (ap (λ o. error_placed_shape o entry.input) given ∙ e)) (first_in (record { field = codes "Catch"; fault = ResultMayNotFit }) [])))
+  put_in : {kind : Kind} {field : List ℕ} {path : List Segment} {s : Shape} (at : ℕ) → Puts around settings kind field path s → put path s around.entry.input ≡ Err at → Contains (flow kind) (record { field = field; fault = ResultMayNotFit })
+  put_in {kind} {path = path} at (puts_result {made = made} {selected = selected} makes selects given) e = made_stopped makes (MisfitAt (codes "ResultPath") ∷ []) (MisfitAt (codes "ResultPath")) (placing_stops settings kind around.entry.input made selected path at live selects given e) (first_in (MisfitAt (codes "ResultPath")) [])
+  put_in {kind} {path = path} at (puts_error_output {catcher = catcher} among given) e = in_catchers kind (record { field = codes "Catch"; fault = ResultMayNotFit }) (catcher_in settings.catchers catcher (record { field = codes "Catch"; fault = ResultMayNotFit }) among (subst (λ r. Contains (caught_breaches around.inputs catcher.next r) (record { field = codes "Catch"; fault = ResultMayNotFit })) (sym (ap (λ o. error_placed_shape o around.entry.input) given ∙ e)) (first_in (record { field = codes "Catch"; fault = ResultMayNotFit }) [])))
 
   -- a child's input
-  started_in : {kind : Kind} {field : List ℕ} {child : Scope} {s : Shape} (expected : Shape) → Starts entry settings kind field child s → inputs (start_of child) ≡ Some expected → IsFalse (sub s expected) → Contains (flow kind) (record { field = field; fault = BranchInput })
-  started_in {kind} {child = child} expected (starts_branch {s = s} eff branch) e h = in_work kind s (record { field = codes "Branches"; fault = BranchInput }) eff (branch_in s (record { field = codes "Branches"; fault = BranchInput }) branch (sub_in (codes "Branches") BranchInput s (inputs (start_of child)) expected e h))
+  started_in : {kind : Kind} {field : List ℕ} {child : Scope} {s : Shape} (expected : Shape) → Starts around settings kind field child s → around.inputs (start_of child) ≡ Some expected → IsFalse (sub s expected) → Contains (flow kind) (record { field = field; fault = BranchInput })
+  started_in {kind} {child = child} expected (starts_branch {s = s} eff branch) e h = in_work kind s (record { field = codes "Branches"; fault = BranchInput }) eff (branch_in s (record { field = codes "Branches"; fault = BranchInput }) branch (sub_in (codes "Branches") BranchInput s (around.inputs (start_of child)) expected e h))
   started_in {kind} expected (starts_item {items = items} {selector = selector} {processor = processor} {s = s} {input = input} {first = first} {rest = rest} eff found flows) e h =
       elements_in items selector processor s first rest (record { field = codes "ItemProcessor"; fault = BranchInput }) eff found
-      (Contains-append_left (breaches_then (child_breaches inputs (codes "ItemProcessor") processor) (item_flow selector s (element_shape first rest))) (map_breaches inputs end entry settings kind entry.item (first, rest)) (record { field = codes "ItemProcessor"; fault = BranchInput })
-      (gone_in (child_breaches inputs (codes "ItemProcessor") processor) (item_flow selector s (element_shape first rest)) input (record { field = codes "ItemProcessor"; fault = BranchInput }) flows (sub_in (codes "ItemProcessor") BranchInput input (inputs (start_of processor)) expected e h)))
+      (Contains-append_left (breaches_then (child_breaches around.inputs (codes "ItemProcessor") processor) (item_flow selector s (element_shape first rest))) (map_breaches around settings kind around.entry.item (first, rest)) (record { field = codes "ItemProcessor"; fault = BranchInput })
+      (gone_in (child_breaches around.inputs (codes "ItemProcessor") processor) (item_flow selector s (element_shape first rest)) input (record { field = codes "ItemProcessor"; fault = BranchInput }) flows (sub_in (codes "ItemProcessor") BranchInput input (around.inputs (start_of processor)) expected e h)))
 
   -- ---- all of them
 
   -- a breach of a Choice, a Task by its type
-  rule_missing : (kind : Kind) (rules : List Rule) (default : Option (List ℕ)) (rule : Rule) (s : Shape) → kind ≡ Choice rules default → IsEffective settings entry s → Contains rules rule → rule_shape rule.test s ≡ None → Contains (flow kind) (record { field = codes "Choices"; fault = PathMayBeMissing })
+  rule_missing : (kind : Kind) (rules : List Rule) (default : Option (List ℕ)) (rule : Rule) (s : Shape) → kind ≡ Choice rules default → IsEffective around settings s → Contains rules rule → rule_shape rule.test s ≡ None → Contains (flow kind) (record { field = codes "Choices"; fault = PathMayBeMissing })
   rule_missing kind rules default rule s is eff among e =
       subst (λ k. Contains (flow k) (record { field = codes "Choices"; fault = PathMayBeMissing })) (sym is)
       (in_work (Choice rules default) s (record { field = codes "Choices"; fault = PathMayBeMissing }) eff
-      (Contains-append_left (rules_breaches inputs entry settings (Choice rules default) rules s) (default_breaches inputs entry settings (Choice rules default) default s) (record { field = codes "Choices"; fault = PathMayBeMissing })
-      (rule_in (Choice rules default) rules s rule (record { field = codes "Choices"; fault = PathMayBeMissing }) among (subst (λ o. Contains (rule_breaches inputs entry settings (Choice rules default) rule.next o) (record { field = codes "Choices"; fault = PathMayBeMissing })) (sym e) (first_in (record { field = codes "Choices"; fault = PathMayBeMissing }) [])))))
+      (Contains-append_left (rules_breaches around settings (Choice rules default) rules s) (default_breaches around settings (Choice rules default) default s) (record { field = codes "Choices"; fault = PathMayBeMissing })
+      (rule_in (Choice rules default) rules s rule (record { field = codes "Choices"; fault = PathMayBeMissing }) among (subst (λ o. Contains (rule_breaches around settings (Choice rules default) rule.next o) (record { field = codes "Choices"; fault = PathMayBeMissing })) (sym e) (first_in (record { field = codes "Choices"; fault = PathMayBeMissing }) [])))))
 
   -- each broken rule
-  pub broken_listed : (kind : Kind) {field : List ℕ} {fault : FindingFault} → BreaksFlow machine declared certificate end n entry settings kind field fault → Contains (flow_breaches declared (input_to_compare machine certificate) end n settings kind (Some entry)) (record { field = field; fault = fault })
+  pub broken_listed : (kind : Kind) {field : List ℕ} {fault : FindingFault} → BreaksFlow around settings kind field fault → Contains (flow_breaches around settings kind) (record { field = field; fault = fault })
   broken_listed kind (path_may_be_missing {at = at} looks e) = looked_up_in at looks e
   broken_listed kind (template_may_be_missing evaluates some doubt) = evaluated_in evaluates some doubt
   broken_listed kind (rule_may_be_missing {rules = rules} {default = default} {rule = rule} {s = s} is eff among e) = rule_missing kind rules default rule s is eff among e
@@ -215,20 +210,20 @@ module _ (machine : Scope) (declared : Declared) (certificate : Certificate) (en
   broken_listed kind (may_not_fit {at = at} puts e) = put_in at puts e
   broken_listed kind (may_fail evaluates some doubt) = evaluated_in evaluates some doubt
   broken_listed kind (has_no_default {rules = rules} is) = subst (λ k. Contains (flow k) (record { field = codes "Default"; fault = NoDefault })) (sym is) (in_settled (Choice rules None) (record { field = codes "Default"; fault = NoDefault }) (first_in (record { field = codes "Default"; fault = NoDefault }) []))
-  broken_listed kind (payload_is_not_taken {resource = resource} {s = s} is eff h) = subst (λ k. Contains (flow k) (record { field = codes "Parameters"; fault = PayloadNotTaken })) (sym is) (in_work (Task resource) s (record { field = codes "Parameters"; fault = PayloadNotTaken }) eff (unless_in (sub s (takes_of declared n)) (codes "Parameters") PayloadNotTaken h))
+  broken_listed kind (payload_is_not_taken {resource = resource} {s = s} is eff h) = subst (λ k. Contains (flow k) (record { field = codes "Parameters"; fault = PayloadNotTaken })) (sym is) (in_work (Task resource) s (record { field = codes "Parameters"; fault = PayloadNotTaken }) eff (unless_in (sub s (takes_of around.declared around.name)) (codes "Parameters") PayloadNotTaken h))
   broken_listed kind (output_is_not_certified {output = output} {target = target} leaves h) = left_in leaves (record { field = codes "OutputPath"; fault = OutputNotCertified }) (own target)
     where
-      own : (to : Target) → Contains (going_breaches inputs entry.output end to output) (record { field = codes "OutputPath"; fault = OutputNotCertified })
-      own (ToState field next) = Contains-append_left (breach_unless_sub (codes "OutputPath") OutputNotCertified output (Some entry.output)) (breach_unless_sub field NextInput output (inputs next)) (record { field = codes "OutputPath"; fault = OutputNotCertified }) (unless_in (sub output entry.output) (codes "OutputPath") OutputNotCertified h)
-      own (ToEnd field) = Contains-append_left (breach_unless_sub (codes "OutputPath") OutputNotCertified output (Some entry.output)) (breach_unless_sub field ScopeOutput output end) (record { field = codes "OutputPath"; fault = OutputNotCertified }) (unless_in (sub output entry.output) (codes "OutputPath") OutputNotCertified h)
+      own : (to : Target) → Contains (going_breaches around.inputs around.entry.output around.end to output) (record { field = codes "OutputPath"; fault = OutputNotCertified })
+      own (ToState field next) = Contains-append_left (breach_unless_sub (codes "OutputPath") OutputNotCertified output (Some around.entry.output)) (breach_unless_sub field NextInput output (around.inputs next)) (record { field = codes "OutputPath"; fault = OutputNotCertified }) (unless_in (sub output around.entry.output) (codes "OutputPath") OutputNotCertified h)
+      own (ToEnd field) = Contains-append_left (breach_unless_sub (codes "OutputPath") OutputNotCertified output (Some around.entry.output)) (breach_unless_sub field ScopeOutput output around.end) (record { field = codes "OutputPath"; fault = OutputNotCertified }) (unless_in (sub output around.entry.output) (codes "OutputPath") OutputNotCertified h)
   broken_listed kind (is_no_next_input {output = output} {expected = expected} {field = field} {next = next} leaves compared h) =
       left_in leaves (record { field = field; fault = NextInput })
-      (Contains-append_right (breach_unless_sub (codes "OutputPath") OutputNotCertified output (Some entry.output)) (breach_unless_sub field NextInput output (inputs next)) (record { field = field; fault = NextInput }) (sub_in field NextInput output (inputs next) expected (compared_found compared) h))
+      (Contains-append_right (breach_unless_sub (codes "OutputPath") OutputNotCertified output (Some around.entry.output)) (breach_unless_sub field NextInput output (around.inputs next)) (record { field = field; fault = NextInput }) (sub_in field NextInput output (around.inputs next) expected compared h))
   broken_listed kind (is_no_scope_output {output = output} {expected = expected} {field = field} leaves e h) =
       left_in leaves (record { field = field; fault = ScopeOutput })
-      (Contains-append_right (breach_unless_sub (codes "OutputPath") OutputNotCertified output (Some entry.output)) (breach_unless_sub field ScopeOutput output end) (record { field = field; fault = ScopeOutput }) (sub_in field ScopeOutput output end expected e h))
-  broken_listed kind (is_no_branch_input {expected = expected} starts compared h) = started_in expected starts (compared_found compared) h
+      (Contains-append_right (breach_unless_sub (codes "OutputPath") OutputNotCertified output (Some around.entry.output)) (breach_unless_sub field ScopeOutput output around.end) (record { field = field; fault = ScopeOutput }) (sub_in field ScopeOutput output around.end expected e h))
+  broken_listed kind (is_no_branch_input {expected = expected} starts compared h) = started_in expected starts compared h
   broken_listed kind (is_no_catch_input {catcher = catcher} {s = s} {expected = expected} among e compared h) =
       in_catchers kind (record { field = codes "Catch"; fault = CatchInput })
       (catcher_in settings.catchers catcher (record { field = codes "Catch"; fault = CatchInput }) among
-      (subst (λ r. Contains (caught_breaches inputs catcher.next r) (record { field = codes "Catch"; fault = CatchInput })) (sym e) (sub_in (codes "Catch") CatchInput s (inputs catcher.next) expected (compared_found compared) h)))
+      (subst (λ r. Contains (caught_breaches around.inputs catcher.next r) (record { field = codes "Catch"; fault = CatchInput })) (sym e) (sub_in (codes "Catch") CatchInput s (around.inputs catcher.next) expected compared h)))

@@ -1,13 +1,14 @@
 -- The states of a machine are those that its names find, and what flows to one is compared with what the list compares.
-use Rattle.std.proofs.Common.{◌≡◌, ℕ, zero, suc, List, Bool, true, false, ◌&&◌, ◌||◌, Option, Some, None, bytes_eq, refl, sym, ap, subst, ◌∙◌, ◌⊎◌, inl, inr}
+use Rattle.std.proofs.Common.{◌≡◌, ℕ, zero, suc, List, Bool, true, false, ◌&&◌, ◌||◌, Option, Some, None, bytes_eq, refl, sym, ap, ap₂, subst, ◌∙◌, ◌⊎◌, inl, inr}
+use mathlib.Core.Path.{fun_ext}
 use Rattle.std.proofs.lemmas.Bool.{and_parts, and_from, or_cases, or_left, or_right, false≢true, true≢false, false_from_ne_true}
 use Rattle.std.proofs.lemmas.Option.{none-some, same_Some}
 use Rattle.std.proofs.lemmas.Slice.Eq.{bytes_eq-Decides}
 use Rattle.asl_model.specs.Machine.{Settings, Scope, ScopeOf, States, NoStates, AndState, State, StateOf, Kind, Pass, Task, Choice, Wait, Succeed, Fail, Parallel, Map, Scopes, NoScopes, AndScope, kind_of, states_of, is_task, some_state, some_of_states, some_inside, some_in_kind, some_in_scopes, names_state, names_task}
 use Rattle.asl_model.specs.Shape.{Shape, Never}
-use Rattle.asl_model.specs.Certificate.{StateShapes, Certificate, certified}
-use Rattle.asl_model.specs.Finding.{input_of_entry, input_to_compare}
-use Rattle.asl_model.specs.FindingRules.{IsAmong, state_is_first, state_is_later, IsBranch, branch_is_first, branch_is_later, HasScope, has_itself, has_branch, has_processor, HasState, IsCompared, compared_with_entry, compared_with_never}
+use Rattle.asl_model.specs.Certificate.{Declared, StateShapes, Certificate, certified}
+use Rattle.asl_model.specs.Finding.{Surroundings, surrounded_by, input_of_entry, input_to_compare}
+use Rattle.asl_model.specs.FindingRules.{IsAmong, state_is_first, state_is_later, IsBranch, branch_is_first, branch_is_later, HasScope, has_itself, has_branch, has_processor, HasState, IsSurrounded, IsCompared, compared_with_entry, compared_with_never}
 
 -- ---- a state that passes a test is found
 
@@ -139,3 +140,21 @@ found_compared machine certificate n expected h = go (certified certificate n) r
     go : (o : Option StateShapes) → certified certificate n ≡ o → input_of_entry (names_state machine n) o ≡ Some expected → IsCompared machine certificate n expected
     go None e k = nameless (names_state machine n) refl e k
     go (Some entry) e k = subst (IsCompared machine certificate n) (same_Some entry.input expected k) (compared_with_entry e)
+
+-- ---- surroundings
+
+-- two options that hold the same
+same_option : (a b : Option Shape) → ((s : Shape) → a ≡ Some s → b ≡ Some s) → ((s : Shape) → b ≡ Some s → a ≡ Some s) → a ≡ b
+same_option None None there back = refl
+same_option None (Some s) there back = back s refl
+same_option (Some s) b there back = sym (there s refl)
+
+-- what a state with an entry is told to stand in are its surroundings
+pub is_surrounded : (machine : Scope) (declared : Declared) (certificate : Certificate) {n : List ℕ} {settings : Settings} {kind : Kind} {end : Option Shape} {entry : StateShapes} → HasState machine certificate n settings kind end → certified certificate n ≡ Some entry → IsSurrounded machine declared certificate settings kind (surrounded_by declared (input_to_compare machine certificate) end n entry)
+is_surrounded machine declared certificate state e = record { state = state; entry = e; tasks = refl; inputs = λ n expected. (found_compared machine certificate n expected, compared_found) }
+
+-- and there are no others
+pub same_surroundings : (machine : Scope) (declared : Declared) (certificate : Certificate) (settings : Settings) (kind : Kind) (around : Surroundings) → IsSurrounded machine declared certificate settings kind around → around ≡ surrounded_by declared (input_to_compare machine certificate) around.end around.name around.entry
+same_surroundings machine declared certificate settings kind around is =
+    ap₂ (λ known compared. surrounded_by known compared around.end around.name around.entry) is.tasks
+    (fun_ext (λ n. same_option (around.inputs n) (input_to_compare machine certificate n) (λ s e. compared_found ((is.inputs n s).0 e)) (λ s e. (is.inputs n s).1 (found_compared machine certificate n s e))))

@@ -6,10 +6,10 @@ use Rattle.asl_model.specs.Machine.{Settings, Scope, ScopeOf, States, NoStates, 
 use Rattle.asl_model.specs.Shape.{Shape}
 use Rattle.asl_model.specs.ShapeOrder.{sub}
 use Rattle.asl_model.specs.Certificate.{TaskShapes, Declared, StateShapes, Certificate, HasEntry, under, certified, branches_in, is_map, branch_end, item_end}
-use Rattle.asl_model.specs.Finding.{FindingFault, NotCertified, NotAState, TaskUndeclared, TaskUnknown, StartInput, Breach, Finding, found_at, breach_unless, breach_unless_sub, has_form, is_certified, entry_breaches, input_to_compare, flow_breaches, state_breaches, scope_findings, states_findings, state_findings, children_findings, branches_findings, unknown_entries, unknown_tasks, start_findings, findings, Stands}
+use Rattle.asl_model.specs.Finding.{FindingFault, NotCertified, NotAState, TaskUndeclared, TaskUnknown, StartInput, Breach, Finding, found_at, breach_unless, breach_unless_sub, has_form, is_certified, entry_breaches, input_to_compare, Surroundings, surrounded_by, flow_breaches, where_certified, state_breaches, scope_findings, states_findings, state_findings, children_findings, branches_findings, unknown_entries, unknown_tasks, start_findings, findings, Stands}
 use Rattle.asl_model.specs.FindingRules.{IsAmong, state_is_first, state_is_later, IsBranch, branch_is_first, branch_is_later, HasScope, has_itself, has_branch, has_processor, HasState, IsBroken, is_not_certified, is_not_a_state, is_undeclared, is_unknown, is_no_start_input, is_broken_in_flow}
 use Rattle.asl_model.proofs.Listed.{none_in, first_in, later_in, first_or_later, map_in, in_map}
-use Rattle.asl_model.proofs.FindingNames.{state_is_named, named_state, task_is_named, named_task, is_a_task, compared_found, found_compared}
+use Rattle.asl_model.proofs.FindingNames.{state_is_named, named_state, task_is_named, named_task, is_a_task, compared_found, found_compared, is_surrounded, same_surroundings}
 use Rattle.asl_model.proofs.FindingTold.{flow_broken}
 use Rattle.asl_model.proofs.FindingListed.{unless_in, sub_in, broken_listed}
 
@@ -100,18 +100,18 @@ module _ (machine : Scope) (declared : Declared) (certificate : Certificate) whe
       go (inr c) = let w = in_unless (not (is_task kind) || is_some (under n declared.tasks)) (codes "Resource") TaskUndeclared b c in subst (λ x. Broken (finding_of n x)) w.1 (undeclared w.0)
 
   -- those of what flows
-  flow_told : (n : List ℕ) (settings : Settings) (kind : Kind) (end : Option Shape) → HasState machine certificate n settings kind end → (b : Breach) → (o : Option StateShapes) → certified certificate n ≡ o → Contains (flow_breaches declared (input_to_compare machine certificate) end n settings kind o) b → Broken (finding_of n b)
+  flow_told : (n : List ℕ) (settings : Settings) (kind : Kind) (end : Option Shape) → HasState machine certificate n settings kind end → (b : Breach) → (o : Option StateShapes) → certified certificate n ≡ o → Contains (where_certified (λ own. flow_breaches (surrounded_by declared (input_to_compare machine certificate) end n own) settings kind) o) b → Broken (finding_of n b)
   flow_told n settings kind end state b None e c = none_in b c
-  flow_told n settings kind end state b (Some entry) e c = let w = flow_broken machine declared certificate end n entry settings kind b c in is_broken_in_flow state e w.0 w.1
+  flow_told n settings kind end state b (Some entry) e c = let w = flow_broken (surrounded_by declared (input_to_compare machine certificate) end n entry) settings kind b c in is_broken_in_flow (is_surrounded machine declared certificate state e) w.0 w.1
 
   -- those of a state
   state_told : (n : List ℕ) (settings : Settings) (kind : Kind) (end : Option Shape) → HasState machine certificate n settings kind end → (f : Finding) → Contains (found_at n (state_breaches machine declared certificate end n settings kind)) f → Broken f
-  state_told n settings kind end state f c = subst Broken w.2 (go (Contains-append_cases (entry_breaches kind (certified certificate n) (under n declared.tasks)) (flow_breaches declared (input_to_compare machine certificate) end n settings kind (certified certificate n)) w.0 w.1))
+  state_told n settings kind end state f c = subst Broken w.2 (go (Contains-append_cases (entry_breaches kind (certified certificate n) (under n declared.tasks)) (where_certified (λ own. flow_breaches (surrounded_by declared (input_to_compare machine certificate) end n own) settings kind) (certified certificate n)) w.0 w.1))
     where
       w : (b : Breach) × Contains (state_breaches machine declared certificate end n settings kind) b × (finding_of n b ≡ f)
       w = in_map (finding_of n) (state_breaches machine declared certificate end n settings kind) f c
 
-      go : Contains (entry_breaches kind (certified certificate n) (under n declared.tasks)) w.0 ⊎ Contains (flow_breaches declared (input_to_compare machine certificate) end n settings kind (certified certificate n)) w.0 → Broken (finding_of n w.0)
+      go : Contains (entry_breaches kind (certified certificate n) (under n declared.tasks)) w.0 ⊎ Contains (where_certified (λ own. flow_breaches (surrounded_by declared (input_to_compare machine certificate) end n own) settings kind) (certified certificate n)) w.0 → Broken (finding_of n w.0)
       go (inl d) = entry_told n settings kind end state w.0 d
       go (inr d) = flow_told n settings kind end state w.0 (certified certificate n) refl d
 
@@ -292,7 +292,7 @@ module _ (machine : Scope) (declared : Declared) (certificate : Certificate) whe
   broken_told : {f : Finding} → Broken f → Contains (findings machine declared certificate) f
   broken_told (is_not_certified {n = n} {settings = settings} {kind = kind} {end = end} state none) =
       state_listed (record { field = codes "states"; fault = NotCertified }) state
-      (Contains-append_left (entry_breaches kind (certified certificate n) (under n declared.tasks)) (flow_breaches declared (input_to_compare machine certificate) end n settings kind (certified certificate n)) (record { field = codes "states"; fault = NotCertified })
+      (Contains-append_left (entry_breaches kind (certified certificate n) (under n declared.tasks)) (where_certified (λ own. flow_breaches (surrounded_by declared (input_to_compare machine certificate) end n own) settings kind) (certified certificate n)) (record { field = codes "states"; fault = NotCertified })
       (Contains-append_left (breach_unless (is_certified kind (certified certificate n)) (codes "states") NotCertified) (breach_unless (not (is_task kind) || is_some (under n declared.tasks)) (codes "Resource") TaskUndeclared) (record { field = codes "states"; fault = NotCertified })
       (unless_in (is_certified kind (certified certificate n)) (codes "states") NotCertified (no_entry_told certificate n kind none))))
   broken_told (is_not_a_state {entry = entry} among none) =
@@ -300,7 +300,7 @@ module _ (machine : Scope) (declared : Declared) (certificate : Certificate) whe
       (entries_listed certificate.states entry among (false_from_ne_true (names_state machine entry.0) (λ h. let w = named_state machine certificate entry.0 h in none w.0 w.1 w.2 w.3)))
   broken_told (is_undeclared {n = n} {resource = resource} {settings = settings} {end = end} state none) =
       state_listed (record { field = codes "Resource"; fault = TaskUndeclared }) state
-      (Contains-append_left (entry_breaches (Task resource) (certified certificate n) (under n declared.tasks)) (flow_breaches declared (input_to_compare machine certificate) end n settings (Task resource) (certified certificate n)) (record { field = codes "Resource"; fault = TaskUndeclared })
+      (Contains-append_left (entry_breaches (Task resource) (certified certificate n) (under n declared.tasks)) (where_certified (λ own. flow_breaches (surrounded_by declared (input_to_compare machine certificate) end n own) settings (Task resource)) (certified certificate n)) (record { field = codes "Resource"; fault = TaskUndeclared })
       (Contains-append_right (breach_unless (is_certified (Task resource) (certified certificate n)) (codes "states") NotCertified) (breach_unless (is_some (under n declared.tasks)) (codes "Resource") TaskUndeclared) (record { field = codes "Resource"; fault = TaskUndeclared })
       (unless_in (is_some (under n declared.tasks)) (codes "Resource") TaskUndeclared (ap is_some none))))
   broken_told (is_unknown {task = task} among none) =
@@ -313,10 +313,14 @@ module _ (machine : Scope) (declared : Declared) (certificate : Certificate) whe
       (Contains-append_left of_start of_states (record { state = start_of machine; field = codes "StartAt"; fault = StartInput })
       (map_in (finding_of (start_of machine)) (breach_unless_sub (codes "StartAt") StartInput declared.input (input_to_compare machine certificate (start_of machine))) (record { field = codes "StartAt"; fault = StartInput })
       (sub_in (codes "StartAt") StartInput declared.input (input_to_compare machine certificate (start_of machine)) expected (compared_found compared) h))))
-  broken_told (is_broken_in_flow {n = n} {field = field} {settings = settings} {kind = kind} {end = end} {entry = entry} {fault = fault} state e live breaks) =
-      state_listed (record { field = field; fault = fault }) state
-      (Contains-append_right (entry_breaches kind (certified certificate n) (under n declared.tasks)) (flow_breaches declared (input_to_compare machine certificate) end n settings kind (certified certificate n)) (record { field = field; fault = fault })
-      (subst (λ o. Contains (flow_breaches declared (input_to_compare machine certificate) end n settings kind o) (record { field = field; fault = fault })) (sym e) (broken_listed machine declared certificate end n entry settings live kind breaks)))
+  broken_told (is_broken_in_flow {around = around} {settings = settings} {kind = kind} {field = field} {fault = fault} is live breaks) =
+      state_listed (record { field = field; fault = fault }) is.state
+      (Contains-append_right (entry_breaches kind (certified certificate around.name) (under around.name declared.tasks)) (of_flow around settings kind (certified certificate around.name)) (record { field = field; fault = fault })
+      (subst (λ o. Contains (of_flow around settings kind o) (record { field = field; fault = fault })) (sym is.entry)
+      (subst (λ own. Contains (flow_breaches own settings kind) (record { field = field; fault = fault })) (same_surroundings machine declared certificate settings kind around is) (broken_listed around settings live kind breaks))))
+    where
+      of_flow : Surroundings → Settings → Kind → Option StateShapes → List Breach
+      of_flow around settings kind o = where_certified (λ own. flow_breaches (surrounded_by declared (input_to_compare machine certificate) around.end around.name own) settings kind) o
 
 -- both ways
 pub broken_exactly : (machine : Scope) (declared : Declared) (certificate : Certificate) (f : Finding) → IsBroken machine declared certificate f ↔ Stands machine declared certificate f

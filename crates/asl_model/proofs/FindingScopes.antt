@@ -7,7 +7,7 @@ use Rattle.std.proofs.Common.{⊎_elim}
 use Rattle.asl_model.specs.Machine.{Settings, Scope, ScopeOf, States, NoStates, AndState, State, StateOf, Kind, Pass, Task, Choice, Wait, Succeed, Fail, Parallel, Map, Scopes, NoScopes, AndScope, settings_of, kind_of, state_named, state_among, scope_at, child_scope, empty_scope, how_many, is_task, names_state, names_task, some_state, some_of_states, some_inside, some_in_kind, some_in_scopes}
 use Rattle.asl_model.specs.Shape.{Shape}
 use Rattle.asl_model.specs.Certificate.{TaskShapes, Declared, StateShapes, Certificate, under, certified, branch_end, item_end, child_end, branch_shape, or_never, branches_in, is_map, HasEntry, IsScope, whole_machine, child_of_state}
-use Rattle.asl_model.specs.Finding.{FindingFault, Breach, found_at, breach_unless, is_certified, entry_breaches, input_to_compare, flow_breaches, state_breaches, scope_findings, states_findings, state_findings, children_findings, branches_findings, unknown_entries, unknown_tasks, NotCertified, NotAState, TaskUndeclared, TaskUnknown}
+use Rattle.asl_model.specs.Finding.{FindingFault, Breach, found_at, breach_unless, is_certified, entry_breaches, input_to_compare, surrounded_by, flow_breaches, where_certified, state_breaches, scope_findings, states_findings, state_findings, children_findings, branches_findings, unknown_entries, unknown_tasks, NotCertified, NotAState, TaskUndeclared, TaskUnknown}
 
 -- Lists without an element
 
@@ -97,13 +97,13 @@ module _ (machine : Scope) (declared : Declared) (certificate : Certificate) (te
         ⊎_elim (λ here. scope-tells scope (branch_end i (certified certificate n)) here parts.0) (λ there. branches-tell others n (suc i) there parts.1) (or_cases (some_state test scope) (some_in_scopes test others) picked)
 
 -- the breaches of a state's entry, and those of its data flow
-entry-parts : (machine : Scope) (declared : Declared) (certificate : Certificate) (end : Option Shape) (n : List ℕ) (settings : Settings) (kind : Kind) → state_breaches machine declared certificate end n settings kind ≡ [] → IsTrue (is_certified kind (certified certificate n)) × IsTrue (not (is_task kind) || is_some (under n declared.tasks)) × (flow_breaches declared (input_to_compare machine certificate) end n settings kind (certified certificate n) ≡ [])
+entry-parts : (machine : Scope) (declared : Declared) (certificate : Certificate) (end : Option Shape) (n : List ℕ) (settings : Settings) (kind : Kind) → state_breaches machine declared certificate end n settings kind ≡ [] → IsTrue (is_certified kind (certified certificate n)) × IsTrue (not (is_task kind) || is_some (under n declared.tasks)) × (where_certified (λ own. flow_breaches (surrounded_by declared (input_to_compare machine certificate) end n own) settings kind) (certified certificate n) ≡ [])
 entry-parts machine declared certificate end n settings kind e =
-    let parts = append-none (entry_breaches kind (certified certificate n) (under n declared.tasks)) (flow_breaches declared (input_to_compare machine certificate) end n settings kind (certified certificate n)) e in
+    let parts = append-none (entry_breaches kind (certified certificate n) (under n declared.tasks)) (where_certified (λ own. flow_breaches (surrounded_by declared (input_to_compare machine certificate) end n own) settings kind) (certified certificate n)) e in
     let entry = append-none (breach_unless (is_certified kind (certified certificate n)) (codes "states") NotCertified) (breach_unless (not (is_task kind) || is_some (under n declared.tasks)) (codes "Resource") TaskUndeclared) parts.0 in
     (none-unless (is_certified kind (certified certificate n)) (codes "states") NotCertified entry.0, none-unless (not (is_task kind) || is_some (under n declared.tasks)) (codes "Resource") TaskUndeclared entry.1, parts.1)
 
-pub flow-none : (machine : Scope) (declared : Declared) (certificate : Certificate) (end : Option Shape) (n : List ℕ) (settings : Settings) (kind : Kind) → state_breaches machine declared certificate end n settings kind ≡ [] → flow_breaches declared (input_to_compare machine certificate) end n settings kind (certified certificate n) ≡ []
+pub flow-none : (machine : Scope) (declared : Declared) (certificate : Certificate) (end : Option Shape) (n : List ℕ) (settings : Settings) (kind : Kind) → state_breaches machine declared certificate end n settings kind ≡ [] → where_certified (λ own. flow_breaches (surrounded_by declared (input_to_compare machine certificate) end n own) settings kind) (certified certificate n) ≡ []
 flow-none machine declared certificate end n settings kind e = (entry-parts machine declared certificate end n settings kind e).2
 
 is-there : (kind : Kind) (entry : Option StateShapes) → IsTrue (is_certified kind entry) → IsTrue (is_some entry)

@@ -14,7 +14,7 @@ use Rattle.asl_model.specs.Shape.{Shape, Any, Never, NullShape, BooleanShape, In
 use Rattle.asl_model.specs.ShapeOrder.{sub, join, joined_with_each, is_integer_shape, is_string_shape}
 use Rattle.asl_model.specs.ShapeFlow.{look, put, literal, template_shape, rule_shape, Flow, template_flow, output_flow, result_leaves}
 use Rattle.asl_model.specs.Certificate.{Declared, StateShapes, Certificate, certified, certified_input, certified_output, input_among, output_among, branches_in, is_map, branch_shape, branch_end, item_end, or_never, takes_of, gives_of, EachHas, OutputFits, WorkFits, CaughtFits, CatchersFit, HasEntry, IsClosedAt}
-use Rattle.asl_model.specs.Finding.{FindingFault, Breach, NotCertified, BranchInput, NextInput, ScopeOutput, OutputNotCertified, PayloadNotTaken, CatchInput, breach_unless, breach_unless_sub, breach_of, breaches_then, input_of_entry, input_to_compare, effective_flow, next_breaches, end_breaches, output_breaches, kind_breaches, delay_breaches, child_breaches, branch_breaches, as_first_elements, element_shape, item_flow, at_each_place, map_result, array_parts, with_elements, with_items, chosen_breaches, rule_breaches, rules_breaches, default_breaches, error_output_shape, error_placed_shape, caught_breaches, catcher_breaches, result_breaches, map_breaches, work_breaches, settled_breaches, flow_breaches, state_breaches, scope_findings}
+use Rattle.asl_model.specs.Finding.{FindingFault, Breach, Surroundings, surrounded_by, where_certified, NotCertified, BranchInput, NextInput, ScopeOutput, OutputNotCertified, PayloadNotTaken, CatchInput, breach_unless, breach_unless_sub, breach_of, breaches_then, input_of_entry, input_to_compare, effective_flow, next_breaches, end_breaches, output_breaches, kind_breaches, delay_breaches, child_breaches, branch_breaches, as_first_elements, element_shape, item_flow, at_each_place, map_result, array_parts, with_elements, with_items, chosen_breaches, rule_breaches, rules_breaches, default_breaches, error_output_shape, error_placed_shape, caught_breaches, catcher_breaches, result_breaches, map_breaches, work_breaches, settled_breaches, flow_breaches, state_breaches, scope_findings}
 use Rattle.asl_model.proofs.FindingScopes.{append-none, none-unless, flow-none, has-entry, state-certified}
 use Rattle.asl_model.proofs.ShapeInhabited.{has-inhabited}
 use Rattle.asl_model.proofs.ShapeInside.{sub-inside, only_integer, only_string}
@@ -178,6 +178,10 @@ module _ (declared : Declared) (certificate : Certificate) (inputs : List ℕ �
       (fit (start_of scope) (codes "Branches") BranchInput s parts.0 u m, each-branch others s u parts.1 m)
 
   module _ (end : Shape) (n : List ℕ) (entry : StateShapes) (at : certified certificate n ≡ Some entry) where
+    -- what the state stands in
+    abbrev around : Surroundings
+    around = surrounded_by declared inputs (Some end) n entry
+
     out-certified : (output : Shape) (u : Tree) → breach_unless_sub (codes "OutputPath") OutputNotCertified output (Some entry.output) ≡ [] → Has output u → Has (certified_output certificate n) u
     out-certified output u e m = subst (λ (o : Option StateShapes). Has (output_among o) u) (sym at) (sub-none (codes "OutputPath") OutputNotCertified output entry.output e u m)
 
@@ -212,42 +216,42 @@ module _ (declared : Declared) (certificate : Certificate) (inputs : List ℕ �
 
     -- the next state of a Choice
     module _ (settings : Settings) (all : List Rule) (fallback : Option (List ℕ)) where
-      one-chosen : (field next : List ℕ) (s : Shape) (v u : Tree) → chosen_breaches inputs entry settings (Choice all fallback) field next s ≡ [] → Has entry.input v → Has s u → OutputFits certificate end n (Some next) (at_output_path settings u)
+      one-chosen : (field next : List ℕ) (s : Shape) (v u : Tree) → chosen_breaches around settings (Choice all fallback) field next s ≡ [] → Has entry.input v → Has s u → OutputFits certificate end n (Some next) (at_output_path settings u)
       one-chosen field next s v u e h m = passed-fits settings (Some next) (next_breaches inputs entry.output field next) s v u (λ output w. next-fits field next output w) e h m
 
-      by-rules : (rules : List Rule) (default : Option (List ℕ)) (s : Shape) (v u : Tree) → rules_breaches inputs entry settings (Choice all fallback) rules s ≡ [] → default_breaches inputs entry settings (Choice all fallback) default s ≡ [] → IsTrue (is_some default) → Has entry.input v → Has s u → (next : List ℕ) × (chosen rules default u ≡ Ok next) × OutputFits certificate end n (Some next) (at_output_path settings u)
+      by-rules : (rules : List Rule) (default : Option (List ℕ)) (s : Shape) (v u : Tree) → rules_breaches around settings (Choice all fallback) rules s ≡ [] → default_breaches around settings (Choice all fallback) default s ≡ [] → IsTrue (is_some default) → Has entry.input v → Has s u → (next : List ℕ) × (chosen rules default u ≡ Ok next) × OutputFits certificate end n (Some next) (at_output_path settings u)
       by-rules [] None s v u e f there h m = absurd (false≢true there)
       by-rules [] (Some next) s v u e f there h m = (next, refl, one-chosen (codes "Default") next s v u f h m)
       by-rules (rule ∷ rules) default s v u e f there h m = go (rule_shape rule.test s) refl parts.0 (by-rules rules default s v u parts.1 f there h m)
         where
-          parts : (rule_breaches inputs entry settings (Choice all fallback) rule.next (rule_shape rule.test s) ≡ []) × (rules_breaches inputs entry settings (Choice all fallback) rules s ≡ [])
-          parts = append-none (rule_breaches inputs entry settings (Choice all fallback) rule.next (rule_shape rule.test s)) (rules_breaches inputs entry settings (Choice all fallback) rules s) e
+          parts : (rule_breaches around settings (Choice all fallback) rule.next (rule_shape rule.test s) ≡ []) × (rules_breaches around settings (Choice all fallback) rules s ≡ [])
+          parts = append-none (rule_breaches around settings (Choice all fallback) rule.next (rule_shape rule.test s)) (rules_breaches around settings (Choice all fallback) rules s) e
 
-          by-truth : (r : Shape) (b : Bool) → truth rule.test u ≡ Some b → (IsTrue b → Has r u) → rule_breaches inputs entry settings (Choice all fallback) rule.next (Some r) ≡ [] → (next : List ℕ) × (chosen rules default u ≡ Ok next) × OutputFits certificate end n (Some next) (at_output_path settings u) → (next : List ℕ) × (chosen (rule ∷ rules) default u ≡ Ok next) × OutputFits certificate end n (Some next) (at_output_path settings u)
+          by-truth : (r : Shape) (b : Bool) → truth rule.test u ≡ Some b → (IsTrue b → Has r u) → rule_breaches around settings (Choice all fallback) rule.next (Some r) ≡ [] → (next : List ℕ) × (chosen rules default u ≡ Ok next) × OutputFits certificate end n (Some next) (at_output_path settings u) → (next : List ℕ) × (chosen (rule ∷ rules) default u ≡ Ok next) × OutputFits certificate end n (Some next) (at_output_path settings u)
           by-truth r true is holds e' below = (rule.next, rw is refl, one-chosen (codes "Choices") rule.next r v u e' h (holds refl))
           by-truth r false is holds e' below = (below.0, rw is (below.1), below.2)
 
-          go : (shape : Option Shape) → rule_shape rule.test s ≡ shape → rule_breaches inputs entry settings (Choice all fallback) rule.next shape ≡ [] → (next : List ℕ) × (chosen rules default u ≡ Ok next) × OutputFits certificate end n (Some next) (at_output_path settings u) → (next : List ℕ) × (chosen (rule ∷ rules) default u ≡ Ok next) × OutputFits certificate end n (Some next) (at_output_path settings u)
+          go : (shape : Option Shape) → rule_shape rule.test s ≡ shape → rule_breaches around settings (Choice all fallback) rule.next shape ≡ [] → (next : List ℕ) × (chosen rules default u ≡ Ok next) × OutputFits certificate end n (Some next) (at_output_path settings u) → (next : List ℕ) × (chosen (rule ∷ rules) default u ≡ Ok next) × OutputFits certificate end n (Some next) (at_output_path settings u)
           go None is e' below = absurd (cc)
           go (Some r) is e' below =
               let truth_known = rule-decided rule.test s r u is m in
               by-truth r truth_known.0 truth_known.1 truth_known.2 e' below
 
     -- what the first move comes to, for an effective input
-    work-fits : (kind : Kind) (settings : Settings) (s : Shape) (v u : Tree) → length entry.branches ≡ branches_in kind → is_some entry.item ≡ is_map kind → work_breaches declared inputs (Some end) n entry settings kind s ≡ [] → settled_breaches declared inputs (Some end) n entry settings kind ≡ [] → effective_input settings v ≡ Ok u → Has s u → Has entry.input v → WorkFits declared certificate end n (StateOf settings kind) v (work_of kind settings v)
+    work-fits : (kind : Kind) (settings : Settings) (s : Shape) (v u : Tree) → length entry.branches ≡ branches_in kind → is_some entry.item ≡ is_map kind → work_breaches around settings kind s ≡ [] → settled_breaches around settings kind ≡ [] → effective_input settings v ≡ Ok u → Has s u → Has entry.input v → WorkFits declared certificate end n (StateOf settings kind) v (work_of kind settings v)
     work-fits (Pass None) settings s v u long item e f eff m h = rw eff (result-fits settings s v u e h m)
     work-fits (Pass (Some t)) settings s v u long item e f eff m h = rw eff (result-fits settings (literal t) v t f h (literal-has_itself t))
     work-fits (Task resource) settings s v u long item e f eff m h = rw eff (sub-none (codes "Parameters") PayloadNotTaken s (takes_of declared n) e u m, λ answer given. result-fits settings (gives_of declared n) v answer f h given)
     work-fits (Choice rules default) settings s v u long item e f eff m h =
-        let parts = append-none (rules_breaches inputs entry settings (Choice rules default) rules s) (default_breaches inputs entry settings (Choice rules default) default s) e in
+        let parts = append-none (rules_breaches around settings (Choice rules default) rules s) (default_breaches around settings (Choice rules default) default s) e in
         let next = by-rules settings rules default rules default s v u parts.0 parts.1 (has_default default f) h m in
         rw (eff, next.1) (next.2)
       where
-        has_default : (fallback : Option (List ℕ)) → settled_breaches declared inputs (Some end) n entry settings (Choice rules fallback) ≡ [] → IsTrue (is_some fallback)
+        has_default : (fallback : Option (List ℕ)) → settled_breaches around settings (Choice rules fallback) ≡ [] → IsTrue (is_some fallback)
         has_default None f' = absurd (cc)
         has_default (Some next) f' = refl
     work-fits (Wait delay) settings s v u long item e f eff m h =
-        let parts = append-none (delay_breaches delay s) (result_breaches inputs (Some end) entry settings (Wait delay) s) e in
+        let parts = append-none (delay_breaches delay s) (result_breaches around settings (Wait delay) s) e in
         let waits = delay-fits delay s u parts.0 m in
         rw (eff, waits.1) (passed-fits settings settings.next (output_breaches inputs entry.output (Some end) settings.next) s v u (λ output w. output-fits settings.next output w) parts.1 h m)
     work-fits Succeed settings s v u long item e f eff m h = rw eff (passed-fits settings None (end_breaches entry.output (codes "Type") (Some end)) s v u (λ output w. end-fits (codes "Type") output w) e h m)
@@ -264,14 +268,14 @@ module _ (declared : Declared) (certificate : Certificate) (inputs : List ℕ �
             let of_branches : count (branch_inputs branches u) ≡ how_many branches = inputs-count branches u in
             omega arith
     work-fits (Map items selector processor) settings s v u long item e f eff m h =
-        let parts = items-parts (λ elements. breaches_then (child_breaches inputs (codes "ItemProcessor") processor) (item_flow selector s (element_shape elements.0 elements.1)) ++ map_breaches inputs (Some end) entry settings (Map items selector processor) entry.item elements) (look items s) e in
-        let both = append-none (breaches_then (child_breaches inputs (codes "ItemProcessor") processor) (item_flow selector s (element_shape parts.0 parts.1))) (map_breaches inputs (Some end) entry settings (Map items selector processor) entry.item (parts.0, parts.1)) parts.3 in
+        let parts = items-parts (λ elements. breaches_then (child_breaches inputs (codes "ItemProcessor") processor) (item_flow selector s (element_shape elements.0 elements.1)) ++ map_breaches around settings (Map items selector processor) entry.item elements) (look items s) e in
+        let both = append-none (breaches_then (child_breaches inputs (codes "ItemProcessor") processor) (item_flow selector s (element_shape parts.0 parts.1))) (map_breaches around settings (Map items selector processor) entry.item (parts.0, parts.1)) parts.3 in
         let list = items-there items s parts.0 parts.1 u parts.2 m in
         let flow = then-none (child_breaches inputs (codes "ItemProcessor") processor) (item_flow selector s (element_shape parts.0 parts.1)) (item-told selector s (element_shape parts.0 parts.1)) both.0 in
         let given = inputs-give selector s (element_shape parts.0 parts.1) flow.0 u 0 list.0 flow.1 m (items-have parts.0 parts.1 list.0 list.2) in
         rw (eff, list.1, given.1) (each-fits flow.0 (certified_input certificate (start_of processor)) given.0 (λ w held. fit (start_of processor) (codes "ItemProcessor") BranchInput flow.0 flow.2 w held) given.3, λ outputs same each. outputs-fit entry.item refl outputs parts.0 parts.1 list.0 given.0 list.2 given.2 same (subst (λ (o : Option StateShapes). EachHas (λ i. or_never (item_end o)) outputs) at each) both.1)
       where
-        outputs-fit : (shape : Option Shape) → entry.item ≡ shape → (outputs : Trees) (first : Shapes) (rest : Shape) (ts us : Trees) → IsTrue (elements_have first (has rest) ts) → count us ≡ count ts → count outputs ≡ count us → EachHas (λ i. or_never shape) outputs → map_breaches inputs (Some end) entry settings (Map items selector processor) shape (first, rest) ≡ [] → OutputFits certificate end n settings.next (output_of settings v (Array outputs))
+        outputs-fit : (shape : Option Shape) → entry.item ≡ shape → (outputs : Trees) (first : Shapes) (rest : Shape) (ts us : Trees) → IsTrue (elements_have first (has rest) ts) → count us ≡ count ts → count outputs ≡ count us → EachHas (λ i. or_never shape) outputs → map_breaches around settings (Map items selector processor) shape (first, rest) ≡ [] → OutputFits certificate end n settings.next (output_of settings v (Array outputs))
         outputs-fit None is outputs first rest ts us held many same each none =
             let gone : is_some {T = Shape} None ≡ true = subst (λ (o : Option Shape). is_some o ≡ true) is item in
             absurd (false≢true gone)
@@ -308,11 +312,11 @@ state-closed machine declared certificate end n settings kind none e = record { 
 
     -- the broken rules on what comes of the effective input
     worked : List Breach
-    worked = breaches_then (work_breaches declared inputs (Some end) n there.shapes settings kind) (effective_flow settings there.shapes.input)
+    worked = breaches_then (work_breaches (surrounded_by declared inputs (Some end) n there.shapes) settings kind) (effective_flow settings there.shapes.input)
 
     -- those that need no effective input
     settled : List Breach
-    settled = settled_breaches declared inputs (Some end) n there.shapes settings kind
+    settled = settled_breaches (surrounded_by declared inputs (Some end) n there.shapes) settings kind
 
     -- those of the catchers
     caught : List Breach
@@ -320,7 +324,7 @@ state-closed machine declared certificate end n settings kind none e = record { 
 
     parts : (v : Tree) → Has there.shapes.input v → (worked ≡ []) × (settled ≡ []) × (caught ≡ [])
     parts v h =
-        let flow : flow_breaches declared inputs (Some end) n settings kind (Some there.shapes) ≡ [] = subst (λ (o : Option StateShapes). flow_breaches declared inputs (Some end) n settings kind o ≡ []) there.stands (flow-none machine declared certificate (Some end) n settings kind e) in
+        let flow : flow_breaches (surrounded_by declared inputs (Some end) n there.shapes) settings kind ≡ [] = subst (λ (o : Option StateShapes). where_certified (λ own. flow_breaches (surrounded_by declared inputs (Some end) n own) settings kind) o ≡ []) there.stands (flow-none machine declared certificate (Some end) n settings kind e) in
         let first = append-none worked (settled ++ caught) (rw (has-inhabited there.shapes.input v h) at flow) in
         let further = append-none settled caught first.1 in
         (first.0, further.0, further.1)
@@ -328,6 +332,6 @@ state-closed machine declared certificate end n settings kind none e = record { 
     works : (v : Tree) → Has there.shapes.input v → WorkFits declared certificate end n (StateOf settings kind) v (first_move (StateOf settings kind) v)
     works v h =
         let none_broken = parts v h in
-        let effective = then-none (work_breaches declared inputs (Some end) n there.shapes settings kind) (effective_flow settings there.shapes.input) (effective-told settings there.shapes.input) none_broken.0 in
+        let effective = then-none (work_breaches (surrounded_by declared inputs (Some end) n there.shapes) settings kind) (effective_flow settings there.shapes.input) (effective-told settings there.shapes.input) none_broken.0 in
         let given = effective-gives settings there.shapes.input effective.0 v effective.1 h in
         work-fits declared certificate inputs fit end n there.shapes there.stands kind settings effective.0 v given.0 there.branches there.item effective.2 none_broken.1 given.1 given.2 h

@@ -1,7 +1,7 @@
 -- The list of a certificate's shapes: what stands in it, and how what is written for it is spelled out.
-use Rattle.std.proofs.Common.{◌≡◌, ℕ, zero, suc, pos, List, [], ◌∷◌, ◌++◌, map, slice_get, Bool, true, false, ◌||◌, not, is_some, Option, Some, None, option_map, unwrap_or, IfSome, if◌then◌else◌, codes, refl, sym, ap, ap₂, subst, ◌∙◌, append_assoc, append-nil}
+use Rattle.std.proofs.Common.{◌≡◌, ℕ, zero, suc, List, [], ◌∷◌, ◌++◌, map, slice_get, Bool, true, false, ◌||◌, not, is_some, Option, Some, None, option_map, unwrap_or, IfSome, if◌then◌else◌, refl, sym, ap, ap₂, subst, ◌∙◌, append_assoc, append-nil}
 use Rattle.std.specs.List.{AllByRecursion}
-use Rattle.asl_model.specs.Tree.{Tree, Boolean, Integer, Array, Object, Trees, NoTrees, AndTree, Fields, NoFields, AndField}
+use Rattle.asl_model.specs.Tree.{Tree, Boolean, Array, Object, Trees, AndTree, Fields, AndField}
 use Rattle.asl_model.specs.Shape.{Shape, Any, Never, NullShape, BooleanShape, IntegerShape, StringShape, ArrayShape, ObjectShape, Shapes, NoShapes, AndShape, FieldShapes, NoFieldShapes, AndFieldShape, IsProperShape, AreProperShapes, AreProperFields}
 use Rattle.asl_model.specs.ShapeOrder.{is_any_shape}
 use Rattle.asl_model.specs.ShapeFlow.{how_many_shapes}

@@ -2,20 +2,18 @@
 use Rattle.std.proofs.Common.{◌≡◌, ℕ, pos, List, [], ◌∷◌, ◌++◌, IfSome, Option, Some, None, option_map, unwrap_or, codes, is_some, refl, sym, ap, subst, ◌∙◌, append_assoc, append-nil}
 use Rattle.std.proofs.lemmas.List.{map-append}
 use Rattle.std.specs.List.{AllByRecursion}
-use Rattle.serde_json.specs.Data as json
 use Rattle.serde_json.specs.Data.{Data, Items}
 use Rattle.asl_model.specs.Tree.{Tree, Null, Integer, Array, Object}
 use Rattle.asl_model.specs.Shape.{Shape, IsProperShape}
 use Rattle.asl_model.specs.Json.{tree_of, elements_of}
 use Rattle.asl_model.specs.Certificate.{StateShapes, Certificate}
-use Rattle.asl_model.specs.References.{spelled_out, has_wrong_number}
-use Rattle.asl_model.specs.Records.{BadNumber, RecordFault, StandsForCertificate, tree_misfits, shape_misfits, plain_tree, listed_after, listed_misfits, state_rows, state_from}
+use Rattle.asl_model.specs.References.{spelled_out}
+use Rattle.asl_model.specs.Records.{StandsForCertificate, tree_misfits, plain_tree, listed_after, listed_misfits, state_rows, state_from}
 use Rattle.asl_model.specs.RecordShapes.{HoldsForState, HoldsForCertificate}
-use Rattle.asl_model.specs.ShapeSpelling.{shape_of, shape_faults}
-use Rattle.asl_model.specs.Written.{written_shape, written_list, written_entries, written_state, certificate_written, written_certificate}
+use Rattle.asl_model.specs.Written.{written_shape, written_list, written_entries, written_state, certificate_written}
 use Rattle.asl_model.specs.WrittenNumbered.{shapes_listed, referring, written_over, written_numbered}
 use Rattle.asl_model.proofs.Listing.{AreBehind, IsThere, IsListing, IsOut, all_listed, over_more, over_out, referring_out, written_all}
-use Rattle.asl_model.proofs.RecordsBack.{IsShape, IsEntry, AreEntries, array_in, entries_there, four_in, item_in, no_item_in, number_in, object_in, proper_certificate_back, state_there}
+use Rattle.asl_model.proofs.RecordsBack.{IsShape, array_in, entries_there, four_in, item_in, no_item_in, number_in, object_in, proper_certificate_back, state_there}
 use Rattle.asl_model.proofs.SpellingWritten.{written_spells}
 
 -- ---- a shape

@@ -7,7 +7,7 @@ use Rattle.asl_model.specs.Machine.{Settings, Scope, State, StateOf, Kind, Pass,
 use Rattle.asl_model.specs.Shape.{Shape, Shapes, inhabited}
 use Rattle.asl_model.specs.ShapeFlow.{look}
 use Rattle.asl_model.specs.Certificate.{TaskShapes, Declared, StateShapes}
-use Rattle.asl_model.specs.Finding.{Breach, NotCertified, TaskUndeclared, breach_unless, has_form, is_certified, entry_breaches, element_shape, item_flow, with_items, child_breaches, branch_breaches, map_breaches, work_breaches, settled_breaches, catcher_breaches, effective_flow, breaches_then, flow_breaches}
+use Rattle.asl_model.specs.Finding.{Surroundings, surrounded_by, where_certified, Breach, NotCertified, TaskUndeclared, breach_unless, has_form, is_certified, entry_breaches, element_shape, item_flow, with_items, child_breaches, branch_breaches, map_breaches, work_breaches, settled_breaches, catcher_breaches, effective_flow, breaches_then, flow_breaches}
 use Rattle.asl_model.specs.Numbering.{outline, kind_outline, scope_outline, scopes_outline}
 
 -- ---- the entry
@@ -52,12 +52,12 @@ branches-outlined : (inputs : List ℕ → Option Shape) (branches : Scopes) (s 
 branches-outlined inputs NoScopes s = refl
 branches-outlined inputs (AndScope scope others) s = ap (λ rest. child_breaches inputs (codes "Branches") scope s ++ rest) (branches-outlined inputs others s)
 
-module _ (declared : Declared) (inputs : List ℕ → Option Shape) (end : Option Shape) (n : List ℕ) (entry : StateShapes) (settings : Settings) where
-  map-outlined : (items : List Segment) (selector : Option Template) (processor : Scope) (item : Option Shape) (elements : Shapes × Shape) → map_breaches inputs end entry settings (Map items selector (scope_outline processor)) item elements ≡ map_breaches inputs end entry settings (Map items selector processor) item elements
+module _ (around : Surroundings) (settings : Settings) where
+  map-outlined : (items : List Segment) (selector : Option Template) (processor : Scope) (item : Option Shape) (elements : Shapes × Shape) → map_breaches around settings (Map items selector (scope_outline processor)) item elements ≡ map_breaches around settings (Map items selector processor) item elements
   map-outlined items selector processor None elements = refl
   map-outlined items selector processor (Some item) elements = refl
 
-  work-outlined : (kind : Kind) (s : Shape) → work_breaches declared inputs end n entry settings (kind_outline kind) s ≡ work_breaches declared inputs end n entry settings kind s
+  work-outlined : (kind : Kind) (s : Shape) → work_breaches around settings (kind_outline kind) s ≡ work_breaches around settings kind s
   work-outlined (Pass None) s = refl
   work-outlined (Pass (Some t)) s = refl
   work-outlined (Task resource) s = refl
@@ -65,11 +65,11 @@ module _ (declared : Declared) (inputs : List ℕ → Option Shape) (end : Optio
   work-outlined (Wait delay) s = refl
   work-outlined Succeed s = refl
   work-outlined (Fail error cause) s = refl
-  work-outlined (Parallel branches) s = branches-outlined inputs branches s
+  work-outlined (Parallel branches) s = branches-outlined around.inputs branches s
   work-outlined (Map items selector processor) s =
-      ap (λ go_on. with_items go_on (look items s)) (fun_ext (λ (elements : Shapes × Shape). ap (λ rest. breaches_then (child_breaches inputs (codes "ItemProcessor") processor) (item_flow selector s (element_shape elements.0 elements.1)) ++ rest) (map-outlined items selector processor entry.item elements)))
+      ap (λ go_on. with_items go_on (look items s)) (fun_ext (λ (elements : Shapes × Shape). ap (λ rest. breaches_then (child_breaches around.inputs (codes "ItemProcessor") processor) (item_flow selector s (element_shape elements.0 elements.1)) ++ rest) (map-outlined items selector processor around.entry.item elements)))
 
-  settled-outlined : (kind : Kind) → settled_breaches declared inputs end n entry settings (kind_outline kind) ≡ settled_breaches declared inputs end n entry settings kind
+  settled-outlined : (kind : Kind) → settled_breaches around settings (kind_outline kind) ≡ settled_breaches around settings kind
   settled-outlined (Pass None) = refl
   settled-outlined (Pass (Some t)) = refl
   settled-outlined (Task resource) = refl
@@ -81,16 +81,21 @@ module _ (declared : Declared) (inputs : List ℕ → Option Shape) (end : Optio
   settled-outlined (Parallel branches) = refl
   settled-outlined (Map items selector processor) = refl
 
-  -- the rules of a state with an entry, by what comes of its effective input and what is settled
+  -- the rules of a state with an around.entry, by what comes of its effective input and what is settled
   abbrev all_of : (Shape → List Breach) → List Breach → List Breach
-  all_of work settled = if inhabited entry.input then breaches_then work (effective_flow settings entry.input) ++ (settled ++ catcher_breaches inputs entry.input settings.catchers) else []
+  all_of work settled = if inhabited around.entry.input then breaches_then work (effective_flow settings around.entry.input) ++ (settled ++ catcher_breaches around.inputs around.entry.input settings.catchers) else []
 
-  kind-outlined : (kind : Kind) → flow_breaches declared inputs end n settings (kind_outline kind) (Some entry) ≡ flow_breaches declared inputs end n settings kind (Some entry)
+  kind-outlined : (kind : Kind) → flow_breaches around settings (kind_outline kind) ≡ flow_breaches around settings kind
   kind-outlined kind =
-      ap (λ work. all_of work (settled_breaches declared inputs end n entry settings (kind_outline kind))) (fun_ext (λ (s : Shape). work-outlined kind s))
-      ∙ ap (all_of (work_breaches declared inputs end n entry settings kind)) (settled-outlined kind)
+      ap (λ work. all_of work (settled_breaches around settings (kind_outline kind))) (fun_ext (λ (s : Shape). work-outlined kind s))
+      ∙ ap (all_of (work_breaches around settings kind)) (settled-outlined kind)
 
 -- the rules on what flows through a state
-pub flow-outlined : (declared : Declared) (inputs : List ℕ → Option Shape) (end : Option Shape) (n : List ℕ) (state : State) (entry : Option StateShapes) → flow_breaches declared inputs end n (settings_of (outline state)) (kind_of (outline state)) entry ≡ flow_breaches declared inputs end n (settings_of state) (kind_of state) entry
-flow-outlined declared inputs end n (StateOf settings kind) None = refl
-flow-outlined declared inputs end n (StateOf settings kind) (Some entry) = kind-outlined declared inputs end n entry settings kind
+pub flow-outlined : (around : Surroundings) (state : State) → flow_breaches around (settings_of (outline state)) (kind_of (outline state)) ≡ flow_breaches around (settings_of state) (kind_of state)
+flow-outlined around (StateOf settings kind) = kind-outlined around settings kind
+
+-- so where an entry is certified
+pub flow-outlined_where : (declared : Declared) (inputs : List ℕ → Option Shape) (end : Option Shape) (n : List ℕ) (state : State) (entry : Option StateShapes)
+    → where_certified (λ own. flow_breaches (surrounded_by declared inputs end n own) (settings_of (outline state)) (kind_of (outline state))) entry ≡ where_certified (λ own. flow_breaches (surrounded_by declared inputs end n own) (settings_of state) (kind_of state)) entry
+flow-outlined_where declared inputs end n state None = refl
+flow-outlined_where declared inputs end n state (Some entry) = flow-outlined (surrounded_by declared inputs end n entry) state

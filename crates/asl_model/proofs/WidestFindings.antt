@@ -10,8 +10,8 @@ use Rattle.asl_model.specs.Shape.{Shape, Any}
 use Rattle.asl_model.specs.ShapeOrder.{sub}
 use Rattle.asl_model.specs.ShapeSpelling.{are_distinct}
 use Rattle.asl_model.specs.Certificate.{Declared, StateShapes, Certificate, HasEntry, under, certified, branch_shape, branch_end, item_end, branches_in, is_map}
-use Rattle.asl_model.specs.Finding.{FindingFault, Finding, Stands}
-use Rattle.asl_model.specs.FindingRules.{IsAmong, state_is_first, state_is_later, IsBranch, branch_is_first, branch_is_later, HasScope, has_itself, has_branch, has_processor, HasState, IsCompared, compared_with_entry, compared_with_never, Target, ToState, ToEnd, next_target, Makes, makes_literal, makes_what_it_takes, makes_answer, lets_through, lets_default, lets_wait, lets_succeed, makes_outputs, makes_items, Starts, starts_branch, starts_item, BreaksFlow, path_may_be_missing, template_may_be_missing, rule_may_be_missing, may_be_of_wrong_kind, may_not_fit, may_fail, has_no_default, payload_is_not_taken, output_is_not_certified, is_no_next_input, is_no_scope_output, is_no_branch_input, is_no_catch_input, IsBroken, is_not_certified, is_not_a_state, is_undeclared, is_unknown, is_no_start_input, is_broken_in_flow}
+use Rattle.asl_model.specs.Finding.{FindingFault, Finding, Surroundings, Stands}
+use Rattle.asl_model.specs.FindingRules.{IsAmong, state_is_first, state_is_later, IsBranch, branch_is_first, branch_is_later, HasScope, has_itself, has_branch, has_processor, HasState, IsSurrounded, IsCompared, compared_with_entry, compared_with_never, Target, ToState, ToEnd, next_target, Makes, makes_literal, makes_what_it_takes, makes_answer, lets_through, lets_default, lets_wait, lets_succeed, makes_outputs, makes_items, Starts, starts_branch, starts_item, BreaksFlow, path_may_be_missing, template_may_be_missing, rule_may_be_missing, may_be_of_wrong_kind, may_not_fit, may_fail, has_no_default, payload_is_not_taken, output_is_not_certified, is_no_next_input, is_no_scope_output, is_no_branch_input, is_no_catch_input, IsBroken, is_not_certified, is_not_a_state, is_undeclared, is_unknown, is_no_start_input, is_broken_in_flow}
 use Rattle.asl_model.specs.Test.{Rule}
 use Rattle.asl_model.specs.Inference.{is_of_machine, widest_entry, IsWidest}
 use Rattle.asl_model.specs.Numbering.{Standing, standing, kind_outline, outline, table_of, IsScopeOf, own_scope, scope_of_child, HasNamed, targets_of, targets_by, IsWellNamed}
@@ -99,9 +99,9 @@ next_there : (o : Option (List ℕ)) (m : List ℕ) (others : List (List ℕ)) �
 next_there None m others e = absurd (cc)
 next_there (Some next) m others e = subst (λ k. Contains (next ∷ others) k) (some_inj e) (first_in next others)
 
-module _ (declared : Declared) (n : List ℕ) (entry : StateShapes) (settings : Settings) where
+module _ (around : Surroundings) (settings : Settings) where
   -- what a state makes goes to a state that may follow it
-  target_told : {kind : Kind} {made : Shape} {target : Target} (m : List ℕ) → Makes declared n entry settings kind made target → goes_to target ≡ Some m → Contains (targets_of (StateOf settings kind)) m
+  target_told : {kind : Kind} {made : Shape} {target : Target} (m : List ℕ) → Makes around settings kind made target → goes_to target ≡ Some m → Contains (targets_of (StateOf settings kind)) m
   target_told m makes_literal e = next_there settings.next m _ e
   target_told m (makes_what_it_takes eff) e = next_there settings.next m _ e
   target_told m makes_answer e = next_there settings.next m _ e
@@ -179,7 +179,7 @@ module _ (machine : Scope) (declared : Declared) (certificate : Certificate) (we
   target_there {n} {settings} {kind} m state c = leads_there m state.has_scope (well.leads.targets state.scope (scope_is state.has_scope) n (StateOf settings kind) (is_found state (scope_is state.has_scope)) m c)
 
   -- so is the start state of a child
-  started_there : {n : List ℕ} {entry : StateShapes} {settings : Settings} {kind : Kind} {end : Option Shape} {field : List ℕ} {child : Scope} {s : Shape} → HasState machine certificate n settings kind end → Starts entry settings kind field child s → IsThere (start_of child)
+  started_there : {n : List ℕ} {around : Surroundings} {settings : Settings} {kind : Kind} {end : Option Shape} {field : List ℕ} {child : Scope} {s : Shape} → HasState machine certificate n settings kind end → Starts around settings kind field child s → IsThere (start_of child)
   started_there {n} {settings = settings} {child = child} state (starts_branch {branches = branches} {i = i} eff b) =
       let w = branch_at b in
       leads_there (start_of child) (has_branch state.has_scope state.among b) (subst (λ c. HasNamed c (start_of c)) w.1 (well.leads.branch_starts state.scope (scope_is state.has_scope) n settings branches (is_found state (scope_is state.has_scope)) i w.0))
@@ -211,20 +211,20 @@ module _ (machine : Scope) (declared : Declared) (certificate : Certificate) (we
   -- ---- findings
 
   -- a rule on what flows
-  of_flow : {n field : List ℕ} {settings : Settings} {kind : Kind} {end : Option Shape} {entry : StateShapes} {fault : FindingFault} → HasState machine certificate n settings kind end → certified certificate n ≡ Some entry → BreaksFlow machine declared certificate end n entry settings kind field fault → IsTrue (is_of_machine fault)
-  of_flow state e (path_may_be_missing looks f) = refl
-  of_flow state e (template_may_be_missing evaluates some doubt) = refl
-  of_flow state e (rule_may_be_missing is eff among f) = refl
-  of_flow state e (may_be_of_wrong_kind eff wants f h) = refl
-  of_flow state e (may_not_fit puts f) = refl
-  of_flow state e (may_fail evaluates some doubt) = refl
-  of_flow state e (has_no_default is) = refl
-  of_flow state e (payload_is_not_taken is eff h) = refl
-  of_flow {entry = entry} state e (output_is_not_certified {output = output} leaves h) = not_outside output entry.output (ap (λ (x : StateShapes). x.output) (some_inj (sym e ∙ entry_is state))) h
-  of_flow {n} {settings = settings} {entry = entry} state e (is_no_next_input {output = output} {expected = expected} {next = next} leaves compared h) = not_outside output expected (compared_any (target_there next state (target_told declared n entry settings next leaves.makes refl)) compared) h
-  of_flow state e (is_no_scope_output {output = output} {expected = expected} leaves f h) = not_outside output expected (end_any expected state.has_scope f) h
-  of_flow state e (is_no_branch_input {s = s} {expected = expected} starts compared h) = not_outside s expected (compared_any (started_there state starts) compared) h
-  of_flow {n} {settings = settings} {kind = kind} {entry = entry} state e (is_no_catch_input {catcher = catcher} {s = s} {expected = expected} among f compared h) = not_outside s expected (compared_any (target_there catcher.next state (caught_told declared n entry settings kind catcher among)) compared) h
+  of_flow : {around : Surroundings} {settings : Settings} {kind : Kind} {field : List ℕ} {fault : FindingFault} → IsSurrounded machine declared certificate settings kind around → BreaksFlow around settings kind field fault → IsTrue (is_of_machine fault)
+  of_flow is (path_may_be_missing looks f) = refl
+  of_flow is (template_may_be_missing evaluates some doubt) = refl
+  of_flow is (rule_may_be_missing kinds eff among f) = refl
+  of_flow is (may_be_of_wrong_kind eff wants f h) = refl
+  of_flow is (may_not_fit puts f) = refl
+  of_flow is (may_fail evaluates some doubt) = refl
+  of_flow is (has_no_default kinds) = refl
+  of_flow is (payload_is_not_taken kinds eff h) = refl
+  of_flow {around} is (output_is_not_certified {output = output} leaves h) = not_outside output around.entry.output (ap (λ (x : StateShapes). x.output) (some_inj (sym is.entry ∙ entry_is is.state))) h
+  of_flow {around} {settings = settings} is (is_no_next_input {output = output} {expected = expected} {next = next} leaves f h) = not_outside output expected (compared_any (target_there next is.state (target_told around settings next leaves.makes refl)) ((is.inputs next expected).0 f)) h
+  of_flow is (is_no_scope_output {output = output} {expected = expected} leaves f h) = not_outside output expected (end_any expected is.state.has_scope f) h
+  of_flow is (is_no_branch_input {child = child} {s = s} {expected = expected} starts f h) = not_outside s expected (compared_any (started_there is.state starts) ((is.inputs (start_of child) expected).0 f)) h
+  of_flow {around} {settings = settings} {kind = kind} is (is_no_catch_input {catcher = catcher} {s = s} {expected = expected} among f g h) = not_outside s expected (compared_any (target_there catcher.next is.state (caught_told around settings kind catcher among)) ((is.inputs catcher.next expected).0 g)) h
 
   -- any rule
   of_machine : {f : Finding} → IsBroken machine declared certificate f → IsTrue (is_of_machine f.fault)
@@ -236,7 +236,7 @@ module _ (machine : Scope) (declared : Declared) (certificate : Certificate) (we
   of_machine (is_undeclared state none) = refl
   of_machine (is_unknown among none) = refl
   of_machine (is_no_start_input {expected = expected} compared h) = not_outside declared.input expected (compared_any (leads_there (start_of machine) has_itself well.leads.start) compared) h
-  of_machine (is_broken_in_flow state e live breaks) = of_flow state e breaks
+  of_machine (is_broken_in_flow is live breaks) = of_flow is breaks
 
 -- each finding that stands
 pub widest_findings : (machine : Scope) (declared : Declared) (certificate : Certificate) → IsWellNamed machine → IsWidest (table_of machine) certificate → (finding : Finding) → Stands machine declared certificate finding → IsTrue (is_of_machine finding.fault)

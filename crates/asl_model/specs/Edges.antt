@@ -8,8 +8,8 @@ use Rattle.asl_model.specs.Machine.{Catcher, Settings, Delay, Seconds, SecondsPa
 use Rattle.asl_model.specs.Shape.{Shape, Never, Shapes, ArrayShape, inhabited}
 use Rattle.asl_model.specs.ShapeOrder.{is_integer_shape, is_string_shape}
 use Rattle.asl_model.specs.ShapeFlow.{look, literal, rule_shape, leave, Flow}
-use Rattle.asl_model.specs.Certificate.{Declared, StateShapes, takes_of}
-use Rattle.asl_model.specs.Finding.{Breach, FindingFault, PathMayBeMissing, WrongKind, ResultMayNotFit, NoDefault, PayloadNotTaken, OutputNotCertified, NextInput, ScopeOutput, BranchInput, CatchInput, breach_of, breach_unless_sub, effective_flow, item_flow, element_shape, map_result, as_first_elements, array_parts, error_placed_shape}
+use Rattle.asl_model.specs.Certificate.{StateShapes, takes_of}
+use Rattle.asl_model.specs.Finding.{Surroundings, Breach, FindingFault, PathMayBeMissing, WrongKind, ResultMayNotFit, NoDefault, PayloadNotTaken, OutputNotCertified, NextInput, ScopeOutput, BranchInput, CatchInput, breach_of, breach_unless_sub, effective_flow, item_flow, element_shape, map_result, as_first_elements, array_parts, error_placed_shape}
 
 -- where a shape flows to
 pub data Destination : Type 0 where
@@ -211,7 +211,12 @@ abbrev pub breaches_along : Standing → List Walked → List Breach
 breaches_along standing [] = []
 breaches_along standing (step ∷ steps) = breaches_at standing step ++ breaches_along standing steps
 
--- what stands at the destinations of the edges of the state of that name, with these shapes
-abbrev pub standing_at : Declared → (List ℕ → Option Shape) → Option Shape → List ℕ → StateShapes → Standing
-standing_at declared inputs end n entry =
-    record { inputs = inputs; output = entry.output; end = end; takes = takes_of declared n }
+-- what stands at the destinations of the edges of a state in those surroundings
+abbrev pub standing_at : Surroundings → Standing
+standing_at around =
+    record {
+      inputs = around.inputs;
+      output = around.entry.output;
+      end = around.end;
+      takes = takes_of around.declared around.name;
+    }

@@ -109,6 +109,21 @@ input_to_compare machine certificate n = input_of_entry (names_state machine n) 
 
 -- Data flow
 
+-- What a state that has an entry stands in: what is declared, the shape that the input of each state is compared with,
+-- by the names of states, and that of its scope's end; its own name, and its entry. A comparison is passed over where
+-- no shape stands.
+pub record Surroundings : Type 0 where
+  pub declared : Declared
+  pub inputs : List ℕ → Option Shape
+  pub end : Option Shape
+  pub name : List ℕ
+  pub entry : StateShapes
+
+-- these surroundings
+abbrev pub surrounded_by : Declared → (List ℕ → Option Shape) → Option Shape → List ℕ → StateShapes → Surroundings
+surrounded_by declared inputs end n entry =
+    record { declared = declared; inputs = inputs; end = end; name = n; entry = entry }
+
 -- what stands after `InputPath` and `Parameters`
 abbrev pub effective_flow : Settings → Shape → Flow
 effective_flow settings input =
@@ -206,30 +221,27 @@ with_items go_on (Err at) = breach_unless false (codes "ItemsPath") PathMayBeMis
 -- Choices
 
 -- the output for an effective input, on its way to a state that the field names
-abbrev pub chosen_breaches : (List ℕ → Option Shape) → StateShapes → Settings → Kind → List ℕ → List ℕ → Shape
-    → List Breach
-chosen_breaches inputs entry settings kind field next s =
-    breaches_then (next_breaches inputs entry.output field next) (leave settings kind entry.input s)
+abbrev pub chosen_breaches : Surroundings → Settings → Kind → List ℕ → List ℕ → Shape → List Breach
+chosen_breaches around settings kind field next s =
+    breaches_then (next_breaches around.inputs around.entry.output field next)
+    (leave settings kind around.entry.input s)
 
 -- a rule's paths, and the output for what it lets through
-abbrev pub rule_breaches : (List ℕ → Option Shape) → StateShapes → Settings → Kind → List ℕ → Option Shape → List Breach
-rule_breaches inputs entry settings kind next None = breach_unless false (codes "Choices") PathMayBeMissing
-rule_breaches inputs entry settings kind next (Some s) =
-    chosen_breaches inputs entry settings kind (codes "Choices") next s
+abbrev pub rule_breaches : Surroundings → Settings → Kind → List ℕ → Option Shape → List Breach
+rule_breaches around settings kind next None = breach_unless false (codes "Choices") PathMayBeMissing
+rule_breaches around settings kind next (Some s) = chosen_breaches around settings kind (codes "Choices") next s
 
 -- each rule is taken on the whole effective input
-abbrev pub rules_breaches : (List ℕ → Option Shape) → StateShapes → Settings → Kind → List Rule → Shape → List Breach
-rules_breaches inputs entry settings kind [] s = []
-rules_breaches inputs entry settings kind (rule ∷ rules) s =
-    rule_breaches inputs entry settings kind rule.next (rule_shape rule.test s)
-    ++ rules_breaches inputs entry settings kind rules s
+abbrev pub rules_breaches : Surroundings → Settings → Kind → List Rule → Shape → List Breach
+rules_breaches around settings kind [] s = []
+rules_breaches around settings kind (rule ∷ rules) s =
+    rule_breaches around settings kind rule.next (rule_shape rule.test s)
+    ++ rules_breaches around settings kind rules s
 
 -- the output that goes to `Default`, where there is one
-abbrev pub default_breaches : (List ℕ → Option Shape) → StateShapes → Settings → Kind → Option (List ℕ) → Shape
-    → List Breach
-default_breaches inputs entry settings kind None s = []
-default_breaches inputs entry settings kind (Some next) s =
-    chosen_breaches inputs entry settings kind (codes "Default") next s
+abbrev pub default_breaches : Surroundings → Settings → Kind → Option (List ℕ) → Shape → List Breach
+default_breaches around settings kind None s = []
+default_breaches around settings kind (Some next) s = chosen_breaches around settings kind (codes "Default") next s
 
 -- Catchers
 
@@ -260,76 +272,75 @@ catcher_breaches inputs input (catcher ∷ catchers) =
 -- States
 
 -- a result's way to the output, and the output's comparisons
-abbrev pub result_breaches : (List ℕ → Option Shape) → Option Shape → StateShapes → Settings → Kind → Shape
-    → List Breach
-result_breaches inputs end entry settings kind result =
-    breaches_then (output_breaches inputs entry.output end settings.next) (leave settings kind entry.input result)
+abbrev pub result_breaches : Surroundings → Settings → Kind → Shape → List Breach
+result_breaches around settings kind result =
+    breaches_then (output_breaches around.inputs around.entry.output around.end settings.next)
+    (leave settings kind around.entry.input result)
 
 -- the result of a Map, where a shape is certified of its items
-abbrev pub map_breaches : (List ℕ → Option Shape) → Option Shape → StateShapes → Settings → Kind → Option Shape
-    → Shapes × Shape → List Breach
-map_breaches inputs end entry settings kind None elements = []
-map_breaches inputs end entry settings kind (Some item) elements =
-    result_breaches inputs end entry settings kind (map_result item elements.0 elements.1)
+abbrev pub map_breaches : Surroundings → Settings → Kind → Option Shape → Shapes × Shape → List Breach
+map_breaches around settings kind None elements = []
+map_breaches around settings kind (Some item) elements =
+    result_breaches around settings kind (map_result item elements.0 elements.1)
 
 -- the rules on what comes of an effective input of that shape, by the state's type
-abbrev pub work_breaches : Declared → (List ℕ → Option Shape) → Option Shape → List ℕ → StateShapes → Settings → Kind
-    → Shape → List Breach
-work_breaches declared inputs end n entry settings (Pass None) s =
-    result_breaches inputs end entry settings (Pass None) s
-work_breaches declared inputs end n entry settings (Pass (Some t)) s = []
-work_breaches declared inputs end n entry settings (Task resource) s =
-    breach_unless_sub (codes "Parameters") PayloadNotTaken s (Some (takes_of declared n))
-work_breaches declared inputs end n entry settings (Choice rules default) s =
-    rules_breaches inputs entry settings (Choice rules default) rules s
-    ++ default_breaches inputs entry settings (Choice rules default) default s
-work_breaches declared inputs end n entry settings (Wait delay) s =
-    delay_breaches delay s ++ result_breaches inputs end entry settings (Wait delay) s
-work_breaches declared inputs end n entry settings Succeed s =
-    breaches_then (end_breaches entry.output (codes "Type") end) (leave settings Succeed entry.input s)
-work_breaches declared inputs end n entry settings (Fail error cause) s = []
-work_breaches declared inputs end n entry settings (Parallel branches) s = branch_breaches inputs branches s
-work_breaches declared inputs end n entry settings (Map items selector processor) s =
-    with_items (λ elements. breaches_then (child_breaches inputs (codes "ItemProcessor") processor)
+abbrev pub work_breaches : Surroundings → Settings → Kind → Shape → List Breach
+work_breaches around settings (Pass None) s = result_breaches around settings (Pass None) s
+work_breaches around settings (Pass (Some t)) s = []
+work_breaches around settings (Task resource) s =
+    breach_unless_sub (codes "Parameters") PayloadNotTaken s (Some (takes_of around.declared around.name))
+work_breaches around settings (Choice rules default) s =
+    rules_breaches around settings (Choice rules default) rules s
+    ++ default_breaches around settings (Choice rules default) default s
+work_breaches around settings (Wait delay) s =
+    delay_breaches delay s ++ result_breaches around settings (Wait delay) s
+work_breaches around settings Succeed s =
+    breaches_then (end_breaches around.entry.output (codes "Type") around.end)
+    (leave settings Succeed around.entry.input s)
+work_breaches around settings (Fail error cause) s = []
+work_breaches around settings (Parallel branches) s = branch_breaches around.inputs branches s
+work_breaches around settings (Map items selector processor) s =
+    with_items (λ elements. breaches_then (child_breaches around.inputs (codes "ItemProcessor") processor)
     (item_flow selector s (element_shape elements.0 elements.1))
-    ++ map_breaches inputs end entry settings (Map items selector processor) entry.item elements) (look items s)
+    ++ map_breaches around settings (Map items selector processor) around.entry.item elements) (look items s)
 
 -- the rules that need no effective input, by the state's type: on a result that is a literal, declared of the task or
 -- certified of the branches, and on a Choice without `Default`
-abbrev pub settled_breaches : Declared → (List ℕ → Option Shape) → Option Shape → List ℕ → StateShapes → Settings → Kind
-    → List Breach
-settled_breaches declared inputs end n entry settings (Pass None) = []
-settled_breaches declared inputs end n entry settings (Pass (Some t)) =
-    result_breaches inputs end entry settings (Pass (Some t)) (literal t)
-settled_breaches declared inputs end n entry settings (Task resource) =
-    result_breaches inputs end entry settings (Task resource) (gives_of declared n)
-settled_breaches declared inputs end n entry settings (Choice rules None) =
-    breach_unless false (codes "Default") NoDefault
-settled_breaches declared inputs end n entry settings (Choice rules (Some next)) = []
-settled_breaches declared inputs end n entry settings (Wait delay) = []
-settled_breaches declared inputs end n entry settings Succeed = []
-settled_breaches declared inputs end n entry settings (Fail error cause) = []
-settled_breaches declared inputs end n entry settings (Parallel branches) =
-    result_breaches inputs end entry settings (Parallel branches) (ArrayShape (as_first_elements entry.branches) Never)
-settled_breaches declared inputs end n entry settings (Map items selector processor) = []
+abbrev pub settled_breaches : Surroundings → Settings → Kind → List Breach
+settled_breaches around settings (Pass None) = []
+settled_breaches around settings (Pass (Some t)) = result_breaches around settings (Pass (Some t)) (literal t)
+settled_breaches around settings (Task resource) =
+    result_breaches around settings (Task resource) (gives_of around.declared around.name)
+settled_breaches around settings (Choice rules None) = breach_unless false (codes "Default") NoDefault
+settled_breaches around settings (Choice rules (Some next)) = []
+settled_breaches around settings (Wait delay) = []
+settled_breaches around settings Succeed = []
+settled_breaches around settings (Fail error cause) = []
+settled_breaches around settings (Parallel branches) =
+    result_breaches around settings (Parallel branches) (ArrayShape (as_first_elements around.entry.branches) Never)
+settled_breaches around settings (Map items selector processor) = []
 
--- The rules of a state that has an entry: none further where its certified input isn't inhabited. A rule is passed over
--- only where another broken one leaves it without a shape to look at.
-abbrev pub flow_breaches : Declared → (List ℕ → Option Shape) → Option Shape → List ℕ → Settings → Kind
-    → Option StateShapes → List Breach
-flow_breaches declared inputs end n settings kind None = []
-flow_breaches declared inputs end n settings kind (Some entry) =
-    if inhabited entry.input
-    then breaches_then (work_breaches declared inputs end n entry settings kind) (effective_flow settings entry.input)
-    ++ (settled_breaches declared inputs end n entry settings kind
-    ++ catcher_breaches inputs entry.input settings.catchers)
+-- The rules on what flows through a state that has an entry: none where its certified input isn't inhabited. A rule is
+-- passed over only where another broken one leaves it without a shape to look at.
+abbrev pub flow_breaches : Surroundings → Settings → Kind → List Breach
+flow_breaches around settings kind =
+    if inhabited around.entry.input
+    then breaches_then (work_breaches around settings kind) (effective_flow settings around.entry.input)
+    ++ (settled_breaches around settings kind
+    ++ catcher_breaches around.inputs around.entry.input settings.catchers)
     else []
+
+-- so of a state by what is certified of it: none where it has no entry
+abbrev pub where_certified : (StateShapes → List Breach) → Option StateShapes → List Breach
+where_certified of_entry None = []
+where_certified of_entry (Some entry) = of_entry entry
 
 -- every rule that is broken at a state, by its name, in a scope with that shape of its end
 abbrev pub state_breaches : Scope → Declared → Certificate → Option Shape → List ℕ → Settings → Kind → List Breach
 state_breaches machine declared certificate end n settings kind =
     entry_breaches kind (certified certificate n) (under n declared.tasks)
-    ++ flow_breaches declared (input_to_compare machine certificate) end n settings kind (certified certificate n)
+    ++ where_certified (λ entry. flow_breaches
+    (surrounded_by declared (input_to_compare machine certificate) end n entry) settings kind) (certified certificate n)
 
 -- Machines
 

@@ -1,7 +1,7 @@
 -- The rules of a certificate, one by one, and what breaks each: a finding stands where the rule with its fault is
 -- broken at its state and field, whatever other findings stand. The rules are the profile's own; the shapes are those
 -- of ShapeFlow and ShapeOrder. The list of all findings that a checker computes is in Finding, and holds exactly these.
-use Rattle.std.specs.Prelude.{◌≡◌, ℕ, zero, suc, List, Bool, IsTrue, IsFalse, Option, Some, None, Ok, Err, Contains, codes}
+use Rattle.std.specs.Prelude.{◌≡◌, ℕ, zero, suc, List, Bool, IsTrue, IsFalse, Option, Some, None, Ok, Err, Contains, codes, ◌↔◌}
 use Rattle.asl_model.specs.Path.{Segment}
 use Rattle.asl_model.specs.Tree.{Tree}
 use Rattle.asl_model.specs.Intrinsic.{Reference, Call}
@@ -12,7 +12,7 @@ use Rattle.asl_model.specs.Shape.{Shape, Never, ArrayShape, Shapes, inhabited}
 use Rattle.asl_model.specs.ShapeOrder.{sub, is_integer_shape, is_string_shape}
 use Rattle.asl_model.specs.ShapeFlow.{look, put, literal, reference_shape, call_shape, Doubt, MayFail, MayBeMissing, is_array_shape, rule_shape, through_path, through_template, through_placing, WithResult, WithInput, leaving, leave}
 use Rattle.asl_model.specs.Certificate.{TaskShapes, Declared, StateShapes, Certificate, HasEntry, under, certified, branch_end, item_end, takes_of, gives_of}
-use Rattle.asl_model.specs.Finding.{FindingFault, NotCertified, NotAState, TaskUndeclared, TaskUnknown, StartInput, PathMayBeMissing, WrongKind, ResultMayNotFit, IntrinsicMayFail, NoDefault, PayloadNotTaken, OutputNotCertified, NextInput, ScopeOutput, BranchInput, CatchInput, Finding, effective_flow, as_first_elements, element_shape, item_flow, map_result, error_output_shape, error_placed_shape}
+use Rattle.asl_model.specs.Finding.{FindingFault, NotCertified, NotAState, TaskUndeclared, TaskUnknown, StartInput, PathMayBeMissing, WrongKind, ResultMayNotFit, IntrinsicMayFail, NoDefault, PayloadNotTaken, OutputNotCertified, NextInput, ScopeOutput, BranchInput, CatchInput, Finding, Surroundings, effective_flow, as_first_elements, element_shape, item_flow, map_result, error_output_shape, error_placed_shape}
 
 -- ---- the states of a machine
 
@@ -59,11 +59,21 @@ pub data IsCompared (machine : Scope) (certificate : Certificate) (n : List ℕ)
       → ⊥)
       → IsCompared machine certificate n Never
 
+-- The surroundings of a state of the machine with those settings and of that type: its name, the end of its scope, its
+-- entry, what is declared, and for each state what flows to it is compared with.
+pub record IsSurrounded (machine : Scope) (declared : Declared) (certificate : Certificate) (settings : Settings)
+    (kind : Kind) (around : Surroundings) : Type 0 where
+  pub state : HasState machine certificate around.name settings kind around.end
+  pub entry : certified certificate around.name ≡ Some around.entry
+  pub tasks : around.declared ≡ declared
+  pub inputs : (n : List ℕ) (expected : Shape)
+      → around.inputs n ≡ Some expected ↔ IsCompared machine certificate n expected
+
 -- ---- what flows through a state
 
 -- the shape of the effective input, where `InputPath` and `Parameters` leave one
-abbrev pub IsEffective : Settings → StateShapes → Shape → Type 0
-IsEffective settings entry s = effective_flow settings entry.input ≡ Ok s
+abbrev pub IsEffective : Surroundings → Settings → Shape → Type 0
+IsEffective around settings s = effective_flow settings around.entry.input ≡ Ok s
 
 -- where an output goes: to the state that a field names, or to the end of the scope, as a field says
 pub data Target : Type 0 where
@@ -77,29 +87,28 @@ next_target (Some next) = ToState (codes "Next") next
 
 -- What a state makes of an input of its entry's shape, and where that goes: the result of a Pass, a Task, a Parallel or
 -- a Map; what each rule of a Choice lets through, and `Default`; the effective input of a Wait or a Succeed.
-pub data Makes (declared : Declared) (n : List ℕ) (entry : StateShapes) (settings : Settings) : Kind → Shape → Target →
-    Type 0 where
-  makes_literal : {t : Tree} → Makes declared n entry settings (Pass (Some t)) (literal t) (next_target settings.next)
-  makes_what_it_takes : {s : Shape} → IsEffective settings entry s
-      → Makes declared n entry settings (Pass None) s (next_target settings.next)
+pub data Makes (around : Surroundings) (settings : Settings) : Kind → Shape → Target → Type 0 where
+  makes_literal : {t : Tree} → Makes around settings (Pass (Some t)) (literal t) (next_target settings.next)
+  makes_what_it_takes : {s : Shape} → IsEffective around settings s
+      → Makes around settings (Pass None) s (next_target settings.next)
   makes_answer : {resource : List ℕ}
-      → Makes declared n entry settings (Task resource) (gives_of declared n) (next_target settings.next)
+      → Makes around settings (Task resource) (gives_of around.declared around.name) (next_target settings.next)
   lets_through : {rules : List Rule} {default : Option (List ℕ)} {rule : Rule} {s u : Shape}
-      → IsEffective settings entry s → Contains rules rule → rule_shape rule.test s ≡ Some u
-      → Makes declared n entry settings (Choice rules default) u (ToState (codes "Choices") rule.next)
-  lets_default : {rules : List Rule} {next : List ℕ} {s : Shape} → IsEffective settings entry s
-      → Makes declared n entry settings (Choice rules (Some next)) s (ToState (codes "Default") next)
-  lets_wait : {delay : Delay} {s : Shape} → IsEffective settings entry s
-      → Makes declared n entry settings (Wait delay) s (next_target settings.next)
-  lets_succeed : {s : Shape} → IsEffective settings entry s
-      → Makes declared n entry settings Succeed s (ToEnd (codes "Type"))
+      → IsEffective around settings s → Contains rules rule → rule_shape rule.test s ≡ Some u
+      → Makes around settings (Choice rules default) u (ToState (codes "Choices") rule.next)
+  lets_default : {rules : List Rule} {next : List ℕ} {s : Shape} → IsEffective around settings s
+      → Makes around settings (Choice rules (Some next)) s (ToState (codes "Default") next)
+  lets_wait : {delay : Delay} {s : Shape} → IsEffective around settings s
+      → Makes around settings (Wait delay) s (next_target settings.next)
+  lets_succeed : {s : Shape} → IsEffective around settings s
+      → Makes around settings Succeed s (ToEnd (codes "Type"))
   makes_outputs : {branches : Scopes}
-      → Makes declared n entry settings (Parallel branches) (ArrayShape (as_first_elements entry.branches) Never)
+      → Makes around settings (Parallel branches) (ArrayShape (as_first_elements around.entry.branches) Never)
       (next_target settings.next)
   makes_items : {items : List Segment} {selector : Option Template} {processor : Scope} {s item : Shape}
       {first : Shapes} {rest : Shape}
-      → IsEffective settings entry s → look items s ≡ Ok (ArrayShape first rest) → entry.item ≡ Some item
-      → Makes declared n entry settings (Map items selector processor) (map_result item first rest)
+      → IsEffective around settings s → look items s ≡ Ok (ArrayShape first rest) → around.entry.item ≡ Some item
+      → Makes around settings (Map items selector processor) (map_result item first rest)
       (next_target settings.next)
 
 -- what `ResultSelector` leaves of a result, where it has trees
@@ -116,11 +125,11 @@ pub data GoesOut (settings : Settings) (kind : Kind) (raw made : Shape) : Shape 
   goes_out_as_it_is : leaving kind ≡ WithInput → GoesOut settings kind raw made made
 
 -- an output of that shape leaves the state, and where it goes
-pub record Leaves (declared : Declared) (n : List ℕ) (entry : StateShapes) (settings : Settings) (kind : Kind)
-    (output : Shape) (target : Target) : Type 0 where
+pub record Leaves (around : Surroundings) (settings : Settings) (kind : Kind) (output : Shape) (target : Target) :
+    Type 0 where
   pub made : Shape
-  pub makes : Makes declared n entry settings kind made target
-  pub comes_out : leave settings kind entry.input made ≡ Ok output
+  pub makes : Makes around settings kind made target
+  pub comes_out : leave settings kind around.entry.input made ≡ Ok output
 
 -- the path in that field goes into the effective input, and what it names has to pass the test
 pub data Wants : Kind → List ℕ → List Segment → (Shape → Bool) → Type 0 where
@@ -130,32 +139,32 @@ pub data Wants : Kind → List ℕ → List Segment → (Shape → Bool) → Typ
       → Wants (Map items selector processor) (codes "ItemsPath") items is_array_shape
 
 -- the path in that field is looked up in that shape
-pub data LooksUp (declared : Declared) (n : List ℕ) (entry : StateShapes) (settings : Settings) (kind : Kind) : List ℕ →
-    List Segment → Shape → Type 0 where
-  looks_up_input : {path : List Segment} → settings.input_path ≡ Some path
-      → LooksUp declared n entry settings kind (codes "InputPath") path entry.input
-  looks_up_wanted : {field : List ℕ} {path : List Segment} {test : Shape → Bool} {s : Shape}
-      → IsEffective settings entry s → Wants kind field path test → LooksUp declared n entry settings kind field path s
-  looks_up_output : {path : List Segment} {made s : Shape} {target : Target}
-      → Makes declared n entry settings kind made target → GoesOut settings kind entry.input made s
-      → settings.output_path ≡ Some path → LooksUp declared n entry settings kind (codes "OutputPath") path s
+pub data LooksUp (around : Surroundings) (settings : Settings) (kind : Kind) : List ℕ → List Segment → Shape → Type 0
+  where
+    looks_up_input : {path : List Segment} → settings.input_path ≡ Some path
+        → LooksUp around settings kind (codes "InputPath") path around.entry.input
+    looks_up_wanted : {field : List ℕ} {path : List Segment} {test : Shape → Bool} {s : Shape}
+        → IsEffective around settings s → Wants kind field path test → LooksUp around settings kind field path s
+    looks_up_output : {path : List Segment} {made s : Shape} {target : Target}
+        → Makes around settings kind made target → GoesOut settings kind around.entry.input made s
+        → settings.output_path ≡ Some path → LooksUp around settings kind (codes "OutputPath") path s
 
 -- the template in that field is evaluated on trees of that shape, with an item of the other
-pub data Evaluates (declared : Declared) (n : List ℕ) (entry : StateShapes) (settings : Settings) : Kind → List ℕ →
-    Template → Shape → Option Shape → Type 0 where
+pub data Evaluates (around : Surroundings) (settings : Settings) : Kind → List ℕ → Template → Shape → Option Shape →
+    Type 0 where
   evaluates_parameters : {kind : Kind} {template : Template} {s : Shape}
-      → through_path (codes "InputPath") settings.input_path entry.input ≡ Ok s → settings.parameters ≡ Some template
-      → Evaluates declared n entry settings kind (codes "Parameters") template s None
+      → through_path (codes "InputPath") settings.input_path around.entry.input ≡ Ok s → settings.parameters ≡ Some template
+      → Evaluates around settings kind (codes "Parameters") template s None
   evaluates_item_selector : {items : List Segment} {selector : Template} {processor : Scope} {s : Shape}
       {first : Shapes} {rest : Shape}
-      → IsEffective settings entry s → look items s ≡ Ok (ArrayShape first rest)
+      → IsEffective around settings s → look items s ≡ Ok (ArrayShape first rest)
       → IsTrue (inhabited (element_shape first rest))
-      → Evaluates declared n entry settings (Map items (Some selector) processor) (codes "ItemSelector") selector s
+      → Evaluates around settings (Map items (Some selector) processor) (codes "ItemSelector") selector s
       (Some (element_shape first rest))
   evaluates_result_selector : {kind : Kind} {template : Template} {made : Shape} {target : Target}
-      → Makes declared n entry settings kind made target → leaving kind ≡ WithResult
+      → Makes around settings kind made target → leaving kind ≡ WithResult
       → settings.result_selector ≡ Some template
-      → Evaluates declared n entry settings kind (codes "ResultSelector") template made None
+      → Evaluates around settings kind (codes "ResultSelector") template made None
 
 mutual
   -- a template may have no value on trees of that shape with an item of the other: at some place a path may name
@@ -184,82 +193,80 @@ mutual
         → HasFieldDoubt input item others doubt → HasFieldDoubt input item (AndFieldTemplate m template others) doubt
 
 -- a tree of that shape is placed in the raw input, at the path in that field: a result, or a catcher's error output
-pub data Puts (declared : Declared) (n : List ℕ) (entry : StateShapes) (settings : Settings) (kind : Kind) : List ℕ →
-    List Segment → Shape → Type 0 where
+pub data Puts (around : Surroundings) (settings : Settings) (kind : Kind) : List ℕ → List Segment → Shape → Type 0 where
   puts_result : {path : List Segment} {made selected : Shape} {target : Target}
-      → Makes declared n entry settings kind made target → IsSelected settings kind made selected
-      → settings.result_path ≡ Some path → Puts declared n entry settings kind (codes "ResultPath") path selected
+      → Makes around settings kind made target → IsSelected settings kind made selected
+      → settings.result_path ≡ Some path → Puts around settings kind (codes "ResultPath") path selected
   puts_error_output : {catcher : Catcher} {path : List Segment} → Contains settings.catchers catcher
-      → catcher.result_path ≡ Some path → Puts declared n entry settings kind (codes "Catch") path error_output_shape
+      → catcher.result_path ≡ Some path → Puts around settings kind (codes "Catch") path error_output_shape
 
 -- a child is started in that scope with an input of that shape, as the field says
-pub data Starts (entry : StateShapes) (settings : Settings) : Kind → List ℕ → Scope → Shape → Type 0 where
-  starts_branch : {branches : Scopes} {branch : Scope} {i : ℕ} {s : Shape} → IsEffective settings entry s
-      → IsBranch branch i branches → Starts entry settings (Parallel branches) (codes "Branches") branch s
+pub data Starts (around : Surroundings) (settings : Settings) : Kind → List ℕ → Scope → Shape → Type 0 where
+  starts_branch : {branches : Scopes} {branch : Scope} {i : ℕ} {s : Shape} → IsEffective around settings s
+      → IsBranch branch i branches → Starts around settings (Parallel branches) (codes "Branches") branch s
   starts_item : {items : List Segment} {selector : Option Template} {processor : Scope} {s input : Shape}
       {first : Shapes} {rest : Shape}
-      → IsEffective settings entry s → look items s ≡ Ok (ArrayShape first rest)
+      → IsEffective around settings s → look items s ≡ Ok (ArrayShape first rest)
       → item_flow selector s (element_shape first rest) ≡ Ok input
-      → Starts entry settings (Map items selector processor) (codes "ItemProcessor") processor input
+      → Starts around settings (Map items selector processor) (codes "ItemProcessor") processor input
 
 -- ---- the rules on what flows
 
--- A rule is broken in a state of a scope with that end, whose entry has an input with trees: the field, and the fault.
-pub data BreaksFlow (machine : Scope) (declared : Declared) (certificate : Certificate) (end : Option Shape)
-    (n : List ℕ) (entry : StateShapes) (settings : Settings) (kind : Kind) : List ℕ → FindingFault → Type 0 where
+-- A rule is broken in a state whose entry has an input with trees: the field, and the fault.
+pub data BreaksFlow (around : Surroundings) (settings : Settings) (kind : Kind) : List ℕ → FindingFault → Type 0 where
   -- a path may name nothing: in a field, in a template, in a rule of a Choice
   path_may_be_missing : {field : List ℕ} {path : List Segment} {s : Shape} {at : ℕ}
-      → LooksUp declared n entry settings kind field path s → look path s ≡ Err at
-      → BreaksFlow machine declared certificate end n entry settings kind field PathMayBeMissing
+      → LooksUp around settings kind field path s → look path s ≡ Err at
+      → BreaksFlow around settings kind field PathMayBeMissing
   template_may_be_missing : {field : List ℕ} {template : Template} {input : Shape} {item : Option Shape}
-      → Evaluates declared n entry settings kind field template input item → IsTrue (inhabited input)
+      → Evaluates around settings kind field template input item → IsTrue (inhabited input)
       → HasDoubt input item template MayBeMissing
-      → BreaksFlow machine declared certificate end n entry settings kind field PathMayBeMissing
+      → BreaksFlow around settings kind field PathMayBeMissing
   rule_may_be_missing : {rules : List Rule} {default : Option (List ℕ)} {rule : Rule} {s : Shape}
-      → kind ≡ Choice rules default → IsEffective settings entry s → Contains rules rule → rule_shape rule.test s ≡ None
-      → BreaksFlow machine declared certificate end n entry settings kind (codes "Choices") PathMayBeMissing
+      → kind ≡ Choice rules default → IsEffective around settings s → Contains rules rule → rule_shape rule.test s ≡ None
+      → BreaksFlow around settings kind (codes "Choices") PathMayBeMissing
   -- what a path names isn't of the kind that its field wants
   may_be_of_wrong_kind : {field : List ℕ} {path : List Segment} {test : Shape → Bool} {s t : Shape}
-      → IsEffective settings entry s → Wants kind field path test → look path s ≡ Ok t → IsFalse (test t)
-      → BreaksFlow machine declared certificate end n entry settings kind field WrongKind
+      → IsEffective around settings s → Wants kind field path test → look path s ≡ Ok t → IsFalse (test t)
+      → BreaksFlow around settings kind field WrongKind
   -- what is placed may not fit
   may_not_fit : {field : List ℕ} {path : List Segment} {s : Shape} {at : ℕ}
-      → Puts declared n entry settings kind field path s → put path s entry.input ≡ Err at
-      → BreaksFlow machine declared certificate end n entry settings kind field ResultMayNotFit
+      → Puts around settings kind field path s → put path s around.entry.input ≡ Err at
+      → BreaksFlow around settings kind field ResultMayNotFit
   -- a call in a template may fail
   may_fail : {field : List ℕ} {template : Template} {input : Shape} {item : Option Shape}
-      → Evaluates declared n entry settings kind field template input item → IsTrue (inhabited input)
+      → Evaluates around settings kind field template input item → IsTrue (inhabited input)
       → HasDoubt input item template MayFail
-      → BreaksFlow machine declared certificate end n entry settings kind field IntrinsicMayFail
+      → BreaksFlow around settings kind field IntrinsicMayFail
   -- a Choice has no `Default`
   has_no_default : {rules : List Rule} → kind ≡ Choice rules None
-      → BreaksFlow machine declared certificate end n entry settings kind (codes "Default") NoDefault
+      → BreaksFlow around settings kind (codes "Default") NoDefault
   -- the payload isn't inside what the task takes
-  payload_is_not_taken : {resource : List ℕ} {s : Shape} → kind ≡ Task resource → IsEffective settings entry s
-      → IsFalse (sub s (takes_of declared n))
-      → BreaksFlow machine declared certificate end n entry settings kind (codes "Parameters") PayloadNotTaken
+  payload_is_not_taken : {resource : List ℕ} {s : Shape} → kind ≡ Task resource → IsEffective around settings s
+      → IsFalse (sub s (takes_of around.declared around.name))
+      → BreaksFlow around settings kind (codes "Parameters") PayloadNotTaken
   -- the output isn't inside the state's own
-  output_is_not_certified : {output : Shape} {target : Target} → Leaves declared n entry settings kind output target
-      → IsFalse (sub output entry.output)
-      → BreaksFlow machine declared certificate end n entry settings kind (codes "OutputPath") OutputNotCertified
+  output_is_not_certified : {output : Shape} {target : Target} → Leaves around settings kind output target
+      → IsFalse (sub output around.entry.output)
+      → BreaksFlow around settings kind (codes "OutputPath") OutputNotCertified
   -- the output isn't inside the next state's input
   is_no_next_input : {output expected : Shape} {field next : List ℕ}
-      → Leaves declared n entry settings kind output (ToState field next) → IsCompared machine certificate next expected
+      → Leaves around settings kind output (ToState field next) → around.inputs next ≡ Some expected
       → IsFalse (sub output expected)
-      → BreaksFlow machine declared certificate end n entry settings kind field NextInput
+      → BreaksFlow around settings kind field NextInput
   -- the output isn't inside what is certified of the scope's end
   is_no_scope_output : {output expected : Shape} {field : List ℕ}
-      → Leaves declared n entry settings kind output (ToEnd field) → end ≡ Some expected → IsFalse (sub output expected)
-      → BreaksFlow machine declared certificate end n entry settings kind field ScopeOutput
+      → Leaves around settings kind output (ToEnd field) → around.end ≡ Some expected → IsFalse (sub output expected)
+      → BreaksFlow around settings kind field ScopeOutput
   -- a child's input isn't inside its start state's
-  is_no_branch_input : {field : List ℕ} {child : Scope} {s expected : Shape} → Starts entry settings kind field child s
-      → IsCompared machine certificate (start_of child) expected → IsFalse (sub s expected)
-      → BreaksFlow machine declared certificate end n entry settings kind field BranchInput
+  is_no_branch_input : {field : List ℕ} {child : Scope} {s expected : Shape} → Starts around settings kind field child s
+      → around.inputs (start_of child) ≡ Some expected → IsFalse (sub s expected)
+      → BreaksFlow around settings kind field BranchInput
   -- what a catcher hands on isn't inside the next state's input
   is_no_catch_input : {catcher : Catcher} {s expected : Shape} → Contains settings.catchers catcher
-      → error_placed_shape catcher.result_path entry.input ≡ Ok s → IsCompared machine certificate catcher.next expected
+      → error_placed_shape catcher.result_path around.entry.input ≡ Ok s → around.inputs catcher.next ≡ Some expected
       → IsFalse (sub s expected)
-      → BreaksFlow machine declared certificate end n entry settings kind (codes "Catch") CatchInput
+      → BreaksFlow around settings kind (codes "Catch") CatchInput
 
 -- ---- all rules
 
@@ -290,8 +297,8 @@ pub data IsBroken (machine : Scope) (declared : Declared) (certificate : Certifi
       → IsBroken machine declared certificate
       (record { state = start_of machine; field = codes "StartAt"; fault = StartInput })
   -- a rule on what flows is broken in a state whose entry has an input with trees
-  is_broken_in_flow : {n field : List ℕ} {settings : Settings} {kind : Kind} {end : Option Shape} {entry : StateShapes}
+  is_broken_in_flow : {around : Surroundings} {settings : Settings} {kind : Kind} {field : List ℕ}
       {fault : FindingFault}
-      → HasState machine certificate n settings kind end → certified certificate n ≡ Some entry
-      → IsTrue (inhabited entry.input) → BreaksFlow machine declared certificate end n entry settings kind field fault
-      → IsBroken machine declared certificate (record { state = n; field = field; fault = fault })
+      → IsSurrounded machine declared certificate settings kind around → IsTrue (inhabited around.entry.input)
+      → BreaksFlow around settings kind field fault
+      → IsBroken machine declared certificate (record { state = around.name; field = field; fault = fault })

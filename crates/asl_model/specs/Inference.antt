@@ -4,7 +4,7 @@ use Rattle.std.specs.Prelude.{◌≡◌, ℕ, List, Bool, true, false, IsTrue, O
 use Rattle.asl_model.specs.Machine.{Scope, State, Kind, settings_of, kind_of}
 use Rattle.asl_model.specs.Shape.{Shape, Any}
 use Rattle.asl_model.specs.Certificate.{Declared, StateShapes, Certificate, certified, branches_in, is_map}
-use Rattle.asl_model.specs.Finding.{FindingFault, NotCertified, NotAState, TaskUndeclared, TaskUnknown, StartInput, PathMayBeMissing, WrongKind, ResultMayNotFit, IntrinsicMayFail, NoDefault, PayloadNotTaken, OutputNotCertified, NextInput, ScopeOutput, BranchInput, CatchInput, Breach, Finding, flow_breaches, Stands}
+use Rattle.asl_model.specs.Finding.{FindingFault, NotCertified, NotAState, TaskUndeclared, TaskUnknown, StartInput, PathMayBeMissing, WrongKind, ResultMayNotFit, IntrinsicMayFail, NoDefault, PayloadNotTaken, OutputNotCertified, NextInput, ScopeOutput, BranchInput, CatchInput, Breach, Finding, surrounded_by, flow_breaches, Stands}
 use Rattle.asl_model.specs.Numbering.{Table}
 
 -- A fault of the machine, or of what is declared. The others are the certificate's own: an entry that isn't there, has
@@ -57,8 +57,8 @@ finding_of n breach = record { state = n; field = breach.field; fault = breach.f
 -- the rule is broken in a state of that name with that entry, whatever is certified of the states that follow, of its
 -- children's start states and of its scope's end
 abbrev pub IsBrokenAnyway : Declared → List ℕ → State → StateShapes → Breach → Type 0
-IsBrokenAnyway declared n state entry breach = (inputs : List ℕ → Option Shape) (end : Option Shape) → Contains
-    (flow_breaches declared inputs end n (settings_of state) (kind_of state) (Some entry)) breach
+IsBrokenAnyway declared n state entry breach = (inputs : List ℕ → Option Shape) (end : Option Shape)
+    → Contains (flow_breaches (surrounded_by declared inputs end n entry) (settings_of state) (kind_of state)) breach
 
 -- the finding stands for some certificate
 abbrev pub StandsForSome : Scope → Declared → Finding → Type 0

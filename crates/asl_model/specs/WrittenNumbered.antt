@@ -4,7 +4,7 @@
 -- output. In a shape it goes through the parts first.
 use Rattle.std.specs.Prelude.{ℕ, suc, pos, List, [], ◌∷◌, ◌++◌, Bool, true, false, not, ◌&&◌, if◌then◌else◌, Option, Some, None, is_some, option_map, bytes_eq, codes}
 use Rattle.std.specs.Option.{unwrap_or}
-use Rattle.asl_model.specs.Tree.{Tree, Boolean, Integer, Text, Array, Object, Trees, NoTrees, AndTree, Fields, NoFields, AndField}
+use Rattle.asl_model.specs.Tree.{Tree, Integer, Array, Object, Trees, NoTrees, AndTree, Fields, NoFields, AndField}
 use Rattle.asl_model.specs.Shape.{Shape, Any, Never, NullShape, BooleanShape, IntegerShape, StringShape, ArrayShape, ObjectShape, Shapes, NoShapes, AndShape, FieldShapes, NoFieldShapes, AndFieldShape}
 use Rattle.asl_model.specs.ShapeOrder.{is_any_shape, is_null_shape, is_boolean_shape, is_integer_shape, is_string_shape, array_shape_where, object_shape_where}
 use Rattle.asl_model.specs.ShapeFlow.{how_many_shapes}

@@ -4,7 +4,7 @@ ghost use Rattle.std.specs.Prelude.{◌≡◌, ℕ, Contains, IsTrue, List, Opti
 ghost use Rattle.asl_model.specs.Machine.{Kind, Scope, Settings, State};
 ghost use Rattle.asl_model.specs.Shape.{Shape};
 ghost use Rattle.asl_model.specs.Certificate.{Certificate, Declared, StateShapes, certified};
-ghost use Rattle.asl_model.specs.Finding.{Breach, Finding, Stands, flow_breaches, input_to_compare};
+ghost use Rattle.asl_model.specs.Finding.{Breach, Finding, Stands, flow_breaches, input_to_compare, surrounded_by};
 ghost use Rattle.asl_model.specs.FindingRules.{HasState};
 ghost use Rattle.asl_model.specs.Inference.{IsBrokenAnyway, IsWidest, StandsForSome, finding_of, is_of_machine};
 ghost use Rattle.asl_model.specs.Numbering.{IsWellNamed, table_of};
@@ -23,7 +23,8 @@ pub fn the_widest_certificate_has_no_fault_of_its_own()
 pub fn a_broken_rule_of_a_state_stands()
     ensures in_machine { (machine : Scope) (declared : Declared) (certificate : Certificate) (n : List ℕ) (settings : Settings) (kind : Kind) (end : Option Shape) (entry : StateShapes) (breach : Breach)
         → HasState machine certificate n settings kind end → certified certificate n ≡ Some entry
-        → Contains (flow_breaches declared (input_to_compare machine certificate) end n settings kind (Some entry)) breach
+        → Contains (flow_breaches (surrounded_by declared (input_to_compare machine certificate) end n entry) settings kind)
+        breach
         → Stands machine declared certificate (finding_of n breach) }
     ensures in_table { (machine : Scope) (declared : Declared) (certificate : Certificate) (i : ℕ) (n : List ℕ) (state : State) (entry : StateShapes) (breach : Breach)
         → slice_get (table_of machine).names i ≡ Some n → slice_get (table_of machine).states i ≡ Some state
