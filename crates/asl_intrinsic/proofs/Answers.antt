@@ -1,7 +1,7 @@
 -- What the functions answer for values.
 use Rattle.std.proofs.Common.{◌≡◌, ℕ, suc, ℤ, pos, List, [], ◌∷◌, length, map, ◌++◌, string_bytes, String, Option, Some, None, option_map, option_and_then, Ok, Err, Vec, Global, refl, ap, rules}
 use Rattle.asl_model.specs.Intrinsic as model
-use Rattle.asl_model.specs.Intrinsic.{holes_filled, word_of}
+use Rattle.asl_model.specs.Intrinsic.{holes_filled, format_text}
 use Rattle.asl_model.specs.Tree as trees_model
 use Rattle.asl_tree.specs.View as trees
 use Rattle.asl_tree.specs.declared.Tree as code
@@ -40,7 +40,7 @@ apart : (text : List ℕ) (pieces : List (String Global)) (values : List Value) 
 apart text [] [] h = absurd (h refl)
 apart text [] (v ∷ values) h = refl
 apart text (p ∷ pieces) [] h = refl
-apart text (p ∷ pieces) (v ∷ values) h = nothing_behind (word_of (value_view v)) (apart (string_bytes p) pieces values (λ e. h (ap suc e)))
+apart text (p ∷ pieces) (v ∷ values) h = nothing_behind (format_text (value_view v)) (apart (string_bytes p) pieces values (λ e. h (ap suc e)))
   where
     nothing_behind : (word : Option (List ℕ)) {rest : Option (List ℕ)} → rest ≡ None → option_and_then (λ w. option_map (λ (further : List ℕ). text ++ (w ++ further)) rest) word ≡ None
     nothing_behind None e = refl

@@ -2,7 +2,7 @@
 use Rattle.std.proofs.Common.{◌≡◌, ◌<◌, ◌≤◌, ℕ, suc, List, [], ◌∷◌, ◌++◌, length, get_or, drop, drop-cons, map, Option, Some, None, option_map, Result, Ok, Err, String, Global, string_bytes, codes, refl, ◌∙◌, rules, arith}
 use Rattle.std.proofs.lemmas.List.{drop_all}
 use Rattle.std.specs.Str.Pattern.{FindsText, HasMatch, SplitsAroundMatch}
-use Rattle.asl_model.specs.Intrinsic.{cut_at_holes, holes_filled, word_of}
+use Rattle.asl_model.specs.Intrinsic.{cut_at_holes, holes_filled, format_text}
 use Rattle.asl_model.specs.Tree as model
 use Rattle.asl_tree.specs.View as trees
 use Rattle.asl_tree.specs.declared.Tree as code
@@ -32,14 +32,14 @@ text_refused whole r refusal is none = rw is (record { gives = tt; fails = λ e.
 -- the next hole is filled
 pub hole_filled : (whole : Option (List ℕ)) (text worded new : List ℕ) (pieces : List (String Global)) (values : List Value) (i next : ℕ) (p : String Global) (v : Value)
     → whole ≡ holes_filled text (map string_bytes (drop i pieces)) (values_view (drop i values)) → i < length values → length values ≡ length pieces → next ≡ suc i → v ≡ get_or values i v → p ≡ get_or pieces i p
-    → option_map (λ word. text ++ word) (word_of (value_view v)) ≡ Some worded → new ≡ worded ++ string_bytes p → whole ≡ holes_filled new (map string_bytes (drop next pieces)) (values_view (drop next values))
+    → option_map (λ word. text ++ word) (format_text (value_view v)) ≡ Some worded → new ≡ worded ++ string_bytes p → whole ≡ holes_filled new (map string_bytes (drop next pieces)) (values_view (drop next values))
 hole_filled whole text worded new pieces values i next p v so_far within same after at_value at_piece word is =
     let within_pieces : i < length pieces = omega arith in
     so_far ∙ rw (after, drop-cons values i v within, drop-cons pieces i p within_pieces, ← at_value, ← at_piece) (filled_with text (string_bytes p) new (map string_bytes (drop (suc i) pieces)) (value_view v) (values_view (drop (suc i) values)) worded word is)
 
 -- the next value has no word
 pub hole_unfilled : (whole : Option (List ℕ)) (text : List ℕ) (pieces : List (String Global)) (values : List Value) (i : ℕ) (v : Value)
-    → whole ≡ holes_filled text (map string_bytes (drop i pieces)) (values_view (drop i values)) → i < length values → length values ≡ length pieces → v ≡ get_or values i v → word_of (value_view v) ≡ None → whole ≡ None
+    → whole ≡ holes_filled text (map string_bytes (drop i pieces)) (values_view (drop i values)) → i < length values → length values ≡ length pieces → v ≡ get_or values i v → format_text (value_view v) ≡ None → whole ≡ None
 hole_unfilled whole text pieces values i v so_far within same at_value none =
     let within_pieces : i < length pieces = omega arith in
     so_far ∙ rw (drop-cons values i v within, ← at_value) (piece_or_not (map string_bytes (drop i pieces)))
@@ -59,13 +59,13 @@ holes_are_filled whole text pieces values i so_far end same =
 -- behind the next hole of the text the rest goes on
 pub piece_filled : (whole : Option (List ℕ)) (filled pushed worded : List ℕ) (rest piece behind : List ℕ) (values : List Value) (i next : ℕ) (v : Value)
     → whole ≡ holes_filled (filled ++ (cut_at_holes rest).first) (cut_at_holes rest).after_holes (values_view (drop i values)) → SplitsAroundMatch (FindsText (codes "{}")) rest piece behind → i < length values → next ≡ suc i → v ≡ get_or values i v → pushed ≡ filled ++ piece
-    → option_map (λ word. pushed ++ word) (word_of (value_view v)) ≡ Some worded → whole ≡ holes_filled (worded ++ (cut_at_holes behind).first) (cut_at_holes behind).after_holes (values_view (drop next values))
+    → option_map (λ word. pushed ++ word) (format_text (value_view v)) ≡ Some worded → whole ≡ holes_filled (worded ++ (cut_at_holes behind).first) (cut_at_holes behind).after_holes (values_view (drop next values))
 piece_filled whole filled pushed worded rest piece behind values i next v so_far split within after at is word =
     so_far ∙ rw (after, cut_at_match rest piece behind split, drop-cons values i v within, ← at, ← is) (filled_with pushed (cut_at_holes behind).first _ (cut_at_holes behind).after_holes (value_view v) (values_view (drop (suc i) values)) worded word refl)
 
 -- the next value has no word
 pub piece_unfilled : (whole : Option (List ℕ)) (filled : List ℕ) (rest piece behind : List ℕ) (values : List Value) (i : ℕ) (v : Value)
-    → whole ≡ holes_filled (filled ++ (cut_at_holes rest).first) (cut_at_holes rest).after_holes (values_view (drop i values)) → SplitsAroundMatch (FindsText (codes "{}")) rest piece behind → i < length values → v ≡ get_or values i v → word_of (value_view v) ≡ None → whole ≡ None
+    → whole ≡ holes_filled (filled ++ (cut_at_holes rest).first) (cut_at_holes rest).after_holes (values_view (drop i values)) → SplitsAroundMatch (FindsText (codes "{}")) rest piece behind → i < length values → v ≡ get_or values i v → format_text (value_view v) ≡ None → whole ≡ None
 piece_unfilled whole filled rest piece behind values i v so_far split within at none =
     so_far ∙ rw (cut_at_match rest piece behind split, drop-cons values i v within, ← at, none) refl
 

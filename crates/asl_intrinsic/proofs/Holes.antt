@@ -1,6 +1,6 @@
 -- Texts with holes, and what fills them.
 use Rattle.std.proofs.Common.{◌≡◌, ◌<◌, ℕ, suc, List, [], ◌∷◌, ◌++◌, length, get_or, drop, drop-cons, map, Option, Some, None, option_map, option_and_then, String, Global, string_bytes, codes, refl, sym, ap, ◌∙◌, append_assoc}
-use Rattle.asl_model.specs.Intrinsic.{holes_filled, joined_by_holes, word_of}
+use Rattle.asl_model.specs.Intrinsic.{holes_filled, joined_by_holes, format_text}
 use Rattle.asl_model.specs.Tree.{Tree, Trees, NoTrees, AndTree}
 
 -- ---- a literal text as a value
@@ -27,7 +27,7 @@ filled-front : (a b : List ℕ) (pieces : List (List ℕ)) (ts : Trees) → hole
 filled-front a b [] NoTrees = refl
 filled-front a b [] (AndTree t ts) = refl
 filled-front a b (piece ∷ pieces) NoTrees = refl
-filled-front a b (piece ∷ pieces) (AndTree t ts) = go (word_of t) (holes_filled piece pieces ts)
+filled-front a b (piece ∷ pieces) (AndTree t ts) = go (format_text t) (holes_filled piece pieces ts)
   where
     go : (word further : Option (List ℕ)) → option_and_then (λ w. option_map (λ f. (a ++ b) ++ (w ++ f)) further) word ≡ option_map (λ f. a ++ f) (option_and_then (λ w. option_map (λ f. b ++ (w ++ f)) further) word)
     go None further = refl
@@ -40,10 +40,10 @@ regrouped a b None = refl
 regrouped a b (Some further) = ap Some (append_assoc a b further)
 
 -- where a value has a word, its hole is filled with it
-pub filled_with : (text piece new : List ℕ) (pieces : List (List ℕ)) (t : Tree) (ts : Trees) (worded : List ℕ) → option_map (λ word. text ++ word) (word_of t) ≡ Some worded → new ≡ worded ++ piece → holes_filled text (piece ∷ pieces) (AndTree t ts) ≡ holes_filled new pieces ts
-filled_with text piece new pieces t ts worded e is = go (word_of t) refl
+pub filled_with : (text piece new : List ℕ) (pieces : List (List ℕ)) (t : Tree) (ts : Trees) (worded : List ℕ) → option_map (λ word. text ++ word) (format_text t) ≡ Some worded → new ≡ worded ++ piece → holes_filled text (piece ∷ pieces) (AndTree t ts) ≡ holes_filled new pieces ts
+filled_with text piece new pieces t ts worded e is = go (format_text t) refl
   where
-    go : (word : Option (List ℕ)) → word_of t ≡ word → holes_filled text (piece ∷ pieces) (AndTree t ts) ≡ holes_filled new pieces ts
+    go : (word : Option (List ℕ)) → format_text t ≡ word → holes_filled text (piece ∷ pieces) (AndTree t ts) ≡ holes_filled new pieces ts
     go None none = let h : option_map (λ (word : List ℕ). text ++ word) None ≡ Some worded = rw none at e in absurd (cc)
     go (Some w) some =
         let h : option_map (λ (word : List ℕ). text ++ word) (Some w) ≡ Some worded = rw some at e in
@@ -51,5 +51,5 @@ filled_with text piece new pieces t ts worded e is = go (word_of t) refl
         rw (some, is, at_end) (sym (filled-front (text ++ w) piece pieces ts ∙ regrouped text w (holes_filled piece pieces ts)))
 
 -- where a value has none, nothing is filled
-pub filled_with_none : (text piece : List ℕ) (pieces : List (List ℕ)) (t : Tree) (ts : Trees) → word_of t ≡ None → holes_filled text (piece ∷ pieces) (AndTree t ts) ≡ None
+pub filled_with_none : (text piece : List ℕ) (pieces : List (List ℕ)) (t : Tree) (ts : Trees) → format_text t ≡ None → holes_filled text (piece ∷ pieces) (AndTree t ts) ≡ None
 filled_with_none text piece pieces t ts none = rw none refl

@@ -9,7 +9,7 @@ use Rattle.asl_model.specs.PathSpelling.{BadSegment, IsRefusedPath, LeftOut, Pat
 use Rattle.asl_path.specs.Refusal.{IsRefused}
 use Rattle.asl_path.specs.declared.PathRefusal.{PathRefusal}
 use Rattle.asl_path.specs.declared.PathRefusal.TheVariants as path
-use Rattle.asl_model.specs.CallSpelling.{behind, context_of, WrittenNull, WrittenBoolean, WrittenInteger, number_of, word_of}
+use Rattle.asl_model.specs.CallSpelling.{behind, context_of, WrittenNull, WrittenBoolean, WrittenInteger, whole_number, literal_argument}
 use Rattle.asl_intrinsic.specs.Meaning.{IsPlainWord, argument_meaning, argument_seen}
 use Rattle.asl_intrinsic.specs.View.{argument_view}
 use Rattle.asl_intrinsic.specs.declared.call.Arg as code
@@ -29,16 +29,16 @@ seen_integer : (z : ℤ) → argument_view (code.Int z) ≡ model.IntegerArgumen
 seen_integer z = search (rules, code.the_lemmas)
 
 -- the word for null
-pub null_word : (word : List ℕ) → word ≡ codes "null" → IsPlainWord (word_of word) (Some code.Null)
-null_word word is = (WrittenNull, ap word_of is, λ item. rw seen_null refl)
+pub null_word : (word : List ℕ) → word ≡ codes "null" → IsPlainWord (literal_argument word) (Some code.Null)
+null_word word is = (WrittenNull, ap literal_argument is, λ item. rw seen_null refl)
 
 -- the word for true
-pub true_word : (word : List ℕ) → word ≡ codes "true" → IsPlainWord (word_of word) (Some (code.Bool true))
-true_word word is = (WrittenBoolean true, ap word_of is, λ item. rw (seen_boolean true) refl)
+pub true_word : (word : List ℕ) → word ≡ codes "true" → IsPlainWord (literal_argument word) (Some (code.Bool true))
+true_word word is = (WrittenBoolean true, ap literal_argument is, λ item. rw (seen_boolean true) refl)
 
 -- the word for false
-pub false_word : (word : List ℕ) → word ≡ codes "false" → IsPlainWord (word_of word) (Some (code.Bool false))
-false_word word is = (WrittenBoolean false, ap word_of is, λ item. rw (seen_boolean false) refl)
+pub false_word : (word : List ℕ) → word ≡ codes "false" → IsPlainWord (literal_argument word) (Some (code.Bool false))
+false_word word is = (WrittenBoolean false, ap literal_argument is, λ item. rw (seen_boolean false) refl)
 
 -- texts that aren't the same are told apart
 pub differs : (m n : List ℕ) → (m ≡ n → ⊥) → bytes_eq m n ≡ false
@@ -49,7 +49,7 @@ differs m n h = go (bytes_eq m n) refl
     go false e = refl
 
 -- a word that is none of these three, and spells a number
-pub number_word : (word : List ℕ) (z y : ℤ) → (word ≡ codes "null" → ⊥) → (word ≡ codes "true" → ⊥) → (word ≡ codes "false" → ⊥) → number_of word ≡ Some z → y ≡ z → IsPlainWord (word_of word) (Some (code.Int y))
+pub number_word : (word : List ℕ) (z y : ℤ) → (word ≡ codes "null" → ⊥) → (word ≡ codes "true" → ⊥) → (word ≡ codes "false" → ⊥) → whole_number word ≡ Some z → y ≡ z → IsPlainWord (literal_argument word) (Some (code.Int y))
 number_word word z y no_null no_true no_false is same =
     (WrittenInteger z, rw (differs word (codes "null") no_null, differs word (codes "true") no_true, differs word (codes "false") no_false, is) refl, λ item. rw (seen_integer y, same) refl)
 

@@ -6,7 +6,7 @@ use Rattle.std.specs.Char.{is_ascii_digit}
 use Rattle.std.specs.Option.{SomeIff}
 use Rattle.std.specs.Result.{result_ok}
 use Rattle.std.specs.Str.Parse.{IsNumeral, ParsesSigned, ParsesUnsigned, digits_value, starts_with_minus}
-use Rattle.asl_model.specs.CallSpelling.{is_whole, negated, negative_of, number_of}
+use Rattle.asl_model.specs.CallSpelling.{is_whole, negated, negative_of, whole_number}
 use Rattle.asl_model.specs.PathSpelling.{front_length}
 use Rattle.asl_path.proofs.Cuts.{all_digits, no_plus}
 
@@ -41,11 +41,11 @@ fits : (n : ℕ) → n < 2 ^ 63 → FitsSigned w64 (pos n)
 fits n h = fits_signed_from_abs w64 (pos n) h
 
 -- a whole number below 2 ^ 63 spells its value
-number_here : (s : List ℕ) → is_whole s ≡ true → digits_value 10 s < 2 ^ 63 → number_of s ≡ Some (pos (digits_value 10 s))
+number_here : (s : List ℕ) → is_whole s ≡ true → digits_value 10 s < 2 ^ 63 → whole_number s ≡ Some (pos (digits_value 10 s))
 number_here s whole small = rw (whole, lt-ltb (digits_value 10 s) (2 ^ 63) small) refl
 
 -- one that isn't below it spells none
-no_number : (s : List ℕ) → (digits_value 10 s < 2 ^ 63 → ⊥) → number_of s ≡ None
+no_number : (s : List ℕ) → (digits_value 10 s < 2 ^ 63 → ⊥) → whole_number s ≡ None
 no_number s large = go (nat_lt (digits_value 10 s) (2 ^ 63)) refl (is_whole s)
   where
     go : (b : Bool) → nat_lt (digits_value 10 s) (2 ^ 63) ≡ b → (whole : Bool) → cond (whole && b) (Some (pos (digits_value 10 s))) None ≡ None
@@ -54,7 +54,7 @@ no_number s large = go (nat_lt (digits_value 10 s) (2 ^ 63)) refl (is_whole s)
     go false e false = refl
 
 -- what `parse` answers on a whole number
-pub number_parsed : {E : Type 0} (s : List ℕ) (r : Result ℤ E) (o : Option ℤ) → is_whole s ≡ true → ParsesSigned w64 10 s r → o ≡ result_ok r → o ≡ number_of s
+pub number_parsed : {E : Type 0} (s : List ℕ) (r : Result ℤ E) (o : Option ℤ) → is_whole s ≡ true → ParsesSigned w64 10 s r → o ≡ result_ok r → o ≡ whole_number s
 number_parsed s (Ok z) o whole parsed e =
     let number = is_number s whole in
     let read = rw (no_minus s number.digits, no_plus s number.digits) at parsed in

@@ -1,6 +1,6 @@
 -- What an answer says of the value that is defined.
 use Rattle.std.specs.Prelude.{◌≡◌, ◌++◌, ℕ, List, [], ◌∷◌, map, Option, Some, None, option_map, Result, Err, IfOk, OnOk}
-use Rattle.asl_model.specs.Intrinsic.{Pieces, joined_by_holes, word_of}
+use Rattle.asl_model.specs.Intrinsic.{Pieces, joined_by_holes, format_text}
 use Rattle.asl_model.specs.Tree as model
 use Rattle.asl_tree.specs.View as trees
 use Rattle.asl_intrinsic.specs.declared.EvalRefusal.{EvalRefusal}
@@ -37,5 +37,5 @@ literal_in (value ∷ others) = literal_of value
 
 -- behind the text that was there stands the value's word; a failure is told only where the value has none
 pub record WritesWord {A : Type 0} (old new : List ℕ) (r : Result A EvalRefusal) (value : model.Tree) : Type 0 where
-  pub word : OnOk r (option_map (λ word. old ++ word) (word_of value) ≡ Some new)
-  pub fails : r ≡ Err IntrinsicFailure → word_of value ≡ None
+  pub word : OnOk r (option_map (λ word. old ++ word) (format_text value) ≡ Some new)
+  pub fails : r ≡ Err IntrinsicFailure → format_text value ≡ None

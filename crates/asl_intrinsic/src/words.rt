@@ -1,6 +1,6 @@
 //! Reading words and numbers.
 ghost use Rattle.std.specs.Prelude.{◌≡◌, IfSome, IsTrue, IsUtf8};
-ghost use Rattle.asl_model.specs.CallSpelling.{cut_negative as cut_behind_minus, is_whole as is_whole_number, negative_of as negative_from, number_of as number_from, word_of as meaning_of_word};
+ghost use Rattle.asl_model.specs.CallSpelling.{cut_negative as cut_behind_minus, is_whole as is_whole_number, negative_of as negative_from, whole_number, literal_argument};
 ghost use Rattle.asl_intrinsic.specs.Meaning.{IsPlainWord, number_cut};
 
 use crate::Arg;
@@ -8,7 +8,7 @@ use crate::scanning::Part;
 
 /// What the word stands for: null, a truth value, or a number that isn't negative.
 pub(crate) fn word_of(word: &str) -> Option<Arg>
-    ensures { IsPlainWord (meaning_of_word word.now) result }
+    ensures { IsPlainWord (literal_argument word.now) result }
 {
     match word {
         "null" => Some(Arg::Null),
@@ -20,7 +20,7 @@ pub(crate) fn word_of(word: &str) -> Option<Arg>
 
 /// The number that the digits spell, where they are a whole number that fits.
 fn number_of(digits: &str) -> Option<i64>
-    ensures { result ≡ number_from digits.now }
+    ensures { result ≡ whole_number digits.now }
 {
     if !is_whole(digits.as_bytes()) {
         return None;

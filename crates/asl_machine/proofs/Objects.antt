@@ -6,7 +6,7 @@ use Rattle.serde_json.specs.Data.{Data, Members}
 use Rattle.serde_json.specs.Find.{get}
 use Rattle.asl_model.specs.DefinitionTable as model
 use Rattle.asl_model.specs.ShapeSpelling.{is_among}
-use Rattle.asl_model.specs.StandsFor.{Complaint, Place, members_in, complaint_at, field_faults, rows_complaints, foreign_complaints, has_row}
+use Rattle.asl_model.specs.StandsFor.{Complaint, Place, members_in, complaint_at, row_faults, rows_complaints, foreign_complaints, has_row}
 use Rattle.asl_machine.specs.declared.rows.Row.{Row}
 use Rattle.asl_machine.specs.declared.places.Complaint.{Complaint as Objection}
 use Rattle.asl_machine.specs.Rows.{row_view, rows_view}
@@ -15,7 +15,7 @@ use Rattle.asl_machine.proofs.Lookups.{got_among}
 
 -- what is wrong with the field of a row
 abbrev pub row_complaints : Place → Row → Data → List Complaint
-row_complaints place row v = map (complaint_at place row.name.now) (field_faults (row_view row) (get row.name.now v))
+row_complaints place row v = map (complaint_at place row.name.now) (row_faults (row_view row) (get row.name.now v))
 
 -- with those behind it
 abbrev pub rows_behind : Place → List Row → ℕ → Data → List Complaint

@@ -13,7 +13,7 @@ use Rattle.asl_model.specs.Json.{tree_of, elements_of, members_of}
 use Rattle.asl_model.specs.Tree.{Tree, Null, Boolean, Integer, Text, Array, Object, Fields, NoFields, AndField, Trees, field_named}
 use Rattle.asl_model.specs.Test.{Rule, as_text}
 use Rattle.asl_model.specs.RuleSpelling as rule
-use Rattle.asl_model.specs.StandsFor.{Complaint, Place, members_in, items_in, text_at, items_at, listed, field_faults, target_complaints, rules_complaints, rules_of, rows_complaints, fields_complaints, type_complaints, nested_complaints, state_complaints_by, place_of_state, complaint_at}
+use Rattle.asl_model.specs.StandsFor.{Complaint, Place, members_in, items_in, text_at, items_at, listed, row_faults, target_complaints, rules_complaints, rules_of, rows_complaints, fields_complaints, type_complaints, nested_complaints, state_complaints_by, place_of_state, complaint_at}
 use Rattle.asl_machine.specs.declared.places.Complaint.{Complaint as Objection}
 use Rattle.asl_machine.specs.Definition.{IsVerdict, rule_targets, rules_of_type}
 use Rattle.asl_machine.proofs.Checks.{told_next}
@@ -150,7 +150,7 @@ each_rule place names (json.item v vs) e =
 choices_row : model.Row
 choices_row = record { field = codes "Choices"; wanted = model.RulesValue; required = true }
 
-rules_at : (place : Place) (names : List (List ℕ)) (o : Option Data) → field_faults choices_row o ≡ []
+rules_at : (place : Place) (names : List (List ℕ)) (o : Option Data) → row_faults choices_row o ≡ []
     → rule_targets place names (unwrap_or (option_map items_in o) json.no_items)
     ≡ rules_complaints place names (filter_map (λ v. option_and_then rule.rule_of (tree_of v)) (listed (unwrap_or (option_map items_in o) json.no_items)))
 unfolding choices_row
@@ -167,8 +167,8 @@ rules_in_order : (state : List ℕ) (names : List (List ℕ)) (ms : Members) →
 unfolding choices_row
 rules_in_order state names ms e =
     let rows = first_none (rows_complaints (place_of_state state) model.choice_rows ms) _ e in
-    let told = first_none (map (complaint_at (place_of_state state) (codes "Choices")) (field_faults choices_row (get_member (codes "Choices") ms))) _ rows in
-    rules_at (place_of_state state) names (get_member (codes "Choices") ms) (unmapped_none (complaint_at (place_of_state state) (codes "Choices")) (field_faults choices_row (get_member (codes "Choices") ms)) told)
+    let told = first_none (map (complaint_at (place_of_state state) (codes "Choices")) (row_faults choices_row (get_member (codes "Choices") ms))) _ rows in
+    rules_at (place_of_state state) names (get_member (codes "Choices") ms) (unmapped_none (complaint_at (place_of_state state) (codes "Choices")) (row_faults choices_row (get_member (codes "Choices") ms)) told)
 
 -- the rules on several fields of a type, where the fields are in order one by one
 rules_same : (t : model.StateType) (state : List ℕ) (names : List (List ℕ)) (ms : Members) → fields_complaints (place_of_state state) (model.rows_of t) ms ≡ [] → rules_of_type t state names ms ≡ type_complaints t state names ms

@@ -2,7 +2,7 @@
 
 ghost use Rattle.serde_json.specs.Find.{get};
 ghost use Rattle.serde_json.specs.View.{view};
-ghost use Rattle.asl_model.specs.StandsFor.{members_in, fields_complaints, rows_complaints, foreign_complaints, field_faults};
+ghost use Rattle.asl_model.specs.StandsFor.{members_in, fields_complaints, rows_complaints, foreign_complaints, row_faults};
 ghost use Rattle.asl_machine.specs.Rows.{row_view, rows_view};
 ghost use Rattle.asl_machine.specs.Definition.{IsMisfit, IsVerdict, place_view};
 
@@ -48,7 +48,7 @@ pub(crate) fn check_rows<'a>(
 
 /// Checks the value of one field, or its absence.
 fn check_field(alloc: Global, object: &Value, row: &'static Row) -> Result<(), DefFault>
-    ensures { IsMisfit (field_faults (row_view row.now) (get row.now.name.now (view object.now))) result }
+    ensures { IsMisfit (row_faults (row_view row.now) (get row.now.name.now (view object.now))) result }
 {
     match object.get(row.name) {
         Some(value) => check_value(alloc, row.wanted, value),

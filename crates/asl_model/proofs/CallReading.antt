@@ -8,7 +8,7 @@ use Rattle.std.proofs.lemmas.Option.{none-some, same_Some}
 use Rattle.std.proofs.lemmas.Slice.Eq.{bytes_eq-Decides}
 use Rattle.asl_model.specs.Intrinsic.{Pieces, begins_with}
 use Rattle.asl_model.specs.PathSpelling.{is_one_of, front_length}
-use Rattle.asl_model.specs.CallSpelling.{Cut, in_function_name, negated, without_spaces, byte_in_front, hole_in_front, cut_pieces, is_whole, number_of, negative_of, word_of, followed_by, cut_negative, open_quote, path_length, cut_path, cut_word, cut_argument, after_argument, cut_arguments, cut_parentheses, cut_call, whole_call, written_call, WrittenCall, WrittenAs, WrittenArgument, WrittenNull, WrittenBoolean, WrittenInteger, WrittenText, WrittenPath, WrittenNested, WrittenArguments, NoneWritten, AndWritten}
+use Rattle.asl_model.specs.CallSpelling.{Cut, in_function_name, negated, without_spaces, byte_in_front, hole_in_front, cut_pieces, is_whole, whole_number, negative_of, literal_argument, followed_by, cut_negative, open_quote, path_length, cut_path, cut_word, cut_argument, after_argument, cut_arguments, cut_parentheses, cut_call, whole_call, written_call, WrittenCall, WrittenAs, WrittenArgument, WrittenNull, WrittenBoolean, WrittenInteger, WrittenText, WrittenPath, WrittenNested, WrittenArguments, NoneWritten, AndWritten}
 use Rattle.asl_model.specs.CallGrammar.{ConsistsOf, no_byte_is_left, and_byte, is_space, IsWhole, zero_is_whole, digits_are_whole, WritesNumber, from_zero_on, from_zero_down, WritesPieces, nothing_is_left, escaped_byte, hole_in_text, plain_byte, is_not, GoesOn, path_is_over, byte_of_path, quoted_in_path, WritesCall, writes_call, WritesInside, writes_none, writes_some, WritesArguments, writes_last, writes_further, WritesSpaced, writes_spaced, WritesArgument, writes_null, writes_true, writes_false, writes_number, writes_text, writes_path, writes_nested}
 use Rattle.asl_model.proofs.ReadingSteps.{taken_if, then_from, map_from}
 use Rattle.asl_model.proofs.CallWriting.{apart, path_at, pieces_at, argument_at, same_way, spaced_whole, arguments_skip, call_whole, call_read}
@@ -120,7 +120,7 @@ is_whole_off (d ∷ digits) h =
     go all false e one = digits_are_whole (behind all).0 (different d 48 e) (behind all).1
 
 -- a number that is read is written
-number_off : (digits : List ℕ) (z : ℤ) → number_of digits ≡ Some z → WritesNumber digits z
+number_off : (digits : List ℕ) (z : ℤ) → whole_number digits ≡ Some z → WritesNumber digits z
 number_off digits z h =
     let t = taken_if (is_whole digits && nat_lt (digits_value 10 digits) (2 ^ 63)) (Some (pos (digits_value 10 digits))) z h in
     let both = and_parts (is_whole digits) (nat_lt (digits_value 10 digits) (2 ^ 63)) t.0 in
@@ -134,18 +134,18 @@ negative_off digits z h =
     subst (WritesNumber (45 ∷ digits)) (same_Some _ z t.1) (from_zero_down (is_whole_off digits both.0) (leb-true _ _ both.1))
 
 -- a word in front of an argument's end
-pub word_off : (depth : ℕ) (word : List ℕ) (a : WrittenArgument) → word_of word ≡ Some a → WritesArgument depth word a
+pub word_off : (depth : ℕ) (word : List ℕ) (a : WrittenArgument) → literal_argument word ≡ Some a → WritesArgument depth word a
 word_off depth word a h = null (bytes_eq word (codes "null")) refl h
   where
-    falsity : (t : Bool) → bytes_eq word (codes "false") ≡ t → (if t then Some (WrittenBoolean false) else option_map WrittenInteger (number_of word)) ≡ Some a → WritesArgument depth word a
+    falsity : (t : Bool) → bytes_eq word (codes "false") ≡ t → (if t then Some (WrittenBoolean false) else option_map WrittenInteger (whole_number word)) ≡ Some a → WritesArgument depth word a
     falsity true e k = subst (WritesArgument depth word) (same_Some _ a k) (subst (λ w. WritesArgument depth w (WrittenBoolean false)) (sym ((bytes_eq-Decides word (codes "false")).0 e)) writes_false)
-    falsity false e k = let o = map_from WrittenInteger (number_of word) a k in subst (WritesArgument depth word) o.2 (writes_number (number_off word o.0 o.1))
+    falsity false e k = let o = map_from WrittenInteger (whole_number word) a k in subst (WritesArgument depth word) o.2 (writes_number (number_off word o.0 o.1))
 
-    truth : (t : Bool) → bytes_eq word (codes "true") ≡ t → (if t then Some (WrittenBoolean true) else (if bytes_eq word (codes "false") then Some (WrittenBoolean false) else option_map WrittenInteger (number_of word))) ≡ Some a → WritesArgument depth word a
+    truth : (t : Bool) → bytes_eq word (codes "true") ≡ t → (if t then Some (WrittenBoolean true) else (if bytes_eq word (codes "false") then Some (WrittenBoolean false) else option_map WrittenInteger (whole_number word))) ≡ Some a → WritesArgument depth word a
     truth true e k = subst (WritesArgument depth word) (same_Some _ a k) (subst (λ w. WritesArgument depth w (WrittenBoolean true)) (sym ((bytes_eq-Decides word (codes "true")).0 e)) writes_true)
     truth false e k = falsity (bytes_eq word (codes "false")) refl k
 
-    null : (t : Bool) → bytes_eq word (codes "null") ≡ t → (if t then Some WrittenNull else (if bytes_eq word (codes "true") then Some (WrittenBoolean true) else (if bytes_eq word (codes "false") then Some (WrittenBoolean false) else option_map WrittenInteger (number_of word)))) ≡ Some a → WritesArgument depth word a
+    null : (t : Bool) → bytes_eq word (codes "null") ≡ t → (if t then Some WrittenNull else (if bytes_eq word (codes "true") then Some (WrittenBoolean true) else (if bytes_eq word (codes "false") then Some (WrittenBoolean false) else option_map WrittenInteger (whole_number word)))) ≡ Some a → WritesArgument depth word a
     null true e k = subst (WritesArgument depth word) (same_Some _ a k) (subst (λ w. WritesArgument depth w WrittenNull) (sym ((bytes_eq-Decides word (codes "null")).0 e)) writes_null)
     null false e k = truth (bytes_eq word (codes "true")) refl k
 
@@ -217,13 +217,13 @@ word_cut nested depth reads text a rest h = go (slice_index (drop n text) 0 == 4
     n : ℕ
     n = front_length in_function_name text
 
-    go : (t : Bool) → ◌≡◌ {A = Cut WrittenArgument} (elim t [ true ↦ option_map (λ c. followed_by c.1 (WrittenNested c.0)) (nested text) | false ↦ option_map (followed_by (drop n text)) (word_of (take n text)) ]) (Some (a, rest)) → ArgumentOff depth text a rest
+    go : (t : Bool) → ◌≡◌ {A = Cut WrittenArgument} (elim t [ true ↦ option_map (λ c. followed_by c.1 (WrittenNested c.0)) (nested text) | false ↦ option_map (followed_by (drop n text)) (literal_argument (take n text)) ]) (Some (a, rest)) → ArgumentOff depth text a rest
     go true k =
         let o = map_from (λ (c : WrittenCall × List ℕ). followed_by c.1 (WrittenNested c.0)) (nested text) (a, rest) k in
         let w = reads text o.0.0 o.0.1 o.1 in
         subst (λ p. ArgumentOff depth text p.0 p.1) o.2 (w.0, w.1, writes_nested w.2)
     go false k =
-        let o = map_from (followed_by (drop n text)) (word_of (take n text)) (a, rest) k in
+        let o = map_from (followed_by (drop n text)) (literal_argument (take n text)) (a, rest) k in
         subst (λ p. ArgumentOff depth text p.0 p.1) o.2 (take n text, sym (take-append-drop n text), word_off depth (take n text) o.0 o.1)
 
 -- a number behind a minus sign

@@ -8,7 +8,7 @@ use Rattle.std.proofs.lemmas.Bool.{and_from, and_right, or_cases, or_parts, or_r
 use Rattle.std.proofs.lemmas.Slice.Eq.{bytes_eq-Decides}
 use Rattle.asl_model.specs.Intrinsic.{Pieces}
 use Rattle.asl_model.specs.PathSpelling.{is_one_of, front_length}
-use Rattle.asl_model.specs.CallSpelling.{Cut, in_function_name, negated, without_spaces, byte_in_front, hole_in_front, cut_pieces, is_whole, number_of, negative_of, word_of, followed_by, cut_negative, open_quote, path_length, cut_path, cut_word, cut_argument, after_argument, cut_arguments, cut_parentheses, cut_call, WrittenCall, WrittenAs, WrittenArgument, WrittenNull, WrittenBoolean, WrittenInteger, WrittenText, WrittenPath, WrittenNested, WrittenArguments, NoneWritten, AndWritten}
+use Rattle.asl_model.specs.CallSpelling.{Cut, in_function_name, negated, without_spaces, byte_in_front, hole_in_front, cut_pieces, is_whole, whole_number, negative_of, literal_argument, followed_by, cut_negative, open_quote, path_length, cut_path, cut_word, cut_argument, after_argument, cut_arguments, cut_parentheses, cut_call, WrittenCall, WrittenAs, WrittenArgument, WrittenNull, WrittenBoolean, WrittenInteger, WrittenText, WrittenPath, WrittenNested, WrittenArguments, NoneWritten, AndWritten}
 use Rattle.asl_model.specs.CallGrammar.{ConsistsOf, no_byte_is_left, and_byte, is_space, IsWhole, zero_is_whole, digits_are_whole, WritesNumber, from_zero_on, from_zero_down, WritesPieces, nothing_is_left, escaped_byte, hole_in_text, plain_byte, is_not, GoesOn, path_is_over, byte_of_path, quoted_in_path, WritesCall, writes_call, WritesInside, writes_none, writes_some, WritesArguments, writes_last, writes_further, WritesSpaced, writes_spaced, WritesArgument, writes_null, writes_true, writes_false, writes_number, writes_text, writes_path, writes_nested}
 
 -- ---- bytes
@@ -74,7 +74,7 @@ no_path_byte ends_by_parenthesis = refl
 
 -- a word or a call, for what stands in front of the rest
 abbrev word_at : (List ℕ → Cut WrittenCall) → List ℕ → List ℕ → List ℕ → Cut WrittenArgument
-word_at nested text front rest = elim (slice_index rest 0 == 40) [ true ↦ option_map (λ c. followed_by c.1 (WrittenNested c.0)) (nested text) | false ↦ option_map (followed_by rest) (word_of front) ]
+word_at nested text front rest = elim (slice_index rest 0 == 40) [ true ↦ option_map (λ c. followed_by c.1 (WrittenNested c.0)) (nested text) | false ↦ option_map (followed_by rest) (literal_argument front) ]
 
 -- a name in front of something else is cut off
 word_split : (nested : List ℕ → Cut WrittenCall) {front : List ℕ} → ConsistsOf in_function_name front → (rest : List ℕ) → front_length in_function_name rest ≡ 0 → cut_word nested (front ++ rest) ≡ word_at nested (front ++ rest) front rest
@@ -83,10 +83,10 @@ word_split nested {front} name rest stop =
     ∙ ap₂ (word_at nested (front ++ rest)) (take-append_seam front rest) (drop-append_seam front rest)
 
 -- a name in front of an argument's end is a word
-word_ends : (nested : List ℕ → Cut WrittenCall) {front rest : List ℕ} → ConsistsOf in_function_name front → EndsArgument rest → cut_word nested (front ++ rest) ≡ option_map (followed_by rest) (word_of front)
+word_ends : (nested : List ℕ → Cut WrittenCall) {front rest : List ℕ} → ConsistsOf in_function_name front → EndsArgument rest → cut_word nested (front ++ rest) ≡ option_map (followed_by rest) (literal_argument front)
 word_ends nested {front} {rest} name ends =
     word_split nested name rest (no_name_byte ends)
-    ∙ ap (λ (t : Bool). elim t as (λ _. Cut WrittenArgument) [ true ↦ option_map (λ c. followed_by c.1 (WrittenNested c.0)) (nested (front ++ rest)) | false ↦ option_map (followed_by rest) (word_of front) ]) (no_opening ends)
+    ∙ ap (λ (t : Bool). elim t as (λ _. Cut WrittenArgument) [ true ↦ option_map (λ c. followed_by c.1 (WrittenNested c.0)) (nested (front ++ rest)) | false ↦ option_map (followed_by rest) (literal_argument front) ]) (no_opening ends)
 
 -- ---- numbers
 
@@ -118,7 +118,7 @@ whole_passes (digits_are_whole {d = d} {digits = digits} h apart further) =
     (or_right (length (d ∷ digits) == 1) (not (d == 48)) (ap not (ne_eqb d 48 apart)))
 
 -- a whole number in range is read
-number_read : {digits : List ℕ} → IsWhole digits → digits_value 10 digits < 2 ^ 63 → number_of digits ≡ Some (pos (digits_value 10 digits))
+number_read : {digits : List ℕ} → IsWhole digits → digits_value 10 digits < 2 ^ 63 → whole_number digits ≡ Some (pos (digits_value 10 digits))
 number_read {digits} whole small = ap (λ b. if b then Some (pos (digits_value 10 digits)) else None) (and_from (is_whole digits) (nat_lt (digits_value 10 digits) (2 ^ 63)) (whole_passes whole) (lt-ltb (digits_value 10 digits) (2 ^ 63) small))
 
 -- so below zero
@@ -134,11 +134,11 @@ not_a_word word {digits} whole letter = go (bytes_eq digits word) refl
     go false e = e
 
 -- a whole number is read as a word
-number_word : {digits : List ℕ} → IsWhole digits → digits_value 10 digits < 2 ^ 63 → word_of digits ≡ Some (WrittenInteger (pos (digits_value 10 digits)))
+number_word : {digits : List ℕ} → IsWhole digits → digits_value 10 digits < 2 ^ 63 → literal_argument digits ≡ Some (WrittenInteger (pos (digits_value 10 digits)))
 number_word {digits} whole small =
-    ap (λ b. if b then Some WrittenNull else (if bytes_eq digits (codes "true") then Some (WrittenBoolean true) else (if bytes_eq digits (codes "false") then Some (WrittenBoolean false) else option_map WrittenInteger (number_of digits)))) (not_a_word (codes "null") whole refl)
-    ∙ (ap (λ b. if b then Some (WrittenBoolean true) else (if bytes_eq digits (codes "false") then Some (WrittenBoolean false) else option_map WrittenInteger (number_of digits))) (not_a_word (codes "true") whole refl)
-    ∙ (ap (λ b. if b then Some (WrittenBoolean false) else option_map WrittenInteger (number_of digits)) (not_a_word (codes "false") whole refl)
+    ap (λ b. if b then Some WrittenNull else (if bytes_eq digits (codes "true") then Some (WrittenBoolean true) else (if bytes_eq digits (codes "false") then Some (WrittenBoolean false) else option_map WrittenInteger (whole_number digits)))) (not_a_word (codes "null") whole refl)
+    ∙ (ap (λ b. if b then Some (WrittenBoolean true) else (if bytes_eq digits (codes "false") then Some (WrittenBoolean false) else option_map WrittenInteger (whole_number digits))) (not_a_word (codes "true") whole refl)
+    ∙ (ap (λ b. if b then Some (WrittenBoolean false) else option_map WrittenInteger (whole_number digits)) (not_a_word (codes "false") whole refl)
     ∙ ap (option_map WrittenInteger) (number_read whole small)))
 
 -- what digits behind a minus sign give, in front of the rest

@@ -5,7 +5,7 @@ use Rattle.serde_json.specs.Data as json
 use Rattle.serde_json.specs.Data.{Data, Members}
 use Rattle.serde_json.specs.Find.{get_member, as_str, as_object}
 use Rattle.asl_model.specs.DefinitionTable.{DefFault, Row, TextValue, ScopeValue, unless, wrong_kind, map_rows}
-use Rattle.asl_model.specs.StandsFor.{Complaint, Place, complaint_at, complain_unless, field_faults, rows_complaints, has_row, foreign_complaints, is_given, text_at, one_of_complaints, processor_complaints, is_processor}
+use Rattle.asl_model.specs.StandsFor.{Complaint, Place, complaint_at, complain_unless, row_faults, rows_complaints, has_row, foreign_complaints, is_given, text_at, one_of_complaints, processor_complaints, is_processor}
 use Rattle.asl_model.proofs.FindingScopes.{append-none, map-none}
 use Rattle.asl_model.proofs.ReadingLookups.{first_member}
 use Rattle.asl_model.proofs.RunOptions.{some_inj, none_some, false_true}
@@ -18,20 +18,20 @@ right_unless false place field fault e = absurd (cc)
 -- ---- fields with a row
 
 -- nothing is wrong with the field of the row at a position
-pub row_right : (place : Place) (ms : Members) (rows : List Row) (i : ℕ) (row : Row) → slice_get rows i ≡ Some row → rows_complaints place rows ms ≡ [] → field_faults row (get_member row.field ms) ≡ []
+pub row_right : (place : Place) (ms : Members) (rows : List Row) (i : ℕ) (row : Row) → slice_get rows i ≡ Some row → rows_complaints place rows ms ≡ [] → row_faults row (get_member row.field ms) ≡ []
 row_right place ms [] i row at e = none_some at
 row_right place ms (first ∷ rows) zero row at e =
-    let told = append-none (map (complaint_at place first.field) (field_faults first (get_member first.field ms))) (rows_complaints place rows ms) e in
-    subst (λ (r : Row). field_faults r (get_member r.field ms) ≡ []) (some_inj at) (map-none (complaint_at place first.field) (field_faults first (get_member first.field ms)) told.0)
+    let told = append-none (map (complaint_at place first.field) (row_faults first (get_member first.field ms))) (rows_complaints place rows ms) e in
+    subst (λ (r : Row). row_faults r (get_member r.field ms) ≡ []) (some_inj at) (map-none (complaint_at place first.field) (row_faults first (get_member first.field ms)) told.0)
 row_right place ms (first ∷ rows) (suc i) row at e =
-    let told = append-none (map (complaint_at place first.field) (field_faults first (get_member first.field ms))) (rows_complaints place rows ms) e in
+    let told = append-none (map (complaint_at place first.field) (row_faults first (get_member first.field ms))) (rows_complaints place rows ms) e in
     row_right place ms rows i row at told.1
 
 -- the row of a text that has to be there
 abbrev pub text_row : List ℕ → Row
 text_row field = record { field = field; wanted = TextValue; required = true }
 
-text_in : (field : List ℕ) (o : Option Data) → field_faults (text_row field) o ≡ [] → IsTrue (is_some (option_and_then as_str o))
+text_in : (field : List ℕ) (o : Option Data) → row_faults (text_row field) o ≡ [] → IsTrue (is_some (option_and_then as_str o))
 text_in field None e = absurd (cc)
 text_in field (Some v) e = by (as_str v) e
   where
@@ -69,7 +69,7 @@ IfObject (Some v) = IsTrue (is_some (as_object v))
 abbrev scope_row : List ℕ → Row
 scope_row field = record { field = field; wanted = ScopeValue; required = false }
 
-object_in : (field : List ℕ) (o : Option Data) → field_faults (scope_row field) o ≡ [] → IfObject o
+object_in : (field : List ℕ) (o : Option Data) → row_faults (scope_row field) o ≡ [] → IfObject o
 object_in field None e = tt
 object_in field (Some v) e = by (as_object v) e
   where

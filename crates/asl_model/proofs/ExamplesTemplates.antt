@@ -4,7 +4,7 @@ use Rattle.asl_model.specs.Tree.{Tree, Null, Boolean, Integer, Text, Array, Obje
 use Rattle.asl_model.specs.Path.{Segment, Name, Index}
 use Rattle.asl_model.specs.Placing.{placed}
 use Rattle.asl_model.specs.Faults.{ParameterPathFailure}
-use Rattle.asl_model.specs.Intrinsic.{InInput, ItemIndex, InItem, Call, CallOf, StatesArray, StatesArrayLength, StatesFormat, Argument, NullArgument, BooleanArgument, IntegerArgument, TextArgument, PathArgument, CallArgument, Arguments, NoArguments, AndArgument, word_of, call_value}
+use Rattle.asl_model.specs.Intrinsic.{InInput, ItemIndex, InItem, Call, CallOf, StatesArray, StatesArrayLength, StatesFormat, Argument, NullArgument, BooleanArgument, IntegerArgument, TextArgument, PathArgument, CallArgument, Arguments, NoArguments, AndArgument, format_text, call_value}
 use Rattle.asl_model.specs.Template.{Literal, FromPath, FromCall, ArrayTemplate, ObjectTemplate, NoTemplates, AndTemplate, NoFieldTemplates, AndFieldTemplate, template_value}
 use Rattle.asl_model.specs.Test.{Relation, Equals, LessThan, GreaterThan, LessThanEquals, GreaterThanEquals, StringIs, NumericIs, BooleanEquals, Constant, AtPath, NullKind, NumericKind, StringKind, BooleanKind, ByteOf, Star, PatternPart, is_cut_by, Test, And, Or, Not, Compare, StringMatches, IsOfKind, IsPresent, Tests, NoTests, AndTest, truth}
 
@@ -81,7 +81,7 @@ hole_in_array : called (CallOf StatesArray (with_arguments (TextArgument (record
 hole_in_array = refl
 
 -- what stands in place of a hole, by the kind of its value
-words : map word_of (Null ∷ Boolean true ∷ Boolean false ∷ whole 70 ∷ Text (codes "a") ∷ Array NoTrees ∷ Object NoFields ∷ []) ≡ Some (codes "null") ∷ Some (codes "true") ∷ Some (codes "false") ∷ Some (codes "70") ∷ Some (codes "a") ∷ None ∷ None ∷ []
+words : map format_text (Null ∷ Boolean true ∷ Boolean false ∷ whole 70 ∷ Text (codes "a") ∷ Array NoTrees ∷ Object NoFields ∷ []) ≡ Some (codes "null") ∷ Some (codes "true") ∷ Some (codes "false") ∷ Some (codes "70") ∷ Some (codes "a") ∷ None ∷ None ∷ []
 words = refl
 
 too_many_arguments : called (CallOf StatesFormat (with_arguments (of_braces ∷ PathArgument (InInput (Name (codes "n") ∷ [])) ∷ PathArgument (InInput (Name (codes "n") ∷ [])) ∷ []))) least ≡ None

@@ -5,7 +5,7 @@ use Rattle.std.proofs.lemmas.Option.{slice_get-map}
 use Rattle.std.proofs.lemmas.Slice.Eq.{bytes_eq-Decides}
 use Rattle.asl_model.specs.Machine.{Scope, State, start_of, state_named}
 use Rattle.asl_model.specs.ShapeSpelling.{is_among, are_distinct}
-use Rattle.asl_model.specs.Numbering.{Standing, standing, number_of, number_or_0, outline, outlined, placement_of, table_of, IsScopeOf, HasNamed, IsWellNamed}
+use Rattle.asl_model.specs.Numbering.{Standing, standing, state_number, number_or_0, outline, outlined, placement_of, table_of, IsScopeOf, HasNamed, IsWellNamed}
 use Rattle.asl_model.proofs.Numbering.{names_of_standing, outlined_names}
 use Rattle.asl_model.proofs.NumberedScopes.{StandsAs, all_stand}
 use Rattle.asl_model.proofs.NumberedStates.{StandsAt, stands_at, number_found}
@@ -16,7 +16,7 @@ use Rattle.asl_model.proofs.RunOptions.{some_inj, none_some, some_there, false_t
 pub record HasRow (machine scope : Scope) (n : List ℕ) (state : State) : Type 0 where
   pub number : ℕ
   pub owner : Option (List ℕ × ℕ)
-  pub numbered : number_of (standing machine) n ≡ Some number
+  pub numbered : state_number (standing machine) n ≡ Some number
   pub found : position (bytes_eq n) (table_of machine).names ≡ Some number
   pub named : slice_get (table_of machine).names number ≡ Some n
   pub shown : slice_get (table_of machine).states number ≡ Some (outline state)
@@ -29,7 +29,7 @@ made_of f states i s e = slice_get-map f (map outlined states) i ∙ ap (option_
 row_at : (machine scope : Scope) (n : List ℕ) (state : State) (owner : Option (List ℕ × ℕ)) → StandsAt (standing machine) (record { name = n; state = state; start = start_of scope; owner = owner }) → HasRow machine scope n state
 row_at machine scope n state owner at =
     let s : Standing = record { name = n; state = state; start = start_of scope; owner = owner } in
-    let numbered : number_of (standing machine) n ≡ Some at.number = number_found (standing machine) s at in
+    let numbered : state_number (standing machine) n ≡ Some at.number = number_found (standing machine) s at in
     record {
       number = at.number;
       owner = owner;

@@ -4,7 +4,7 @@ use Rattle.std.specs.List.{position_or_len}
 use Rattle.std.proofs.lemmas.List.{length-map}
 use Rattle.std.proofs.lemmas.Slice.Eq.{bytes_eq-Decides}
 use Rattle.asl_model.specs.ShapeSpelling.{is_among, are_distinct}
-use Rattle.asl_model.specs.Numbering.{Standing, number_of}
+use Rattle.asl_model.specs.Numbering.{Standing, state_number}
 use Rattle.asl_model.proofs.NumberedScopes.{IsListed}
 
 -- the names of states
@@ -66,6 +66,6 @@ stands_at (x ∷ xs) s d (inr h) = stands_behind x xs s (other (bytes_eq s.name 
     other false f = f
 
 -- that is its number, and the state of that number is this one
-pub number_found : (states : List Standing) (s : Standing) (h : StandsAt states s) → number_of states s.name ≡ Some h.number
+pub number_found : (states : List Standing) (s : Standing) (h : StandsAt states s) → state_number states s.name ≡ Some h.number
 number_found states s h =
     ap (λ i. cond (nat_lt i (length (names states))) (Some i) None) h.in_front ∙ ap (λ b. cond b (Some h.number) None) (lt-ltb h.number (length (names states)) (subst (λ n. h.number < n) (sym (length-map states (λ t. t.name))) h.within))

@@ -6,7 +6,7 @@ use Rattle.std.specs.Option.{option_map}
 use Rattle.std.proofs.lemmas.Bool.{and_parts, and_from, eqb-true, false≢true}
 use Rattle.asl_model.specs.Tree.{Tree, Null, Boolean, Integer, Text, Array, Object, Trees, NoTrees, AndTree, Fields, NoFields, AndField, count}
 use Rattle.asl_model.specs.Path.{Segment, Name, Index, named_by}
-use Rattle.asl_model.specs.Intrinsic.{Reference, InInput, ItemIndex, InItem, Function, StatesArray, StatesArrayLength, StatesFormat, Call, CallOf, Argument, NullArgument, BooleanArgument, IntegerArgument, TextArgument, PathArgument, CallArgument, Arguments, NoArguments, AndArgument, Pieces, literal_pieces, Item, referred, call_value, argument_value, argument_values, applied, array_length, length_of, formatted, holes_filled, joined_by_holes, word_of}
+use Rattle.asl_model.specs.Intrinsic.{Reference, InInput, ItemIndex, InItem, Function, StatesArray, StatesArrayLength, StatesFormat, Call, CallOf, Argument, NullArgument, BooleanArgument, IntegerArgument, TextArgument, PathArgument, CallArgument, Arguments, NoArguments, AndArgument, Pieces, literal_pieces, Item, referred, call_value, argument_value, argument_values, applied, array_length, length_of, formatted, holes_filled, joined_by_holes, format_text}
 use Rattle.asl_model.specs.Template.{Template, Literal, FromPath, FromCall, ArrayTemplate, ObjectTemplate, Templates, NoTemplates, AndTemplate, FieldTemplates, NoFieldTemplates, AndFieldTemplate, Failure, below, unless_value, failures, element_failures, field_failures, filled, elements_filled, fields_filled, template_value}
 use Rattle.asl_model.specs.Faults.{DataFlowError, ParameterPathFailure, IntrinsicFailure}
 use Rattle.asl_model.specs.Shape.{Shape, Never, NullShape, BooleanShape, IntegerShape, StringShape, ArrayShape, Shapes, NoShapes, AndShape, Has, has, elements_have, fields_have, all_mentioned, inhabited}
@@ -47,30 +47,30 @@ reference-gives (InItem path) input (Some s) r v (Some it) e h m = look-gives pa
 -- Calls
 
 -- what has a shape of one kind
-null-word : (t : Tree) → Has NullShape t → (word : List ℕ) × (word_of t ≡ Some word)
+null-word : (t : Tree) → Has NullShape t → (word : List ℕ) × (format_text t ≡ Some word)
 null-word Null h = (_, refl)
 null-word t h = absurd (false≢true h)
 
-boolean-word : (t : Tree) → Has BooleanShape t → (word : List ℕ) × (word_of t ≡ Some word)
+boolean-word : (t : Tree) → Has BooleanShape t → (word : List ℕ) × (format_text t ≡ Some word)
 boolean-word (Boolean b) h = (_, refl)
 boolean-word t h = absurd (false≢true h)
 
-integer-word : (t : Tree) → Has IntegerShape t → (word : List ℕ) × (word_of t ≡ Some word)
+integer-word : (t : Tree) → Has IntegerShape t → (word : List ℕ) × (format_text t ≡ Some word)
 integer-word (Integer n) h = (_, refl)
 integer-word t h = absurd (false≢true h)
 
-text-word : (t : Tree) → Has StringShape t → (word : List ℕ) × (word_of t ≡ Some word)
+text-word : (t : Tree) → Has StringShape t → (word : List ℕ) × (format_text t ≡ Some word)
 text-word (Text s) h = (_, refl)
 text-word t h = absurd (false≢true h)
 
-kind-word : (s : Shape) (t : Tree) → IsTrue (false || is_null_shape s || is_boolean_shape s || is_integer_shape s || is_string_shape s) → Has s t → (word : List ℕ) × (word_of t ≡ Some word)
+kind-word : (s : Shape) (t : Tree) → IsTrue (false || is_null_shape s || is_boolean_shape s || is_integer_shape s || is_string_shape s) → Has s t → (word : List ℕ) × (format_text t ≡ Some word)
 kind-word NullShape t h m = null-word t m
 kind-word BooleanShape t h m = boolean-word t m
 kind-word IntegerShape t h m = integer-word t m
 kind-word StringShape t h m = text-word t m
 kind-word s t h m = absurd (false≢true h)
 
-formattable-word : (s : Shape) (t : Tree) → IsTrue (is_formattable s) → Has s t → (word : List ℕ) × (word_of t ≡ Some word)
+formattable-word : (s : Shape) (t : Tree) → IsTrue (is_formattable s) → Has s t → (word : List ℕ) × (format_text t ≡ Some word)
 formattable-word s t h m = kind-word s t (rw (has-inhabited s t m) at h) m
 
 holes-fill : (first : List ℕ) (pieces : List (List ℕ)) (shapes : Shapes) (ts : Trees) → length pieces ≡ how_many_shapes shapes → IsTrue (all_formattable shapes) → IsTrue (elements_have shapes (has Never) ts) → (text : List ℕ) × (holes_filled first pieces ts ≡ Some text)

@@ -7,7 +7,7 @@ use Rattle.std.specs.Str.Parse.{digits_value}
 use Rattle.asl_model.specs.Path.{Segment}
 use Rattle.asl_model.specs.Intrinsic.{Reference, InInput, ItemIndex, InItem, Function, StatesArray, StatesArrayLength, StatesFormat, Pieces, begins_with, Call, CallOf, Argument, NullArgument, BooleanArgument, IntegerArgument, TextArgument, PathArgument, CallArgument, Arguments, NoArguments, AndArgument}
 use Rattle.asl_model.specs.PathSpelling.{is_one_of, Begins, Spells}
-use Rattle.asl_model.specs.CallSpelling.{in_function_name, negated, WrittenCall, WrittenAs, WrittenArgument, WrittenNull, WrittenBoolean, WrittenInteger, WrittenText, WrittenPath, WrittenNested, WrittenArguments, NoneWritten, AndWritten, CallFault, Malformed, UnknownFunction, BadPath}
+use Rattle.asl_model.specs.CallSpelling.{in_function_name, negated, WrittenCall, WrittenAs, WrittenArgument, WrittenNull, WrittenBoolean, WrittenInteger, WrittenText, WrittenPath, WrittenNested, WrittenArguments, NoneWritten, AndWritten, FunctionFault, Malformed, UnknownFunction, BadPath}
 
 -- ---- bytes
 
@@ -188,7 +188,7 @@ mutual
 
 -- How a text is refused as a call: it writes none; or a function is unknown; or, where all are known, a path is
 -- refused.
-pub data IsRefusedCall (item : Bool) (text : List ℕ) : CallFault → Type 0 where
+pub data IsRefusedCall (item : Bool) (text : List ℕ) : FunctionFault → Type 0 where
   is_malformed : ((written : WrittenCall) → WritesCall 32 text written → ⊥) → IsRefusedCall item text Malformed
   has_unknown_function : {written : WrittenCall} → WritesCall 32 text written → HasUnknownFunction written
       → IsRefusedCall item text UnknownFunction

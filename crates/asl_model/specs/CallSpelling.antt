@@ -112,8 +112,8 @@ negated zero = pos 0
 negated (suc n) = negsuc n
 
 -- a whole number from 0 on, or from 0 down; 64 bits hold it
-abbrev pub number_of : List ℕ → Option ℤ
-number_of digits =
+abbrev pub whole_number : List ℕ → Option ℤ
+whole_number digits =
     if is_whole digits && nat_lt (digits_value 10 digits) (2 ^ 63) then Some (pos (digits_value 10 digits)) else None
 
 -- the number that digits behind a minus sign spell, where it is in range
@@ -123,12 +123,12 @@ negative_of digits =
     else None
 
 -- null, a truth value, or a number that isn't negative
-abbrev pub word_of : List ℕ → Option WrittenArgument
-word_of word =
+abbrev pub literal_argument : List ℕ → Option WrittenArgument
+literal_argument word =
     if bytes_eq word (codes "null") then Some WrittenNull else
     (if bytes_eq word (codes "true") then Some (WrittenBoolean true) else
     (if bytes_eq word (codes "false") then Some (WrittenBoolean false) else
-    option_map WrittenInteger (number_of word)))
+    option_map WrittenInteger (whole_number word)))
 
 -- the part that was cut, with what is left
 abbrev pub followed_by : {A : Type 0} → List ℕ → A → A × List ℕ
@@ -168,7 +168,7 @@ cut_word nested text =
     let n = front_length in_function_name text in
     elim (slice_index (drop n text) 0 == 40) [
       | true ↦ option_map (λ c. followed_by c.1 (WrittenNested c.0)) (nested text)
-      | false ↦ option_map (followed_by (drop n text)) (word_of (take n text))
+      | false ↦ option_map (followed_by (drop n text)) (literal_argument (take n text))
     ]
 
 -- an argument, for the calls that may stand in it
@@ -277,23 +277,23 @@ abbrev mutual
       option_and_then (λ a. option_map (AndArgument a) (arguments_of item others)) (argument_of item argument)
 
 -- how a text is refused as a call; the first of these that stands
-pub data CallFault : Type 0 where
+pub data FunctionFault : Type 0 where
   -- it isn't written as a call, or a number is out of range
-  Malformed : CallFault
-  UnknownFunction : CallFault
+  Malformed : FunctionFault
+  UnknownFunction : FunctionFault
   -- a path that is none, or a context path that isn't allowed
-  BadPath : CallFault
+  BadPath : FunctionFault
 
 -- the call, or that a path in it is refused
-abbrev pub call_or_bad_path : Option Call → Result Call CallFault
+abbrev pub call_or_bad_path : Option Call → Result Call FunctionFault
 call_or_bad_path None = Err BadPath
 call_or_bad_path (Some c) = Ok c
 
 -- the call that a written one means, or what is wrong with it
-abbrev pub call_or_fault : Bool → Option WrittenCall → Result Call CallFault
+abbrev pub call_or_fault : Bool → Option WrittenCall → Result Call FunctionFault
 call_or_fault item None = Err Malformed
 call_or_fault item (Some c) = if knows_functions c then call_or_bad_path (call_of item c) else Err UnknownFunction
 
 -- the call that a text spells, or its refusal
-abbrev pub call_from : Bool → List ℕ → Result Call CallFault
+abbrev pub call_from : Bool → List ℕ → Result Call FunctionFault
 call_from item text = call_or_fault item (written_call text)

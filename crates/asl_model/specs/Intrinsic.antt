@@ -75,13 +75,13 @@ truth_text true = codes "true"
 truth_text false = codes "false"
 
 -- what `States.Format` writes for a value in place of a hole
-abbrev pub word_of : Tree → Option (List ℕ)
-word_of Null = Some (codes "null")
-word_of (Boolean b) = Some (truth_text b)
-word_of (Integer n) = Some (decimal_text n)
-word_of (Text t) = Some t
-word_of (Array ts) = None
-word_of (Object fs) = None
+abbrev pub format_text : Tree → Option (List ℕ)
+format_text Null = Some (codes "null")
+format_text (Boolean b) = Some (truth_text b)
+format_text (Integer n) = Some (decimal_text n)
+format_text (Text t) = Some t
+format_text (Array ts) = None
+format_text (Object fs) = None
 
 -- the text: its pieces with `{}` between them
 abbrev pub joined_by_holes : List ℕ → List (List ℕ) → List ℕ
@@ -127,7 +127,7 @@ holes_filled first [] (AndTree t ts) = None
 holes_filled first (piece ∷ pieces) NoTrees = None
 holes_filled first (piece ∷ pieces) (AndTree t ts) =
     option_and_then (λ word. option_map (λ further. first ++ (word ++ further)) (holes_filled piece pieces ts))
-    (word_of t)
+    (format_text t)
 
 -- the pieces of the text that is a call's first argument, where it is a literal one
 abbrev pub literal_pieces : Arguments → Option Pieces

@@ -55,8 +55,8 @@ abbrev pub standing : Scope → List Standing
 standing machine = standing_in None machine
 
 -- the number of the state of that name
-abbrev pub number_of : List Standing → List ℕ → Option ℕ
-number_of states n = position (bytes_eq n) (map (λ s. s.name) states)
+abbrev pub state_number : List Standing → List ℕ → Option ℕ
+state_number states n = position (bytes_eq n) (map (λ s. s.name) states)
 
 -- a scope without its states: its start alone
 abbrev pub scope_outline : Scope → Scope
@@ -94,7 +94,7 @@ pub record Placement : Type 0 where
 
 -- the number of the state of that name; 0 where there is none, which no machine that stands for a definition asks for
 abbrev pub number_or_0 : List Standing → List ℕ → ℕ
-number_or_0 states n = unwrap_or (number_of states n) 0
+number_or_0 states n = unwrap_or (state_number states n) 0
 
 -- where a state among those stands, by their numbers
 abbrev pub placement_of : List Standing → Standing → Placement

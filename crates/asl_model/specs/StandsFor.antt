@@ -310,15 +310,15 @@ complain_unless right place field fault = if right then [] else complaint_at pla
 -- ---- the fields of an object
 
 -- what is wrong with the value of a row, or with its absence
-abbrev pub field_faults : Row → Option Data → List DefFault
-field_faults row None = if row.required then MissingField ∷ [] else []
-field_faults row (Some v) = misfits row.wanted v
+abbrev pub row_faults : Row → Option Data → List DefFault
+row_faults row None = if row.required then MissingField ∷ [] else []
+row_faults row (Some v) = misfits row.wanted v
 
 -- what is wrong with the fields that rows name
 abbrev pub rows_complaints : Place → List Row → Members → List Complaint
 rows_complaints place [] ms = []
 rows_complaints place (row ∷ rows) ms =
-    map (complaint_at place row.field) (field_faults row (get_member row.field ms)) ++ rows_complaints place rows ms
+    map (complaint_at place row.field) (row_faults row (get_member row.field ms)) ++ rows_complaints place rows ms
 
 -- the name is that of a row
 abbrev pub has_row : List ℕ → List Row → Bool
