@@ -2,6 +2,7 @@
 -- This is the profile's own: the standard has no shapes.
 use Rattle.std.specs.Prelude.{◌≡◌, ℕ, zero, suc, List, [], ◌∷◌, Bool, true, false, IsTrue, ◌↔◌, length, Option, Some, None, is_some, bytes_eq, if◌then◌else◌, option_and_then, Result, Ok, Err}
 use Rattle.std.specs.Option.{option_map}
+use Rattle.asl_model.specs.Names.{StateName, ErrorName, Bytes, PlaceInRun}
 use Rattle.asl_model.specs.Tree.{Tree, Array, Trees, NoTrees, AndTree, count}
 use Rattle.asl_model.specs.Shape.{Shape, Any, Never, Has, Inside}
 use Rattle.asl_model.specs.Faults.{Fault}
@@ -17,7 +18,7 @@ pub record TaskShapes : Type 0 where
 -- what is declared: the shape of the machine's input, and those of its tasks by the names of their states
 pub record Declared : Type 0 where
   pub input : Shape
-  pub tasks : List (List ℕ × TaskShapes)
+  pub tasks : List (StateName × TaskShapes)
 
 -- what is certified of a state: the shapes of its raw input and of its output; for a Parallel the shape of each
 -- branch's end, for a Map that of its processor's end
@@ -30,15 +31,15 @@ pub record StateShapes : Type 0 where
 -- a certificate: the shape of the machine's output, and those of its states by their names
 pub record Certificate : Type 0 where
   pub output : Shape
-  pub states : List (List ℕ × StateShapes)
+  pub states : List (StateName × StateShapes)
 
 -- the first value under that name
-abbrev pub under : {A : Type 0} → List ℕ → List (List ℕ × A) → Option A
+abbrev pub under : {A : Type 0} → StateName → List (StateName × A) → Option A
 under n [] = None
 under n (entry ∷ entries) = if bytes_eq entry.0 n then Some entry.1 else under n entries
 
 -- what is certified of the state of that name
-abbrev pub certified : Certificate → List ℕ → Option StateShapes
+abbrev pub certified : Certificate → StateName → Option StateShapes
 certified certificate n = under n certificate.states
 
 -- the shape that stands there, or Never
@@ -57,11 +58,11 @@ output_among None = Never
 output_among (Some shapes) = shapes.output
 
 -- the certified shape of the raw input of the state of that name; Never where there is no entry
-abbrev pub certified_input : Certificate → List ℕ → Shape
+abbrev pub certified_input : Certificate → StateName → Shape
 certified_input certificate n = input_among (certified certificate n)
 
 -- the certified shape of its output; Never where there is no entry
-abbrev pub certified_output : Certificate → List ℕ → Shape
+abbrev pub certified_output : Certificate → StateName → Shape
 certified_output certificate n = output_among (certified certificate n)
 
 -- the shape at a position, counted from 0
@@ -102,11 +103,11 @@ gives_among None = Any
 gives_among (Some task) = task.gives
 
 -- the shape of the payload that the task of that name takes; Any where it isn't declared
-abbrev pub takes_of : Declared → List ℕ → Shape
+abbrev pub takes_of : Declared → StateName → Shape
 takes_of declared n = takes_among (under n declared.tasks)
 
 -- the shape of the answers that it gives; Any where it isn't declared
-abbrev pub gives_of : Declared → List ℕ → Shape
+abbrev pub gives_of : Declared → StateName → Shape
 gives_of declared n = gives_among (under n declared.tasks)
 
 -- how many branches a state has
@@ -133,7 +134,7 @@ is_map (Map items selector processor) = true
 
 -- the entry is there and of the right form: a shape a branch for a Parallel, that of the processor's end for a Map
 -- alone
-pub record HasEntry (certificate : Certificate) (n : List ℕ) (kind : Kind) : Type 0 where
+pub record HasEntry (certificate : Certificate) (n : StateName) (kind : Kind) : Type 0 where
   pub shapes : StateShapes
   pub stands : certified certificate n ≡ Some shapes
   pub branches : length shapes.branches ≡ branches_in kind
@@ -143,7 +144,7 @@ pub record HasEntry (certificate : Certificate) (n : List ℕ) (kind : Kind) : T
 -- output; a child's scope of a state in one of them with what the state's entry says.
 pub data IsScope (certificate : Certificate) (machine : Scope) : Scope → Shape → Type 0 where
   whole_machine : IsScope certificate machine machine certificate.output
-  child_of_state : {scope : Scope} {end : Shape} (n : List ℕ) (state : State) (i : ℕ)
+  child_of_state : {scope : Scope} {end : Shape} (n : StateName) (state : State) (i : ℕ)
       → IsScope certificate machine scope end → state_named n scope ≡ Some state
       → IsScope certificate machine (child_scope (kind_of state) i)
       (or_never (child_end (kind_of state) (certified certificate n) i))
@@ -155,7 +156,7 @@ EachHas shapes (AndTree t ts) = Has (shapes 0) t × EachHas (λ i. shapes (suc i
 
 -- the output of state n meets no fault, has the state's certified shape, and that of what comes next: the next state's
 -- input or the scope's end
-abbrev pub OutputFits : Certificate → Shape → List ℕ → Option (List ℕ) → Result Tree Fault → Type 0
+abbrev pub OutputFits : Certificate → Shape → StateName → Option StateName → Result Tree Fault → Type 0
 OutputFits certificate end n next (Err fault) = ⊥
 OutputFits certificate end n None (Ok output) = Has (certified_output certificate n) output × Has end output
 OutputFits certificate end n (Some next) (Ok output) =
@@ -163,7 +164,7 @@ OutputFits certificate end n (Some next) (Ok output) =
 
 -- what the first move of state n comes to on raw input v raises no fault, and the shapes fit: of a payload, of each
 -- child's input, and of the output for each result that the shapes allow
-abbrev pub WorkFits : Declared → Certificate → Shape → List ℕ → State → Tree → Work → Type 0
+abbrev pub WorkFits : Declared → Certificate → Shape → StateName → State → Tree → Work → Type 0
 WorkFits declared certificate end n state v (Finishes result) =
     OutputFits certificate end n (settings_of state).next (output_of (settings_of state) v result)
 WorkFits declared certificate end n state v (Leaves next u) =
@@ -180,7 +181,7 @@ WorkFits declared certificate end n state v (Splits inputs) =
 WorkFits declared certificate end n state v (Raises fault) = ⊥
 
 -- what a catcher hands on is there, and has the certified input of its next state
-abbrev pub CaughtFits : Certificate → List ℕ → Option Tree → Type 0
+abbrev pub CaughtFits : Certificate → StateName → Option Tree → Type 0
 CaughtFits certificate next None = ⊥
 CaughtFits certificate next (Some input) = Has (certified_input certificate next) input
 
@@ -188,11 +189,11 @@ CaughtFits certificate next (Some input) = Has (certified_input certificate next
 abbrev pub CatchersFit : Certificate → Tree → List Catcher → Type 0
 CatchersFit certificate v [] = Unit {0}
 CatchersFit certificate v (catcher ∷ others) =
-    ((error cause : List ℕ) → CaughtFits certificate catcher.next (caught_input catcher v error cause))
+    ((error : ErrorName) (cause : Bytes) → CaughtFits certificate catcher.next (caught_input catcher v error cause))
     × CatchersFit certificate v others
 
 -- the certificate is closed at state n of a scope with that end
-pub record IsClosedAt (declared : Declared) (certificate : Certificate) (end : Shape) (n : List ℕ) (state : State) :
+pub record IsClosedAt (declared : Declared) (certificate : Certificate) (end : Shape) (n : StateName) (state : State) :
     Type 0 where
   pub entry : HasEntry certificate n (kind_of state)
   pub work : (v : Tree) → Has (certified_input certificate n) v
@@ -203,14 +204,14 @@ pub record IsClosedAt (declared : Declared) (certificate : Certificate) (end : S
 -- The certificate is closed: its entries are those of the machine's states, the declared tasks are its Tasks, the
 -- declared input is inside what is certified for the start state, and it is closed at each state of each scope.
 pub record IsClosed (declared : Declared) (certificate : Certificate) (machine : Scope) : Type 0 where
-  pub no_other_entry : (n : List ℕ) → IsTrue (is_some (certified certificate n)) → IsTrue (names_state machine n)
-  pub tasks : (n : List ℕ) → IsTrue (is_some (under n declared.tasks)) ↔ IsTrue (names_task machine n)
+  pub no_other_entry : (n : StateName) → IsTrue (is_some (certified certificate n)) → IsTrue (names_state machine n)
+  pub tasks : (n : StateName) → IsTrue (is_some (under n declared.tasks)) ↔ IsTrue (names_task machine n)
   pub start : Inside declared.input (certified_input certificate (start_of machine))
-  pub states : (scope : Scope) (end : Shape) → IsScope certificate machine scope end → (n : List ℕ) (state : State)
+  pub states : (scope : Scope) (end : Shape) → IsScope certificate machine scope end → (n : StateName) (state : State)
       → state_named n scope ≡ Some state → IsClosedAt declared certificate end n state
 
 -- the name of the state that waits in the activity itself
-abbrev pub waiting_name : Activity → Option (List ℕ)
+abbrev pub waiting_name : Activity → Option StateName
 waiting_name (Ready n raw counts) = None
 waiting_name (Waiting n raw counts payload) = Some n
 waiting_name (Split n raw counts children) = None
@@ -218,22 +219,22 @@ waiting_name (Done output) = None
 waiting_name (Failed error cause) = None
 
 -- the name of the state that waits at a place
-abbrev pub waiting_at : List ℕ → Activity → Option (List ℕ)
+abbrev pub waiting_at : PlaceInRun → Activity → Option StateName
 waiting_at p a = option_and_then waiting_name (activity_at p a)
 
 -- the answer has the shape that is declared for the state that waits
-abbrev pub AnswerObeys : Declared → Option (List ℕ) → Tree → Type 0
+abbrev pub AnswerObeys : Declared → Option StateName → Tree → Type 0
 AnswerObeys declared None answer = Unit {0}
 AnswerObeys declared (Some n) answer = Has (gives_of declared n) answer
 
 -- so for an action at a place; moves and failures of tasks are free
-abbrev pub ActionObeys : Declared → List ℕ → Activity → Action → Type 0
+abbrev pub ActionObeys : Declared → PlaceInRun → Activity → Action → Type 0
 ActionObeys declared p a Move = Unit {0}
 ActionObeys declared p a (Gives answer) = AnswerObeys declared (waiting_at p a) answer
 ActionObeys declared p a (FailsTask error cause) = Unit {0}
 
 -- so where the action is enabled; what isn't taken is free too
-abbrev pub TakenObeys : Declared → List ℕ → Activity → Action → Option Step → Type 0
+abbrev pub TakenObeys : Declared → PlaceInRun → Activity → Action → Option Step → Type 0
 TakenObeys declared p a action None = Unit {0}
 TakenObeys declared p a action (Some taken) = ActionObeys declared p a action
 
@@ -249,7 +250,7 @@ pub record Obeys (declared : Declared) (machine : Scope) (input : Tree) (events 
   pub answers : AnswersObey declared (run_of machine input events)
 
 -- the shape certified for the end of the scope of a Split's child
-abbrev pub end_under : Certificate → List ℕ → Option State → ℕ → Shape
+abbrev pub end_under : Certificate → StateName → Option State → ℕ → Shape
 end_under certificate n None i = Never
 end_under certificate n (Some state) i = or_never (child_end (kind_of state) (certified certificate n) i)
 
@@ -259,7 +260,7 @@ end_of_child end_of None = Never
 end_of_child end_of (Some child) = end_of child
 
 -- the shape certified for the end of the scope at a place of an activity, which stands in a scope with that end
-abbrev pub end_at : Certificate → List ℕ → Scope → Shape → Activity → Shape
+abbrev pub end_at : Certificate → PlaceInRun → Scope → Shape → Activity → Shape
 end_at certificate [] scope end a = end
 end_at certificate (i ∷ p) scope end (Ready n raw counts) = Never
 end_at certificate (i ∷ p) scope end (Waiting n raw counts payload) = Never
@@ -316,7 +317,7 @@ NoTurnRaises [] = Unit {0}
 NoTurnRaises (turn ∷ turns) = NoneRaises (entries_of turn.taken) × NoTurnRaises turns
 
 -- a history tells no data-flow fault
-abbrev pub TellsNoFault : List (List ℕ × Entry) → Type 0
+abbrev pub TellsNoFault : List (PlaceInRun × Entry) → Type 0
 TellsNoFault [] = Unit {0}
 TellsNoFault (told ∷ further) = RaisesNothing told.1 × TellsNoFault further
 
@@ -335,7 +336,7 @@ pub record RunIsAsCertified (declared : Declared) (certificate : Certificate) (m
   pub as_certified : TurnsAreAsCertified declared certificate machine (run_of machine input events)
 
 -- what the first move of the scope's state of that name comes to; None where there is no such state
-abbrev pub move_at : Scope → List ℕ → Tree → Option Work
+abbrev pub move_at : Scope → StateName → Tree → Option Work
 move_at scope n raw = option_map (λ state. first_move state raw) (state_named n scope)
 
 -- how many children there are
@@ -344,7 +345,7 @@ how_many_children NoActivities = 0
 how_many_children (AndActivity child others) = suc (how_many_children others)
 
 -- the first move of state n on its raw input splits, and there is a child for each input: one a branch, or one an item
-pub record HasSplit (scope : Scope) (n : List ℕ) (raw : Tree) (children : Activities) : Type 0 where
+pub record HasSplit (scope : Scope) (n : StateName) (raw : Tree) (children : Activities) : Type 0 where
   pub inputs : Trees
   pub split : move_at scope n raw ≡ Some (Splits inputs)
   pub one_each : how_many_children children ≡ count inputs
@@ -408,7 +409,7 @@ group_here scope (Done output) = None
 group_here scope (Failed error cause) = None
 
 -- the group of the state that stands at a place of an activity, which stands in a scope
-abbrev pub group_at : List ℕ → Scope → Activity → Option TypeGroup
+abbrev pub group_at : PlaceInRun → Scope → Activity → Option TypeGroup
 group_at [] scope a = group_here scope a
 group_at (i ∷ p) scope (Ready n raw counts) = None
 group_at (i ∷ p) scope (Waiting n raw counts payload) = None

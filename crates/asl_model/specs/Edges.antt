@@ -2,6 +2,7 @@
 -- of the state, and the rules that are broken on the way to one. A checker compares what flows at each edge with the
 -- shape that stands there; an inferrer takes it in there.
 use Rattle.std.specs.Prelude.{ℕ, List, [], ◌∷◌, ◌++◌, map, Bool, true, false, Option, Some, None, Result, Ok, Err, codes, if◌then◌else◌}
+use Rattle.asl_model.specs.Names.{StateName, FieldName}
 use Rattle.asl_model.specs.Template.{Template}
 use Rattle.asl_model.specs.Test.{Rule}
 use Rattle.asl_model.specs.Machine.{Catcher, Settings, Delay, Seconds, SecondsPath, Timestamp, TimestampPath, Scope, Kind, Pass, Task, Choice, Wait, Succeed, Fail, Parallel, Map, Scopes, NoScopes, AndScope, start_of}
@@ -14,7 +15,7 @@ use Rattle.asl_model.specs.Finding.{Surroundings, Breach, FindingFault, PathMayB
 -- where a shape flows to
 pub data Destination : Type 0 where
   -- the input of the state of that name
-  ToInput : List ℕ → Destination
+  ToInput : StateName → Destination
   -- the state's own output
   ToOutput : Destination
   -- the end of the state's scope
@@ -26,7 +27,7 @@ pub data Destination : Type 0 where
 pub record Edge : Type 0 where
   pub flowing : Shape
   pub destination : Destination
-  pub field : List ℕ
+  pub field : FieldName
   pub fault : FindingFault
 
 -- a step of the walk through a state: an edge, or a rule that is broken on the way to one
@@ -35,16 +36,16 @@ pub data Walked : Type 0 where
   Breaks : Breach → Walked
 
 -- what flows there
-abbrev pub flows_to : Destination → List ℕ → FindingFault → Shape → Walked
+abbrev pub flows_to : Destination → FieldName → FindingFault → Shape → Walked
 flows_to destination field fault s =
     Flows (record { flowing = s; destination = destination; field = field; fault = fault })
 
 -- that rule is broken
-abbrev pub breaks : List ℕ → FindingFault → List Walked
+abbrev pub breaks : FieldName → FindingFault → List Walked
 breaks field fault = Breaks (record { field = field; fault = fault }) ∷ []
 
 -- that rule is broken, unless the test holds
-abbrev pub breaks_unless : Bool → List ℕ → FindingFault → List Walked
+abbrev pub breaks_unless : Bool → FieldName → FindingFault → List Walked
 breaks_unless true field fault = []
 breaks_unless false field fault = breaks field fault
 
@@ -54,18 +55,18 @@ walk_then go_on (Ok s) = go_on s
 walk_then go_on (Err faults) = map (λ fault. Breaks (breach_of fault)) faults
 
 -- an output flows into the state's own, and into the input of the state that the field names
-abbrev pub to_next : List ℕ → List ℕ → Shape → List Walked
+abbrev pub to_next : FieldName → StateName → Shape → List Walked
 to_next field next output =
     flows_to ToOutput (codes "OutputPath") OutputNotCertified output ∷ flows_to (ToInput next) field NextInput output
     ∷ []
 
 -- an output flows into the state's own, and into the scope's end
-abbrev pub to_end : List ℕ → Shape → List Walked
+abbrev pub to_end : FieldName → Shape → List Walked
 to_end field output =
     flows_to ToOutput (codes "OutputPath") OutputNotCertified output ∷ flows_to ToEnd field ScopeOutput output ∷ []
 
 -- the same, by `Next` or `End`
-abbrev pub onward : Option (List ℕ) → Shape → List Walked
+abbrev pub onward : Option StateName → Shape → List Walked
 onward None output = to_end (codes "End") output
 onward (Some next) output = to_next (codes "Next") next output
 
@@ -74,7 +75,7 @@ abbrev pub walk_result : Settings → Kind → Shape → Shape → List Walked
 walk_result settings kind input result = walk_then (onward settings.next) (leave settings kind input result)
 
 -- what a path names is of the kind that its field wants
-abbrev pub walk_named : List ℕ → (Shape → Bool) → Result Shape ℕ → List Walked
+abbrev pub walk_named : FieldName → (Shape → Bool) → Result Shape ℕ → List Walked
 walk_named field test (Ok s) = breaks_unless (test s) field WrongKind
 walk_named field test (Err at) = breaks field PathMayBeMissing
 
@@ -86,7 +87,7 @@ walk_delay (Timestamp t) s = []
 walk_delay (TimestampPath path) s = walk_named (codes "TimestampPath") is_string_shape (look path s)
 
 -- a child's input flows into that of its start state
-abbrev pub to_child : List ℕ → Scope → Shape → List Walked
+abbrev pub to_child : FieldName → Scope → Shape → List Walked
 to_child field scope input = flows_to (ToInput (start_of scope)) field BranchInput input ∷ []
 
 -- the branches' input flows into that of each start state
@@ -118,11 +119,11 @@ walk_items go_on (Ok s) = with_elements_walked go_on (array_parts s)
 walk_items go_on (Err at) = breaks (codes "ItemsPath") PathMayBeMissing
 
 -- the output for an effective input, on its way to the state that the field names
-abbrev pub walk_chosen : Settings → Kind → Shape → List ℕ → List ℕ → Shape → List Walked
+abbrev pub walk_chosen : Settings → Kind → Shape → FieldName → StateName → Shape → List Walked
 walk_chosen settings kind input field next s = walk_then (to_next field next) (leave settings kind input s)
 
 -- a rule's paths, and the output for what it lets through
-abbrev pub walk_rule : Settings → Kind → Shape → List ℕ → Option Shape → List Walked
+abbrev pub walk_rule : Settings → Kind → Shape → StateName → Option Shape → List Walked
 walk_rule settings kind input next None = breaks (codes "Choices") PathMayBeMissing
 walk_rule settings kind input next (Some s) = walk_chosen settings kind input (codes "Choices") next s
 
@@ -133,12 +134,12 @@ walk_rules settings kind input (rule ∷ rules) s =
     walk_rule settings kind input rule.next (rule_shape rule.test s) ++ walk_rules settings kind input rules s
 
 -- the output that goes to `Default`, where there is one
-abbrev pub walk_default : Settings → Kind → Shape → Option (List ℕ) → Shape → List Walked
+abbrev pub walk_default : Settings → Kind → Shape → Option StateName → Shape → List Walked
 walk_default settings kind input None s = []
 walk_default settings kind input (Some next) s = walk_chosen settings kind input (codes "Default") next s
 
 -- what a catcher hands on
-abbrev pub walk_caught : List ℕ → Result Shape ℕ → List Walked
+abbrev pub walk_caught : StateName → Result Shape ℕ → List Walked
 walk_caught next (Ok s) = flows_to (ToInput next) (codes "Catch") CatchInput s ∷ []
 walk_caught next (Err at) = breaks (codes "Catch") ResultMayNotFit
 
@@ -189,7 +190,7 @@ walk gives settings kind entry =
 -- What stands at the destinations of a state's edges: the inputs of states by their names, the state's output, the
 -- scope's end, what its task takes. A comparison is passed over where nothing stands.
 pub record Standing : Type 0 where
-  pub inputs : List ℕ → Option Shape
+  pub inputs : StateName → Option Shape
   pub output : Shape
   pub end : Option Shape
   pub takes : Shape

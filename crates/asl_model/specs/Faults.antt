@@ -2,6 +2,7 @@
 -- The profile adds `Path.NamesNothing` and `Path.WrongKind`, and chooses the cause: the name of the field where the
 -- fault was met.
 use Rattle.std.specs.Prelude.{ℕ, List, Option, Some, None, Result, Ok, Err, codes}
+use Rattle.asl_model.specs.Names.{FieldName, ErrorName}
 
 -- the six errors that an interpreter itself raises
 pub data DataFlowError : Type 0 where
@@ -13,7 +14,7 @@ pub data DataFlowError : Type 0 where
   WrongKind : DataFlowError
 
 -- the error's name
-abbrev pub error_name : DataFlowError → List ℕ
+abbrev pub error_name : DataFlowError → ErrorName
 error_name ParameterPathFailure = codes "States.ParameterPathFailure"
 error_name ResultPathMatchFailure = codes "States.ResultPathMatchFailure"
 error_name NoChoiceMatched = codes "States.NoChoiceMatched"
@@ -24,10 +25,10 @@ error_name WrongKind = codes "Path.WrongKind"
 -- a data-flow fault: its error, and the name of the field where it was met
 pub record Fault : Type 0 where
   pub error : DataFlowError
-  pub field : List ℕ
+  pub field : FieldName
 
 -- the value, or else that fault
-abbrev pub or_fault : {A : Type 0} → DataFlowError → List ℕ → Option A → Result A Fault
+abbrev pub or_fault : {A : Type 0} → DataFlowError → FieldName → Option A → Result A Fault
 or_fault error field None = Err (record { error = error; field = field })
 or_fault error field (Some a) = Ok a
 

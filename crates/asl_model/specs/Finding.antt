@@ -1,6 +1,7 @@
 -- What a checker may tell: every rule of a certificate that is broken, as computed lists (the profile's own). A
 -- finding stands where it is in the list of all; which one of a state is told is the checker's choice.
 use Rattle.std.specs.Prelude.{ℕ, suc, ◌==◌, List, [], ◌∷◌, ◌++◌, length, map, Bool, true, false, ◌&&◌, ◌||◌, not, Option, Some, None, Result, Ok, Err, Contains, is_some, is_none, codes, if◌then◌else◌}
+use Rattle.asl_model.specs.Names.{StateName, FieldName}
 use Rattle.asl_model.specs.Path.{Segment}
 use Rattle.asl_model.specs.Template.{Template}
 use Rattle.asl_model.specs.Test.{Rule}
@@ -45,26 +46,26 @@ pub data FindingFault : Type 0 where
 
 -- a broken rule of a state: the state's field, and the fault
 pub record Breach : Type 0 where
-  pub field : List ℕ
+  pub field : FieldName
   pub fault : FindingFault
 
 -- a broken rule, with the name of its state (or of the entry that names none)
 pub record Finding : Type 0 where
-  pub state : List ℕ
-  pub field : List ℕ
+  pub state : StateName
+  pub field : FieldName
   pub fault : FindingFault
 
 -- the breaches as findings of the state of that name
-abbrev pub found_at : List ℕ → List Breach → List Finding
+abbrev pub found_at : StateName → List Breach → List Finding
 found_at n breaches = map (λ (b : Breach). record { state = n; field = b.field; fault = b.fault }) breaches
 
 -- the breach, unless the test holds
-abbrev pub breach_unless : Bool → List ℕ → FindingFault → List Breach
+abbrev pub breach_unless : Bool → FieldName → FindingFault → List Breach
 breach_unless true field fault = []
 breach_unless false field fault = record { field = field; fault = fault } ∷ []
 
 -- a comparison of what flows with what is certified, passed over where nothing is
-abbrev pub breach_unless_sub : List ℕ → FindingFault → Shape → Option Shape → List Breach
+abbrev pub breach_unless_sub : FieldName → FindingFault → Shape → Option Shape → List Breach
 breach_unless_sub field fault s None = []
 breach_unless_sub field fault s (Some expected) = breach_unless (sub s expected) field fault
 
@@ -104,7 +105,7 @@ input_of_entry is_state None = if is_state then None else Some Never
 input_of_entry is_state (Some entry) = Some entry.input
 
 -- what is compared with the certified input of the state of that name
-abbrev pub input_to_compare : Scope → Certificate → List ℕ → Option Shape
+abbrev pub input_to_compare : Scope → Certificate → StateName → Option Shape
 input_to_compare machine certificate n = input_of_entry (names_state machine n) (certified certificate n)
 
 -- Data flow
@@ -114,13 +115,13 @@ input_to_compare machine certificate n = input_of_entry (names_state machine n) 
 -- no shape stands.
 pub record Surroundings : Type 0 where
   pub declared : Declared
-  pub inputs : List ℕ → Option Shape
+  pub inputs : StateName → Option Shape
   pub end : Option Shape
-  pub name : List ℕ
+  pub name : StateName
   pub entry : StateShapes
 
 -- these surroundings
-abbrev pub surrounded_by : Declared → (List ℕ → Option Shape) → Option Shape → List ℕ → StateShapes → Surroundings
+abbrev pub surrounded_by : Declared → (StateName → Option Shape) → Option Shape → StateName → StateShapes → Surroundings
 surrounded_by declared inputs end n entry =
     record { declared = declared; inputs = inputs; end = end; name = n; entry = entry }
 
@@ -131,25 +132,25 @@ effective_flow settings input =
     (through_path (codes "InputPath") settings.input_path input)
 
 -- the output, compared with the state's own and with the input of the state that follows
-abbrev pub next_breaches : (List ℕ → Option Shape) → Shape → List ℕ → List ℕ → Shape → List Breach
+abbrev pub next_breaches : (StateName → Option Shape) → Shape → FieldName → StateName → Shape → List Breach
 next_breaches inputs certified_output field next output =
     breach_unless_sub (codes "OutputPath") OutputNotCertified output (Some certified_output)
     ++ breach_unless_sub field NextInput output (inputs next)
 
 -- the output, compared with the state's own and with the shape of the scope's end
-abbrev pub end_breaches : Shape → List ℕ → Option Shape → Shape → List Breach
+abbrev pub end_breaches : Shape → FieldName → Option Shape → Shape → List Breach
 end_breaches certified_output field end output =
     breach_unless_sub (codes "OutputPath") OutputNotCertified output (Some certified_output)
     ++ breach_unless_sub field ScopeOutput output end
 
 -- the same, by `Next` or `End`
-abbrev pub output_breaches : (List ℕ → Option Shape) → Shape → Option Shape → Option (List ℕ) → Shape → List Breach
+abbrev pub output_breaches : (StateName → Option Shape) → Shape → Option Shape → Option StateName → Shape → List Breach
 output_breaches inputs certified_output end None output = end_breaches certified_output (codes "End") end output
 output_breaches inputs certified_output end (Some next) output =
     next_breaches inputs certified_output (codes "Next") next output
 
 -- what a path names is of the kind that its field wants
-abbrev pub kind_breaches : List ℕ → (Shape → Bool) → Result Shape ℕ → List Breach
+abbrev pub kind_breaches : FieldName → (Shape → Bool) → Result Shape ℕ → List Breach
 kind_breaches field test (Ok s) = breach_unless (test s) field WrongKind
 kind_breaches field test (Err at) = breach_unless false field PathMayBeMissing
 
@@ -161,11 +162,11 @@ delay_breaches (Timestamp t) s = []
 delay_breaches (TimestampPath path) s = kind_breaches (codes "TimestampPath") is_string_shape (look path s)
 
 -- a child's input, compared with that of its start state
-abbrev pub child_breaches : (List ℕ → Option Shape) → List ℕ → Scope → Shape → List Breach
+abbrev pub child_breaches : (StateName → Option Shape) → FieldName → Scope → Shape → List Breach
 child_breaches inputs field scope input = breach_unless_sub field BranchInput input (inputs (start_of scope))
 
 -- the branches' input, compared with that of each start state
-abbrev pub branch_breaches : (List ℕ → Option Shape) → Scopes → Shape → List Breach
+abbrev pub branch_breaches : (StateName → Option Shape) → Scopes → Shape → List Breach
 branch_breaches inputs NoScopes input = []
 branch_breaches inputs (AndScope scope others) input =
     child_breaches inputs (codes "Branches") scope input ++ branch_breaches inputs others input
@@ -221,13 +222,13 @@ with_items go_on (Err at) = breach_unless false (codes "ItemsPath") PathMayBeMis
 -- Choices
 
 -- the output for an effective input, on its way to a state that the field names
-abbrev pub chosen_breaches : Surroundings → Settings → Kind → List ℕ → List ℕ → Shape → List Breach
+abbrev pub chosen_breaches : Surroundings → Settings → Kind → FieldName → StateName → Shape → List Breach
 chosen_breaches around settings kind field next s =
     breaches_then (next_breaches around.inputs around.entry.output field next)
     (leave settings kind around.entry.input s)
 
 -- a rule's paths, and the output for what it lets through
-abbrev pub rule_breaches : Surroundings → Settings → Kind → List ℕ → Option Shape → List Breach
+abbrev pub rule_breaches : Surroundings → Settings → Kind → StateName → Option Shape → List Breach
 rule_breaches around settings kind next None = breach_unless false (codes "Choices") PathMayBeMissing
 rule_breaches around settings kind next (Some s) = chosen_breaches around settings kind (codes "Choices") next s
 
@@ -239,7 +240,7 @@ rules_breaches around settings kind (rule ∷ rules) s =
     ++ rules_breaches around settings kind rules s
 
 -- the output that goes to `Default`, where there is one
-abbrev pub default_breaches : Surroundings → Settings → Kind → Option (List ℕ) → Shape → List Breach
+abbrev pub default_breaches : Surroundings → Settings → Kind → Option StateName → Shape → List Breach
 default_breaches around settings kind None s = []
 default_breaches around settings kind (Some next) s = chosen_breaches around settings kind (codes "Default") next s
 
@@ -258,12 +259,12 @@ error_placed_shape None input = Ok input
 error_placed_shape (Some path) input = put path error_output_shape input
 
 -- what a catcher hands on, compared with the next state's input
-abbrev pub caught_breaches : (List ℕ → Option Shape) → List ℕ → Result Shape ℕ → List Breach
+abbrev pub caught_breaches : (StateName → Option Shape) → StateName → Result Shape ℕ → List Breach
 caught_breaches inputs next (Ok s) = breach_unless_sub (codes "Catch") CatchInput s (inputs next)
 caught_breaches inputs next (Err at) = breach_unless false (codes "Catch") ResultMayNotFit
 
 -- so for each of the state's catchers
-abbrev pub catcher_breaches : (List ℕ → Option Shape) → Shape → List Catcher → List Breach
+abbrev pub catcher_breaches : (StateName → Option Shape) → Shape → List Catcher → List Breach
 catcher_breaches inputs input [] = []
 catcher_breaches inputs input (catcher ∷ catchers) =
     caught_breaches inputs catcher.next (error_placed_shape catcher.result_path input)
@@ -336,7 +337,7 @@ where_certified of_entry None = []
 where_certified of_entry (Some entry) = of_entry entry
 
 -- every rule that is broken at a state, by its name, in a scope with that shape of its end
-abbrev pub state_breaches : Scope → Declared → Certificate → Option Shape → List ℕ → Settings → Kind → List Breach
+abbrev pub state_breaches : Scope → Declared → Certificate → Option Shape → StateName → Settings → Kind → List Breach
 state_breaches machine declared certificate end n settings kind =
     entry_breaches kind (certified certificate n) (under n declared.tasks)
     ++ where_certified (λ entry. flow_breaches
@@ -357,13 +358,13 @@ abbrev mutual
       state_findings state machine declared certificate end n ++ states_findings others machine declared certificate end
 
   -- at a state of that name, and in its own scopes
-  pub state_findings : State → Scope → Declared → Certificate → Option Shape → List ℕ → List Finding
+  pub state_findings : State → Scope → Declared → Certificate → Option Shape → StateName → List Finding
   state_findings (StateOf settings kind) machine declared certificate end n =
       found_at n (state_breaches machine declared certificate end n settings kind)
       ++ children_findings kind machine declared certificate n
 
   -- in the scopes of a state of that name: a Parallel's branches, a Map's processor
-  pub children_findings : Kind → Scope → Declared → Certificate → List ℕ → List Finding
+  pub children_findings : Kind → Scope → Declared → Certificate → StateName → List Finding
   children_findings (Pass result) machine declared certificate n = []
   children_findings (Task resource) machine declared certificate n = []
   children_findings (Choice rules default) machine declared certificate n = []
@@ -376,21 +377,21 @@ abbrev mutual
       scope_findings processor machine declared certificate (item_end (certified certificate n))
 
   -- from the branch of that number on
-  pub branches_findings : Scopes → Scope → Declared → Certificate → List ℕ → ℕ → List Finding
+  pub branches_findings : Scopes → Scope → Declared → Certificate → StateName → ℕ → List Finding
   branches_findings NoScopes machine declared certificate n i = []
   branches_findings (AndScope scope others) machine declared certificate n i =
       scope_findings scope machine declared certificate (branch_end i (certified certificate n))
       ++ branches_findings others machine declared certificate n (suc i)
 
 -- the entries' names that no state has
-abbrev pub unknown_entries : Scope → List (List ℕ × StateShapes) → List Finding
+abbrev pub unknown_entries : Scope → List (StateName × StateShapes) → List Finding
 unknown_entries machine [] = []
 unknown_entries machine (entry ∷ entries) =
     found_at entry.0 (breach_unless (names_state machine entry.0) (codes "states") NotAState)
     ++ unknown_entries machine entries
 
 -- the declared tasks' names that no Task state has
-abbrev pub unknown_tasks : Scope → List (List ℕ × TaskShapes) → List Finding
+abbrev pub unknown_tasks : Scope → List (StateName × TaskShapes) → List Finding
 unknown_tasks machine [] = []
 unknown_tasks machine (task ∷ tasks) =
     found_at task.0 (breach_unless (names_task machine task.0) (codes "tasks") TaskUnknown)

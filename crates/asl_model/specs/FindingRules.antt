@@ -2,6 +2,7 @@
 -- broken at its state and field, whatever other findings stand. The rules are the profile's own; the shapes are those
 -- of ShapeFlow and ShapeOrder. The list of all findings that a checker computes is in Finding, and holds exactly these.
 use Rattle.std.specs.Prelude.{◌≡◌, ℕ, zero, suc, List, Bool, IsTrue, IsFalse, Option, Some, None, Ok, Err, Contains, codes, ◌↔◌}
+use Rattle.asl_model.specs.Names.{StateName, FieldName, Bytes}
 use Rattle.asl_model.specs.Path.{Segment}
 use Rattle.asl_model.specs.Tree.{Tree}
 use Rattle.asl_model.specs.Intrinsic.{Reference, Call}
@@ -17,9 +18,9 @@ use Rattle.asl_model.specs.Finding.{FindingFault, NotCertified, NotAState, TaskU
 -- ---- the states of a machine
 
 -- a state of that name is one of these
-pub data IsAmong (n : List ℕ) (state : State) : States → Type 0 where
+pub data IsAmong (n : StateName) (state : State) : States → Type 0 where
   state_is_first : {others : States} → IsAmong n state (AndState n state others)
-  state_is_later : {m : List ℕ} {other : State} {others : States} → IsAmong n state others
+  state_is_later : {m : StateName} {other : State} {others : States} → IsAmong n state others
       → IsAmong n state (AndState m other others)
 
 -- the branch of that number
@@ -32,18 +33,18 @@ pub data IsBranch (branch : Scope) : ℕ → Scopes → Type 0 where
 -- branch and a processor with what the entry of their state says, if it says something.
 pub data HasScope (machine : Scope) (certificate : Certificate) : Scope → Option Shape → Type 0 where
   has_itself : HasScope machine certificate machine (Some certificate.output)
-  has_branch : {scope branch : Scope} {end : Option Shape} {n : List ℕ} {settings : Settings} {branches : Scopes}
+  has_branch : {scope branch : Scope} {end : Option Shape} {n : StateName} {settings : Settings} {branches : Scopes}
       {i : ℕ}
       → HasScope machine certificate scope end → IsAmong n (StateOf settings (Parallel branches)) (states_of scope)
       → IsBranch branch i branches → HasScope machine certificate branch (branch_end i (certified certificate n))
-  has_processor : {scope processor : Scope} {end : Option Shape} {n : List ℕ} {settings : Settings}
+  has_processor : {scope processor : Scope} {end : Option Shape} {n : StateName} {settings : Settings}
       {items : List Segment} {selector : Option Template}
       → HasScope machine certificate scope end
       → IsAmong n (StateOf settings (Map items selector processor)) (states_of scope)
       → HasScope machine certificate processor (item_end (certified certificate n))
 
 -- the machine has a state of that name with those settings and of that type, in a scope with that end
-pub record HasState (machine : Scope) (certificate : Certificate) (n : List ℕ) (settings : Settings) (kind : Kind)
+pub record HasState (machine : Scope) (certificate : Certificate) (n : StateName) (settings : Settings) (kind : Kind)
     (end : Option Shape) : Type 0 where
   pub scope : Scope
   pub has_scope : HasScope machine certificate scope end
@@ -51,7 +52,7 @@ pub record HasState (machine : Scope) (certificate : Certificate) (n : List ℕ)
 
 -- what flows to a state of that name is compared with that: the input of its entry; and where no state has the name,
 -- Never, since what is no state takes no tree
-pub data IsCompared (machine : Scope) (certificate : Certificate) (n : List ℕ) : Shape → Type 0 where
+pub data IsCompared (machine : Scope) (certificate : Certificate) (n : StateName) : Shape → Type 0 where
   compared_with_entry : {entry : StateShapes} → certified certificate n ≡ Some entry
       → IsCompared machine certificate n entry.input
   compared_with_never : certified certificate n ≡ None
@@ -66,7 +67,7 @@ pub record IsSurrounded (machine : Scope) (declared : Declared) (certificate : C
   pub state : HasState machine certificate around.name settings kind around.end
   pub entry : certified certificate around.name ≡ Some around.entry
   pub tasks : around.declared ≡ declared
-  pub inputs : (n : List ℕ) (expected : Shape)
+  pub inputs : (n : StateName) (expected : Shape)
       → around.inputs n ≡ Some expected ↔ IsCompared machine certificate n expected
 
 -- ---- what flows through a state
@@ -77,11 +78,11 @@ IsEffective around settings s = effective_flow settings around.entry.input ≡ O
 
 -- where an output goes: to the state that a field names, or to the end of the scope, as a field says
 pub data Target : Type 0 where
-  ToState : List ℕ → List ℕ → Target
-  ToEnd : List ℕ → Target
+  ToState : FieldName → StateName → Target
+  ToEnd : FieldName → Target
 
 -- by `Next`, or `End`
-abbrev pub next_target : Option (List ℕ) → Target
+abbrev pub next_target : Option StateName → Target
 next_target None = ToEnd (codes "End")
 next_target (Some next) = ToState (codes "Next") next
 
@@ -91,12 +92,12 @@ pub data Makes (around : Surroundings) (settings : Settings) : Kind → Shape �
   makes_literal : {t : Tree} → Makes around settings (Pass (Some t)) (literal t) (next_target settings.next)
   makes_what_it_takes : {s : Shape} → IsEffective around settings s
       → Makes around settings (Pass None) s (next_target settings.next)
-  makes_answer : {resource : List ℕ}
+  makes_answer : {resource : Bytes}
       → Makes around settings (Task resource) (gives_of around.declared around.name) (next_target settings.next)
-  lets_through : {rules : List Rule} {default : Option (List ℕ)} {rule : Rule} {s u : Shape}
+  lets_through : {rules : List Rule} {default : Option StateName} {rule : Rule} {s u : Shape}
       → IsEffective around settings s → Contains rules rule → rule_shape rule.test s ≡ Some u
       → Makes around settings (Choice rules default) u (ToState (codes "Choices") rule.next)
-  lets_default : {rules : List Rule} {next : List ℕ} {s : Shape} → IsEffective around settings s
+  lets_default : {rules : List Rule} {next : StateName} {s : Shape} → IsEffective around settings s
       → Makes around settings (Choice rules (Some next)) s (ToState (codes "Default") next)
   lets_wait : {delay : Delay} {s : Shape} → IsEffective around settings s
       → Makes around settings (Wait delay) s (next_target settings.next)
@@ -132,25 +133,25 @@ pub record Leaves (around : Surroundings) (settings : Settings) (kind : Kind) (o
   pub comes_out : leave settings kind around.entry.input made ≡ Ok output
 
 -- the path in that field goes into the effective input, and what it names has to pass the test
-pub data Wants : Kind → List ℕ → List Segment → (Shape → Bool) → Type 0 where
+pub data Wants : Kind → FieldName → List Segment → (Shape → Bool) → Type 0 where
   wants_number : {path : List Segment} → Wants (Wait (SecondsPath path)) (codes "SecondsPath") path is_integer_shape
   wants_text : {path : List Segment} → Wants (Wait (TimestampPath path)) (codes "TimestampPath") path is_string_shape
   wants_list : {items : List Segment} {selector : Option Template} {processor : Scope}
       → Wants (Map items selector processor) (codes "ItemsPath") items is_array_shape
 
 -- the path in that field is looked up in that shape
-pub data LooksUp (around : Surroundings) (settings : Settings) (kind : Kind) : List ℕ → List Segment → Shape → Type 0
+pub data LooksUp (around : Surroundings) (settings : Settings) (kind : Kind) : FieldName → List Segment → Shape → Type 0
   where
     looks_up_input : {path : List Segment} → settings.input_path ≡ Some path
         → LooksUp around settings kind (codes "InputPath") path around.entry.input
-    looks_up_wanted : {field : List ℕ} {path : List Segment} {test : Shape → Bool} {s : Shape}
+    looks_up_wanted : {field : FieldName} {path : List Segment} {test : Shape → Bool} {s : Shape}
         → IsEffective around settings s → Wants kind field path test → LooksUp around settings kind field path s
     looks_up_output : {path : List Segment} {made s : Shape} {target : Target}
         → Makes around settings kind made target → GoesOut settings kind around.entry.input made s
         → settings.output_path ≡ Some path → LooksUp around settings kind (codes "OutputPath") path s
 
 -- the template in that field is evaluated on trees of that shape, with an item of the other
-pub data Evaluates (around : Surroundings) (settings : Settings) : Kind → List ℕ → Template → Shape → Option Shape →
+pub data Evaluates (around : Surroundings) (settings : Settings) : Kind → FieldName → Template → Shape → Option Shape →
     Type 0 where
   evaluates_parameters : {kind : Kind} {template : Template} {s : Shape}
       → through_path (codes "InputPath") settings.input_path around.entry.input ≡ Ok s → settings.parameters ≡ Some template
@@ -187,13 +188,13 @@ mutual
 
   -- so for one of the fields
   pub data HasFieldDoubt (input : Shape) (item : Option Shape) : FieldTemplates → Doubt → Type 0 where
-    doubt_in_field : {m : List ℕ} {template : Template} {others : FieldTemplates} {doubt : Doubt}
+    doubt_in_field : {m : FieldName} {template : Template} {others : FieldTemplates} {doubt : Doubt}
         → HasDoubt input item template doubt → HasFieldDoubt input item (AndFieldTemplate m template others) doubt
-    doubt_in_later_field : {m : List ℕ} {template : Template} {others : FieldTemplates} {doubt : Doubt}
+    doubt_in_later_field : {m : FieldName} {template : Template} {others : FieldTemplates} {doubt : Doubt}
         → HasFieldDoubt input item others doubt → HasFieldDoubt input item (AndFieldTemplate m template others) doubt
 
 -- a tree of that shape is placed in the raw input, at the path in that field: a result, or a catcher's error output
-pub data Puts (around : Surroundings) (settings : Settings) (kind : Kind) : List ℕ → List Segment → Shape → Type 0 where
+pub data Puts (around : Surroundings) (settings : Settings) (kind : Kind) : FieldName → List Segment → Shape → Type 0 where
   puts_result : {path : List Segment} {made selected : Shape} {target : Target}
       → Makes around settings kind made target → IsSelected settings kind made selected
       → settings.result_path ≡ Some path → Puts around settings kind (codes "ResultPath") path selected
@@ -201,7 +202,7 @@ pub data Puts (around : Surroundings) (settings : Settings) (kind : Kind) : List
       → catcher.result_path ≡ Some path → Puts around settings kind (codes "Catch") path error_output_shape
 
 -- a child is started in that scope with an input of that shape, as the field says
-pub data Starts (around : Surroundings) (settings : Settings) : Kind → List ℕ → Scope → Shape → Type 0 where
+pub data Starts (around : Surroundings) (settings : Settings) : Kind → FieldName → Scope → Shape → Type 0 where
   starts_branch : {branches : Scopes} {branch : Scope} {i : ℕ} {s : Shape} → IsEffective around settings s
       → IsBranch branch i branches → Starts around settings (Parallel branches) (codes "Branches") branch s
   starts_item : {items : List Segment} {selector : Option Template} {processor : Scope} {s input : Shape}
@@ -213,28 +214,28 @@ pub data Starts (around : Surroundings) (settings : Settings) : Kind → List �
 -- ---- the rules on what flows
 
 -- A rule is broken in a state whose entry has an input with trees: the field, and the fault.
-pub data BreaksFlow (around : Surroundings) (settings : Settings) (kind : Kind) : List ℕ → FindingFault → Type 0 where
+pub data BreaksFlow (around : Surroundings) (settings : Settings) (kind : Kind) : FieldName → FindingFault → Type 0 where
   -- a path may name nothing: in a field, in a template, in a rule of a Choice
-  path_may_be_missing : {field : List ℕ} {path : List Segment} {s : Shape} {at : ℕ}
+  path_may_be_missing : {field : FieldName} {path : List Segment} {s : Shape} {at : ℕ}
       → LooksUp around settings kind field path s → look path s ≡ Err at
       → BreaksFlow around settings kind field PathMayBeMissing
-  template_may_be_missing : {field : List ℕ} {template : Template} {input : Shape} {item : Option Shape}
+  template_may_be_missing : {field : FieldName} {template : Template} {input : Shape} {item : Option Shape}
       → Evaluates around settings kind field template input item → IsTrue (inhabited input)
       → HasDoubt input item template MayBeMissing
       → BreaksFlow around settings kind field PathMayBeMissing
-  rule_may_be_missing : {rules : List Rule} {default : Option (List ℕ)} {rule : Rule} {s : Shape}
+  rule_may_be_missing : {rules : List Rule} {default : Option StateName} {rule : Rule} {s : Shape}
       → kind ≡ Choice rules default → IsEffective around settings s → Contains rules rule → rule_shape rule.test s ≡ None
       → BreaksFlow around settings kind (codes "Choices") PathMayBeMissing
   -- what a path names isn't of the kind that its field wants
-  may_be_of_wrong_kind : {field : List ℕ} {path : List Segment} {test : Shape → Bool} {s t : Shape}
+  may_be_of_wrong_kind : {field : FieldName} {path : List Segment} {test : Shape → Bool} {s t : Shape}
       → IsEffective around settings s → Wants kind field path test → look path s ≡ Ok t → IsFalse (test t)
       → BreaksFlow around settings kind field WrongKind
   -- what is placed may not fit
-  may_not_fit : {field : List ℕ} {path : List Segment} {s : Shape} {at : ℕ}
+  may_not_fit : {field : FieldName} {path : List Segment} {s : Shape} {at : ℕ}
       → Puts around settings kind field path s → put path s around.entry.input ≡ Err at
       → BreaksFlow around settings kind field ResultMayNotFit
   -- a call in a template may fail
-  may_fail : {field : List ℕ} {template : Template} {input : Shape} {item : Option Shape}
+  may_fail : {field : FieldName} {template : Template} {input : Shape} {item : Option Shape}
       → Evaluates around settings kind field template input item → IsTrue (inhabited input)
       → HasDoubt input item template MayFail
       → BreaksFlow around settings kind field IntrinsicMayFail
@@ -242,7 +243,7 @@ pub data BreaksFlow (around : Surroundings) (settings : Settings) (kind : Kind) 
   has_no_default : {rules : List Rule} → kind ≡ Choice rules None
       → BreaksFlow around settings kind (codes "Default") NoDefault
   -- the payload isn't inside what the task takes
-  payload_is_not_taken : {resource : List ℕ} {s : Shape} → kind ≡ Task resource → IsEffective around settings s
+  payload_is_not_taken : {resource : Bytes} {s : Shape} → kind ≡ Task resource → IsEffective around settings s
       → IsFalse (sub s (takes_of around.declared around.name))
       → BreaksFlow around settings kind (codes "Parameters") PayloadNotTaken
   -- the output isn't inside the state's own
@@ -250,16 +251,16 @@ pub data BreaksFlow (around : Surroundings) (settings : Settings) (kind : Kind) 
       → IsFalse (sub output around.entry.output)
       → BreaksFlow around settings kind (codes "OutputPath") OutputNotCertified
   -- the output isn't inside the next state's input
-  is_no_next_input : {output expected : Shape} {field next : List ℕ}
+  is_no_next_input : {output expected : Shape} {field : FieldName} {next : StateName}
       → Leaves around settings kind output (ToState field next) → around.inputs next ≡ Some expected
       → IsFalse (sub output expected)
       → BreaksFlow around settings kind field NextInput
   -- the output isn't inside what is certified of the scope's end
-  is_no_scope_output : {output expected : Shape} {field : List ℕ}
+  is_no_scope_output : {output expected : Shape} {field : FieldName}
       → Leaves around settings kind output (ToEnd field) → around.end ≡ Some expected → IsFalse (sub output expected)
       → BreaksFlow around settings kind field ScopeOutput
   -- a child's input isn't inside its start state's
-  is_no_branch_input : {field : List ℕ} {child : Scope} {s expected : Shape} → Starts around settings kind field child s
+  is_no_branch_input : {field : FieldName} {child : Scope} {s expected : Shape} → Starts around settings kind field child s
       → around.inputs (start_of child) ≡ Some expected → IsFalse (sub s expected)
       → BreaksFlow around settings kind field BranchInput
   -- what a catcher hands on isn't inside the next state's input
@@ -274,21 +275,21 @@ pub data BreaksFlow (around : Surroundings) (settings : Settings) (kind : Kind) 
 -- There is no other rule.
 pub data IsBroken (machine : Scope) (declared : Declared) (certificate : Certificate) : Finding → Type 0 where
   -- a state has no entry of the right form
-  is_not_certified : {n : List ℕ} {settings : Settings} {kind : Kind} {end : Option Shape}
+  is_not_certified : {n : StateName} {settings : Settings} {kind : Kind} {end : Option Shape}
       → HasState machine certificate n settings kind end → (HasEntry certificate n kind → ⊥)
       → IsBroken machine declared certificate (record { state = n; field = codes "states"; fault = NotCertified })
   -- an entry names no state
-  is_not_a_state : {entry : List ℕ × StateShapes} → Contains certificate.states entry
+  is_not_a_state : {entry : StateName × StateShapes} → Contains certificate.states entry
       → ((settings : Settings) (kind : Kind) (end : Option Shape)
       → HasState machine certificate entry.0 settings kind end → ⊥)
       → IsBroken machine declared certificate (record { state = entry.0; field = codes "states"; fault = NotAState })
   -- a Task isn't declared
-  is_undeclared : {n resource : List ℕ} {settings : Settings} {end : Option Shape}
+  is_undeclared : {n : StateName} {resource : Bytes} {settings : Settings} {end : Option Shape}
       → HasState machine certificate n settings (Task resource) end → under n declared.tasks ≡ None
       → IsBroken machine declared certificate (record { state = n; field = codes "Resource"; fault = TaskUndeclared })
   -- a declared task names no Task state
-  is_unknown : {task : List ℕ × TaskShapes} → Contains declared.tasks task
-      → ((settings : Settings) (resource : List ℕ) (end : Option Shape)
+  is_unknown : {task : StateName × TaskShapes} → Contains declared.tasks task
+      → ((settings : Settings) (resource : Bytes) (end : Option Shape)
       → HasState machine certificate task.0 settings (Task resource) end → ⊥)
       → IsBroken machine declared certificate (record { state = task.0; field = codes "tasks"; fault = TaskUnknown })
   -- the declared input isn't inside the start state's
@@ -297,7 +298,7 @@ pub data IsBroken (machine : Scope) (declared : Declared) (certificate : Certifi
       → IsBroken machine declared certificate
       (record { state = start_of machine; field = codes "StartAt"; fault = StartInput })
   -- a rule on what flows is broken in a state whose entry has an input with trees
-  is_broken_in_flow : {around : Surroundings} {settings : Settings} {kind : Kind} {field : List ℕ}
+  is_broken_in_flow : {around : Surroundings} {settings : Settings} {kind : Kind} {field : FieldName}
       {fault : FindingFault}
       → IsSurrounded machine declared certificate settings kind around → IsTrue (inhabited around.entry.input)
       → BreaksFlow around settings kind field fault

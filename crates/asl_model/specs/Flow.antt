@@ -3,6 +3,7 @@
 -- The profile chooses: `SecondsPath`, `TimestampPath` and `ItemsPath` go into the effective input, and a Wait looks
 -- at what they name, but waits for nothing.
 use Rattle.std.specs.Prelude.{ℕ, suc, pos, List, [], ◌∷◌, Bool, true, false, Option, Some, None, unwrap_or, Result, Ok, Err, codes}
+use Rattle.asl_model.specs.Names.{StateName, FieldName, ErrorName, Bytes}
 use Rattle.asl_model.specs.Tree.{Tree, Null, Boolean, Integer, Text, Array, Object, Trees, NoTrees, AndTree, NoFields}
 use Rattle.asl_model.specs.Path.{Segment, named_by}
 use Rattle.asl_model.specs.Placing.{placed}
@@ -12,17 +13,17 @@ use Rattle.asl_model.specs.Test.{Rule, truth}
 use Rattle.asl_model.specs.Machine.{Settings, Delay, Seconds, SecondsPath, Timestamp, TimestampPath, State, StateOf, Kind, Pass, Task, Choice, Wait, Succeed, Fail, Parallel, Map, Scopes, NoScopes, AndScope}
 
 -- what `InputPath` or `OutputPath` gives: `{}` where it is `null`, else what the path names
-abbrev pub at_path : List ℕ → Option (List Segment) → Tree → Result Tree Fault
+abbrev pub at_path : FieldName → Option (List Segment) → Tree → Result Tree Fault
 at_path field None v = Ok (Object NoFields)
 at_path field (Some p) v = or_fault NamesNothing field (named_by p v)
 
 -- the template's value, or a fault in that field
-abbrev pub met_in : List ℕ → Result Tree DataFlowError → Result Tree Fault
+abbrev pub met_in : FieldName → Result Tree DataFlowError → Result Tree Fault
 met_in field (Ok t) = Ok t
 met_in field (Err error) = Err (record { error = error; field = field })
 
 -- the value of a template that stands in that field, or the input itself where none is given
-abbrev pub by_template : List ℕ → Option Template → Tree → Result Tree Fault
+abbrev pub by_template : FieldName → Option Template → Tree → Result Tree Fault
 by_template field None v = Ok v
 by_template field (Some template) v = met_in field (template_value template v None)
 
@@ -52,9 +53,9 @@ pub data Work : Type 0 where
   -- it has a result
   Finishes : Tree → Work
   -- it leaves with its effective input, for that next state or for the end of its scope
-  Leaves : Option (List ℕ) → Tree → Work
+  Leaves : Option StateName → Tree → Work
   -- it fails, with an error and a cause
-  FailsWith : List ℕ → List ℕ → Work
+  FailsWith : ErrorName → Bytes → Work
   -- it asks its task, with a payload
   Asks : Tree → Work
   -- it starts a child for each of these inputs
@@ -68,22 +69,22 @@ works_on work (Ok a) = work a
 works_on work (Err fault) = Raises fault
 
 -- the rule's next state where its test is true, what the further rules give where it is false
-abbrev pub by_truth : Option Bool → List ℕ → Result (List ℕ) Fault → Result (List ℕ) Fault
+abbrev pub by_truth : Option Bool → StateName → Result StateName Fault → Result StateName Fault
 by_truth None next further = Err (record { error = NamesNothing; field = codes "Choices" })
 by_truth (Some true) next further = Ok next
 by_truth (Some false) next further = further
 
 -- the next state of a Choice: that of the first rule that is true, else `Default`
-abbrev pub chosen : List Rule → Option (List ℕ) → Tree → Result (List ℕ) Fault
+abbrev pub chosen : List Rule → Option StateName → Tree → Result StateName Fault
 chosen [] default v = or_fault NoChoiceMatched (codes "Choices") default
 chosen (rule ∷ rules) default v = by_truth (truth rule.test v) rule.next (chosen rules default v)
 
 -- a fault of a value that isn't of the kind that the field wants
-abbrev pub wrong_kind : {A : Type 0} → List ℕ → Result A Fault
+abbrev pub wrong_kind : {A : Type 0} → FieldName → Result A Fault
 wrong_kind field = Err (record { error = WrongKind; field = field })
 
 -- the value is a whole number
-abbrev pub number_wanted : List ℕ → Tree → Result Tree Fault
+abbrev pub number_wanted : FieldName → Tree → Result Tree Fault
 number_wanted field Null = wrong_kind field
 number_wanted field (Boolean b) = wrong_kind field
 number_wanted field (Integer n) = Ok (Integer n)
@@ -92,7 +93,7 @@ number_wanted field (Array ts) = wrong_kind field
 number_wanted field (Object fs) = wrong_kind field
 
 -- the value is a text
-abbrev pub text_wanted : List ℕ → Tree → Result Tree Fault
+abbrev pub text_wanted : FieldName → Tree → Result Tree Fault
 text_wanted field Null = wrong_kind field
 text_wanted field (Boolean b) = wrong_kind field
 text_wanted field (Integer n) = wrong_kind field
@@ -101,7 +102,7 @@ text_wanted field (Array ts) = wrong_kind field
 text_wanted field (Object fs) = wrong_kind field
 
 -- the elements of a list
-abbrev pub list_wanted : List ℕ → Tree → Result Trees Fault
+abbrev pub list_wanted : FieldName → Tree → Result Trees Fault
 list_wanted field Null = wrong_kind field
 list_wanted field (Boolean b) = wrong_kind field
 list_wanted field (Integer n) = wrong_kind field
@@ -110,7 +111,7 @@ list_wanted field (Array ts) = Ok ts
 list_wanted field (Object fs) = wrong_kind field
 
 -- what the path in that field names
-abbrev pub named_in : List ℕ → List Segment → Tree → Result Tree Fault
+abbrev pub named_in : FieldName → List Segment → Tree → Result Tree Fault
 named_in field p v = or_fault NamesNothing field (named_by p v)
 
 -- what a Wait looks at in its effective input before it waits

@@ -13,6 +13,7 @@ pub mod Inference
 pub mod Intrinsic
 pub mod Json
 pub mod Machine
+pub mod Names
 pub mod Numbering
 pub mod Path
 pub mod PathSpelling

@@ -3,6 +3,7 @@
 -- `Version`, `QueryLanguage`, `ProcessorConfig`, `MaxConcurrency` (the order of events is free), and all that is time
 -- alone (`TimeoutSeconds`, `HeartbeatSeconds`, `IntervalSeconds`, `BackoffRate`, `MaxDelaySeconds`, `JitterStrategy`).
 use Rattle.std.specs.Prelude.{◌≡◌, ◌<◌, ℕ, zero, suc, List, [], ◌++◌, map, Contains, Bool, true, false, ◌&&◌, ◌||◌, IsTrue, Option, Some, None, is_some, option_to_list, bytes_eq, if◌then◌else◌}
+use Rattle.asl_model.specs.Names.{StateName, ErrorName, Bytes}
 use Rattle.asl_model.specs.Tree.{Tree}
 use Rattle.asl_model.specs.Path.{Segment}
 use Rattle.asl_model.specs.Template.{Template}
@@ -10,15 +11,15 @@ use Rattle.asl_model.specs.Test.{Rule}
 
 -- an element of `Retry`: the error names that it takes, and how often it retries within one execution of the state
 pub record Retrier : Type 0 where
-  pub error_equals : List (List ℕ)
+  pub error_equals : List ErrorName
   pub max_attempts : ℕ
 
 -- an element of `Catch`: the error names that it takes, where the error output is placed (None: `null`), and the state
 -- that follows
 pub record Catcher : Type 0 where
-  pub error_equals : List (List ℕ)
+  pub error_equals : List ErrorName
   pub result_path : Option (List Segment)
-  pub next : List ℕ
+  pub next : StateName
 
 -- what states of several types have; a state whose type lacks a field has here the value of one that is absent
 pub record Settings : Type 0 where
@@ -33,7 +34,7 @@ pub record Settings : Type 0 where
   -- None: `null`
   pub output_path : Option (List Segment)
   -- None: `"End": true`, and so for types that have no `Next`
-  pub next : Option (List ℕ)
+  pub next : Option StateName
   pub retriers : List Retrier
   pub catchers : List Catcher
 
@@ -41,18 +42,18 @@ pub record Settings : Type 0 where
 pub data Delay : Type 0 where
   Seconds : ℕ → Delay
   SecondsPath : List Segment → Delay
-  Timestamp : List ℕ → Delay
+  Timestamp : Bytes → Delay
   TimestampPath : List Segment → Delay
 
 mutual
   -- the machine, a branch of a Parallel, or the processor of a Map: the name of the start state, and the states
   pub data Scope : Type 0 where
-    ScopeOf : List ℕ → States → Scope
+    ScopeOf : StateName → States → Scope
 
   -- the states of a scope, each with its name
   pub data States : Type 0 where
     NoStates : States
-    AndState : List ℕ → State → States → States
+    AndState : StateName → State → States → States
 
   -- a state: its settings, and what its type adds
   pub data State : Type 0 where
@@ -63,13 +64,13 @@ mutual
     -- `Result`, where it is given
     Pass : Option Tree → Kind
     -- `Resource`
-    Task : List ℕ → Kind
+    Task : Bytes → Kind
     -- `Choices`, and `Default` where it is given
-    Choice : List Rule → Option (List ℕ) → Kind
+    Choice : List Rule → Option StateName → Kind
     Wait : Delay → Kind
     Succeed : Kind
     -- `Error` and `Cause`
-    Fail : List ℕ → List ℕ → Kind
+    Fail : ErrorName → Bytes → Kind
     -- `Branches`
     Parallel : Scopes → Kind
     -- `ItemsPath`, `ItemSelector` where it is given, and the scope of `ItemProcessor`
@@ -89,7 +90,7 @@ abbrev pub kind_of : State → Kind
 kind_of (StateOf settings kind) = kind
 
 -- the name of the scope's start state
-abbrev pub start_of : Scope → List ℕ
+abbrev pub start_of : Scope → StateName
 start_of (ScopeOf start held) = start
 
 -- the states of a scope
@@ -97,12 +98,12 @@ abbrev pub states_of : Scope → States
 states_of (ScopeOf start held) = held
 
 -- the first of the states that has the name
-abbrev pub state_among : List ℕ → States → Option State
+abbrev pub state_among : StateName → States → Option State
 state_among n NoStates = None
 state_among n (AndState m state others) = if bytes_eq m n then Some state else state_among n others
 
 -- the scope's state of that name
-abbrev pub state_named : List ℕ → Scope → Option State
+abbrev pub state_named : StateName → Scope → Option State
 state_named n scope = state_among n (states_of scope)
 
 -- the scope without a state, which stands where a child is asked for that isn't there
@@ -139,20 +140,20 @@ is_task (Map items selector processor) = false
 
 abbrev mutual
   -- some state of the scope, those of nested scopes included, passes the test on its name and itself
-  pub some_state : (List ℕ → State → Bool) → Scope → Bool
+  pub some_state : (StateName → State → Bool) → Scope → Bool
   some_state test (ScopeOf start held) = some_of_states test held
 
   -- so for a list of states
-  pub some_of_states : (List ℕ → State → Bool) → States → Bool
+  pub some_of_states : (StateName → State → Bool) → States → Bool
   some_of_states test NoStates = false
   some_of_states test (AndState n state others) = test n state || (some_inside test state || some_of_states test others)
 
   -- some state in the scopes of a state passes it
-  pub some_inside : (List ℕ → State → Bool) → State → Bool
+  pub some_inside : (StateName → State → Bool) → State → Bool
   some_inside test (StateOf settings kind) = some_in_kind test kind
 
   -- so by the state's type
-  pub some_in_kind : (List ℕ → State → Bool) → Kind → Bool
+  pub some_in_kind : (StateName → State → Bool) → Kind → Bool
   some_in_kind test (Pass result) = false
   some_in_kind test (Task resource) = false
   some_in_kind test (Choice rules default) = false
@@ -163,16 +164,16 @@ abbrev mutual
   some_in_kind test (Map items selector processor) = some_state test processor
 
   -- so for the branches
-  pub some_in_scopes : (List ℕ → State → Bool) → Scopes → Bool
+  pub some_in_scopes : (StateName → State → Bool) → Scopes → Bool
   some_in_scopes test NoScopes = false
   some_in_scopes test (AndScope scope others) = some_state test scope || some_in_scopes test others
 
 -- a state of the machine, in whatever scope, has that name
-abbrev pub names_state : Scope → List ℕ → Bool
+abbrev pub names_state : Scope → StateName → Bool
 names_state machine n = some_state (λ m state. bytes_eq m n) machine
 
 -- a Task of the machine, in whatever scope, has that name
-abbrev pub names_task : Scope → List ℕ → Bool
+abbrev pub names_task : Scope → StateName → Bool
 names_task machine n = some_state (λ m state. bytes_eq m n && is_task (kind_of state)) machine
 
 -- how many scopes there are
@@ -185,16 +186,16 @@ how_many (AndScope scope others) = suc (how_many others)
 -- the scopes of a machine: its own, and those of the states in its scopes
 pub data IsScopeOf (machine : Scope) : Scope → Type 0 where
   own_scope : IsScopeOf machine machine
-  scope_of_child : {scope : Scope} (n : List ℕ) (state : State) (i : ℕ) → IsScopeOf machine scope
+  scope_of_child : {scope : Scope} (n : StateName) (state : State) (i : ℕ) → IsScopeOf machine scope
       → state_named n scope ≡ Some state
       → IsScopeOf machine (child_scope (kind_of state) i)
 
 -- the scope has a state of that name
-abbrev pub HasNamed : Scope → List ℕ → Type 0
+abbrev pub HasNamed : Scope → StateName → Type 0
 HasNamed scope n = IsTrue (is_some (state_named n scope))
 
 -- the names of the states that a type lets follow: those of a Choice
-abbrev pub targets_by : Kind → List (List ℕ)
+abbrev pub targets_by : Kind → List StateName
 targets_by (Pass result) = []
 targets_by (Task resource) = []
 targets_by (Choice rules default) = map (λ (rule : Rule). rule.next) rules ++ option_to_list default
@@ -205,7 +206,7 @@ targets_by (Parallel branches) = []
 targets_by (Map items selector processor) = []
 
 -- the names of the states that may follow a state: by `Next`, by `Catch`, and by its type
-abbrev pub targets_of : State → List (List ℕ)
+abbrev pub targets_of : State → List StateName
 targets_of (StateOf settings kind) =
     option_to_list settings.next ++ (map (λ (catcher : Catcher). catcher.next) settings.catchers ++ targets_by kind)
 
@@ -214,13 +215,13 @@ targets_of (StateOf settings kind) =
 pub record LeadsInside (machine : Scope) : Type 0 where
   pub start : HasNamed machine (start_of machine)
   pub branch_starts : (scope : Scope) → IsScopeOf machine scope
-      → (n : List ℕ) (settings : Settings) (branches : Scopes) → state_named n scope ≡ Some
+      → (n : StateName) (settings : Settings) (branches : Scopes) → state_named n scope ≡ Some
       (StateOf settings (Parallel branches))
       → (i : ℕ) → i < how_many branches → HasNamed (scope_at i branches) (start_of (scope_at i branches))
   pub processor_starts : (scope : Scope) → IsScopeOf machine scope
-      → (n : List ℕ) (settings : Settings) (items : List Segment) (selector : Option Template) (processor : Scope)
+      → (n : StateName) (settings : Settings) (items : List Segment) (selector : Option Template) (processor : Scope)
       → state_named n scope ≡ Some (StateOf settings (Map items selector processor)) → HasNamed processor
       (start_of processor)
-  pub targets : (scope : Scope) → IsScopeOf machine scope → (n : List ℕ) (state : State)
+  pub targets : (scope : Scope) → IsScopeOf machine scope → (n : StateName) (state : State)
       → state_named n scope ≡ Some state
-      → (m : List ℕ) → Contains (targets_of state) m → HasNamed scope m
+      → (m : StateName) → Contains (targets_of state) m → HasNamed scope m

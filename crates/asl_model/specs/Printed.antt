@@ -1,5 +1,6 @@
 -- What the program prints, with what status it ends, and which lines it reads (the profile's own formats).
 use Rattle.std.specs.Prelude.{ℕ, List, [], ◌∷◌, ◌++◌, length, ◌==◌, nat_lt, Bool, if◌then◌else◌, codes, decimal}
+use Rattle.asl_model.specs.Names.{StateName, FieldName, Bytes}
 use Rattle.asl_model.specs.Tree.{Text}
 use Rattle.asl_model.specs.Json.{compact_text}
 use Rattle.asl_model.specs.Finding as finding
@@ -12,17 +13,17 @@ use Rattle.asl_model.specs.DefinitionTable.{DefFault}
 use Rattle.asl_model.specs.Texts.{Which, DefinitionText, DeclaredText, CertificateText, InputText, AnswersText, TextFault, NotJson, NotWhole, BadDefinition, BadRecord, BadAnswer, NoMemory}
 
 -- a line break
-abbrev pub line_break : List ℕ
+abbrev pub line_break : Bytes
 line_break = codes "\n"
 
 -- a name as a JSON text
-abbrev pub quoted_name : List ℕ → List ℕ
+abbrev pub quoted_name : Bytes → Bytes
 quoted_name n = compact_text (Text n)
 
 -- ---- verdicts
 
 -- the printed name of a finding
-abbrev pub finding_name : FindingFault → List ℕ
+abbrev pub finding_name : FindingFault → Bytes
 finding_name finding.NotCertified = codes "NotCertified"
 finding_name finding.NotAState = codes "NotAState"
 finding_name finding.TaskUndeclared = codes "TaskUndeclared"
@@ -41,25 +42,25 @@ finding_name finding.BranchInput = codes "BranchInput"
 finding_name finding.CatchInput = codes "CatchInput"
 
 -- `no STATE FIELD FAULT`, the state's name as a JSON text
-abbrev pub finding_line : Finding → List ℕ
+abbrev pub finding_line : Finding → Bytes
 finding_line f =
     codes "no "
     ++ (quoted_name f.state ++ (codes " " ++ (f.field ++ (codes " " ++ (finding_name f.fault ++ line_break)))))
 
 -- a line for each finding
-abbrev pub finding_lines : List Finding → List ℕ
+abbrev pub finding_lines : List Finding → Bytes
 finding_lines [] = []
 finding_lines (f ∷ fs) = finding_line f ++ finding_lines fs
 
 -- `yes`, or a line a finding
-abbrev pub verdict_text : Verdict → List ℕ
+abbrev pub verdict_text : Verdict → Bytes
 verdict_text Accepted = codes "yes" ++ line_break
 verdict_text (Rejected fs) = finding_lines fs
 
 -- ---- refused texts
 
 -- the printed name of a text
-abbrev pub which_name : Which → List ℕ
+abbrev pub which_name : Which → Bytes
 which_name DefinitionText = codes "definition"
 which_name DeclaredText = codes "declared"
 which_name CertificateText = codes "certificate"
@@ -67,7 +68,7 @@ which_name InputText = codes "input"
 which_name AnswersText = codes "answers"
 
 -- the printed name of a fault of a definition
-abbrev pub definition_fault_name : DefFault → List ℕ
+abbrev pub definition_fault_name : DefFault → Bytes
 definition_fault_name definition.NotObject = codes "NotObject"
 definition_fault_name definition.MissingField = codes "MissingField"
 definition_fault_name definition.WrongKind = codes "WrongKind"
@@ -88,7 +89,7 @@ definition_fault_name definition.TooLarge = codes "TooLarge"
 definition_fault_name definition.NotWhole = codes "NotWhole"
 
 -- of one of a record
-abbrev pub record_fault_name : RecordFault → List ℕ
+abbrev pub record_fault_name : RecordFault → Bytes
 record_fault_name records.NotObject = codes "NotObject"
 record_fault_name records.MissingField = codes "MissingField"
 record_fault_name records.UnknownField = codes "UnknownField"
@@ -98,25 +99,25 @@ record_fault_name records.BadVersion = codes "BadVersion"
 record_fault_name records.BadNumber = codes "BadNumber"
 
 -- the field behind a space, nothing where it is empty
-abbrev pub field_text : List ℕ → List ℕ
+abbrev pub field_text : FieldName → Bytes
 field_text [] = []
 field_text (x ∷ rest) = codes " " ++ (x ∷ rest)
 
 -- a name as a JSON text, and the field
-abbrev pub place_text : List ℕ → List ℕ → List ℕ
+abbrev pub place_text : StateName → FieldName → Bytes
 place_text n field = codes " " ++ (quoted_name n ++ field_text field)
 
 -- `refused WHICH FAULT`, where it stands, and the line break
-abbrev pub refusal_text : Which → List ℕ → List ℕ → List ℕ
+abbrev pub refusal_text : Which → Bytes → Bytes → Bytes
 refusal_text which fault place =
     codes "refused " ++ (which_name which ++ (codes " " ++ (fault ++ (place ++ line_break))))
 
 -- the line where memory was refused
-abbrev pub out_of_memory : List ℕ
+abbrev pub out_of_memory : Bytes
 out_of_memory = codes "out of memory\n"
 
 -- the line for a refused text
-abbrev pub refusal_line : Which → TextFault → List ℕ
+abbrev pub refusal_line : Which → TextFault → Bytes
 refusal_line which NotJson = refusal_text which (codes "NotJson") []
 refusal_line which NotWhole = refusal_text which (codes "NotWhole") []
 refusal_line which (BadDefinition c) = refusal_text which (definition_fault_name c.fault) (place_text c.state c.field)
@@ -151,7 +152,7 @@ pub data RunEnd : Type 0 where
   StepsSpent : RunEnd
   -- the input isn't of its shape; nor an answer to the state of that name
   InputShape : RunEnd
-  AnswerShape : List ℕ → RunEnd
+  AnswerShape : StateName → RunEnd
 
 -- what a command ends with
 pub data Closing : Type 0 where
@@ -175,7 +176,7 @@ fault_status WriteFailed = 5
 fault_status OutOfMemory = 5
 
 -- the line on standard error then
-abbrev pub fault_line : CallFault → List ℕ
+abbrev pub fault_line : CallFault → Bytes
 fault_line (RefusedText which f) = refusal_line which f
 fault_line TooLong = codes "text too long\n"
 fault_line ReadFailed = codes "read failed\n"
@@ -192,7 +193,7 @@ run_status InputShape = 3
 run_status (AnswerShape n) = 3
 
 -- the line on standard error behind it
-abbrev pub run_line : RunEnd → List ℕ
+abbrev pub run_line : RunEnd → Bytes
 run_line RunOutput = []
 run_line RunFailed = []
 run_line NoAnswer = codes "no answer\n"
@@ -210,7 +211,7 @@ closing_status ClosingNotSettled = 1
 closing_status (ClosingFault fault) = fault_status fault
 
 -- the line on standard error, with its break; empty where there is none
-abbrev pub closing_line : Closing → List ℕ
+abbrev pub closing_line : Closing → Bytes
 closing_line (ClosingVerdict verdict) = []
 closing_line (ClosingRun end) = run_line end
 closing_line ClosingCertificate = []
@@ -220,27 +221,27 @@ closing_line (ClosingFault fault) = fault_line fault
 -- ---- lines
 
 -- the bytes before the first line break (U+000A), and those behind it; without one, all and none
-abbrev pub first_line : List ℕ → List ℕ
+abbrev pub first_line : Bytes → Bytes
 first_line [] = []
 first_line (x ∷ rest) = if x == 10 then [] else x ∷ first_line rest
 
 -- what stands behind the first line break
-abbrev pub further_lines : List ℕ → List ℕ
+abbrev pub further_lines : Bytes → Bytes
 further_lines [] = []
 further_lines (x ∷ rest) = if x == 10 then rest else further_lines rest
 
 -- the first three lines; a missing one is empty
-abbrev pub definition_line : List ℕ → List ℕ
+abbrev pub definition_line : Bytes → Bytes
 definition_line text = first_line text
 
 -- the second line
-abbrev pub declared_line : List ℕ → List ℕ
+abbrev pub declared_line : Bytes → Bytes
 declared_line text = first_line (further_lines text)
 
 -- the third line
-abbrev pub certificate_line : List ℕ → List ℕ
+abbrev pub certificate_line : Bytes → Bytes
 certificate_line text = first_line (further_lines (further_lines text))
 
 -- a line of more than 16777216 bytes, its break not counted, isn't read
-abbrev pub is_too_long : List ℕ → Bool
+abbrev pub is_too_long : Bytes → Bool
 is_too_long line = nat_lt 16777216 (length line)

@@ -1,6 +1,7 @@
 -- What the three texts mean: a definition, declared shapes, a certificate; and what is wrong with a text.
 use Rattle.std.specs.Prelude.{◌≡◌, ℕ, List, None}
 use Rattle.serde_json.specs.Data.{Data}
+use Rattle.asl_model.specs.Names.{Bytes}
 use Rattle.asl_model.specs.Machine.{Scope}
 use Rattle.asl_model.specs.Certificate.{Declared, Certificate}
 use Rattle.asl_model.specs.Json.{ReadsAsValue, tree_of}
@@ -8,17 +9,17 @@ use Rattle.asl_model.specs.Records.{RecordComplaint, StandsForDeclared, StandsFo
 use Rattle.asl_model.specs.StandsFor.{Complaint, StandsFor, HasComplaint}
 
 -- the text reads as that machine, as those declared shapes, as that certificate
-pub record ReadsAsMachine (text : List ℕ) (machine : Scope) : Type 0 where
+pub record ReadsAsMachine (text : Bytes) (machine : Scope) : Type 0 where
   pub value : Data
   pub reads : ReadsAsValue text value
   pub stands : StandsFor value machine
 
-pub record ReadsAsDeclared (text : List ℕ) (declared : Declared) : Type 0 where
+pub record ReadsAsDeclared (text : Bytes) (declared : Declared) : Type 0 where
   pub value : Data
   pub reads : ReadsAsValue text value
   pub stands : StandsForDeclared value declared
 
-pub record ReadsAsCertificate (text : List ℕ) (certificate : Certificate) : Type 0 where
+pub record ReadsAsCertificate (text : Bytes) (certificate : Certificate) : Type 0 where
   pub value : Data
   pub reads : ReadsAsValue text value
   pub stands : StandsForCertificate value certificate
@@ -47,31 +48,31 @@ pub data TextFault : Type 0 where
   NoMemory : TextFault
 
 -- the text is no JSON
-abbrev pub IsNoJson : List ℕ → Type 0
+abbrev pub IsNoJson : Bytes → Type 0
 IsNoJson text = (v : Data) → ReadsAsValue text v → ⊥
 
 -- that is wrong with the text as a definition
-pub data IsDefinitionFault (text : List ℕ) : TextFault → Type 0 where
+pub data IsDefinitionFault (text : Bytes) : TextFault → Type 0 where
   definition_no_json : IsNoJson text → IsDefinitionFault text NotJson
   definition_complaint : {v : Data} {c : Complaint} → ReadsAsValue text v → HasComplaint v c
       → IsDefinitionFault text (BadDefinition c)
 
 -- as declared shapes
-pub data IsDeclaredFault (text : List ℕ) : TextFault → Type 0 where
+pub data IsDeclaredFault (text : Bytes) : TextFault → Type 0 where
   declared_no_json : IsNoJson text → IsDeclaredFault text NotJson
   declared_not_whole : {v : Data} → ReadsAsValue text v → tree_of v ≡ None → IsDeclaredFault text NotWhole
   declared_complaint : {v : Data} {c : RecordComplaint} → ReadsAsValue text v → HasDeclaredFault v c
       → IsDeclaredFault text (BadRecord c)
 
 -- as a certificate
-pub data IsCertificateFault (text : List ℕ) : TextFault → Type 0 where
+pub data IsCertificateFault (text : Bytes) : TextFault → Type 0 where
   certificate_no_json : IsNoJson text → IsCertificateFault text NotJson
   certificate_not_whole : {v : Data} → ReadsAsValue text v → tree_of v ≡ None → IsCertificateFault text NotWhole
   certificate_complaint : {v : Data} {c : RecordComplaint} → ReadsAsValue text v → HasCertificateFault v c
       → IsCertificateFault text (BadRecord c)
 
 -- the first of the three texts that is refused, and what is wrong with it
-pub data IsRefusal (definition declared certificate : List ℕ) : Which → TextFault → Type 0 where
+pub data IsRefusal (definition declared certificate : Bytes) : Which → TextFault → Type 0 where
   definition_refused : {f : TextFault} → IsDefinitionFault definition f
       → IsRefusal definition declared certificate DefinitionText f
   declared_refused : {machine : Scope} {f : TextFault} → ReadsAsMachine definition machine → IsDeclaredFault declared f

@@ -4,6 +4,7 @@
 use Rattle.std.specs.Prelude.{ℕ, zero, suc, ℤ, List, [], ◌∷◌, Bool, true, false, IsTrue, IsUtf8, Option, Some, None, bytes_eq, if◌then◌else◌}
 use Rattle.std.specs.Ordering.{nat_cmp, match_ordering}
 use Rattle.std.specs.Cmp.Lexicographic.{slice_cmp}
+use Rattle.asl_model.specs.Names.{FieldName, Bytes}
 
 mutual
   -- a JSON value
@@ -11,7 +12,7 @@ mutual
     Null : Tree
     Boolean : Bool → Tree
     Integer : ℤ → Tree
-    Text : List ℕ → Tree
+    Text : Bytes → Tree
     Array : Trees → Tree
     Object : Fields → Tree
 
@@ -23,7 +24,7 @@ mutual
   -- the fields of an object, each with its name
   pub data Fields : Type 0 where
     NoFields : Fields
-    AndField : List ℕ → Tree → Fields → Fields
+    AndField : FieldName → Tree → Fields → Fields
 
 -- the elements, as the array that has them
 abbrev pub trees_of : List Tree → Trees
@@ -31,7 +32,7 @@ trees_of [] = NoTrees
 trees_of (t ∷ ts) = AndTree t (trees_of ts)
 
 -- the fields, as the object that has them
-abbrev pub fields_of : List (List ℕ × Tree) → Fields
+abbrev pub fields_of : List (FieldName × Tree) → Fields
 fields_of [] = NoFields
 fields_of (f ∷ fs) = AndField f.0 f.1 (fields_of fs)
 
@@ -47,16 +48,16 @@ element zero (AndTree t ts) = Some t
 element (suc i) (AndTree t ts) = element i ts
 
 -- the value of the first field of that name
-abbrev pub field_named : List ℕ → Fields → Option Tree
+abbrev pub field_named : FieldName → Fields → Option Tree
 field_named n NoFields = None
 field_named n (AndField m t fs) = if bytes_eq m n then Some t else field_named n fs
 
 -- one name comes before another, by UTF-8 bytes
-abbrev pub comes_before : List ℕ → List ℕ → Bool
+abbrev pub comes_before : Bytes → Bytes → Bool
 comes_before m n = match_ordering (slice_cmp nat_cmp m n) true false false
 
 -- the name comes before that of the first field
-abbrev pub before_fields : List ℕ → Fields → Bool
+abbrev pub before_fields : FieldName → Fields → Bool
 before_fields n NoFields = true
 before_fields n (AndField m t fs) = comes_before n m
 
