@@ -1,10 +1,12 @@
 -- How the answers of tasks are written as a JSON text (the profile's own format).
 -- A list, each element `{"Gives": value}` or `{"Fails": {"Error": text, "Cause": text}}`, where `Cause` may be absent.
-use Rattle.std.specs.Prelude.{◌≡◌, ℕ, suc, List, [], ◌∷◌, Bool, true, ◌&&◌, is_some, if◌then◌else◌, Option, Some, None, option_map, option_and_then, bytes_eq, codes}
+use Rattle.std.specs.Prelude.{◌≡◌, ℕ, suc, List, [], ◌∷◌, Bool, true, ◌&&◌, is_some, if◌then◌else◌}
+use Rattle.std.specs.Prelude.{Option, Some, None, option_map, option_and_then, bytes_eq, codes}
 use Rattle.std.specs.Option.{unwrap_or}
 use Rattle.std.specs.List.{Contains}
 use Rattle.serde_json.specs.Data.{Data}
-use Rattle.asl_model.specs.Tree.{Tree, Null, Boolean, Integer, Text, Array, Object, Trees, NoTrees, AndTree, Fields, NoFields, AndField, field_named, element}
+use Rattle.asl_model.specs.Tree.{Tree, Null, Boolean, Integer, Text, Array, Object, Trees, NoTrees}
+use Rattle.asl_model.specs.Tree.{AndTree, Fields, NoFields, AndField, field_named, element}
 use Rattle.asl_model.specs.Run.{Action, Gives, FailsTask}
 use Rattle.asl_model.specs.Test.{as_text}
 use Rattle.asl_model.specs.Json.{ReadsAsValue, tree_of}

@@ -1,13 +1,20 @@
 -- The grammar of intrinsic calls (States Language, "Intrinsic Functions" and "The Context Object"): which text writes
 -- which call, which call a written one means, and how a text is refused, a case for each rule. The functions that read
 -- calls are those of CallSpelling, and give exactly this.
-use Rattle.std.specs.Prelude.{◌≢◌, ◌^◌, ◌<◌, ◌≤◌, ℕ, suc, ℤ, pos, List, [], ◌∷◌, ◌++◌, ◌==◌, Bool, true, false, ◌&&◌, not, IsTrue, IsFalse, codes}
+use Rattle.std.specs.Prelude.{◌≢◌, ◌^◌, ◌<◌, ◌≤◌, ℕ, suc, ℤ, pos, List, [], ◌∷◌, ◌++◌, ◌==◌}
+use Rattle.std.specs.Prelude.{Bool, true, false, ◌&&◌, not, IsTrue, IsFalse, codes}
 use Rattle.std.specs.Char.{is_ascii_digit}
 use Rattle.std.specs.Str.Parse.{digits_value}
 use Rattle.asl_model.specs.Path.{Segment}
-use Rattle.asl_model.specs.Intrinsic.{Reference, InInput, ItemIndex, InItem, Function, StatesArray, StatesArrayLength, StatesFormat, Pieces, begins_with, Call, CallOf, Argument, NullArgument, BooleanArgument, IntegerArgument, TextArgument, PathArgument, CallArgument, Arguments, NoArguments, AndArgument}
+use Rattle.asl_model.specs.Intrinsic.{Reference, InInput, ItemIndex, InItem, Function, StatesArray}
+use Rattle.asl_model.specs.Intrinsic.{StatesArrayLength, StatesFormat, Pieces, begins_with, Call, CallOf}
+use Rattle.asl_model.specs.Intrinsic.{Argument, NullArgument, BooleanArgument, IntegerArgument, TextArgument}
+use Rattle.asl_model.specs.Intrinsic.{PathArgument, CallArgument, Arguments, NoArguments, AndArgument}
 use Rattle.asl_model.specs.PathSpelling.{is_one_of, Begins, Spells}
-use Rattle.asl_model.specs.CallSpelling.{in_function_name, negated, WrittenCall, WrittenAs, WrittenArgument, WrittenNull, WrittenBoolean, WrittenInteger, WrittenText, WrittenPath, WrittenNested, WrittenArguments, NoneWritten, AndWritten, FunctionFault, Malformed, UnknownFunction, BadPath}
+use Rattle.asl_model.specs.CallSpelling.{in_function_name, negated, WrittenCall, WrittenAs, WrittenArgument}
+use Rattle.asl_model.specs.CallSpelling.{WrittenNull, WrittenBoolean, WrittenInteger, WrittenText}
+use Rattle.asl_model.specs.CallSpelling.{WrittenPath, WrittenNested, WrittenArguments, NoneWritten}
+use Rattle.asl_model.specs.CallSpelling.{AndWritten, FunctionFault, Malformed, UnknownFunction, BadPath}
 
 -- ---- bytes
 

@@ -3,10 +3,15 @@
 -- parentheses. An argument is a text in apostrophes, a whole number, `null`, `true`, `false`, a path, or a call.
 -- The profile chooses: calls nest at most 32 deep; a text has the escapes `\'`, `\{`, `\}`, `\\` and no other; a path
 -- goes to the first comma, `)` or space that isn't inside apostrophes or quotes; and which refusal comes first.
-use Rattle.std.specs.Prelude.{◌^◌, ℕ, zero, suc, ℤ, pos, negsuc, List, [], ◌∷◌, length, take, drop, slice_index, nat_lt, nat_le, ◌==◌, Bool, true, false, ◌&&◌, ◌||◌, not, is_some, if◌then◌else◌, Option, Some, None, option_map, option_and_then, Result, Ok, Err, bytes_eq, codes}
+use Rattle.std.specs.Prelude.{◌^◌, ℕ, zero, suc, ℤ, pos, negsuc, List, [], ◌∷◌, length, take, drop, slice_index}
+use Rattle.std.specs.Prelude.{nat_lt, nat_le, ◌==◌, Bool, true, false, ◌&&◌, ◌||◌, not, is_some, if◌then◌else◌, Option}
+use Rattle.std.specs.Prelude.{Some, None, option_map, option_and_then, Result, Ok, Err, bytes_eq, codes}
 use Rattle.std.specs.Char.{is_ascii_digit, is_ascii_alphanumeric}
 use Rattle.std.specs.Str.Parse.{digits_value}
-use Rattle.asl_model.specs.Intrinsic.{Reference, InInput, ItemIndex, InItem, Function, StatesArray, StatesArrayLength, StatesFormat, Pieces, Call, CallOf, Argument, NullArgument, BooleanArgument, IntegerArgument, TextArgument, PathArgument, CallArgument, Arguments, NoArguments, AndArgument}
+use Rattle.asl_model.specs.Intrinsic.{Reference, InInput, ItemIndex, InItem, Function, StatesArray}
+use Rattle.asl_model.specs.Intrinsic.{StatesArrayLength, StatesFormat, Pieces, Call, CallOf, Argument}
+use Rattle.asl_model.specs.Intrinsic.{NullArgument, BooleanArgument, IntegerArgument, TextArgument}
+use Rattle.asl_model.specs.Intrinsic.{PathArgument, CallArgument, Arguments, NoArguments, AndArgument}
 use Rattle.asl_model.specs.PathSpelling.{is_one_of, after, front_length, segments_of, path_of}
 
 -- ---- paths in templates

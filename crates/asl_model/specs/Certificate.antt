@@ -1,14 +1,22 @@
 -- Declared shapes and certificates, what makes a certificate closed, and what a closed certificate promises of runs.
 -- This is the profile's own: the standard has no shapes.
-use Rattle.std.specs.Prelude.{◌≡◌, ℕ, zero, suc, List, [], ◌∷◌, Bool, true, false, IsTrue, ◌↔◌, length, Option, Some, None, is_some, bytes_eq, if◌then◌else◌, option_and_then, Result, Ok, Err}
+use Rattle.std.specs.Prelude.{◌≡◌, ℕ, zero, suc, List, [], ◌∷◌, Bool, true, false, IsTrue, ◌↔◌, length, Option, Some}
+use Rattle.std.specs.Prelude.{None, is_some, bytes_eq, if◌then◌else◌, option_and_then, Result, Ok, Err}
 use Rattle.std.specs.Option.{option_map}
 use Rattle.asl_model.specs.Names.{StateName, ErrorName, Bytes, PlaceInRun}
 use Rattle.asl_model.specs.Tree.{Tree, Array, Trees, NoTrees, AndTree, count}
 use Rattle.asl_model.specs.Shape.{Shape, Any, Never, Has, Inside}
 use Rattle.asl_model.specs.Faults.{Fault}
-use Rattle.asl_model.specs.Machine.{Catcher, Scope, State, Kind, Pass, Task, Choice, Wait, Succeed, Fail, Parallel, Map, settings_of, kind_of, start_of, state_named, child_scope, how_many, names_state, names_task}
-use Rattle.asl_model.specs.Flow.{Work, Finishes, Leaves, FailsWith, Asks, Splits, Raises, at_output_path, output_of, first_move}
-use Rattle.asl_model.specs.Run.{Activity, Activities, NoActivities, AndActivity, Ready, Waiting, Split, Done, Failed, Action, Move, Gives, FailsTask, Event, Outcome, Output, FailedWith, Entry, Entered, Asked, Left, Raised, TaskFailed, BranchFailed, Retried, Caught, Ended, Step, Turn, caught_input, scope_below, activity_at, StandsIn, child_at, start, step, run_of, last_activity, entries_of}
+use Rattle.asl_model.specs.Machine.{Catcher, Scope, State, Kind, Pass, Task, Choice, Wait, Succeed}
+use Rattle.asl_model.specs.Machine.{Fail, Parallel, Map, settings_of, kind_of, start_of, state_named}
+use Rattle.asl_model.specs.Machine.{child_scope, how_many, names_state, names_task}
+use Rattle.asl_model.specs.Flow.{Work, Finishes, Leaves, FailsWith, Asks, Splits}
+use Rattle.asl_model.specs.Flow.{Raises, at_output_path, output_of, first_move}
+use Rattle.asl_model.specs.Run.{Activity, Activities, NoActivities, AndActivity, Ready, Waiting, Split, Done}
+use Rattle.asl_model.specs.Run.{Failed, Action, Move, Gives, FailsTask, Event, Outcome, Output, FailedWith}
+use Rattle.asl_model.specs.Run.{Entry, Entered, Asked, Left, Raised, TaskFailed, BranchFailed, Retried}
+use Rattle.asl_model.specs.Run.{Caught, Ended, Step, Turn, caught_input, scope_below, activity_at, StandsIn}
+use Rattle.asl_model.specs.Run.{child_at, start, step, run_of, last_activity, entries_of}
 
 -- the shapes of a task: of its payload, and of the answers that it gives
 pub record TaskShapes : Type 0 where

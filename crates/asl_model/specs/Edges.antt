@@ -1,16 +1,22 @@
 -- What flows out of a state, and where to, in the order in which a checker looks at it (the profile's own): the edges
 -- of the state, and the rules that are broken on the way to one. A checker compares what flows at each edge with the
 -- shape that stands there; an inferrer takes it in there.
-use Rattle.std.specs.Prelude.{ℕ, List, [], ◌∷◌, ◌++◌, map, Bool, true, false, Option, Some, None, Result, Ok, Err, codes, if◌then◌else◌}
+use Rattle.std.specs.Prelude.{ℕ, List, [], ◌∷◌, ◌++◌, map, Bool, true, false, Option}
+use Rattle.std.specs.Prelude.{Some, None, Result, Ok, Err, codes, if◌then◌else◌}
 use Rattle.asl_model.specs.Names.{StateName, FieldName}
 use Rattle.asl_model.specs.Template.{Template}
 use Rattle.asl_model.specs.Test.{Rule}
-use Rattle.asl_model.specs.Machine.{Catcher, Settings, Delay, Seconds, SecondsPath, Timestamp, TimestampPath, Scope, Kind, Pass, Task, Choice, Wait, Succeed, Fail, Parallel, Map, Scopes, NoScopes, AndScope, start_of}
+use Rattle.asl_model.specs.Machine.{Catcher, Settings, Delay, Seconds, SecondsPath, Timestamp}
+use Rattle.asl_model.specs.Machine.{TimestampPath, Scope, Kind, Pass, Task, Choice, Wait, Succeed}
+use Rattle.asl_model.specs.Machine.{Fail, Parallel, Map, Scopes, NoScopes, AndScope, start_of}
 use Rattle.asl_model.specs.Shape.{Shape, Never, Shapes, ArrayShape, inhabited}
 use Rattle.asl_model.specs.ShapeOrder.{is_integer_shape, is_string_shape}
 use Rattle.asl_model.specs.ShapeFlow.{look, literal, rule_shape, leave, Flow}
 use Rattle.asl_model.specs.Certificate.{StateShapes, takes_of}
-use Rattle.asl_model.specs.Finding.{Surroundings, Breach, FindingFault, PathMayBeMissing, WrongKind, ResultMayNotFit, NoDefault, PayloadNotTaken, OutputNotCertified, NextInput, ScopeOutput, BranchInput, CatchInput, breach_of, breach_unless_sub, effective_flow, item_flow, element_shape, map_result, as_first_elements, array_parts, error_placed_shape}
+use Rattle.asl_model.specs.Finding.{Surroundings, Breach, FindingFault, PathMayBeMissing, WrongKind, ResultMayNotFit}
+use Rattle.asl_model.specs.Finding.{NoDefault, PayloadNotTaken, OutputNotCertified, NextInput, ScopeOutput, BranchInput}
+use Rattle.asl_model.specs.Finding.{CatchInput, breach_of, breach_unless_sub, effective_flow, item_flow, element_shape}
+use Rattle.asl_model.specs.Finding.{map_result, as_first_elements, array_parts, error_placed_shape}
 
 -- where a shape flows to
 pub data Destination : Type 0 where

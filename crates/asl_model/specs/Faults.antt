@@ -1,7 +1,7 @@
 -- The data-flow faults (States Language, "Errors" and "Appendix A: Predefined Error Codes").
 -- The profile adds `Path.NamesNothing` and `Path.WrongKind`, and chooses the cause: the name of the field where the
 -- fault was met.
-use Rattle.std.specs.Prelude.{ℕ, List, Option, Some, None, Result, Ok, Err, codes}
+use Rattle.std.specs.Prelude.{Option, Some, None, Result, Ok, Err, codes}
 use Rattle.asl_model.specs.Names.{FieldName, ErrorName}
 
 -- the six errors that an interpreter itself raises

@@ -1,15 +1,22 @@
 -- What a checker may tell: every rule of a certificate that is broken, as computed lists (the profile's own). A
 -- finding stands where it is in the list of all; which one of a state is told is the checker's choice.
-use Rattle.std.specs.Prelude.{ℕ, suc, ◌==◌, List, [], ◌∷◌, ◌++◌, length, map, Bool, true, false, ◌&&◌, ◌||◌, not, Option, Some, None, Result, Ok, Err, Contains, is_some, is_none, codes, if◌then◌else◌}
+use Rattle.std.specs.Prelude.{ℕ, suc, ◌==◌, List, [], ◌∷◌, ◌++◌, length, map, Bool, true, false, ◌&&◌, ◌||◌, not}
+use Rattle.std.specs.Prelude.{Option, Some, None, Result, Ok, Err, Contains, is_some, is_none, codes, if◌then◌else◌}
 use Rattle.asl_model.specs.Names.{StateName, FieldName}
 use Rattle.asl_model.specs.Path.{Segment}
 use Rattle.asl_model.specs.Template.{Template}
 use Rattle.asl_model.specs.Test.{Rule}
-use Rattle.asl_model.specs.Machine.{Catcher, Settings, Delay, Seconds, SecondsPath, Timestamp, TimestampPath, Scope, ScopeOf, States, NoStates, AndState, State, StateOf, Kind, Pass, Task, Choice, Wait, Succeed, Fail, Parallel, Map, Scopes, NoScopes, AndScope, start_of, is_task, names_state, names_task}
-use Rattle.asl_model.specs.Shape.{Shape, Any, Never, NullShape, BooleanShape, IntegerShape, StringShape, ArrayShape, ObjectShape, Shapes, NoShapes, AndShape, NoFieldShapes, AndFieldShape, inhabited}
+use Rattle.asl_model.specs.Machine.{Catcher, Settings, Delay, Seconds, SecondsPath, Timestamp, TimestampPath}
+use Rattle.asl_model.specs.Machine.{Scope, ScopeOf, States, NoStates, AndState, State, StateOf, Kind, Pass}
+use Rattle.asl_model.specs.Machine.{Task, Choice, Wait, Succeed, Fail, Parallel, Map, Scopes, NoScopes}
+use Rattle.asl_model.specs.Machine.{AndScope, start_of, is_task, names_state, names_task}
+use Rattle.asl_model.specs.Shape.{Shape, Any, Never, NullShape, BooleanShape, IntegerShape, StringShape, ArrayShape}
+use Rattle.asl_model.specs.Shape.{ObjectShape, Shapes, NoShapes, AndShape, NoFieldShapes, AndFieldShape, inhabited}
 use Rattle.asl_model.specs.ShapeOrder.{sub, join, joined_with_each, is_integer_shape, is_string_shape}
-use Rattle.asl_model.specs.ShapeFlow.{look, put, literal, template_shape, rule_shape, leave, Flow, FlowFault, MissingAt, FailsAt, MisfitAt, flow_then, through_path, through_template, template_flow}
-use Rattle.asl_model.specs.Certificate.{TaskShapes, Declared, StateShapes, Certificate, under, certified, branches_in, is_map, branch_end, item_end, takes_of, gives_of}
+use Rattle.asl_model.specs.ShapeFlow.{look, put, literal, template_shape, rule_shape, leave, Flow, FlowFault, MissingAt}
+use Rattle.asl_model.specs.ShapeFlow.{FailsAt, MisfitAt, flow_then, through_path, through_template, template_flow}
+use Rattle.asl_model.specs.Certificate.{TaskShapes, Declared, StateShapes, Certificate, under, certified}
+use Rattle.asl_model.specs.Certificate.{branches_in, is_map, branch_end, item_end, takes_of, gives_of}
 
 -- the faults that a finding can have
 pub data FindingFault : Type 0 where

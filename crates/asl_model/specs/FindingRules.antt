@@ -1,19 +1,30 @@
 -- The rules of a certificate, one by one, and what breaks each: a finding stands where the rule with its fault is
 -- broken at its state and field, whatever other findings stand. The rules are the profile's own; the shapes are those
 -- of ShapeFlow and ShapeOrder. The list of all findings that a checker computes is in Finding, and holds exactly these.
-use Rattle.std.specs.Prelude.{◌≡◌, ℕ, zero, suc, List, Bool, IsTrue, IsFalse, Option, Some, None, Ok, Err, Contains, codes, ◌↔◌}
+use Rattle.std.specs.Prelude.{◌≡◌, ℕ, zero, suc, List, Bool, IsTrue, IsFalse, Option}
+use Rattle.std.specs.Prelude.{Some, None, Ok, Err, Contains, codes, ◌↔◌}
 use Rattle.asl_model.specs.Names.{StateName, FieldName, Bytes}
 use Rattle.asl_model.specs.Path.{Segment}
 use Rattle.asl_model.specs.Tree.{Tree}
 use Rattle.asl_model.specs.Intrinsic.{Reference, Call}
-use Rattle.asl_model.specs.Template.{Template, FromPath, FromCall, ArrayTemplate, ObjectTemplate, Templates, AndTemplate, FieldTemplates, AndFieldTemplate}
+use Rattle.asl_model.specs.Template.{Template, FromPath, FromCall, ArrayTemplate, ObjectTemplate}
+use Rattle.asl_model.specs.Template.{Templates, AndTemplate, FieldTemplates, AndFieldTemplate}
 use Rattle.asl_model.specs.Test.{Rule}
-use Rattle.asl_model.specs.Machine.{Catcher, Settings, Delay, SecondsPath, TimestampPath, Scope, States, AndState, State, StateOf, Kind, Pass, Task, Choice, Wait, Succeed, Parallel, Map, Scopes, AndScope, start_of, states_of}
+use Rattle.asl_model.specs.Machine.{Catcher, Settings, Delay, SecondsPath, TimestampPath, Scope, States}
+use Rattle.asl_model.specs.Machine.{AndState, State, StateOf, Kind, Pass, Task, Choice, Wait, Succeed}
+use Rattle.asl_model.specs.Machine.{Parallel, Map, Scopes, AndScope, start_of, states_of}
 use Rattle.asl_model.specs.Shape.{Shape, Never, ArrayShape, Shapes, inhabited}
 use Rattle.asl_model.specs.ShapeOrder.{sub, is_integer_shape, is_string_shape}
-use Rattle.asl_model.specs.ShapeFlow.{look, put, literal, reference_shape, call_shape, Doubt, MayFail, MayBeMissing, is_array_shape, rule_shape, through_path, through_template, through_placing, WithResult, WithInput, leaving, leave}
-use Rattle.asl_model.specs.Certificate.{TaskShapes, Declared, StateShapes, Certificate, HasEntry, under, certified, branch_end, item_end, takes_of, gives_of}
-use Rattle.asl_model.specs.Finding.{FindingFault, NotCertified, NotAState, TaskUndeclared, TaskUnknown, StartInput, PathMayBeMissing, WrongKind, ResultMayNotFit, IntrinsicMayFail, NoDefault, PayloadNotTaken, OutputNotCertified, NextInput, ScopeOutput, BranchInput, CatchInput, Finding, Surroundings, effective_flow, as_first_elements, element_shape, item_flow, map_result, error_output_shape, error_placed_shape}
+use Rattle.asl_model.specs.ShapeFlow.{look, put, literal, reference_shape, call_shape, Doubt, MayFail}
+use Rattle.asl_model.specs.ShapeFlow.{MayBeMissing, is_array_shape, rule_shape, through_path}
+use Rattle.asl_model.specs.ShapeFlow.{through_template, through_placing, WithResult, WithInput, leaving, leave}
+use Rattle.asl_model.specs.Certificate.{TaskShapes, Declared, StateShapes, Certificate, HasEntry, under}
+use Rattle.asl_model.specs.Certificate.{certified, branch_end, item_end, takes_of, gives_of}
+use Rattle.asl_model.specs.Finding.{FindingFault, NotCertified, NotAState, TaskUndeclared, TaskUnknown, StartInput}
+use Rattle.asl_model.specs.Finding.{PathMayBeMissing, WrongKind, ResultMayNotFit, IntrinsicMayFail, NoDefault}
+use Rattle.asl_model.specs.Finding.{PayloadNotTaken, OutputNotCertified, NextInput, ScopeOutput, BranchInput}
+use Rattle.asl_model.specs.Finding.{CatchInput, Finding, Surroundings, effective_flow, as_first_elements}
+use Rattle.asl_model.specs.Finding.{element_shape, item_flow, map_result, error_output_shape, error_placed_shape}
 
 -- ---- the states of a machine
 
@@ -154,7 +165,8 @@ pub data LooksUp (around : Surroundings) (settings : Settings) (kind : Kind) : F
 pub data Evaluates (around : Surroundings) (settings : Settings) : Kind → FieldName → Template → Shape → Option Shape →
     Type 0 where
   evaluates_parameters : {kind : Kind} {template : Template} {s : Shape}
-      → through_path (codes "InputPath") settings.input_path around.entry.input ≡ Ok s → settings.parameters ≡ Some template
+      → through_path (codes "InputPath") settings.input_path around.entry.input ≡ Ok s
+      → settings.parameters ≡ Some template
       → Evaluates around settings kind (codes "Parameters") template s None
   evaluates_item_selector : {items : List Segment} {selector : Template} {processor : Scope} {s : Shape}
       {first : Shapes} {rest : Shape}
@@ -194,7 +206,8 @@ mutual
         → HasFieldDoubt input item others doubt → HasFieldDoubt input item (AndFieldTemplate m template others) doubt
 
 -- a tree of that shape is placed in the raw input, at the path in that field: a result, or a catcher's error output
-pub data Puts (around : Surroundings) (settings : Settings) (kind : Kind) : FieldName → List Segment → Shape → Type 0 where
+pub data Puts (around : Surroundings) (settings : Settings) (kind : Kind) : FieldName → List Segment → Shape →
+    Type 0 where
   puts_result : {path : List Segment} {made selected : Shape} {target : Target}
       → Makes around settings kind made target → IsSelected settings kind made selected
       → settings.result_path ≡ Some path → Puts around settings kind (codes "ResultPath") path selected
@@ -214,7 +227,8 @@ pub data Starts (around : Surroundings) (settings : Settings) : Kind → FieldNa
 -- ---- the rules on what flows
 
 -- A rule is broken in a state whose entry has an input with trees: the field, and the fault.
-pub data BreaksFlow (around : Surroundings) (settings : Settings) (kind : Kind) : FieldName → FindingFault → Type 0 where
+pub data BreaksFlow (around : Surroundings) (settings : Settings) (kind : Kind) : FieldName → FindingFault →
+    Type 0 where
   -- a path may name nothing: in a field, in a template, in a rule of a Choice
   path_may_be_missing : {field : FieldName} {path : List Segment} {s : Shape} {at : ℕ}
       → LooksUp around settings kind field path s → look path s ≡ Err at
@@ -224,7 +238,8 @@ pub data BreaksFlow (around : Surroundings) (settings : Settings) (kind : Kind) 
       → HasDoubt input item template MayBeMissing
       → BreaksFlow around settings kind field PathMayBeMissing
   rule_may_be_missing : {rules : List Rule} {default : Option StateName} {rule : Rule} {s : Shape}
-      → kind ≡ Choice rules default → IsEffective around settings s → Contains rules rule → rule_shape rule.test s ≡ None
+      → kind ≡ Choice rules default → IsEffective around settings s → Contains rules rule
+      → rule_shape rule.test s ≡ None
       → BreaksFlow around settings kind (codes "Choices") PathMayBeMissing
   -- what a path names isn't of the kind that its field wants
   may_be_of_wrong_kind : {field : FieldName} {path : List Segment} {test : Shape → Bool} {s t : Shape}
@@ -260,8 +275,9 @@ pub data BreaksFlow (around : Surroundings) (settings : Settings) (kind : Kind) 
       → Leaves around settings kind output (ToEnd field) → around.end ≡ Some expected → IsFalse (sub output expected)
       → BreaksFlow around settings kind field ScopeOutput
   -- a child's input isn't inside its start state's
-  is_no_branch_input : {field : FieldName} {child : Scope} {s expected : Shape} → Starts around settings kind field child s
-      → around.inputs (start_of child) ≡ Some expected → IsFalse (sub s expected)
+  is_no_branch_input : {field : FieldName} {child : Scope} {s expected : Shape}
+      → Starts around settings kind field child s → around.inputs (start_of child) ≡ Some expected
+      → IsFalse (sub s expected)
       → BreaksFlow around settings kind field BranchInput
   -- what a catcher hands on isn't inside the next state's input
   is_no_catch_input : {catcher : Catcher} {s expected : Shape} → Contains settings.catchers catcher

@@ -2,15 +2,19 @@
 -- The order is: raw input, `InputPath`, `Parameters`, the work, `ResultSelector`, `ResultPath`, `OutputPath`.
 -- The profile chooses: `SecondsPath`, `TimestampPath` and `ItemsPath` go into the effective input, and a Wait looks
 -- at what they name, but waits for nothing.
-use Rattle.std.specs.Prelude.{ℕ, suc, pos, List, [], ◌∷◌, Bool, true, false, Option, Some, None, unwrap_or, Result, Ok, Err, codes}
+use Rattle.std.specs.Prelude.{ℕ, suc, pos, List, [], ◌∷◌, Bool, true, false, Option}
+use Rattle.std.specs.Prelude.{Some, None, unwrap_or, Result, Ok, Err, codes}
 use Rattle.asl_model.specs.Names.{StateName, FieldName, ErrorName, Bytes}
 use Rattle.asl_model.specs.Tree.{Tree, Null, Boolean, Integer, Text, Array, Object, Trees, NoTrees, AndTree, NoFields}
 use Rattle.asl_model.specs.Path.{Segment, named_by}
 use Rattle.asl_model.specs.Placing.{placed}
-use Rattle.asl_model.specs.Faults.{DataFlowError, ResultPathMatchFailure, NoChoiceMatched, NamesNothing, WrongKind, Fault, or_fault, and_then}
+use Rattle.asl_model.specs.Faults.{DataFlowError, ResultPathMatchFailure, NoChoiceMatched}
+use Rattle.asl_model.specs.Faults.{NamesNothing, WrongKind, Fault, or_fault, and_then}
 use Rattle.asl_model.specs.Template.{Template, template_value}
 use Rattle.asl_model.specs.Test.{Rule, truth}
-use Rattle.asl_model.specs.Machine.{Settings, Delay, Seconds, SecondsPath, Timestamp, TimestampPath, State, StateOf, Kind, Pass, Task, Choice, Wait, Succeed, Fail, Parallel, Map, Scopes, NoScopes, AndScope}
+use Rattle.asl_model.specs.Machine.{Settings, Delay, Seconds, SecondsPath, Timestamp}
+use Rattle.asl_model.specs.Machine.{TimestampPath, State, StateOf, Kind, Pass, Task, Choice, Wait}
+use Rattle.asl_model.specs.Machine.{Succeed, Fail, Parallel, Map, Scopes, NoScopes, AndScope}
 
 -- what `InputPath` or `OutputPath` gives: `{}` where it is `null`, else what the path names
 abbrev pub at_path : FieldName → Option (List Segment) → Tree → Result Tree Fault

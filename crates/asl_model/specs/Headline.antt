@@ -1,6 +1,6 @@
 -- What an answer to three texts promises: a definition, declared shapes and a certificate (the profile's own). The
 -- headline stands here as `NeverFaults`.
-use Rattle.std.specs.Prelude.{List, ℕ}
+use Rattle.std.specs.Prelude.{List}
 use Rattle.asl_model.specs.Names.{Bytes}
 use Rattle.asl_model.specs.Tree.{Tree}
 use Rattle.asl_model.specs.Machine.{Scope}

@@ -1,10 +1,14 @@
 -- What an inferrer of certificates stands on (the profile's own): the faults that are no certificate's, the widest
 -- certificate of a machine, and rules that are broken whatever is certified elsewhere.
-use Rattle.std.specs.Prelude.{◌≡◌, ℕ, List, Bool, true, false, IsTrue, Option, Some, None, is_some, if◌then◌else◌, replicate, slice_get, Contains}
+use Rattle.std.specs.Prelude.{◌≡◌, ℕ, List, Bool, true, false, IsTrue, Option, Some, None}
+use Rattle.std.specs.Prelude.{is_some, if◌then◌else◌, replicate, slice_get, Contains}
 use Rattle.asl_model.specs.Machine.{Scope, State, Kind, settings_of, kind_of}
 use Rattle.asl_model.specs.Shape.{Shape, Any}
 use Rattle.asl_model.specs.Certificate.{Declared, StateShapes, Certificate, certified, branches_in, is_map}
-use Rattle.asl_model.specs.Finding.{FindingFault, NotCertified, NotAState, TaskUndeclared, TaskUnknown, StartInput, PathMayBeMissing, WrongKind, ResultMayNotFit, IntrinsicMayFail, NoDefault, PayloadNotTaken, OutputNotCertified, NextInput, ScopeOutput, BranchInput, CatchInput, Breach, Finding, surrounded_by, flow_breaches, Stands}
+use Rattle.asl_model.specs.Finding.{FindingFault, NotCertified, NotAState, TaskUndeclared, TaskUnknown, StartInput}
+use Rattle.asl_model.specs.Finding.{PathMayBeMissing, WrongKind, ResultMayNotFit, IntrinsicMayFail, NoDefault}
+use Rattle.asl_model.specs.Finding.{PayloadNotTaken, OutputNotCertified, NextInput, ScopeOutput, BranchInput}
+use Rattle.asl_model.specs.Finding.{CatchInput, Breach, Finding, surrounded_by, flow_breaches, Stands}
 use Rattle.asl_model.specs.Numbering.{Table}
 
 -- A fault of the machine, or of what is declared. The others are the certificate's own: an entry that isn't there, has

@@ -2,7 +2,9 @@
 -- Intrinsic Functions"). The profile has three functions. It chooses: an escape other than those of the standard is
 -- refused on reading, so a literal text is here its pieces with the holes between them; a wrong number of arguments
 -- and a value of a wrong kind are failures of evaluation.
-use Rattle.std.specs.Prelude.{◌≡◌, IsFalse, ◌||◌, ℕ, zero, suc, ◌+◌, ◌/◌, ◌%◌, ℤ, pos, negsuc, List, [], ◌∷◌, ◌++◌, drop, Bool, true, false, ◌&&◌, nat_eq, nat_lt, if◌then◌else◌, Option, Some, None, option_and_then, codes}
+use Rattle.std.specs.Prelude.{◌≡◌, IsFalse, ◌||◌, ℕ, zero, suc, ◌+◌, ◌/◌, ◌%◌, ℤ, pos, negsuc, List}
+use Rattle.std.specs.Prelude.{[], ◌∷◌, ◌++◌, drop, Bool, true, false, ◌&&◌, nat_eq, nat_lt}
+use Rattle.std.specs.Prelude.{if◌then◌else◌, Option, Some, None, option_and_then, codes}
 use Rattle.std.specs.Option.{option_map}
 use Rattle.asl_model.specs.Tree.{Tree, Null, Boolean, Integer, Text, Array, Object, Trees, NoTrees, AndTree, count}
 use Rattle.asl_model.specs.Path.{Segment, named_by}

@@ -2,7 +2,8 @@
 -- holds what a run or a finding looks at, defaults filled in. What is read and looked at nowhere is left out: comments,
 -- `Version`, `QueryLanguage`, `ProcessorConfig`, `MaxConcurrency` (the order of events is free), and all that is time
 -- alone (`TimeoutSeconds`, `HeartbeatSeconds`, `IntervalSeconds`, `BackoffRate`, `MaxDelaySeconds`, `JitterStrategy`).
-use Rattle.std.specs.Prelude.{◌≡◌, ◌<◌, ℕ, zero, suc, List, [], ◌++◌, map, Contains, Bool, true, false, ◌&&◌, ◌||◌, IsTrue, Option, Some, None, is_some, option_to_list, bytes_eq, if◌then◌else◌}
+use Rattle.std.specs.Prelude.{◌≡◌, ◌<◌, ℕ, zero, suc, List, [], ◌++◌, map, Contains, Bool, true, false, ◌&&◌, ◌||◌}
+use Rattle.std.specs.Prelude.{IsTrue, Option, Some, None, is_some, option_to_list, bytes_eq, if◌then◌else◌}
 use Rattle.asl_model.specs.Names.{StateName, ErrorName, Bytes}
 use Rattle.asl_model.specs.Tree.{Tree}
 use Rattle.asl_model.specs.Path.{Segment}

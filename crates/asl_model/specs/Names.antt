@@ -1,5 +1,5 @@
--- Words for texts and lists of numbers, by what they stand for. All are lists of numbers, so the checker takes one where
--- another is wanted; they are for readers.
+-- Words for texts and lists of numbers, by what they stand for. All are lists of numbers, so the checker takes one
+-- where another is wanted; they are for readers.
 use Rattle.std.specs.Prelude.{List, ℕ}
 
 -- a text, by its bytes of UTF-8

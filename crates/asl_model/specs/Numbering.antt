@@ -1,10 +1,13 @@
 -- The states of a machine in one list. A state's number is its position in it, counted from 0: the states of a scope in
 -- their order, each followed by those of its own scopes, depth first. The numbers are the profile's own: the standard
 -- knows states by their names alone.
-use Rattle.std.specs.Prelude.{ℕ, suc, List, [], ◌∷◌, ◌++◌, map, IsTrue, Option, Some, None, option_map, position, bytes_eq}
+use Rattle.std.specs.Prelude.{ℕ, suc, List, [], ◌∷◌, ◌++◌, map, IsTrue, Option}
+use Rattle.std.specs.Prelude.{Some, None, option_map, position, bytes_eq}
 use Rattle.std.specs.Option.{unwrap_or}
 pub use Rattle.asl_model.specs.Machine.{IsScopeOf, own_scope, scope_of_child, HasNamed, targets_by, targets_of}
-use Rattle.asl_model.specs.Machine.{Scope, ScopeOf, States, NoStates, AndState, State, StateOf, Kind, Pass, Task, Choice, Wait, Succeed, Fail, Parallel, Map, Scopes, NoScopes, AndScope, start_of, LeadsInside}
+use Rattle.asl_model.specs.Machine.{Scope, ScopeOf, States, NoStates, AndState, State, StateOf}
+use Rattle.asl_model.specs.Machine.{Kind, Pass, Task, Choice, Wait, Succeed, Fail, Parallel, Map}
+use Rattle.asl_model.specs.Machine.{Scopes, NoScopes, AndScope, start_of, LeadsInside}
 use Rattle.asl_model.specs.ShapeSpelling.{are_distinct}
 use Rattle.asl_model.specs.StandsFor.{all_names}
 

@@ -1,7 +1,9 @@
 -- How reference paths are spelled and printed (States Language, "Reference Paths"), on the bytes of a text.
 -- A path is `$` and then segments: `.name`, `['name']`, `["name"]`, `[n]`. The profile chooses which names stand
 -- behind a dot, that quoted names have no escapes, and how a text that spells no path is refused.
-use Rattle.std.specs.Prelude.{◌≡◌, ◌+◌, ◌^◌, List, [], ◌∷◌, ◌++◌, ℕ, zero, suc, length, take, drop, slice_index, nat_lt, ◌==◌, Bool, true, false, ◌&&◌, ◌||◌, not, IsTrue, IsFalse, if◌then◌else◌, Option, Some, None, option_map, option_and_then, codes, decimal}
+use Rattle.std.specs.Prelude.{◌≡◌, ◌+◌, ◌^◌, List, [], ◌∷◌, ◌++◌, ℕ, zero, suc, length, take, drop, slice_index}
+use Rattle.std.specs.Prelude.{nat_lt, ◌==◌, Bool, true, false, ◌&&◌, ◌||◌, not, IsTrue, IsFalse, if◌then◌else◌}
+use Rattle.std.specs.Prelude.{Option, Some, None, option_map, option_and_then, codes, decimal}
 use Rattle.std.specs.Char.{is_ascii_digit}
 use Rattle.std.specs.Str.Parse.{digits_value}
 use Rattle.asl_model.specs.Path.{Segment, Name, Index}

@@ -1,8 +1,10 @@
 -- Placing a tree at a reference path (States Language, "Reference Paths" and "Input and Output Processing").
 -- The profile chooses: objects are created for names that are missing, lists are never made longer.
-use Rattle.std.specs.Prelude.{◌≡◌, ℕ, zero, suc, List, [], ◌∷◌, Option, Some, None, bytes_eq, if◌then◌else◌, option_and_then}
+use Rattle.std.specs.Prelude.{◌≡◌, ℕ, zero, suc, List, [], ◌∷◌, Option, Some, None}
+use Rattle.std.specs.Prelude.{bytes_eq, if◌then◌else◌, option_and_then}
 use Rattle.std.specs.Option.{option_map}
-use Rattle.asl_model.specs.Tree.{Tree, Null, Boolean, Integer, Text, Array, Object, Trees, NoTrees, AndTree, Fields, NoFields, AndField, element, field_named, comes_before}
+use Rattle.asl_model.specs.Tree.{Tree, Null, Boolean, Integer, Text, Array, Object, Trees, NoTrees, AndTree}
+use Rattle.asl_model.specs.Tree.{Fields, NoFields, AndField, element, field_named, comes_before}
 use Rattle.asl_model.specs.Path.{Segment, Name, Index}
 
 -- the fields but those of that name

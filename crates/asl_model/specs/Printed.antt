@@ -10,7 +10,8 @@ use Rattle.asl_model.specs.Records as records
 use Rattle.asl_model.specs.Records.{RecordFault, RecordComplaint}
 use Rattle.asl_model.specs.DefinitionTable as definition
 use Rattle.asl_model.specs.DefinitionTable.{DefFault}
-use Rattle.asl_model.specs.Texts.{Which, DefinitionText, DeclaredText, CertificateText, InputText, AnswersText, TextFault, NotJson, NotWhole, BadDefinition, BadRecord, BadAnswer, NoMemory}
+use Rattle.asl_model.specs.Texts.{Which, DefinitionText, DeclaredText, CertificateText, InputText, AnswersText}
+use Rattle.asl_model.specs.Texts.{TextFault, NotJson, NotWhole, BadDefinition, BadRecord, BadAnswer, NoMemory}
 
 -- a line break
 abbrev pub line_break : Bytes

@@ -2,7 +2,8 @@
 -- Every value has here a reading, with defaults where something is wrong, and a list of all that is wrong with it. It
 -- stands for what is read where that list is empty and all its numbers are whole and in range.
 -- A certificate may list shapes in its field `shapes`; then references to them may stand wherever a shape may.
-use Rattle.std.specs.Prelude.{◌≡◌, ℕ, ℤ, pos, List, [], ◌∷◌, ◌++◌, map, Bool, true, false, ◌||◌, IsTrue, is_some, if◌then◌else◌, Option, Some, None, option_map, option_and_then, bytes_eq, codes}
+use Rattle.std.specs.Prelude.{◌≡◌, ℕ, ℤ, pos, List, [], ◌∷◌, ◌++◌, map, Bool, true, false, ◌||◌, IsTrue, is_some}
+use Rattle.std.specs.Prelude.{if◌then◌else◌, Option, Some, None, option_map, option_and_then, bytes_eq, codes}
 use Rattle.std.specs.Option.{unwrap_or}
 use Rattle.std.specs.List.{Contains}
 use Rattle.std.specs.Ordering.{int_eq}
@@ -208,7 +209,8 @@ declared_complaints v =
 -- and as a certificate, with those listed shapes
 abbrev pub listed_complaints : Option (List Tree) → Data → List RecordComplaint
 listed_complaints listed v =
-    object_complaints listed [] certificate_rows v ++ entries_complaints listed state_rows (members_under (codes "states") v)
+    object_complaints listed [] certificate_rows v
+    ++ entries_complaints listed state_rows (members_under (codes "states") v)
 
 -- with its own
 abbrev pub certificate_complaints : Data → List RecordComplaint
@@ -239,7 +241,8 @@ state_from listed v = record {
   input = shape_at listed (codes "input") v;
   output = shape_at listed (codes "output") v;
   branches =
-      unwrap_or (option_map (shapes_from listed) (option_and_then as_array (get_member (codes "branches") (members_in v)))) [];
+      unwrap_or
+      (option_map (shapes_from listed) (option_and_then as_array (get_member (codes "branches") (members_in v)))) [];
   item = option_map (shape_from listed) (get_member (codes "item") (members_in v));
 }
 

@@ -1,8 +1,11 @@
--- References to listed shapes: where a certificate lists shapes, `{"shape": n}`, alone in its object, stands for the n-th of
--- them, counted from 0, wherever a shape may stand (the profile's own). A listed shape is here the tree that spells it.
-use Rattle.std.specs.Prelude.{ℕ, ℤ, pos, negsuc, List, Bool, true, false, ◌||◌, Option, Some, None, is_some, not, slice_get, if◌then◌else◌, bytes_eq, codes}
+-- References to listed shapes: where a certificate lists shapes, `{"shape": n}`, alone in its object, stands for the
+-- n-th of them, counted from 0, wherever a shape may stand (the profile's own). A listed shape is here the tree that
+-- spells it.
+use Rattle.std.specs.Prelude.{ℕ, ℤ, pos, negsuc, List, Bool, true, false, ◌||◌, Option, Some, None}
+use Rattle.std.specs.Prelude.{is_some, not, slice_get, if◌then◌else◌, bytes_eq, codes}
 use Rattle.std.specs.Option.{unwrap_or}
-use Rattle.asl_model.specs.Tree.{Tree, Null, Boolean, Integer, Text, Array, Object, Trees, NoTrees, AndTree, Fields, NoFields, AndField}
+use Rattle.asl_model.specs.Tree.{Tree, Null, Boolean, Integer, Text, Array, Object, Trees}
+use Rattle.asl_model.specs.Tree.{NoTrees, AndTree, Fields, NoFields, AndField}
 
 -- ---- a reference
 

@@ -1,10 +1,14 @@
 -- The grammar of a Choice's rules (States Language, "Choice State"): which tree stands for which rule, a case for each
 -- rule of the language. The functions that read rules are those of RuleSpelling, and give exactly this.
 use Rattle.std.specs.Prelude.{◌≡◌, ◌≢◌, ℕ, ℤ, List, [], ◌∷◌, ◌++◌, Bool, Option, Some, None, codes}
-use Rattle.asl_model.specs.Tree.{Tree, Boolean, Integer, Text, Array, Object, Trees, NoTrees, AndTree, Fields, NoFields, AndField, field_named}
+use Rattle.asl_model.specs.Tree.{Tree, Boolean, Integer, Text, Array, Object, Trees, NoTrees}
+use Rattle.asl_model.specs.Tree.{AndTree, Fields, NoFields, AndField, field_named}
 use Rattle.asl_model.specs.Path.{Segment}
 use Rattle.asl_model.specs.PathSpelling.{Spells}
-use Rattle.asl_model.specs.Test.{Relation, Equals, LessThan, GreaterThan, LessThanEquals, GreaterThanEquals, Comparison, StringIs, NumericIs, BooleanEquals, Constant, AtPath, ValueKind, NullKind, NumericKind, StringKind, BooleanKind, PatternPart, ByteOf, Star, Test, And, Or, Not, Compare, StringMatches, IsOfKind, IsPresent, Tests, NoTests, AndTest, Rule}
+use Rattle.asl_model.specs.Test.{Relation, Equals, LessThan, GreaterThan, LessThanEquals, GreaterThanEquals, Comparison}
+use Rattle.asl_model.specs.Test.{StringIs, NumericIs, BooleanEquals, Constant, AtPath, ValueKind, NullKind, NumericKind}
+use Rattle.asl_model.specs.Test.{StringKind, BooleanKind, PatternPart, ByteOf, Star, Test, And, Or, Not, Compare}
+use Rattle.asl_model.specs.Test.{StringMatches, IsOfKind, IsPresent, Tests, NoTests, AndTest, Rule}
 
 -- ---- operators
 

@@ -2,12 +2,19 @@
 -- rules, `Not` with one, or `Variable` with exactly one operator. At the top it has `Next`, and may have a `Comment`.
 -- The profile chooses: an escape in a pattern other than `\*` and `\\` is refused. Every tree has here a test, with
 -- defaults where something is wrong, and a list of all that is wrong with it.
-use Rattle.std.specs.Prelude.{◌≡◌, ◌-◌, ℕ, List, [], ◌∷◌, ◌++◌, length, take, drop, ◌==◌, ◌||◌, Bool, true, false, is_some, if◌then◌else◌, Option, Some, None, option_map, option_and_then, Result, Ok, Err, bytes_eq, codes}
+use Rattle.std.specs.Prelude.{◌≡◌, ◌-◌, ℕ, List, [], ◌∷◌, ◌++◌, length, take, drop, ◌==◌, ◌||◌}
+use Rattle.std.specs.Prelude.{Bool, true, false, is_some, if◌then◌else◌, Option, Some, None}
+use Rattle.std.specs.Prelude.{option_map, option_and_then, Result, Ok, Err, bytes_eq, codes}
 use Rattle.std.specs.Option.{unwrap_or}
 use Rattle.std.specs.List.{Contains}
-use Rattle.asl_model.specs.Tree.{Tree, Null, Boolean, Integer, Text, Array, Object, Trees, NoTrees, AndTree, Fields, NoFields, AndField, field_named}
+use Rattle.asl_model.specs.Tree.{Tree, Null, Boolean, Integer, Text, Array, Object, Trees}
+use Rattle.asl_model.specs.Tree.{NoTrees, AndTree, Fields, NoFields, AndField, field_named}
 use Rattle.asl_model.specs.Path.{Segment}
-use Rattle.asl_model.specs.Test.{Relation, Equals, LessThan, GreaterThan, LessThanEquals, GreaterThanEquals, Comparison, StringIs, NumericIs, BooleanEquals, Constant, AtPath, ValueKind, NullKind, NumericKind, StringKind, BooleanKind, PatternPart, ByteOf, Star, Test, And, Or, Not, Compare, StringMatches, IsOfKind, IsPresent, Tests, NoTests, AndTest, Rule, as_text, as_integer, as_boolean}
+use Rattle.asl_model.specs.Test.{Relation, Equals, LessThan, GreaterThan, LessThanEquals, GreaterThanEquals}
+use Rattle.asl_model.specs.Test.{Comparison, StringIs, NumericIs, BooleanEquals, Constant, AtPath, ValueKind}
+use Rattle.asl_model.specs.Test.{NullKind, NumericKind, StringKind, BooleanKind, PatternPart, ByteOf, Star}
+use Rattle.asl_model.specs.Test.{Test, And, Or, Not, Compare, StringMatches, IsOfKind, IsPresent, Tests}
+use Rattle.asl_model.specs.Test.{NoTests, AndTest, Rule, as_text, as_integer, as_boolean}
 use Rattle.asl_model.specs.PathSpelling.{path_of}
 use Rattle.asl_model.specs.CallSpelling.{behind}
 

@@ -2,15 +2,20 @@
 -- "Fallback States"). The profile chooses: an event is one move of one activity or one answer to one waiting task;
 -- events of different branches and iterations come in any order; waiting takes no time; an error name that isn't
 -- `States.ALL` matches itself alone.
-use Rattle.std.specs.Prelude.{◌≡◌, ◌≢◌, ◌⊎◌, ◌<◌, ◌≤◌, ℕ, zero, suc, List, [], ◌∷◌, ◌++◌, map, Bool, false, ◌||◌, nat_lt, bytes_eq, if◌then◌else◌, Option, Some, None, option_and_then, Result, Ok, Err, codes}
+use Rattle.std.specs.Prelude.{◌≡◌, ◌≢◌, ◌⊎◌, ◌<◌, ◌≤◌, ℕ, zero, suc, List, [], ◌∷◌, ◌++◌, map, Bool, false, ◌||◌}
+use Rattle.std.specs.Prelude.{nat_lt, bytes_eq, if◌then◌else◌, Option, Some, None, option_and_then, Result, Ok, Err}
+use Rattle.std.specs.Prelude.{codes}
 use Rattle.std.specs.Option.{option_map}
 use Rattle.asl_model.specs.Names.{StateName, ErrorName, Bytes, PlaceInRun, RetryCounts}
 use Rattle.asl_model.specs.Tree.{Tree, Text, Array, Object, Trees, NoTrees, AndTree, NoFields, AndField}
 use Rattle.asl_model.specs.Path.{Segment}
 use Rattle.asl_model.specs.Placing.{placed, Places}
 use Rattle.asl_model.specs.Faults.{ResultPathMatchFailure, Fault, error_name}
-use Rattle.asl_model.specs.Machine.{Retrier, Catcher, Settings, Scope, State, Kind, Pass, Task, Choice, Wait, Succeed, Fail, Parallel, Map, settings_of, kind_of, start_of, state_named, child_scope, empty_scope, HasNamed}
-use Rattle.asl_model.specs.Flow.{Work, Finishes, Leaves, FailsWith, Asks, Splits, Raises, at_output_path, output_of, first_move}
+use Rattle.asl_model.specs.Machine.{Retrier, Catcher, Settings, Scope, State, Kind, Pass, Task, Choice}
+use Rattle.asl_model.specs.Machine.{Wait, Succeed, Fail, Parallel, Map, settings_of, kind_of, start_of}
+use Rattle.asl_model.specs.Machine.{state_named, child_scope, empty_scope, HasNamed}
+use Rattle.asl_model.specs.Flow.{Work, Finishes, Leaves, FailsWith, Asks, Splits}
+use Rattle.asl_model.specs.Flow.{Raises, at_output_path, output_of, first_move}
 
 mutual
   -- What stands at a place. The state is named; the counts are those of its retriers, in order, within this execution
@@ -164,7 +169,8 @@ trouble_of settings raw counts error cause =
 pub data AppearsIn : ErrorName → List ErrorName → Type 0 where
   appears_as_itself : {error : ErrorName} {others : List ErrorName} → AppearsIn error (error ∷ others)
   appears_by_wildcard : {error : ErrorName} {others : List ErrorName} → AppearsIn error (codes "States.ALL" ∷ others)
-  appears_later : {error n : ErrorName} {others : List ErrorName} → AppearsIn error others → AppearsIn error (n ∷ others)
+  appears_later : {error n : ErrorName} {others : List ErrorName} → AppearsIn error others
+      → AppearsIn error (n ∷ others)
 
 -- the retrier takes the error
 abbrev pub RetrierTakes : ErrorName → Retrier → Type 0
@@ -201,7 +207,8 @@ pub data HandsOn : Option (List Segment) → Tree → Tree → Tree → Type 0 w
 -- What comes of an error in a state with that raw input and those counts. The first retrier that takes it retries,
 -- where it has an attempt left. Otherwise the first catcher that takes it hands on what it places, or nothing can be
 -- placed there; where no catcher takes it, the state fails. There is no other case.
-pub data ComesTo (settings : Settings) (raw : Tree) (counts : RetryCounts) (error : ErrorName) (cause : Bytes) : Trouble → Type 0 where
+pub data ComesTo (settings : Settings) (raw : Tree) (counts : RetryCounts) (error : ErrorName) (cause : Bytes) :
+    Trouble → Type 0 where
   is_retried : {i : ℕ} {retrier : Retrier} → IsFirst (RetrierTakes error) settings.retriers i retrier
       → count_at i counts < retrier.max_attempts → ComesTo settings raw counts error cause (Retries i)
   is_caught : {i : ℕ} {catcher : Catcher} {input : Tree} → IsNotRetried settings.retriers counts error

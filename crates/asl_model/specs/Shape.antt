@@ -1,6 +1,8 @@
 -- Shapes, and which trees have them (a subset of JSON Schema 2020-12, Core and Validation).
-use Rattle.std.specs.Prelude.{◌≡◌, ℕ, ℤ, List, Bool, true, false, ◌&&◌, ◌||◌, not, IsTrue, IsUtf8, Option, Some, None, bytes_eq, if◌then◌else◌}
-use Rattle.asl_model.specs.Tree.{Tree, Null, Boolean, Integer, Text, Array, Object, Trees, NoTrees, AndTree, Fields, NoFields, AndField, field_named, comes_before}
+use Rattle.std.specs.Prelude.{◌≡◌, ℕ, ℤ, List, Bool, true, false, ◌&&◌, ◌||◌, not, IsTrue}
+use Rattle.std.specs.Prelude.{IsUtf8, Option, Some, None, bytes_eq, if◌then◌else◌}
+use Rattle.asl_model.specs.Tree.{Tree, Null, Boolean, Integer, Text, Array, Object, Trees, NoTrees}
+use Rattle.asl_model.specs.Tree.{AndTree, Fields, NoFields, AndField, field_named, comes_before}
 
 mutual
   -- what is said of a tree

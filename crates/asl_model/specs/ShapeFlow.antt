@@ -2,15 +2,25 @@
 -- rules let through and its output is (States Language, "Input and Output Processing", "Payload Template",
 -- "Intrinsic Functions", "Choice State"). The rules are the profile's own, and of a shape without a tree all give
 -- Never.
-use Rattle.std.specs.Prelude.{ℕ, zero, suc, ◌==◌, List, [], ◌∷◌, ◌++◌, length, map, Bool, true, false, ◌&&◌, ◌||◌, not, Option, Some, None, Result, Ok, Err, codes, if◌then◌else◌}
-use Rattle.asl_model.specs.Tree.{Tree, Null, Boolean, Integer, Text, Array, Object, Trees, NoTrees, AndTree, Fields, NoFields, AndField}
+use Rattle.std.specs.Prelude.{ℕ, zero, suc, ◌==◌, List, [], ◌∷◌, ◌++◌, length, map, Bool, true, false, ◌&&◌}
+use Rattle.std.specs.Prelude.{◌||◌, not, Option, Some, None, Result, Ok, Err, codes, if◌then◌else◌}
+use Rattle.asl_model.specs.Tree.{Tree, Null, Boolean, Integer, Text, Array, Object, Trees}
+use Rattle.asl_model.specs.Tree.{NoTrees, AndTree, Fields, NoFields, AndField}
 use Rattle.asl_model.specs.Path.{Segment, Name, Index}
-use Rattle.asl_model.specs.Intrinsic.{Reference, InInput, ItemIndex, InItem, Function, StatesArray, StatesArrayLength, StatesFormat, Call, CallOf, Argument, NullArgument, BooleanArgument, IntegerArgument, TextArgument, PathArgument, CallArgument, Arguments, NoArguments, AndArgument, Pieces, literal_pieces, Item}
-use Rattle.asl_model.specs.Template.{Template, Literal, FromPath, FromCall, ArrayTemplate, ObjectTemplate, Templates, NoTemplates, AndTemplate, FieldTemplates, NoFieldTemplates, AndFieldTemplate}
-use Rattle.asl_model.specs.Test.{Test, And, Or, Not, Compare, StringMatches, IsOfKind, IsPresent, Tests, NoTests, AndTest, Operand, Constant, AtPath}
+use Rattle.asl_model.specs.Intrinsic.{Reference, InInput, ItemIndex, InItem, Function, StatesArray}
+use Rattle.asl_model.specs.Intrinsic.{StatesArrayLength, StatesFormat, Call, CallOf, Argument, NullArgument}
+use Rattle.asl_model.specs.Intrinsic.{BooleanArgument, IntegerArgument, TextArgument, PathArgument, CallArgument}
+use Rattle.asl_model.specs.Intrinsic.{Arguments, NoArguments, AndArgument, Pieces, literal_pieces, Item}
+use Rattle.asl_model.specs.Template.{Template, Literal, FromPath, FromCall, ArrayTemplate, ObjectTemplate, Templates}
+use Rattle.asl_model.specs.Template.{NoTemplates, AndTemplate, FieldTemplates, NoFieldTemplates, AndFieldTemplate}
+use Rattle.asl_model.specs.Test.{Test, And, Or, Not, Compare, StringMatches, IsOfKind, IsPresent}
+use Rattle.asl_model.specs.Test.{Tests, NoTests, AndTest, Operand, Constant, AtPath}
 use Rattle.asl_model.specs.Machine.{Settings, Kind, Pass, Task, Choice, Wait, Succeed, Fail, Parallel, Map}
-use Rattle.asl_model.specs.Shape.{Shape, Any, Never, NullShape, BooleanShape, IntegerShape, StringShape, ArrayShape, ObjectShape, Shapes, NoShapes, AndShape, FieldShapes, NoFieldShapes, AndFieldShape, Has, inhabited}
-use Rattle.asl_model.specs.ShapeOrder.{mention_of, set_mention, join, array_shape_where, is_null_shape, is_boolean_shape, is_integer_shape, is_string_shape}
+use Rattle.asl_model.specs.Shape.{Shape, Any, Never, NullShape, BooleanShape, IntegerShape}
+use Rattle.asl_model.specs.Shape.{StringShape, ArrayShape, ObjectShape, Shapes, NoShapes, AndShape}
+use Rattle.asl_model.specs.Shape.{FieldShapes, NoFieldShapes, AndFieldShape, Has, inhabited}
+use Rattle.asl_model.specs.ShapeOrder.{mention_of, set_mention, join, array_shape_where, is_null_shape}
+use Rattle.asl_model.specs.ShapeOrder.{is_boolean_shape, is_integer_shape, is_string_shape}
 
 -- Paths
 

@@ -1,8 +1,11 @@
 -- When one shape is inside another, and a shape that two are inside. JSON Schema has no
 -- word for either: both are the profile's own. The first is only a test that is enough: where it is true, every tree
 -- of the one shape has the other.
-use Rattle.std.specs.Prelude.{ℕ, zero, suc, max, List, Bool, true, false, ◌&&◌, ◌||◌, not, Option, Some, None, bytes_eq, if◌then◌else◌}
-use Rattle.asl_model.specs.Shape.{Shape, Any, Never, NullShape, BooleanShape, IntegerShape, StringShape, ArrayShape, ObjectShape, Shapes, NoShapes, AndShape, FieldShapes, NoFieldShapes, AndFieldShape, inhabited, mentions, insert_mention}
+use Rattle.std.specs.Prelude.{ℕ, zero, suc, max, List, Bool, true, false, ◌&&◌, ◌||◌}
+use Rattle.std.specs.Prelude.{not, Option, Some, None, bytes_eq, if◌then◌else◌}
+use Rattle.asl_model.specs.Shape.{Shape, Any, Never, NullShape, BooleanShape, IntegerShape, StringShape}
+use Rattle.asl_model.specs.Shape.{ArrayShape, ObjectShape, Shapes, NoShapes, AndShape, FieldShapes}
+use Rattle.asl_model.specs.Shape.{NoFieldShapes, AndFieldShape, inhabited, mentions, insert_mention}
 
 -- the first mention of a field: whether it is needed, and its shape
 abbrev pub mention_of : List ℕ → FieldShapes → Option (Bool × Shape)

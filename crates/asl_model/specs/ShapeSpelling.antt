@@ -2,11 +2,15 @@
 -- `true` and `{}` are Any, `false` is Never; any other spelling is an object with `type` and the keywords of that type.
 -- Every tree has here a shape, with defaults where something is wrong, and a list of all that is wrong with it. It
 -- spells its shape where that list is empty.
-use Rattle.std.specs.Prelude.{◌≡◌, ℕ, pos, List, [], ◌∷◌, ◌++◌, Bool, true, false, not, ◌&&◌, ◌||◌, if◌then◌else◌, Option, Some, None, bytes_eq, codes}
+use Rattle.std.specs.Prelude.{◌≡◌, ℕ, pos, List, [], ◌∷◌, ◌++◌, Bool, true, false, not, ◌&&◌}
+use Rattle.std.specs.Prelude.{◌||◌, if◌then◌else◌, Option, Some, None, bytes_eq, codes}
 use Rattle.std.specs.Ordering.{int_eq}
 use Rattle.std.specs.List.{Contains}
-use Rattle.asl_model.specs.Tree.{Tree, Null, Boolean, Integer, Text, Array, Object, Trees, NoTrees, AndTree, Fields, NoFields, AndField, count, field_named}
-use Rattle.asl_model.specs.Shape.{Shape, Any, Never, NullShape, BooleanShape, IntegerShape, StringShape, ArrayShape, ObjectShape, Shapes, NoShapes, AndShape, FieldShapes, NoFieldShapes, AndFieldShape, mentions, insert_mention}
+use Rattle.asl_model.specs.Tree.{Tree, Null, Boolean, Integer, Text, Array, Object, Trees, NoTrees}
+use Rattle.asl_model.specs.Tree.{AndTree, Fields, NoFields, AndField, count, field_named}
+use Rattle.asl_model.specs.Shape.{Shape, Any, Never, NullShape, BooleanShape, IntegerShape, StringShape}
+use Rattle.asl_model.specs.Shape.{ArrayShape, ObjectShape, Shapes, NoShapes, AndShape, FieldShapes}
+use Rattle.asl_model.specs.Shape.{NoFieldShapes, AndFieldShape, mentions, insert_mention}
 
 -- what can be wrong with a spelling
 pub data ShapeFault : Type 0 where

@@ -2,7 +2,9 @@
 -- Machine", "State Types"). Every value has here a machine, with defaults where something is wrong, and a list of
 -- complaints. It stands for its machine where that list is empty.
 -- Scopes nest: what is said of a field with scopes in it is found by a walk over the fields, by the field's name.
-use Rattle.std.specs.Prelude.{◌≡◌, ℕ, ℤ, suc, List, [], ◌∷◌, ◌++◌, map, length, Bool, true, false, ◌&&◌, ◌||◌, not, ◌==◌, ◌/◌, nat_abs, nat_lt, int_lt, is_some, if◌then◌else◌, Option, Some, None, option_map, option_and_then, bytes_eq, codes}
+use Rattle.std.specs.Prelude.{◌≡◌, ℕ, ℤ, suc, List, [], ◌∷◌, ◌++◌, map, length, Bool, true, false, ◌&&◌}
+use Rattle.std.specs.Prelude.{◌||◌, not, ◌==◌, ◌/◌, nat_abs, nat_lt, int_lt, is_some, if◌then◌else◌}
+use Rattle.std.specs.Prelude.{Option, Some, None, option_map, option_and_then, bytes_eq, codes}
 use Rattle.std.specs.Option.{unwrap_or}
 use Rattle.std.specs.List.{Contains, filter_map}
 use Rattle.serde_json.specs.Data as json
@@ -11,13 +13,21 @@ use Rattle.serde_json.specs.Find.{get_member, as_null, as_bool, as_str, as_array
 use Rattle.asl_model.specs.Path.{Segment}
 use Rattle.asl_model.specs.Template.{Template}
 use Rattle.asl_model.specs.Test.{Rule}
-use Rattle.asl_model.specs.Machine.{Retrier, Catcher, Settings, Delay, Seconds, SecondsPath, Timestamp, TimestampPath, Scope, ScopeOf, States, NoStates, AndState, State, StateOf, Kind, Pass, Task, Choice, Wait, Succeed, Fail, Parallel, Map, Scopes, NoScopes, AndScope, empty_scope}
+use Rattle.asl_model.specs.Machine.{Retrier, Catcher, Settings, Delay, Seconds, SecondsPath, Timestamp, TimestampPath}
+use Rattle.asl_model.specs.Machine.{Scope, ScopeOf, States, NoStates, AndState, State, StateOf, Kind, Pass, Task}
+use Rattle.asl_model.specs.Machine.{Choice, Wait, Succeed, Fail, Parallel, Map, Scopes, NoScopes, AndScope, empty_scope}
 use Rattle.asl_model.specs.Json.{tree_of}
 use Rattle.asl_model.specs.PathSpelling.{path_of}
 use Rattle.asl_model.specs.ShapeSpelling.{is_among}
 use Rattle.asl_model.specs.TemplateSpelling.{template_of}
 use Rattle.asl_model.specs.RuleSpelling.{rule_of}
-use Rattle.asl_model.specs.DefinitionTable.{DefFault, NotObject, MissingField, WrongKind, UnknownField, LeftOut, UnknownType, NameTooLong, DuplicateName, NoSuchState, NextOrEnd, BadPath, BadTemplate, BadRule, BadErrorEquals, EmptyList, HeartbeatNotSmaller, TooLarge, NotWhole, Row, machine_rows, branch_rows, processor_rows, every_state_rows, retrier_rows, catcher_rows, left_out_fields, StateType, PassState, TaskState, ChoiceState, WaitState, SucceedState, FailState, ParallelState, MapState, type_named, rows_of, wrong_kind, misfits, as_whole}
+use Rattle.asl_model.specs.DefinitionTable.{DefFault, NotObject, MissingField, WrongKind, UnknownField, LeftOut}
+use Rattle.asl_model.specs.DefinitionTable.{UnknownType, NameTooLong, DuplicateName, NoSuchState, NextOrEnd, BadPath}
+use Rattle.asl_model.specs.DefinitionTable.{BadTemplate, BadRule, BadErrorEquals, EmptyList, HeartbeatNotSmaller}
+use Rattle.asl_model.specs.DefinitionTable.{TooLarge, NotWhole, Row, machine_rows, branch_rows, processor_rows}
+use Rattle.asl_model.specs.DefinitionTable.{every_state_rows, retrier_rows, catcher_rows, left_out_fields, StateType}
+use Rattle.asl_model.specs.DefinitionTable.{PassState, TaskState, ChoiceState, WaitState, SucceedState, FailState}
+use Rattle.asl_model.specs.DefinitionTable.{ParallelState, MapState, type_named, rows_of, wrong_kind, misfits, as_whole}
 
 -- ---- look-ups in an object
 

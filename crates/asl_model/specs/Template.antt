@@ -1,7 +1,9 @@
 -- Payload templates, and their values (States Language, "Payload Template").
 -- The profile chooses which failure counts: that of the least failing place.
-use Rattle.std.specs.Prelude.{◌≡◌, ◌⊎◌, ◌<◌, ◌&&◌, Bool, true, IsTrue, bytes_eq, if◌then◌else◌, ℕ, zero, suc, List, [], ◌∷◌, ◌++◌, map, Option, Some, None, unwrap_or, Result, Ok, Err}
-use Rattle.asl_model.specs.Tree.{Tree, Null, Array, Object, Trees, NoTrees, AndTree, Fields, NoFields, AndField, comes_before}
+use Rattle.std.specs.Prelude.{◌≡◌, ◌⊎◌, ◌<◌, ◌&&◌, Bool, true, IsTrue, bytes_eq, if◌then◌else◌, ℕ, zero, suc}
+use Rattle.std.specs.Prelude.{List, [], ◌∷◌, ◌++◌, map, Option, Some, None, unwrap_or, Result, Ok, Err}
+use Rattle.asl_model.specs.Tree.{Tree, Null, Array, Object, Trees, NoTrees, AndTree}
+use Rattle.asl_model.specs.Tree.{Fields, NoFields, AndField, comes_before}
 use Rattle.asl_model.specs.Path.{Segment, Name, Index}
 use Rattle.asl_model.specs.Faults.{DataFlowError, ParameterPathFailure, IntrinsicFailure}
 use Rattle.asl_model.specs.Intrinsic.{Reference, Call, Item, referred, call_value}

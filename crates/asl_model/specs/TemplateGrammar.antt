@@ -1,9 +1,11 @@
 -- The grammar of payload templates (States Language, "Payload Template"): which tree stands for which template, a case
 -- for each rule. The functions that read templates are those of TemplateSpelling, and give exactly this.
 use Rattle.std.specs.Prelude.{◌≡◌, ℕ, ℤ, List, ◌++◌, Bool, IsTrue, codes}
-use Rattle.asl_model.specs.Tree.{Tree, Null, Boolean, Integer, Text, Array, Object, Trees, NoTrees, AndTree, Fields, NoFields, AndField, comes_before}
+use Rattle.asl_model.specs.Tree.{Tree, Null, Boolean, Integer, Text, Array, Object, Trees}
+use Rattle.asl_model.specs.Tree.{NoTrees, AndTree, Fields, NoFields, AndField, comes_before}
 use Rattle.asl_model.specs.Intrinsic.{Reference, Call}
-use Rattle.asl_model.specs.Template.{Template, Literal, FromPath, FromCall, ArrayTemplate, ObjectTemplate, Templates, NoTemplates, AndTemplate, FieldTemplates, NoFieldTemplates, AndFieldTemplate}
+use Rattle.asl_model.specs.Template.{Template, Literal, FromPath, FromCall, ArrayTemplate, ObjectTemplate, Templates}
+use Rattle.asl_model.specs.Template.{NoTemplates, AndTemplate, FieldTemplates, NoFieldTemplates, AndFieldTemplate}
 use Rattle.asl_model.specs.CallGrammar.{SpellsReference, SpellsCall}
 
 -- the text of a field whose name ends in `.$` stands for what the path names that it spells, or for the value of a

@@ -1,11 +1,12 @@
 -- What the three texts mean: a definition, declared shapes, a certificate; and what is wrong with a text.
-use Rattle.std.specs.Prelude.{◌≡◌, ℕ, List, None}
+use Rattle.std.specs.Prelude.{◌≡◌, ℕ, None}
 use Rattle.serde_json.specs.Data.{Data}
 use Rattle.asl_model.specs.Names.{Bytes}
 use Rattle.asl_model.specs.Machine.{Scope}
 use Rattle.asl_model.specs.Certificate.{Declared, Certificate}
 use Rattle.asl_model.specs.Json.{ReadsAsValue, tree_of}
-use Rattle.asl_model.specs.Records.{RecordComplaint, StandsForDeclared, StandsForCertificate, HasDeclaredFault, HasCertificateFault}
+use Rattle.asl_model.specs.Records.{RecordComplaint, StandsForDeclared}
+use Rattle.asl_model.specs.Records.{StandsForCertificate, HasDeclaredFault, HasCertificateFault}
 use Rattle.asl_model.specs.StandsFor.{Complaint, StandsFor, HasComplaint}
 
 -- the text reads as that machine, as those declared shapes, as that certificate

@@ -1,9 +1,11 @@
 -- The lines of a run's trace (the profile's own format): each entry is one line of compact JSON.
 use Rattle.std.specs.Prelude.{◌≡◌, ℕ, pos, List, [], ◌∷◌, ◌++◌, codes}
 use Rattle.asl_model.specs.Names.{StateName, FieldName, Bytes, PlaceInRun}
-use Rattle.asl_model.specs.Tree.{Tree, Integer, Text, Array, Object, Trees, NoTrees, AndTree, Fields, NoFields, AndField}
+use Rattle.asl_model.specs.Tree.{Tree, Integer, Text, Array, Object, Trees}
+use Rattle.asl_model.specs.Tree.{NoTrees, AndTree, Fields, NoFields, AndField}
 use Rattle.asl_model.specs.Faults.{Fault, error_name}
-use Rattle.asl_model.specs.Run.{Outcome, Output, FailedWith, Entry, Entered, Asked, Left, Raised, TaskFailed, BranchFailed, Retried, Caught, Ended}
+use Rattle.asl_model.specs.Run.{Outcome, Output, FailedWith, Entry, Entered, Asked, Left}
+use Rattle.asl_model.specs.Run.{Raised, TaskFailed, BranchFailed, Retried, Caught, Ended}
 use Rattle.asl_model.specs.Json.{compact_text}
 use Rattle.asl_model.specs.Printed.{line_break, first_line, further_lines}
 

@@ -1,7 +1,8 @@
 -- Trees: the JSON values that definitions, inputs and answers are made of (States Language, "Data"; RFC 8259).
 -- The profile chooses: every number is whole. Texts and field names are their UTF-8 bytes, and an object is a
 -- list of fields; one that comes from a JSON text has each name once, in byte order. No definition rests on that.
-use Rattle.std.specs.Prelude.{ℕ, zero, suc, ℤ, List, [], ◌∷◌, Bool, true, false, IsTrue, IsUtf8, Option, Some, None, bytes_eq, if◌then◌else◌}
+use Rattle.std.specs.Prelude.{ℕ, zero, suc, ℤ, List, [], ◌∷◌, Bool, true, false, IsTrue}
+use Rattle.std.specs.Prelude.{IsUtf8, Option, Some, None, bytes_eq, if◌then◌else◌}
 use Rattle.std.specs.Ordering.{nat_cmp, match_ordering}
 use Rattle.std.specs.Cmp.Lexicographic.{slice_cmp}
 use Rattle.asl_model.specs.Names.{FieldName, Bytes}

@@ -1,8 +1,10 @@
 -- How shapes, declared shapes and certificates are written: one spelling of each (the profile's own choice), with the
 -- names of each object in byte order.
 use Rattle.std.specs.Prelude.{ℕ, pos, List, [], ◌∷◌, Bool, true, false, not, if◌then◌else◌, Option, Some, None, codes}
-use Rattle.asl_model.specs.Tree.{Tree, Boolean, Integer, Text, Array, Object, Trees, NoTrees, AndTree, Fields, NoFields, AndField}
-use Rattle.asl_model.specs.Shape.{Shape, Any, Never, NullShape, BooleanShape, IntegerShape, StringShape, ArrayShape, ObjectShape, Shapes, NoShapes, AndShape, FieldShapes, NoFieldShapes, AndFieldShape}
+use Rattle.asl_model.specs.Tree.{Tree, Boolean, Integer, Text, Array, Object, Trees}
+use Rattle.asl_model.specs.Tree.{NoTrees, AndTree, Fields, NoFields, AndField}
+use Rattle.asl_model.specs.Shape.{Shape, Any, Never, NullShape, BooleanShape, IntegerShape, StringShape, ArrayShape}
+use Rattle.asl_model.specs.Shape.{ObjectShape, Shapes, NoShapes, AndShape, FieldShapes, NoFieldShapes, AndFieldShape}
 use Rattle.asl_model.specs.ShapeOrder.{is_any_shape}
 use Rattle.asl_model.specs.ShapeFlow.{how_many_shapes}
 use Rattle.asl_model.specs.Certificate.{TaskShapes, Declared, StateShapes, Certificate}

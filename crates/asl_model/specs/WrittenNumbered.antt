@@ -1,15 +1,19 @@
--- How a certificate is written that lists its shapes (the profile's own choice): each distinct shape of arrays or objects
--- in it is listed once, in the order in which a walk through the certificate has them whole, and stands everywhere as a
--- reference. The walk goes through the output, then the states by name: the branches of each, its input, its item, its
--- output. In a shape it goes through the parts first.
-use Rattle.std.specs.Prelude.{ℕ, suc, pos, List, [], ◌∷◌, ◌++◌, Bool, true, false, not, ◌&&◌, if◌then◌else◌, Option, Some, None, is_some, option_map, bytes_eq, codes}
+-- How a certificate is written that lists its shapes (the profile's own choice): each distinct shape of arrays or
+-- objects in it is listed once, in the order in which a walk through the certificate has them whole, and stands
+-- everywhere as a reference. The walk goes through the output, then the states by name: the branches of each, its
+-- input, its item, its output. In a shape it goes through the parts first.
+use Rattle.std.specs.Prelude.{ℕ, suc, pos, List, [], ◌∷◌, ◌++◌, Bool, true, false, not, ◌&&◌}
+use Rattle.std.specs.Prelude.{if◌then◌else◌, Option, Some, None, is_some, option_map, bytes_eq, codes}
 use Rattle.std.specs.Option.{unwrap_or}
 use Rattle.asl_model.specs.Tree.{Tree, Integer, Array, Object, Trees, NoTrees, AndTree, Fields, NoFields, AndField}
-use Rattle.asl_model.specs.Shape.{Shape, Any, Never, NullShape, BooleanShape, IntegerShape, StringShape, ArrayShape, ObjectShape, Shapes, NoShapes, AndShape, FieldShapes, NoFieldShapes, AndFieldShape}
-use Rattle.asl_model.specs.ShapeOrder.{is_any_shape, is_null_shape, is_boolean_shape, is_integer_shape, is_string_shape, array_shape_where, object_shape_where}
+use Rattle.asl_model.specs.Shape.{Shape, Any, Never, NullShape, BooleanShape, IntegerShape, StringShape, ArrayShape}
+use Rattle.asl_model.specs.Shape.{ObjectShape, Shapes, NoShapes, AndShape, FieldShapes, NoFieldShapes, AndFieldShape}
+use Rattle.asl_model.specs.ShapeOrder.{is_any_shape, is_null_shape, is_boolean_shape, is_integer_shape}
+use Rattle.asl_model.specs.ShapeOrder.{is_string_shape, array_shape_where, object_shape_where}
 use Rattle.asl_model.specs.ShapeFlow.{how_many_shapes}
 use Rattle.asl_model.specs.Certificate.{StateShapes, Certificate}
-use Rattle.asl_model.specs.Written.{some_shapes, some_fields, needed_names, some_names, as_texts, array_fields, object_fields, written_shape, certificate_written}
+use Rattle.asl_model.specs.Written.{some_shapes, some_fields, needed_names, some_names, as_texts}
+use Rattle.asl_model.specs.Written.{array_fields, object_fields, written_shape, certificate_written}
 
 -- ---- the same shape
 
@@ -135,7 +139,8 @@ places_referring listed (AndShape s first) = AndTree (referring listed s) (place
 -- for those of fields
 abbrev pub fields_referring : List Shape → FieldShapes → Fields
 fields_referring listed NoFieldShapes = NoFields
-fields_referring listed (AndFieldShape n needed s fields) = AndField n (referring listed s) (fields_referring listed fields)
+fields_referring listed (AndFieldShape n needed s fields) =
+    AndField n (referring listed s) (fields_referring listed fields)
 
 -- a shape with references for its parts
 abbrev pub written_over : List Shape → Shape → Tree

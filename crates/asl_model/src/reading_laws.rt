@@ -25,9 +25,11 @@ ghost use Rattle.asl_model.specs.CallGrammar.{WritesCall, SpellsReference, Spell
 ghost use Rattle.asl_model.specs.Run.{Action};
 ghost use Rattle.asl_model.specs.AnswersSpelling.{ReadsAsAnswers, IsAnswersFault, StandsForAnswers, IsBadAnswer};
 ghost use Rattle.asl_model.specs.RecordShapes.{HoldsForDeclared, HoldsForCertificate};
-ghost use Rattle.asl_model.specs.Records.{RecordComplaint, StandsForDeclared, StandsForCertificate, HasDeclaredFault, HasCertificateFault};
+ghost use Rattle.asl_model.specs.Records.{RecordComplaint, StandsForDeclared};
+ghost use Rattle.asl_model.specs.Records.{StandsForCertificate, HasDeclaredFault, HasCertificateFault};
 ghost use Rattle.asl_model.specs.StandsFor.{Complaint, StandsFor, HasComplaint, characters};
-ghost use Rattle.asl_model.specs.Texts.{TextFault, BadAnswer, ReadsAsMachine, ReadsAsDeclared, ReadsAsCertificate, IsDefinitionFault, IsDeclaredFault, IsCertificateFault};
+ghost use Rattle.asl_model.specs.Texts.{TextFault, BadAnswer, ReadsAsMachine, ReadsAsDeclared};
+ghost use Rattle.asl_model.specs.Texts.{ReadsAsCertificate, IsDefinitionFault, IsDeclaredFault, IsCertificateFault};
 
 /// A text reads as at most one JSON value, tree, reference path, machine, declared shapes, certificate.
 pub fn texts_have_one_meaning()
@@ -68,8 +70,8 @@ pub fn trees_as_read_are_proper()
     ensures { (text : List ℕ) (t : Tree) → ReadsAsTree text t → IsProper t }
 {}
 
-/// The names in a machine that a definition stands for lead inside its scopes: each scope starts at one of its own states,
-/// and what follows a state is a state of the same scope.
+/// The names in a machine that a definition stands for lead inside its scopes: each scope starts at one of its own
+/// states, and what follows a state is a state of the same scope.
 pub fn machines_as_read_lead_inside()
     ensures value { (v : Data) (m : Scope) → StandsFor v m → LeadsInside m }
     ensures text { (text : List ℕ) (m : Scope) → ReadsAsMachine text m → LeadsInside m }
@@ -81,8 +83,8 @@ pub fn trees_spell_one_shape()
     ensures no_fault { (t : Tree) (a : Shape) (f : ShapeFault) → SpellsShape t a → HasShapeFault t f → ⊥ }
 {}
 
-/// A tree spells at most one template, and either spells one or has a fault. So it is with and without leave for paths to
-/// a Map's item.
+/// A tree spells at most one template, and either spells one or has a fault. So it is with and without leave for paths
+/// to a Map's item.
 pub fn trees_spell_one_template()
     ensures template { (item : Bool) (t : Tree) (p q : Template) → SpellsTemplate item t p → SpellsTemplate item t q
         → p ≡ q }
@@ -121,7 +123,8 @@ pub fn written_shapes_are_spelled()
     ensures { (a : Shape) → IsProperShape a → SpellsShape (written_shape a) a }
 {}
 
-/// Every JSON value that is the tree written for declared shapes, or for a certificate, of proper shapes stands for them.
+/// Every JSON value that is the tree written for declared shapes, or for a certificate, of proper shapes stands for
+/// them.
 pub fn written_records_are_read_back()
     ensures declared { (v : Data) (d : Declared) → HoldsForDeclared IsProperShape d
         → tree_of v ≡ Some (written_declared d) → StandsForDeclared v d }
@@ -143,8 +146,8 @@ pub fn texts_have_a_meaning_or_a_fault()
     ensures shape { (t : Tree) → ((a : Shape) × SpellsShape t a) ⊎ ((f : ShapeFault) × HasShapeFault t f) }
 {}
 
-/// Each text spells a reference path or is refused, in one way. The function that reads paths gives exactly the path that
-/// a text spells.
+/// Each text spells a reference path or is refused, in one way. The function that reads paths gives exactly the path
+/// that a text spells.
 pub fn texts_spell_paths_or_are_refused()
     ensures either { (text : List ℕ) → ((p : List Segment) × Spells text p) ⊎ ((f : PathFault) × IsRefusedPath text f) }
     ensures one_refusal { (text : List ℕ) (f g : PathFault) → IsRefusedPath text f → IsRefusedPath text g → f ≡ g }
@@ -182,9 +185,9 @@ pub fn written_calls_are_exactly_cut()
         → (reference_of item text ≡ Some r) ↔ SpellsReference item text r }
 {}
 
-/// Each text spells an intrinsic call or is refused, never both, and in one way: the lesser refusal counts. The function
-/// that reads calls gives exactly the call that a text spells, or its refusal. So it is with and without leave for paths
-/// to a Map's item.
+/// Each text spells an intrinsic call or is refused, never both, and in one way: the lesser refusal counts. The
+/// function that reads calls gives exactly the call that a text spells, or its refusal. So it is with and without leave
+/// for paths to a Map's item.
 pub fn texts_spell_calls_or_are_refused()
     ensures either { (item : Bool) (text : List ℕ)
         → ((c : Call) × SpellsCall item text c) ⊎ ((f : FunctionFault) × IsRefusedCall item text f) }
@@ -199,8 +202,8 @@ pub fn texts_spell_calls_or_are_refused()
         → (call_from item text ≡ Err f) ↔ IsRefusedCall item text f }
 {}
 
-/// A text reads as a list of answers exactly where it reads as a tree that stands for it, by the rules of the format, and
-/// an element is refused exactly where it stands for no answer.
+/// A text reads as a list of answers exactly where it reads as a tree that stands for it, by the rules of the format,
+/// and an element is refused exactly where it stands for no answer.
 pub fn answers_are_exactly_read()
     ensures read { (text : List ℕ) (answers : List Action)
         → ReadsAsAnswers text answers ↔ ((t : Tree) × ReadsAsTree text t × StandsForAnswers t answers) }

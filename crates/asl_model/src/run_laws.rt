@@ -8,9 +8,13 @@ ghost use Rattle.asl_model.specs.Intrinsic.{Item, Pieces, cut_at_holes, ArePiece
 ghost use Rattle.asl_model.specs.Template.{Template, template_value, IsInOrder, TellsLeastFailure};
 ghost use Rattle.asl_model.specs.Test.{PatternPart, is_cut_by, IsCutBy};
 ghost use Rattle.asl_model.specs.Machine.{Scope, Settings, LeadsInside};
-ghost use Rattle.asl_model.specs.Run.{Activity, Action, Entry, Event, Step, activity_at, step_at, run_of, trace, want_of, enabled, count_at, one_higher, Trouble, trouble_of, ComesTo, AreApart, HasChildReplaced, Commute, Enables, AreInLexicographicOrder};
+ghost use Rattle.asl_model.specs.Run.{Activity, Action, Entry, Event, Step, activity_at, step_at, run_of, trace};
+ghost use Rattle.asl_model.specs.Run.{want_of, enabled, count_at, one_higher, Trouble, trouble_of, ComesTo};
+ghost use Rattle.asl_model.specs.Run.{AreApart, HasChildReplaced, Commute, Enables, AreInLexicographicOrder};
 ghost use Rattle.asl_model.specs.TracePrinted.{HasNoRaiseLine, trace_text};
-ghost use Rattle.asl_model.specs.Certificate.{Declared, Certificate, IsClosed, Obeys, TellsNoFault, RunIsAsCertified, ActivitiesAreAsCertified, DataAreAsCertified, MovesOn, Works, Nests, IsKeptBy, KeepsData};
+ghost use Rattle.asl_model.specs.Certificate.{Declared, Certificate, IsClosed, Obeys, TellsNoFault};
+ghost use Rattle.asl_model.specs.Certificate.{RunIsAsCertified, ActivitiesAreAsCertified};
+ghost use Rattle.asl_model.specs.Certificate.{DataAreAsCertified, MovesOn, Works, Nests, IsKeptBy, KeepsData};
 
 /// Closed runs never fault: where a certificate is closed for a machine and declared shapes, then for every input and
 /// every list of events that obey them, no turn raises a data-flow fault, and each state's input, each payload, each
@@ -34,11 +38,11 @@ pub fn faultless_traces_have_no_raise_line()
     ensures { (told : List (List ℕ × Entry)) → TellsNoFault told → HasNoRaiseLine (trace_text told) }
 {}
 
-/// Every activity of an obeying run is as certified, at every nesting depth. Its data are, for every machine: the raw input
-/// of each Ready, Waiting and Split is of its state's certified input; each Waiting has the payload that its state asks
-/// with, one that its task takes; each Split one child a branch, or one an element of the list found for its raw input,
-/// each in its own scope; each Done an output of its scope's end. Where the machine's names lead inside its scopes, the
-/// state of each Ready, Waiting and Split is one of the scope in which it stands.
+/// Every activity of an obeying run is as certified, at every nesting depth. Its data are, for every machine: the raw
+/// input of each Ready, Waiting and Split is of its state's certified input; each Waiting has the payload that its
+/// state asks with, one that its task takes; each Split one child a branch, or one an element of the list found for its
+/// raw input, each in its own scope; each Done an output of its scope's end. Where the machine's names lead inside its
+/// scopes, the state of each Ready, Waiting and Split is one of the scope in which it stands.
 pub fn every_activity_is_as_certified()
     ensures data_fit { (declared : Declared) (certificate : Certificate) (machine : Scope)
         → IsClosed declared certificate machine → (input : Tree) (events : List Event)
@@ -120,7 +124,8 @@ pub fn matching_is_exactly_cutting()
     ensures { (parts : List PatternPart) (text : List ℕ) → IsCutBy parts text ↔ IsTrue (is_cut_by parts text) }
 {}
 
-/// Cutting a text at its holes gives exactly its pieces: joined by `{}` they are the text, and no piece has a hole in it.
+/// Cutting a text at its holes gives exactly its pieces: joined by `{}` they are the text, and no piece has a hole in
+/// it.
 pub fn cutting_gives_exactly_the_pieces()
     ensures { (text : List ℕ) (pieces : Pieces) → ArePiecesOf text pieces ↔ cut_at_holes text ≡ pieces }
 {}
