@@ -1,8 +1,8 @@
 -- A certificate is closed where it is closed at each state of the machine, found by going through the nested scopes.
 use Rattle.std.proofs.Common.{◌≡◌, ◌↔◌, refl, subst, ℕ, zero, suc, List, Bool, true, false, if◌then◌else◌, bytes_eq, Option, Some, is_some, IsTrue}
 use Rattle.asl_model.specs.Shape.{Shape, Inside}
-use Rattle.asl_model.specs.Machine.{Scope, ScopeOf, States, NoStates, AndState, State, StateOf, Kind, Pass, Task, Choice, Wait, Succeed, Fail, Parallel, Map, Scopes, NoScopes, AndScope, kind_of, start_of, state_among, state_named, scope_at, child_scope, names_state, names_task}
-use Rattle.asl_model.specs.Certificate.{Declared, Certificate, StateShapes, under, certified, certified_input, or_never, branch_end, item_end, child_end, IsScope, whole_machine, child_of_state, IsClosedAt, IsClosed}
+use Rattle.asl_model.specs.Machine.{Scope, ScopeOf, States, NoStates, AndState, State, StateOf, Kind, Pass, Task, Choice, Wait, Succeed, Fail, Parallel, Map, Scopes, NoScopes, AndScope, kind_of, start_of, state_among, state_named, scope_at, child_scope, names_state, names_task, IsScopeOf, own_scope, scope_of_child}
+use Rattle.asl_model.specs.Certificate.{Declared, Certificate, StateShapes, under, certified, certified_input, or_never, branch_end, item_end, child_end, IsClosedAt, IsClosed}
 use Rattle.std.proofs.lemmas.Slice.Eq.{bytes_eq-Decides}
 use Rattle.asl_model.proofs.RunOptions.{some_inj, none_some}
 
@@ -63,9 +63,18 @@ module _ (declared : Declared) (certificate : Certificate) where
   found_closed : (scope : Scope) (end : Shape) (n : List ℕ) (state : State) → ScopeIsClosed declared certificate scope end → state_named n scope ≡ Some state → Fine end n state
   found_closed (ScopeOf start held) end n state h e = state_closed held end n state h e
 
-  scope_closed : (machine : Scope) → ScopeIsClosed declared certificate machine certificate.output → {scope : Scope} {end : Shape} → IsScope certificate machine scope end → ScopeIsClosed declared certificate scope end
-  scope_closed machine closed whole_machine = closed
-  scope_closed machine closed (child_of_state {scope = scope} {end = end} n state i is_scope e) = child_closed (kind_of state) (certified certificate n) i (found_closed scope end n state (scope_closed machine closed is_scope) e).1
+  -- each scope is closed, with some end
+  scope_closed : (machine : Scope) → ScopeIsClosed declared certificate machine certificate.output → {scope : Scope} → IsScopeOf machine scope → (end : Shape) × ScopeIsClosed declared certificate scope end
+  scope_closed machine closed own_scope = (certificate.output, closed)
+  scope_closed machine closed (scope_of_child {scope = scope} n state i is_scope e) =
+      let outer = scope_closed machine closed is_scope in
+      (or_never (child_end (kind_of state) (certified certificate n) i), child_closed (kind_of state) (certified certificate n) i (found_closed scope outer.0 n state outer.1 e).1)
+
+  -- a child's with the one that is certified
+  below_closed : (machine : Scope) → ScopeIsClosed declared certificate machine certificate.output → (scope : Scope) → IsScopeOf machine scope → (n : List ℕ) (state : State) → state_named n scope ≡ Some state → (i : ℕ) → ScopeIsClosed declared certificate (child_scope (kind_of state) i) (or_never (child_end (kind_of state) (certified certificate n) i))
+  below_closed machine closed scope is_scope n state e i =
+      let outer = scope_closed machine closed is_scope in
+      child_closed (kind_of state) (certified certificate n) i (found_closed scope outer.0 n state outer.1 e).1
 
   -- closed at each state, so closed
   pub closed_at_each : (machine : Scope) → ((n : List ℕ) → IsTrue (is_some (certified certificate n)) → IsTrue (names_state machine n)) → ((n : List ℕ) → IsTrue (is_some (under n declared.tasks)) ↔ IsTrue (names_task machine n)) → Inside declared.input (certified_input certificate (start_of machine)) → ScopeIsClosed declared certificate machine certificate.output → IsClosed declared certificate machine
@@ -73,5 +82,6 @@ module _ (declared : Declared) (certificate : Certificate) where
     no_other_entry = no_other;
     tasks = tasks;
     start = start;
-    states = λ scope end is_scope n state e. (found_closed scope end n state (scope_closed machine closed is_scope) e).0;
+    own = λ n state e. (found_closed machine certificate.output n state closed e).0;
+    children = λ scope is_scope n state e i m inner there. (found_closed (child_scope (kind_of state) i) (or_never (child_end (kind_of state) (certified certificate n) i)) m inner (below_closed machine closed scope is_scope n state e i) there).0;
   }

@@ -6,7 +6,7 @@ use Rattle.asl_model.specs.Shape.{Shape, Any, Never, IntegerShape, StringShape, 
 use Rattle.asl_model.specs.Flow.{Asks, Splits, first_move}
 use Rattle.asl_model.specs.Machine.{Scope, ScopeOf, AndState, NoStates, StateOf, Pass, Task, Choice, Wait, SecondsPath, Succeed, Fail, Parallel, Map, AndScope, NoScopes, states_of, LeadsInside, own_scope}
 use Rattle.asl_model.specs.Run.{Ready, Waiting, Split, Done, NoActivities, AndActivity, Event, run_of, Move, Gives, Entered, Asked, Left, Ended, Output}
-use Rattle.asl_model.specs.Certificate.{TaskShapes, Declared, StateShapes, Certificate, under, or_never, branch_shape, EachHas, WorkFits, IsClosedAt, whole_machine, IsClosed, Obeys, NoTurnRaises, TurnsAreAsCertified, RunIsAsCertified, HasSplit, ActivityFits, ActivitiesAreAsCertified, MovesOn, Works, Nests, group_of}
+use Rattle.asl_model.specs.Certificate.{TaskShapes, Declared, StateShapes, Certificate, under, or_never, branch_shape, EachHas, WorkFits, IsClosedAt, IsClosed, Obeys, NoTurnRaises, TurnsAreAsCertified, RunIsAsCertified, HasSplit, ActivityFits, ActivitiesAreAsCertified, MovesOn, Works, Nests, group_of}
 use Rattle.asl_model.proofs.RunOptions.{false_true, none_some}
 use Rattle.asl_model.proofs.ClosedScopes.{closed_at_each}
 use Rattle.asl_model.proofs.RunLaws.{never_fault, every_activity}
@@ -279,10 +279,10 @@ abbrev pub of_texts : Shape
 of_texts = ObjectShape (AndFieldShape (codes "a") true StringShape NoFieldShapes) false
 
 result_may_not_fit : IsClosed (record { input = of_texts; tasks = [] }) (record { output = Any; states = (codes "A", plain of_texts Any) ∷ [] }) placing → ⊥
-result_may_not_fit closed = (closed.states placing Any whole_machine (codes "A") (StateOf (record ends { result_path = Some (Name (codes "a") ∷ Name (codes "b") ∷ []) }) (Pass (Some (whole 7)))) refl).work (one (codes "a") (Text (codes "x"))) refl
+result_may_not_fit closed = (closed.own (codes "A") (StateOf (record ends { result_path = Some (Name (codes "a") ∷ Name (codes "b") ∷ []) }) (Pass (Some (whole 7)))) refl).work (one (codes "a") (Text (codes "x"))) refl
 
 no_entry : IsClosed integers_in (record { output = Any; states = [] }) passing → ⊥
-no_entry closed = none_some (closed.states passing Any whole_machine (codes "A") (StateOf ends (Pass None)) refl).entry.stands
+no_entry closed = none_some (closed.own (codes "A") (StateOf ends (Pass None)) refl).entry.stands
 
 undeclared_task : IsClosed integers_in (all_certified Any Any) (one_task (codes "A")) → ⊥
 undeclared_task closed = false_true ((closed.tasks (codes "A")).1 refl)

@@ -4,9 +4,9 @@ use Rattle.std.specs.Prelude.{IsTrue, bytes_eq, is_some, is_none, codes, if◌th
 use Rattle.std.proofs.lemmas.Bool.{and_parts, or_cases, eqb-true, false≢true}
 use Rattle.std.proofs.lemmas.Slice.Eq.{bytes_eq-Decides}
 use Rattle.std.proofs.Common.{⊎_elim}
-use Rattle.asl_model.specs.Machine.{Settings, Scope, ScopeOf, States, NoStates, AndState, State, StateOf, Kind, Pass, Task, Choice, Wait, Succeed, Fail, Parallel, Map, Scopes, NoScopes, AndScope, settings_of, kind_of, state_named, state_among, scope_at, child_scope, empty_scope, how_many, is_task, names_state, names_task, some_state, some_of_states, some_inside, some_in_kind, some_in_scopes}
+use Rattle.asl_model.specs.Machine.{Settings, Scope, ScopeOf, States, NoStates, AndState, State, StateOf, Kind, Pass, Task, Choice, Wait, Succeed, Fail, Parallel, Map, Scopes, NoScopes, AndScope, settings_of, kind_of, state_named, state_among, scope_at, child_scope, empty_scope, how_many, is_task, names_state, names_task, some_state, some_of_states, some_inside, some_in_kind, some_in_scopes, IsScopeOf, own_scope, scope_of_child}
 use Rattle.asl_model.specs.Shape.{Shape}
-use Rattle.asl_model.specs.Certificate.{TaskShapes, Declared, StateShapes, Certificate, under, certified, branch_end, item_end, child_end, branch_shape, or_never, branches_in, is_map, HasEntry, IsScope, whole_machine, child_of_state}
+use Rattle.asl_model.specs.Certificate.{TaskShapes, Declared, StateShapes, Certificate, under, certified, branch_end, item_end, child_end, branch_shape, or_never, branches_in, is_map, HasEntry}
 use Rattle.asl_model.specs.Finding.{FindingFault, Breach, found_at, breach_unless, is_certified, entry_breaches, input_to_compare, surrounded_by, flow_breaches, where_certified, state_breaches, scope_findings, states_findings, state_findings, children_findings, branches_findings, unknown_entries, unknown_tasks, NotCertified, NotAState, TaskUndeclared, TaskUnknown}
 
 -- Lists without an element
@@ -215,7 +215,15 @@ children-none machine declared certificate end n (StateOf settings kind) i e =
     let parts = append-none (found_at n (state_breaches machine declared certificate end n settings kind)) (children_findings kind machine declared certificate n) e in
     child-none machine declared certificate n kind i (has-entry machine declared certificate end n settings kind (found-none n (state_breaches machine declared certificate end n settings kind) parts.0)) parts.1
 
--- no rule is broken in any scope
-pub scopes-none : (machine : Scope) (declared : Declared) (certificate : Certificate) (scope : Scope) (end : Shape) → IsScope certificate machine scope end → scope_findings machine machine declared certificate (Some certificate.output) ≡ [] → scope_findings scope machine declared certificate (Some end) ≡ []
-scopes-none machine declared certificate scope end whole_machine e = e
-scopes-none machine declared certificate scope end (child_of_state {scope = outer} {end = outer_end} n state i inside named) e = children-none machine declared certificate (Some outer_end) n state i (state-none machine declared certificate (Some outer_end) n outer state (scopes-none machine declared certificate outer outer_end inside e) named)
+-- no rule is broken in any scope, with some end
+scopes-none : (machine : Scope) (declared : Declared) (certificate : Certificate) (scope : Scope) → IsScopeOf machine scope → scope_findings machine machine declared certificate (Some certificate.output) ≡ [] → (end : Option Shape) × (scope_findings scope machine declared certificate end ≡ [])
+scopes-none machine declared certificate scope own_scope e = (Some certificate.output, e)
+scopes-none machine declared certificate scope (scope_of_child {scope = outer} n state i inside named) e =
+    let w = scopes-none machine declared certificate outer inside e in
+    (Some (or_never (child_end (kind_of state) (certified certificate n) i)), children-none machine declared certificate w.0 n state i (state-none machine declared certificate w.0 n outer state w.1 named))
+
+-- nor in a child's scope with the end that is certified
+pub below-none : (machine : Scope) (declared : Declared) (certificate : Certificate) (scope : Scope) → IsScopeOf machine scope → (n : List ℕ) (state : State) → state_named n scope ≡ Some state → (i : ℕ) → scope_findings machine machine declared certificate (Some certificate.output) ≡ [] → scope_findings (child_scope (kind_of state) i) machine declared certificate (Some (or_never (child_end (kind_of state) (certified certificate n) i))) ≡ []
+below-none machine declared certificate scope inside n state named i e =
+    let w = scopes-none machine declared certificate scope inside e in
+    children-none machine declared certificate w.0 n state i (state-none machine declared certificate w.0 n scope state w.1 named)

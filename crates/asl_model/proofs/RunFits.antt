@@ -4,10 +4,10 @@ use Rattle.std.proofs.Common.{◌≡◌, refl, sym, ap, ◌∙◌, subst, ℕ, z
 use Rattle.asl_model.specs.Tree.{Tree, Array, Trees, NoTrees, AndTree, count}
 use Rattle.asl_model.specs.Shape.{Shape, Has}
 use Rattle.asl_model.specs.Faults.{Fault}
-use Rattle.asl_model.specs.Machine.{Catcher, Settings, Scope, State, settings_of, kind_of, start_of, state_named, child_scope}
+use Rattle.asl_model.specs.Machine.{Catcher, Settings, Scope, State, settings_of, kind_of, start_of, state_named, child_scope, IsScopeOf, own_scope, scope_of_child}
 use Rattle.asl_model.specs.Flow.{Work, Finishes, Leaves, FailsWith, Asks, Splits, Raises, at_output_path, output_of, first_move}
 use Rattle.asl_model.specs.Run.{Activity, Ready, Waiting, Split, Done, Failed, Activities, NoActivities, AndActivity, Action, Move, Gives, FailsTask, Event, Entry, Entered, TaskFailed, BranchFailed, Step, Trouble, Retries, Catches, Misfits, Escapes, Joining, AllDone, OneFailed, StillRunning, entry_then, caught_input, caught_as, caught_by, catching, takes_error, retrying, unless_retrying, trouble_of, by_trouble, troubled, leaves_for, leaves_with, started, by_work, done_before, running_before, joining, join_error, joins, moves_ready, moves_waiting, moves_split, acts, scope_under, scope_below, child_at, set_child, within, step_at, step, run, start, after_step, entries_of, activity_at}
-use Rattle.asl_model.specs.Certificate.{waiting_name, Declared, Certificate, certified_input, IsScope, whole_machine, child_of_state, EachHas, OutputFits, WorkFits, CaughtFits, CatchersFit, IsClosedAt, IsClosed, AnswerObeys, ActionObeys, TakenObeys, AnswersObey, end_under, end_of_child, end_at, RaisesNothing, IsAsCertified, NoneRaises, EachIsAsCertified, NoTurnRaises, TurnsAreAsCertified, move_at, how_many_children, DataFits, EachDataFits}
+use Rattle.asl_model.specs.Certificate.{waiting_name, Declared, Certificate, certified_input, IsClosedIn, EachHas, OutputFits, WorkFits, CaughtFits, CatchersFit, IsClosedAt, IsClosed, AnswerObeys, ActionObeys, TakenObeys, AnswersObey, end_under, end_of_child, end_at, RaisesNothing, IsAsCertified, NoneRaises, EachIsAsCertified, NoTurnRaises, TurnsAreAsCertified, move_at, how_many_children, DataFits, EachDataFits}
 use Rattle.asl_model.proofs.RunOptions.{some_inj, none_some}
 
 -- children of which one is still running in front aren't all done
@@ -122,24 +122,29 @@ module _ (declared : Declared) (certificate : Certificate) (machine : Scope) (cl
   outputs_fit i (AndActivity (Done output) others) scopes ends outputs e fits = done_fits output (how_many_children others) ends outputs fits.0 (joining (suc i) others) (λ further f. outputs_fit (suc i) others (λ k. scopes (suc k)) (λ k. ends (suc k)) further f fits.1) e
   outputs_fit i (AndActivity (Failed error cause) others) scopes ends outputs e fits = absurd (cc)
 
+  -- a scope of the machine, and the certificate is closed at each of its states, with that end
+  record InScope (scope : Scope) (end : Shape) : Type 0 where
+    is : IsScopeOf machine scope
+    states : IsClosedIn declared certificate end scope
+
   -- one step of an activity itself
-  ready_fits : (scope : Scope) (end : Shape) → IsScope certificate machine scope end → (n : List ℕ) (raw : Tree) (counts : List ℕ) (action : Action) (s : Step) → Has (certified_input certificate n) raw → (found : Option State) → state_named n scope ≡ found → option_and_then (moves_ready n raw counts action) found ≡ Some s → StepFits scope end s
+  ready_fits : (scope : Scope) (end : Shape) → InScope scope end → (n : List ℕ) (raw : Tree) (counts : List ℕ) (action : Action) (s : Step) → Has (certified_input certificate n) raw → (found : Option State) → state_named n scope ≡ found → option_and_then (moves_ready n raw counts action) found ≡ Some s → StepFits scope end s
   ready_fits scope end is_scope n raw counts action s has None e h = none_some h
   ready_fits scope end is_scope n raw counts Move s has (Some state) e h =
-      let at = closed.states scope end is_scope n state e in
+      let at = is_scope.states n state e in
       subst (StepFits scope end) (some_inj h) (entry_fits scope end (Entered n raw) (by_work n state raw counts (first_move state raw)) tt has (work_fits scope end n state raw counts (first_move state raw) e refl has (at.catchers raw has) (at.work raw has)))
   ready_fits scope end is_scope n raw counts (Gives answer) s has (Some state) e h = none_some h
   ready_fits scope end is_scope n raw counts (FailsTask error cause) s has (Some state) e h = none_some h
 
-  waiting_fits : (scope : Scope) (end : Shape) → IsScope certificate machine scope end → (n : List ℕ) (raw : Tree) (counts : List ℕ) (payload : Tree) (action : Action) (s : Step) → ActionObeys declared [] (Waiting n raw counts payload) action → Has (certified_input certificate n) raw → (found : Option State) → state_named n scope ≡ found → option_map (λ state. first_move state raw) found ≡ Some (Asks payload) → option_and_then (moves_waiting n raw counts action) found ≡ Some s → StepFits scope end s
+  waiting_fits : (scope : Scope) (end : Shape) → InScope scope end → (n : List ℕ) (raw : Tree) (counts : List ℕ) (payload : Tree) (action : Action) (s : Step) → ActionObeys declared [] (Waiting n raw counts payload) action → Has (certified_input certificate n) raw → (found : Option State) → state_named n scope ≡ found → option_map (λ state. first_move state raw) found ≡ Some (Asks payload) → option_and_then (moves_waiting n raw counts action) found ≡ Some s → StepFits scope end s
   waiting_fits scope end is_scope n raw counts payload action s obeys has None e asks h = none_some h
   waiting_fits scope end is_scope n raw counts payload Move s obeys has (Some state) e asks h = none_some h
   waiting_fits scope end is_scope n raw counts payload (Gives answer) s obeys has (Some state) e asks h =
-      let at = closed.states scope end is_scope n state e in
+      let at = is_scope.states n state e in
       let fits : WorkFits declared certificate end n state raw (Asks payload) = subst (WorkFits declared certificate end n state raw) (some_inj asks) (at.work raw has) in
       subst (StepFits scope end) (some_inj h) (leaves_with_fits scope end n (settings_of state) raw counts (settings_of state).next (output_of (settings_of state) raw answer) (fits.1 answer obeys))
   waiting_fits scope end is_scope n raw counts payload (FailsTask error cause) s obeys has (Some state) e asks h =
-      let at = closed.states scope end is_scope n state e in
+      let at = is_scope.states n state e in
       subst (StepFits scope end) (some_inj h) (entry_fits scope end (TaskFailed n error cause) (troubled n (settings_of state) raw counts error cause) tt tt (troubled_fits scope end n (settings_of state) raw counts error cause has (at.catchers raw has)))
 
   joins_fits : (scope : Scope) (end : Shape) (n : List ℕ) (state : State) (raw : Tree) (counts : List ℕ) (children : Activities) (inputs : Trees) (s : Step) → IsClosedAt declared certificate end n state → Has (certified_input certificate n) raw → first_move state raw ≡ Splits inputs → how_many_children children ≡ count inputs → EachDataFits declared certificate children (child_scope (kind_of state)) (end_under certificate n (Some state)) → (joined : Joining) → joining 0 children ≡ joined → joins n state raw counts joined ≡ Some s → StepFits scope end s
@@ -151,13 +156,13 @@ module _ (declared : Declared) (certificate : Certificate) (machine : Scope) (cl
       subst (StepFits scope end) (some_inj h) (entry_fits scope end (BranchFailed n i error cause) (troubled n (settings_of state) raw counts (join_error (kind_of state) error) cause) tt tt (troubled_fits scope end n (settings_of state) raw counts (join_error (kind_of state) error) cause has (at.catchers raw has)))
   joins_fits scope end n state raw counts children inputs s at has split one_each children_fit StillRunning e h = none_some h
 
-  split_fits : (scope : Scope) (end : Shape) → IsScope certificate machine scope end → (n : List ℕ) (raw : Tree) (counts : List ℕ) (children : Activities) (action : Action) (s : Step) → Has (certified_input certificate n) raw → (inputs : Trees) → how_many_children children ≡ count inputs → (found : Option State) → state_named n scope ≡ found → option_map (λ state. first_move state raw) found ≡ Some (Splits inputs) → EachDataFits declared certificate children (scope_under found) (end_under certificate n found) → option_and_then (moves_split n raw counts children action) found ≡ Some s → StepFits scope end s
+  split_fits : (scope : Scope) (end : Shape) → InScope scope end → (n : List ℕ) (raw : Tree) (counts : List ℕ) (children : Activities) (action : Action) (s : Step) → Has (certified_input certificate n) raw → (inputs : Trees) → how_many_children children ≡ count inputs → (found : Option State) → state_named n scope ≡ found → option_map (λ state. first_move state raw) found ≡ Some (Splits inputs) → EachDataFits declared certificate children (scope_under found) (end_under certificate n found) → option_and_then (moves_split n raw counts children action) found ≡ Some s → StepFits scope end s
   split_fits scope end is_scope n raw counts children action s has inputs one_each None e splits children_fit h = none_some h
-  split_fits scope end is_scope n raw counts children Move s has inputs one_each (Some state) e splits children_fit h = joins_fits scope end n state raw counts children inputs s (closed.states scope end is_scope n state e) has (some_inj splits) one_each children_fit (joining 0 children) refl h
+  split_fits scope end is_scope n raw counts children Move s has inputs one_each (Some state) e splits children_fit h = joins_fits scope end n state raw counts children inputs s (is_scope.states n state e) has (some_inj splits) one_each children_fit (joining 0 children) refl h
   split_fits scope end is_scope n raw counts children (Gives answer) s has inputs one_each (Some state) e splits children_fit h = none_some h
   split_fits scope end is_scope n raw counts children (FailsTask error cause) s has inputs one_each (Some state) e splits children_fit h = none_some h
 
-  acts_fits : (scope : Scope) (end : Shape) → IsScope certificate machine scope end → (a : Activity) (action : Action) (s : Step) → DataFits declared certificate a scope end → ActionObeys declared [] a action → acts scope a action ≡ Some s → StepFits scope end s
+  acts_fits : (scope : Scope) (end : Shape) → InScope scope end → (a : Activity) (action : Action) (s : Step) → DataFits declared certificate a scope end → ActionObeys declared [] a action → acts scope a action ≡ Some s → StepFits scope end s
   acts_fits scope end is_scope (Ready n raw counts) action s fits obeys h = ready_fits scope end is_scope n raw counts action s fits (state_named n scope) refl h
   acts_fits scope end is_scope (Waiting n raw counts payload) action s fits obeys h = waiting_fits scope end is_scope n raw counts payload action s obeys fits.0 (state_named n scope) refl fits.2 h
   acts_fits scope end is_scope (Split n raw counts children) action s fits obeys h = split_fits scope end is_scope n raw counts children action s fits.0 fits.1.inputs fits.1.one_each (state_named n scope) refl fits.1.split fits.2 h
@@ -194,9 +199,9 @@ module _ (declared : Declared) (certificate : Certificate) (machine : Scope) (cl
   obeys_below i p n raw counts children child (FailsTask error cause) e obeys = tt
 
   -- the scope of a Split's child is a scope of the machine
-  child_is_scope : (scope : Scope) (end : Shape) → IsScope certificate machine scope end → (n : List ℕ) (raw : Tree) (work : Work) (i : ℕ) (found : Option State) → state_named n scope ≡ found → option_map (λ state. first_move state raw) found ≡ Some work → IsScope certificate machine (scope_under found i) (end_under certificate n found i)
+  child_is_scope : (scope : Scope) (end : Shape) → InScope scope end → (n : List ℕ) (raw : Tree) (work : Work) (i : ℕ) (found : Option State) → state_named n scope ≡ found → option_map (λ state. first_move state raw) found ≡ Some work → InScope (scope_under found i) (end_under certificate n found i)
   child_is_scope scope end is_scope n raw work i None e h = none_some h
-  child_is_scope scope end is_scope n raw work i (Some state) e h = child_of_state n state i is_scope e
+  child_is_scope scope end is_scope n raw work i (Some state) e h = record { is = scope_of_child n state i is_scope.is e; states = closed.children scope is_scope.is n state e i }
 
   -- a step of a child, as one of the whole
   within_fits : (scope : Scope) (end : Shape) (n : List ℕ) (raw : Tree) (counts : List ℕ) (children : Activities) (i : ℕ) (placed_end : Shape) (s inner : Step) → DataFits declared certificate (Split n raw counts children) scope end → MoveFits (scope_below scope n i) (end_under certificate n (state_named n scope) i) placed_end inner → within n raw counts children i inner ≡ s → MoveFits scope end placed_end s
@@ -207,7 +212,7 @@ module _ (declared : Declared) (certificate : Certificate) (machine : Scope) (cl
   })
 
   -- one step at any place
-  step_fits : (p : List ℕ) (scope : Scope) (end : Shape) → IsScope certificate machine scope end → (a : Activity) (action : Action) (s : Step) → DataFits declared certificate a scope end → ActionObeys declared p a action → step_at p scope a action ≡ Some s → MoveFits scope end (end_at certificate p scope end a) s
+  step_fits : (p : List ℕ) (scope : Scope) (end : Shape) → InScope scope end → (a : Activity) (action : Action) (s : Step) → DataFits declared certificate a scope end → ActionObeys declared p a action → step_at p scope a action ≡ Some s → MoveFits scope end (end_at certificate p scope end a) s
   step_fits [] scope end is_scope a action s fits obeys h = let done = acts_fits scope end is_scope a action s fits obeys h in record { quiet = done.quiet; entries = done.entries; after = done.after }
   step_fits (i ∷ p) scope end is_scope (Ready n raw counts) action s fits obeys h = none_some h
   step_fits (i ∷ p) scope end is_scope (Waiting n raw counts payload) action s fits obeys h = none_some h
@@ -234,7 +239,7 @@ module _ (declared : Declared) (certificate : Certificate) (machine : Scope) (cl
   -- an event leaves the data of the machine's activity as certified
   pub event_fits : (a : Activity) (event : Event) → DataFits declared certificate a machine certificate.output → (taken : Option Step) → step machine a event ≡ taken → TakenObeys declared event.place a event.action taken → NoneRaises (entries_of taken) × EachIsAsCertified declared certificate (end_at certificate event.place machine certificate.output a) (entries_of taken) × DataFits declared certificate (after_step a taken) machine certificate.output
   event_fits a event fits None e obeys = (tt, tt, fits)
-  event_fits a event fits (Some s) e obeys = let moved = step_fits event.place machine certificate.output whole_machine a event.action s fits obeys e in (moved.quiet, moved.entries, moved.after)
+  event_fits a event fits (Some s) e obeys = let moved = step_fits event.place machine certificate.output (record { is = own_scope; states = closed.own }) a event.action s fits obeys e in (moved.quiet, moved.entries, moved.after)
 
   -- all turns from an activity on
   pub turns_fit : (a : Activity) (events : List Event) → DataFits declared certificate a machine certificate.output → AnswersObey declared (run machine a events) → NoTurnRaises (run machine a events) × TurnsAreAsCertified declared certificate machine (run machine a events)

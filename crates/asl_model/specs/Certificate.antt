@@ -9,7 +9,7 @@ use Rattle.asl_model.specs.Shape.{Shape, Any, Never, Has, Inside}
 use Rattle.asl_model.specs.Faults.{Fault}
 use Rattle.asl_model.specs.Machine.{Catcher, Scope, State, Kind, Pass, Task, Choice, Wait, Succeed}
 use Rattle.asl_model.specs.Machine.{Fail, Parallel, Map, settings_of, kind_of, start_of, state_named}
-use Rattle.asl_model.specs.Machine.{child_scope, how_many, names_state, names_task}
+use Rattle.asl_model.specs.Machine.{child_scope, how_many, names_state, names_task, IsScopeOf}
 use Rattle.asl_model.specs.Flow.{Work, Finishes, Leaves, FailsWith, Asks, Splits}
 use Rattle.asl_model.specs.Flow.{Raises, at_output_path, output_of, first_move}
 use Rattle.asl_model.specs.Run.{Activity, Activities, NoActivities, AndActivity, Ready, Waiting, Split, Done}
@@ -148,15 +148,6 @@ pub record HasEntry (certificate : Certificate) (n : StateName) (kind : Kind) : 
   pub branches : length shapes.branches ≡ branches_in kind
   pub item : is_some shapes.item ≡ is_map kind
 
--- The scopes of a machine, each with the shape certified for its end: the machine itself with the certificate's
--- output; a child's scope of a state in one of them with what the state's entry says.
-pub data IsScope (certificate : Certificate) (machine : Scope) : Scope → Shape → Type 0 where
-  whole_machine : IsScope certificate machine machine certificate.output
-  child_of_state : {scope : Scope} {end : Shape} (n : StateName) (state : State) (i : ℕ)
-      → IsScope certificate machine scope end → state_named n scope ≡ Some state
-      → IsScope certificate machine (child_scope (kind_of state) i)
-      (or_never (child_end (kind_of state) (certified certificate n) i))
-
 -- each of the trees has the shape that its number gives
 abbrev pub EachHas : (ℕ → Shape) → Trees → Type 0
 EachHas shapes NoTrees = Unit {0}
@@ -209,14 +200,23 @@ pub record IsClosedAt (declared : Declared) (certificate : Certificate) (end : S
   pub catchers : (v : Tree) → Has (certified_input certificate n) v
       → CatchersFit certificate v (settings_of state).catchers
 
+-- so at each state of a scope with that end
+abbrev pub IsClosedIn : Declared → Certificate → Shape → Scope → Type 0
+IsClosedIn declared certificate end scope = (n : StateName) (state : State) → state_named n scope ≡ Some state
+    → IsClosedAt declared certificate end n state
+
 -- The certificate is closed: its entries are those of the machine's states, the declared tasks are its Tasks, the
--- declared input is inside what is certified for the start state, and it is closed at each state of each scope.
+-- declared input is inside what is certified for the start state, and it is closed at each state of each scope. The
+-- machine's own scope has the certificate's output as its end; a child's scope has what its state's entry says.
 pub record IsClosed (declared : Declared) (certificate : Certificate) (machine : Scope) : Type 0 where
   pub no_other_entry : (n : StateName) → IsTrue (is_some (certified certificate n)) → IsTrue (names_state machine n)
   pub tasks : (n : StateName) → IsTrue (is_some (under n declared.tasks)) ↔ IsTrue (names_task machine n)
   pub start : Inside declared.input (certified_input certificate (start_of machine))
-  pub states : (scope : Scope) (end : Shape) → IsScope certificate machine scope end → (n : StateName) (state : State)
-      → state_named n scope ≡ Some state → IsClosedAt declared certificate end n state
+  pub own : IsClosedIn declared certificate certificate.output machine
+  pub children : (scope : Scope) → IsScopeOf machine scope → (n : StateName) (state : State)
+      → state_named n scope ≡ Some state → (i : ℕ)
+      → IsClosedIn declared certificate (or_never (child_end (kind_of state) (certified certificate n) i))
+      (child_scope (kind_of state) i)
 
 -- the name of the state that waits in the activity itself
 abbrev pub waiting_name : Activity → Option StateName
