@@ -41,7 +41,8 @@ pub data IsBranch (branch : Scope) : ℕ → Scopes → Type 0 where
       → IsBranch branch (suc i) (AndScope other others)
 
 -- The scopes of a machine, each with what is certified of its end: the machine itself with the certificate's output, a
--- branch and a processor with what the entry of their state says, if it says something.
+-- branch and a processor with what the entry of their state says, if it says something. Where a name stands twice in a
+-- scope, each of the two states counts here; a run looks a state up by its name and finds the first (`IsScopeOf`).
 pub data HasScope (machine : Scope) (certificate : Certificate) : Scope → Option Shape → Type 0 where
   has_itself : HasScope machine certificate machine (Some certificate.output)
   has_branch : {scope branch : Scope} {end : Option Shape} {n : StateName} {settings : Settings} {branches : Scopes}

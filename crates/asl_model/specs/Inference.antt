@@ -1,7 +1,8 @@
 -- What an inferrer of certificates stands on (the profile's own): the faults that are no certificate's, the widest
 -- certificate of a machine, and rules that are broken whatever is certified elsewhere.
-use Rattle.std.specs.Prelude.{◌≡◌, ℕ, List, Bool, true, false, IsTrue, Option, Some, None}
+use Rattle.std.specs.Prelude.{◌≡◌, ℕ, Bool, true, false, IsTrue, Option, Some, None}
 use Rattle.std.specs.Prelude.{is_some, if◌then◌else◌, replicate, slice_get, Contains}
+use Rattle.asl_model.specs.Names.{StateName}
 use Rattle.asl_model.specs.Machine.{Scope, State, Kind, settings_of, kind_of}
 use Rattle.asl_model.specs.Shape.{Shape, Any}
 use Rattle.asl_model.specs.Certificate.{Declared, StateShapes, Certificate, certified, branches_in, is_map}
@@ -47,21 +48,21 @@ widest_entry kind =
 -- the widest certificate of a machine with that table: the widest entry of each of its states, and no other entry
 pub record IsWidest (table : Table) (certificate : Certificate) : Type 0 where
   pub output : certificate.output ≡ Any
-  pub entries : (i : ℕ) (n : List ℕ) (state : State) → slice_get table.names i ≡ Some n
+  pub entries : (i : ℕ) (n : StateName) (state : State) → slice_get table.names i ≡ Some n
       → slice_get table.states i ≡ Some state → certified certificate n ≡ Some (widest_entry (kind_of state))
-  pub no_other_entry : (n : List ℕ) → IsTrue (is_some (certified certificate n))
+  pub no_other_entry : (n : StateName) → IsTrue (is_some (certified certificate n))
       → (i : ℕ) × (slice_get table.names i ≡ Some n)
 
 -- ---- broken rules
 
 -- a broken rule of the state of that name, as a finding
-abbrev pub finding_of : List ℕ → Breach → Finding
+abbrev pub finding_of : StateName → Breach → Finding
 finding_of n breach = record { state = n; field = breach.field; fault = breach.fault }
 
 -- the rule is broken in a state of that name with that entry, whatever is certified of the states that follow, of its
 -- children's start states and of its scope's end
-abbrev pub IsBrokenAnyway : Declared → List ℕ → State → StateShapes → Breach → Type 0
-IsBrokenAnyway declared n state entry breach = (inputs : List ℕ → Option Shape) (end : Option Shape)
+abbrev pub IsBrokenAnyway : Declared → StateName → State → StateShapes → Breach → Type 0
+IsBrokenAnyway declared n state entry breach = (inputs : StateName → Option Shape) (end : Option Shape)
     → Contains (flow_breaches (surrounded_by declared inputs end n entry) (settings_of state) (kind_of state)) breach
 
 -- the finding stands for some certificate

@@ -6,6 +6,7 @@ use Rattle.std.specs.Prelude.{◌≡◌, IsFalse, ◌||◌, ℕ, zero, suc, ◌+
 use Rattle.std.specs.Prelude.{[], ◌∷◌, ◌++◌, drop, Bool, true, false, ◌&&◌, nat_eq, nat_lt}
 use Rattle.std.specs.Prelude.{if◌then◌else◌, Option, Some, None, option_and_then, codes}
 use Rattle.std.specs.Option.{option_map}
+use Rattle.asl_model.specs.Names.{Bytes}
 use Rattle.asl_model.specs.Tree.{Tree, Null, Boolean, Integer, Text, Array, Object, Trees, NoTrees, AndTree, count}
 use Rattle.asl_model.specs.Path.{Segment, named_by}
 
@@ -26,8 +27,8 @@ pub data Function : Type 0 where
 
 -- a text with holes `{}`: what stands in front of the first, and what stands behind each up to the next
 pub record Pieces : Type 0 where
-  pub first : List ℕ
-  pub after_holes : List (List ℕ)
+  pub first : Bytes
+  pub after_holes : List Bytes
 
 mutual
   -- a call: its function and its arguments
@@ -61,23 +62,23 @@ referred ItemIndex input item = option_map (λ i. Integer i.number) item
 referred (InItem p) input item = option_and_then (λ i. named_by p i.value) item
 
 -- the digits of n in front of the text; n has at most that many
-abbrev pub digits_before : ℕ → ℕ → List ℕ → List ℕ
+abbrev pub digits_before : ℕ → ℕ → Bytes → Bytes
 digits_before zero n text = text
 digits_before (suc most) n text =
     elim (nat_lt n 10) [ true ↦ (48 + n) ∷ text | false ↦ digits_before most (n / 10) ((48 + n % 10) ∷ text) ]
 
 -- a whole number in decimal
-abbrev pub decimal_text : ℤ → List ℕ
+abbrev pub decimal_text : ℤ → Bytes
 decimal_text (pos n) = digits_before (suc n) n []
 decimal_text (negsuc n) = 45 ∷ digits_before (suc (suc n)) (suc n) []
 
 -- a truth value as a word
-abbrev pub truth_text : Bool → List ℕ
+abbrev pub truth_text : Bool → Bytes
 truth_text true = codes "true"
 truth_text false = codes "false"
 
 -- what `States.Format` writes for a value in place of a hole
-abbrev pub format_text : Tree → Option (List ℕ)
+abbrev pub format_text : Tree → Option Bytes
 format_text Null = Some (codes "null")
 format_text (Boolean b) = Some (truth_text b)
 format_text (Integer n) = Some (decimal_text n)
@@ -86,12 +87,12 @@ format_text (Array ts) = None
 format_text (Object fs) = None
 
 -- the text: its pieces with `{}` between them
-abbrev pub joined_by_holes : List ℕ → List (List ℕ) → List ℕ
+abbrev pub joined_by_holes : Bytes → List Bytes → Bytes
 joined_by_holes first [] = first
 joined_by_holes first (piece ∷ pieces) = first ++ (codes "{}" ++ joined_by_holes piece pieces)
 
 -- the text begins with that byte
-abbrev pub begins_with : ℕ → List ℕ → Bool
+abbrev pub begins_with : ℕ → Bytes → Bool
 begins_with b [] = false
 begins_with b (c ∷ cs) = nat_eq b c
 
@@ -102,28 +103,28 @@ byte_before b pieces = if nat_eq b 123 && begins_with 125 pieces.first
     else record { first = b ∷ pieces.first; after_holes = pieces.after_holes }
 
 -- a text cut at each `{}` in it
-abbrev pub cut_at_holes : List ℕ → Pieces
+abbrev pub cut_at_holes : Bytes → Pieces
 cut_at_holes [] = record { first = []; after_holes = [] }
 cut_at_holes (b ∷ bs) = byte_before b (cut_at_holes bs)
 
 -- a text has `{` directly in front of `}` somewhere
-abbrev pub has_hole : List ℕ → Bool
+abbrev pub has_hole : Bytes → Bool
 has_hole [] = false
 has_hole (b ∷ bs) = (nat_eq b 123 && begins_with 125 bs) || has_hole bs
 
 -- none of the texts has a hole
-abbrev pub NoneHasHole : List (List ℕ) → Type 0
+abbrev pub NoneHasHole : List Bytes → Type 0
 NoneHasHole [] = Unit {0}
 NoneHasHole (piece ∷ pieces) = IsFalse (has_hole piece) × NoneHasHole pieces
 
 -- the pieces are those of the text: joined by `{}` they give it, and none of them has a hole in it
-pub record ArePiecesOf (text : List ℕ) (pieces : Pieces) : Type 0 where
+pub record ArePiecesOf (text : Bytes) (pieces : Pieces) : Type 0 where
   pub whole : joined_by_holes pieces.first pieces.after_holes ≡ text
   pub first_is_whole : IsFalse (has_hole pieces.first)
   pub others_are_whole : NoneHasHole pieces.after_holes
 
 -- piece 0, the word of value 1, piece 1, and so on; there is one value a hole
-abbrev pub holes_filled : List ℕ → List (List ℕ) → Trees → Option (List ℕ)
+abbrev pub holes_filled : Bytes → List Bytes → Trees → Option Bytes
 holes_filled first [] NoTrees = Some first
 holes_filled first [] (AndTree t ts) = None
 holes_filled first (piece ∷ pieces) NoTrees = None

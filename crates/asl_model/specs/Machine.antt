@@ -184,7 +184,7 @@ how_many (AndScope scope others) = suc (how_many others)
 
 -- ---- where the names in a machine lead
 
--- the scopes of a machine: its own, and those of the states in its scopes
+-- the scopes of a machine: its own, and those of the states that are found by name in its scopes
 pub data IsScopeOf (machine : Scope) : Scope → Type 0 where
   own_scope : IsScopeOf machine machine
   scope_of_child : {scope : Scope} (n : StateName) (state : State) (i : ℕ) → IsScopeOf machine scope

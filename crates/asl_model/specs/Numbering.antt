@@ -4,6 +4,7 @@
 use Rattle.std.specs.Prelude.{ℕ, suc, List, [], ◌∷◌, ◌++◌, map, IsTrue, Option}
 use Rattle.std.specs.Prelude.{Some, None, option_map, position, bytes_eq}
 use Rattle.std.specs.Option.{unwrap_or}
+use Rattle.asl_model.specs.Names.{StateName}
 pub use Rattle.asl_model.specs.Machine.{IsScopeOf, own_scope, scope_of_child, HasNamed, targets_by, targets_of}
 use Rattle.asl_model.specs.Machine.{Scope, ScopeOf, States, NoStates, AndState, State, StateOf}
 use Rattle.asl_model.specs.Machine.{Kind, Pass, Task, Choice, Wait, Succeed, Fail, Parallel, Map}
@@ -13,32 +14,32 @@ use Rattle.asl_model.specs.StandsFor.{all_names}
 
 -- a state where it stands
 pub record Standing : Type 0 where
-  pub name : List ℕ
+  pub name : StateName
   pub state : State
   -- the name of its scope's start state
-  pub start : List ℕ
+  pub start : StateName
   -- the name of the state that its scope belongs to and the number of the branch, counted from 0 (0 for a Map's
   -- processor); None: the machine's own scope
-  pub owner : Option (List ℕ × ℕ)
+  pub owner : Option (StateName × ℕ)
 
 abbrev mutual
   -- the states of a scope, those of nested scopes included
-  pub standing_in : Option (List ℕ × ℕ) → Scope → List Standing
+  pub standing_in : Option (StateName × ℕ) → Scope → List Standing
   standing_in owner (ScopeOf start held) = standing_among start owner held
 
   -- so for the states of a scope with that start
-  pub standing_among : List ℕ → Option (List ℕ × ℕ) → States → List Standing
+  pub standing_among : StateName → Option (StateName × ℕ) → States → List Standing
   standing_among start owner NoStates = []
   standing_among start owner (AndState n state others) =
       record { name = n; state = state; start = start; owner = owner }
       ∷ (standing_inside n state ++ standing_among start owner others)
 
   -- in the scopes of the state of that name
-  pub standing_inside : List ℕ → State → List Standing
+  pub standing_inside : StateName → State → List Standing
   standing_inside n (StateOf settings kind) = standing_by n kind
 
   -- so by its type
-  pub standing_by : List ℕ → Kind → List Standing
+  pub standing_by : StateName → Kind → List Standing
   standing_by n (Pass result) = []
   standing_by n (Task resource) = []
   standing_by n (Choice rules default) = []
@@ -49,7 +50,7 @@ abbrev mutual
   standing_by n (Map items selector processor) = standing_in (Some (n, 0)) processor
 
   -- in the branches, which are numbered from i on
-  pub standing_each : List ℕ → ℕ → Scopes → List Standing
+  pub standing_each : StateName → ℕ → Scopes → List Standing
   standing_each n i NoScopes = []
   standing_each n i (AndScope scope others) = standing_in (Some (n, i)) scope ++ standing_each n (suc i) others
 
@@ -58,7 +59,7 @@ abbrev pub standing : Scope → List Standing
 standing machine = standing_in None machine
 
 -- the number of the state of that name
-abbrev pub state_number : List Standing → List ℕ → Option ℕ
+abbrev pub state_number : List Standing → StateName → Option ℕ
 state_number states n = position (bytes_eq n) (map (λ s. s.name) states)
 
 -- a scope without its states: its start alone
@@ -96,7 +97,7 @@ pub record Placement : Type 0 where
   pub owner : Option (ℕ × ℕ)
 
 -- the number of the state of that name; 0 where there is none, which no machine that stands for a definition asks for
-abbrev pub number_or_0 : List Standing → List ℕ → ℕ
+abbrev pub number_or_0 : List Standing → StateName → ℕ
 number_or_0 states n = unwrap_or (state_number states n) 0
 
 -- where a state among those stands, by their numbers
@@ -106,7 +107,7 @@ placement_of states s =
 
 -- A machine as one table of its states: by number the name of each, the state itself, and where it stands.
 pub record Table : Type 0 where
-  pub names : List (List ℕ)
+  pub names : List StateName
   pub states : List State
   pub placements : List Placement
 

@@ -1,6 +1,7 @@
 -- Shapes, and which trees have them (a subset of JSON Schema 2020-12, Core and Validation).
-use Rattle.std.specs.Prelude.{◌≡◌, ℕ, ℤ, List, Bool, true, false, ◌&&◌, ◌||◌, not, IsTrue}
+use Rattle.std.specs.Prelude.{◌≡◌, ℤ, Bool, true, false, ◌&&◌, ◌||◌, not, IsTrue}
 use Rattle.std.specs.Prelude.{IsUtf8, Option, Some, None, bytes_eq, if◌then◌else◌}
+use Rattle.asl_model.specs.Names.{FieldName, Bytes}
 use Rattle.asl_model.specs.Tree.{Tree, Null, Boolean, Integer, Text, Array, Object, Trees, NoTrees}
 use Rattle.asl_model.specs.Tree.{AndTree, Fields, NoFields, AndField, field_named, comes_before}
 
@@ -26,7 +27,7 @@ mutual
   -- each mentioned field: its name, whether it is needed, its shape
   pub data FieldShapes : Type 0 where
     NoFieldShapes : FieldShapes
-    AndFieldShape : List ℕ → Bool → Shape → FieldShapes → FieldShapes
+    AndFieldShape : FieldName → Bool → Shape → FieldShapes → FieldShapes
 
 -- the tree is an array whose elements pass the test
 abbrev pub array_where : (Trees → Bool) → Tree → Bool
@@ -88,7 +89,7 @@ each_element test NoTrees = true
 each_element test (AndTree t ts) = test t && each_element test ts
 
 -- some mention of a field has that name
-abbrev pub mentions : List ℕ → FieldShapes → Bool
+abbrev pub mentions : FieldName → FieldShapes → Bool
 mentions n NoFieldShapes = false
 mentions n (AndFieldShape m needed s shapes) = bytes_eq m n || mentions n shapes
 
@@ -135,16 +136,16 @@ abbrev pub Inside : Shape → Shape → Type 0
 Inside a b = (t : Tree) → Has a t → Has b t
 
 -- the name is that of a mentioned field
-pub data IsMentioned : List ℕ → FieldShapes → Type 0 where
-  mentioned_first : {n : List ℕ} {needed : Bool} {s : Shape} {shapes : FieldShapes}
+pub data IsMentioned : FieldName → FieldShapes → Type 0 where
+  mentioned_first : {n : FieldName} {needed : Bool} {s : Shape} {shapes : FieldShapes}
       → IsMentioned n (AndFieldShape n needed s shapes)
-  mentioned_later : {n m : List ℕ} {needed : Bool} {s : Shape} {shapes : FieldShapes} → IsMentioned n shapes
+  mentioned_later : {n m : FieldName} {needed : Bool} {s : Shape} {shapes : FieldShapes} → IsMentioned n shapes
       → IsMentioned n (AndFieldShape m needed s shapes)
 
 -- the name of each field is mentioned
 pub data AreMentioned : Fields → FieldShapes → Type 0 where
   none_to_mention : {shapes : FieldShapes} → AreMentioned NoFields shapes
-  and_mentioned : {n : List ℕ} {t : Tree} {fs : Fields} {shapes : FieldShapes} → IsMentioned n shapes
+  and_mentioned : {n : FieldName} {t : Tree} {fs : Fields} {shapes : FieldShapes} → IsMentioned n shapes
       → AreMentioned fs shapes → AreMentioned (AndField n t fs) shapes
 
 mutual
@@ -156,7 +157,7 @@ mutual
     null_is_valid : IsValid NullShape Null
     boolean_is_valid : {b : Bool} → IsValid BooleanShape (Boolean b)
     integer_is_valid : {n : ℤ} → IsValid IntegerShape (Integer n)
-    string_is_valid : {s : List ℕ} → IsValid StringShape (Text s)
+    string_is_valid : {s : Bytes} → IsValid StringShape (Text s)
     array_is_valid : {first : Shapes} {rest : Shape} {ts : Trees} → HasValidElements first rest ts
         → IsValid (ArrayShape first rest) (Array ts)
     open_object_is_valid : {shapes : FieldShapes} {fs : Fields} → HasValidFields shapes fs
@@ -175,19 +176,19 @@ mutual
   -- each mentioned field is valid against its shape where it is there; one that isn't there isn't needed
   pub data HasValidFields : FieldShapes → Fields → Type 0 where
     no_field_mentioned : {fs : Fields} → HasValidFields NoFieldShapes fs
-    present_field_is_valid : {n : List ℕ} {needed : Bool} {s : Shape} {shapes : FieldShapes} {fs : Fields} {t : Tree}
+    present_field_is_valid : {n : FieldName} {needed : Bool} {s : Shape} {shapes : FieldShapes} {fs : Fields} {t : Tree}
         → field_named n fs ≡ Some t → IsValid s t → HasValidFields shapes fs
         → HasValidFields (AndFieldShape n needed s shapes) fs
-    absent_field_is_valid : {n : List ℕ} {s : Shape} {shapes : FieldShapes} {fs : Fields} → field_named n fs ≡ None
+    absent_field_is_valid : {n : FieldName} {s : Shape} {shapes : FieldShapes} {fs : Fields} → field_named n fs ≡ None
         → HasValidFields shapes fs → HasValidFields (AndFieldShape n false s shapes) fs
 
 -- the name comes before that of the first mention
-abbrev pub before_mentions : List ℕ → FieldShapes → Bool
+abbrev pub before_mentions : FieldName → FieldShapes → Bool
 before_mentions n NoFieldShapes = true
 before_mentions n (AndFieldShape m needed s shapes) = comes_before n m
 
 -- the mentions with one more, in front of the first whose name comes behind
-abbrev pub insert_mention : List ℕ → Bool → Shape → FieldShapes → FieldShapes
+abbrev pub insert_mention : FieldName → Bool → Shape → FieldShapes → FieldShapes
 insert_mention n needed s NoFieldShapes = AndFieldShape n needed s NoFieldShapes
 insert_mention n needed s (AndFieldShape m other t shapes) =
     if comes_before n m then AndFieldShape n needed s (AndFieldShape m other t shapes)

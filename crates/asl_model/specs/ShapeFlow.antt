@@ -4,6 +4,7 @@
 -- Never.
 use Rattle.std.specs.Prelude.{ℕ, zero, suc, ◌==◌, List, [], ◌∷◌, ◌++◌, length, map, Bool, true, false, ◌&&◌}
 use Rattle.std.specs.Prelude.{◌||◌, not, Option, Some, None, Result, Ok, Err, codes, if◌then◌else◌}
+use Rattle.asl_model.specs.Names.{FieldName}
 use Rattle.asl_model.specs.Tree.{Tree, Null, Boolean, Integer, Text, Array, Object, Trees}
 use Rattle.asl_model.specs.Tree.{NoTrees, AndTree, Fields, NoFields, AndField}
 use Rattle.asl_model.specs.Path.{Segment, Name, Index}
@@ -70,7 +71,7 @@ look path s = if inhabited s then look_at path s else Ok Never
 -- Placing
 
 -- the shape of an object with one field, or the refusal
-abbrev pub around : List ℕ → Result Shape ℕ → Result Shape ℕ
+abbrev pub around : FieldName → Result Shape ℕ → Result Shape ℕ
 around n (Ok s) = Ok (ObjectShape (AndFieldShape n true s NoFieldShapes) false)
 around n (Err at) = Err (suc at)
 
@@ -98,7 +99,7 @@ array_with i first rest (Ok w) = Ok (ArrayShape (set_place i w first) rest)
 array_with i first rest (Err at) = Err (suc at)
 
 -- the object shape with that field needed, or the refusal
-abbrev pub object_with : List ℕ → FieldShapes → Bool → Result Shape ℕ → Result Shape ℕ
+abbrev pub object_with : FieldName → FieldShapes → Bool → Result Shape ℕ → Result Shape ℕ
 object_with n shapes extra (Ok w) = Ok (ObjectShape (set_mention n true w shapes) extra)
 object_with n shapes extra (Err at) = Err (suc at)
 
@@ -281,7 +282,7 @@ abbrev mutual
       and_argument (argument_shape argument input item) (argument_shapes others input item)
 
 -- a doubt, with the name of the nearest object field
-abbrev pub doubts_at : List ℕ → Result Shape Doubt → List (List ℕ × Doubt)
+abbrev pub doubts_at : FieldName → Result Shape Doubt → List (FieldName × Doubt)
 doubts_at field (Ok s) = []
 doubts_at field (Err doubt) = (field, doubt) ∷ []
 
@@ -297,7 +298,7 @@ or_none (Err doubt) = Never
 
 abbrev mutual
   -- every doubt of a template, in order, each with the name of the nearest object field
-  pub doubts : Template → List ℕ → Shape → Option Shape → List (List ℕ × Doubt)
+  pub doubts : Template → FieldName → Shape → Option Shape → List (FieldName × Doubt)
   doubts (Literal t) field input item = []
   doubts (FromPath reference) field input item = doubts_at field (reference_shape reference input item)
   doubts (FromCall call) field input item = doubts_at field (or_may_fail (call_shape call input item))
@@ -305,13 +306,13 @@ abbrev mutual
   doubts (ObjectTemplate fields) field input item = field_doubts fields input item
 
   -- those of the elements, in order
-  pub element_doubts : Templates → List ℕ → Shape → Option Shape → List (List ℕ × Doubt)
+  pub element_doubts : Templates → FieldName → Shape → Option Shape → List (FieldName × Doubt)
   element_doubts NoTemplates field input item = []
   element_doubts (AndTemplate template others) field input item =
       doubts template field input item ++ element_doubts others field input item
 
   -- those of the fields, each under its own name
-  pub field_doubts : FieldTemplates → Shape → Option Shape → List (List ℕ × Doubt)
+  pub field_doubts : FieldTemplates → Shape → Option Shape → List (FieldName × Doubt)
   field_doubts NoFieldTemplates input item = []
   field_doubts (AndFieldTemplate n template others) input item =
       doubts template n input item ++ field_doubts others input item
@@ -338,12 +339,12 @@ abbrev mutual
       set_mention n true (filled_shape template input item) (filled_fields others input item)
 
 -- the shape, or the doubts where there are some
-abbrev pub unless_doubts : List (List ℕ × Doubt) → Shape → Result Shape (List (List ℕ × Doubt))
+abbrev pub unless_doubts : List (FieldName × Doubt) → Shape → Result Shape (List (FieldName × Doubt))
 unless_doubts [] s = Ok s
 unless_doubts (doubt ∷ others) s = Err (doubt ∷ others)
 
 -- the shape of the values that a template has for the trees of a shape and the items of another, or all its doubts
-abbrev pub template_shape : Template → Shape → Option Shape → Result Shape (List (List ℕ × Doubt))
+abbrev pub template_shape : Template → Shape → Option Shape → Result Shape (List (FieldName × Doubt))
 template_shape template input item =
     if inhabited input then unless_doubts (doubts template [] input item) (filled_shape template input item)
     else Ok Never
@@ -351,7 +352,7 @@ template_shape template input item =
 -- Rules
 
 -- the field's mention, needed and narrowed; one that isn't mentioned is needed where the object may have it
-abbrev pub narrow_mention : (Shape → Shape) → List ℕ → FieldShapes → Bool → Option (Bool × Shape) → Shape
+abbrev pub narrow_mention : (Shape → Shape) → FieldName → FieldShapes → Bool → Option (Bool × Shape) → Shape
 narrow_mention go_on n shapes extra None = if extra then ObjectShape (set_mention n true Any shapes) true else Never
 narrow_mention go_on n shapes extra (Some mention) = ObjectShape (set_mention n true (go_on mention.1) shapes) extra
 
@@ -437,9 +438,9 @@ rule_shape test s = where_inhabited (true_of test) s
 
 -- why a state's output may not come about, each with the field of the state
 pub data FlowFault : Type 0 where
-  MissingAt : List ℕ → FlowFault
-  FailsAt : List ℕ → FlowFault
-  MisfitAt : List ℕ → FlowFault
+  MissingAt : FieldName → FlowFault
+  FailsAt : FieldName → FlowFault
+  MisfitAt : FieldName → FlowFault
 
 -- a shape on its way through a state, or the faults that may stop it
 abbrev pub Flow : Type 0
@@ -451,26 +452,26 @@ flow_then go_on (Ok s) = go_on s
 flow_then go_on (Err faults) = Err faults
 
 -- a template's doubt as a fault at its field
-abbrev pub doubt_fault : List ℕ → Doubt → FlowFault
+abbrev pub doubt_fault : FieldName → Doubt → FlowFault
 doubt_fault field MayBeMissing = MissingAt field
 doubt_fault field MayFail = FailsAt field
 
 -- all of a template's doubts as faults at its field
-abbrev pub faults_of : List ℕ → List (List ℕ × Doubt) → List FlowFault
+abbrev pub faults_of : FieldName → List (FieldName × Doubt) → List FlowFault
 faults_of field found = map (λ d. doubt_fault field d.1) found
 
 -- the template's shape, or its doubts as faults at that field
-abbrev pub template_flow : List ℕ → Result Shape (List (List ℕ × Doubt)) → Flow
+abbrev pub template_flow : FieldName → Result Shape (List (FieldName × Doubt)) → Flow
 template_flow field (Ok s) = Ok s
 template_flow field (Err found) = Err (faults_of field found)
 
 -- a template that may not be given: without it the shape goes through
-abbrev pub through_template : List ℕ → Option Template → Shape → Flow
+abbrev pub through_template : FieldName → Option Template → Shape → Flow
 through_template field None s = Ok s
 through_template field (Some template) s = template_flow field (template_shape template s None)
 
 -- what the path names, or a fault at its field
-abbrev pub path_flow : List ℕ → Result Shape ℕ → Flow
+abbrev pub path_flow : FieldName → Result Shape ℕ → Flow
 path_flow field (Ok s) = Ok s
 path_flow field (Err at) = Err (MissingAt field ∷ [])
 
@@ -479,17 +480,17 @@ abbrev pub empty_object : Shape
 empty_object = ObjectShape NoFieldShapes false
 
 -- `InputPath` and `OutputPath`: what the path names, and for null the empty object
-abbrev pub through_path : List ℕ → Option (List Segment) → Shape → Flow
+abbrev pub through_path : FieldName → Option (List Segment) → Shape → Flow
 through_path field None s = Ok (if inhabited s then empty_object else Never)
 through_path field (Some path) s = path_flow field (look path s)
 
 -- what is placed, or a fault at its field
-abbrev pub placing_flow : List ℕ → Result Shape ℕ → Flow
+abbrev pub placing_flow : FieldName → Result Shape ℕ → Flow
 placing_flow field (Ok s) = Ok s
 placing_flow field (Err at) = Err (MisfitAt field ∷ [])
 
 -- `ResultPath`: the result placed in the raw input, and for null the raw input
-abbrev pub through_placing : List ℕ → Option (List Segment) → Shape → Shape → Flow
+abbrev pub through_placing : FieldName → Option (List Segment) → Shape → Shape → Flow
 through_placing field None raw result = Ok (if inhabited result then raw else Never)
 through_placing field (Some path) raw result = placing_flow field (put path result raw)
 

@@ -1,14 +1,15 @@
 -- When one shape is inside another, and a shape that two are inside. JSON Schema has no
 -- word for either: both are the profile's own. The first is only a test that is enough: where it is true, every tree
 -- of the one shape has the other.
-use Rattle.std.specs.Prelude.{ℕ, zero, suc, max, List, Bool, true, false, ◌&&◌, ◌||◌}
+use Rattle.std.specs.Prelude.{ℕ, zero, suc, max, Bool, true, false, ◌&&◌, ◌||◌}
 use Rattle.std.specs.Prelude.{not, Option, Some, None, bytes_eq, if◌then◌else◌}
+use Rattle.asl_model.specs.Names.{FieldName}
 use Rattle.asl_model.specs.Shape.{Shape, Any, Never, NullShape, BooleanShape, IntegerShape, StringShape}
 use Rattle.asl_model.specs.Shape.{ArrayShape, ObjectShape, Shapes, NoShapes, AndShape, FieldShapes}
 use Rattle.asl_model.specs.Shape.{NoFieldShapes, AndFieldShape, inhabited, mentions, insert_mention}
 
 -- the first mention of a field: whether it is needed, and its shape
-abbrev pub mention_of : List ℕ → FieldShapes → Option (Bool × Shape)
+abbrev pub mention_of : FieldName → FieldShapes → Option (Bool × Shape)
 mention_of n NoFieldShapes = None
 mention_of n (AndFieldShape m needed s shapes) = if bytes_eq m n then Some (needed, s) else mention_of n shapes
 
@@ -141,18 +142,18 @@ abbrev mutual
       && fields_sub others more shapes
 
 -- the mentions, without this one if it is to be left out
-abbrev pub with_mention_unless : Bool → List ℕ → Bool → Shape → FieldShapes → FieldShapes
+abbrev pub with_mention_unless : Bool → FieldName → Bool → Shape → FieldShapes → FieldShapes
 with_mention_unless true m needed s shapes = shapes
 with_mention_unless false m needed s shapes = AndFieldShape m needed s shapes
 
 -- the mentions without those of one name
-abbrev pub without_mention : List ℕ → FieldShapes → FieldShapes
+abbrev pub without_mention : FieldName → FieldShapes → FieldShapes
 without_mention n NoFieldShapes = NoFieldShapes
 without_mention n (AndFieldShape m needed s shapes) =
     with_mention_unless (bytes_eq m n) m needed s (without_mention n shapes)
 
 -- the mentions with this one in place of all others of its name
-abbrev pub set_mention : List ℕ → Bool → Shape → FieldShapes → FieldShapes
+abbrev pub set_mention : FieldName → Bool → Shape → FieldShapes → FieldShapes
 set_mention n needed s shapes = insert_mention n needed s (without_mention n shapes)
 
 abbrev mutual
@@ -197,7 +198,7 @@ joined_with_each joined s (AndShape other others) = joined_with_each joined (joi
 
 -- A field in front of the joined ones: needed where both need it, with the join of the shapes; one that the other
 -- object doesn't mention is dropped where that may have further fields, else it is optional.
-abbrev pub keep_joined : (Shape → Shape → Shape) → List ℕ → Bool → Shape → Bool → Option (Bool × Shape) → FieldShapes
+abbrev pub keep_joined : (Shape → Shape → Shape) → FieldName → Bool → Shape → Bool → Option (Bool × Shape) → FieldShapes
     → FieldShapes
 keep_joined joined n needed s more None kept = with_mention_unless more n false s kept
 keep_joined joined n needed s more (Some mention) kept = AndFieldShape n (needed && mention.0) (joined s mention.1) kept
@@ -209,7 +210,7 @@ joined_fields joined (AndFieldShape n needed s shapes) others more =
     keep_joined joined n needed s more (mention_of n others) (joined_fields joined shapes others more)
 
 -- with an optional field, unless it is dropped
-abbrev pub with_optional_unless : Bool → List ℕ → Shape → FieldShapes → FieldShapes
+abbrev pub with_optional_unless : Bool → FieldName → Shape → FieldShapes → FieldShapes
 with_optional_unless true n s kept = kept
 with_optional_unless false n s kept = set_mention n false s kept
 

@@ -2,6 +2,7 @@
 -- The profile chooses which failure counts: that of the least failing place.
 use Rattle.std.specs.Prelude.{◌≡◌, ◌⊎◌, ◌<◌, ◌&&◌, Bool, true, IsTrue, bytes_eq, if◌then◌else◌, ℕ, zero, suc}
 use Rattle.std.specs.Prelude.{List, [], ◌∷◌, ◌++◌, map, Option, Some, None, unwrap_or, Result, Ok, Err}
+use Rattle.asl_model.specs.Names.{FieldName}
 use Rattle.asl_model.specs.Tree.{Tree, Null, Array, Object, Trees, NoTrees, AndTree}
 use Rattle.asl_model.specs.Tree.{Fields, NoFields, AndField, comes_before}
 use Rattle.asl_model.specs.Path.{Segment, Name, Index}
@@ -27,7 +28,7 @@ mutual
   -- the fields of an object, each with its name without the suffix `.$`; the reader sorts them by these names
   pub data FieldTemplates : Type 0 where
     NoFieldTemplates : FieldTemplates
-    AndFieldTemplate : List ℕ → Template → FieldTemplates → FieldTemplates
+    AndFieldTemplate : FieldName → Template → FieldTemplates → FieldTemplates
 
 -- a place of a template that has no value, and why
 pub record Failure : Type 0 where
@@ -100,7 +101,7 @@ template_element zero (AndTemplate t others) = Some t
 template_element (suc i) (AndTemplate t others) = template_element i others
 
 -- the value of the first field of that name
-abbrev pub template_named : List ℕ → FieldTemplates → Option Template
+abbrev pub template_named : FieldName → FieldTemplates → Option Template
 template_named n NoFieldTemplates = None
 template_named n (AndFieldTemplate m t others) = if bytes_eq m n then Some t else template_named n others
 
@@ -113,14 +114,14 @@ pub data FailsAt (input : Tree) (item : Option Item) : Template → List Segment
   fails_in_element : {i : ℕ} {elements : Templates} {t : Template} {p : List Segment} {error : DataFlowError}
       → template_element i elements ≡ Some t → FailsAt input item t p error
       → FailsAt input item (ArrayTemplate elements) (Index i ∷ p) error
-  fails_in_field : {n : List ℕ} {fields : FieldTemplates} {t : Template} {p : List Segment} {error : DataFlowError}
+  fails_in_field : {n : FieldName} {fields : FieldTemplates} {t : Template} {p : List Segment} {error : DataFlowError}
       → template_named n fields ≡ Some t → FailsAt input item t p error
       → FailsAt input item (ObjectTemplate fields) (Name n ∷ p) error
 
 -- a place comes before another: at the first difference by number, or by the bytes of the names
 pub data IsBefore : List Segment → List Segment → Type 0 where
   lesser_number : {i j : ℕ} {p q : List Segment} → i < j → IsBefore (Index i ∷ p) (Index j ∷ q)
-  lesser_name : {m n : List ℕ} {p q : List Segment} → IsTrue (comes_before m n) → IsBefore (Name m ∷ p) (Name n ∷ q)
+  lesser_name : {m n : FieldName} {p q : List Segment} → IsTrue (comes_before m n) → IsBefore (Name m ∷ p) (Name n ∷ q)
   lesser_below : {s : Segment} {p q : List Segment} → IsBefore p q → IsBefore (s ∷ p) (s ∷ q)
 
 -- the least failing place of a template, with its error
@@ -130,7 +131,7 @@ pub record IsLeastFailure (input : Tree) (item : Option Item) (t : Template) (fa
       → (failure.place ≡ p) ⊎ IsBefore failure.place p
 
 -- the name comes before each of these fields' names
-abbrev pub before_each : List ℕ → FieldTemplates → Bool
+abbrev pub before_each : FieldName → FieldTemplates → Bool
 before_each n NoFieldTemplates = true
 before_each n (AndFieldTemplate m t others) = comes_before n m && before_each n others
 

@@ -7,6 +7,7 @@ use Rattle.std.specs.Option.{option_map}
 use Rattle.std.specs.declared.cmp.Ordering.{Ordering}
 use Rattle.std.specs.Ordering.{nat_cmp, int_cmp, match_ordering}
 use Rattle.std.specs.Cmp.Lexicographic.{slice_cmp}
+use Rattle.asl_model.specs.Names.{StateName, Bytes}
 use Rattle.asl_model.specs.Tree.{Tree, Null, Boolean, Integer, Text, Array, Object}
 use Rattle.asl_model.specs.Path.{Segment, named_by}
 
@@ -64,10 +65,10 @@ mutual
 -- a rule of `Choices`: its test, and the state that follows where the test is true
 pub record Rule : Type 0 where
   pub test : Test
-  pub next : List ℕ
+  pub next : StateName
 
 -- the text that a tree is, if it is one
-abbrev pub as_text : Tree → Option (List ℕ)
+abbrev pub as_text : Tree → Option Bytes
 as_text Null = None
 as_text (Boolean b) = None
 as_text (Integer n) = None
@@ -135,20 +136,20 @@ is_of_kind StringKind t = is_some (as_text t)
 is_of_kind BooleanKind t = is_some (as_boolean t)
 
 -- the text can be cut into parts, one for each element of the pattern: a byte is itself, a star any text
-pub data IsCutBy : List PatternPart → List ℕ → Type 0 where
+pub data IsCutBy : List PatternPart → Bytes → Type 0 where
   cut_is_over : IsCutBy [] []
-  cut_off_byte : {b : ℕ} {parts : List PatternPart} {further : List ℕ} → IsCutBy parts further
+  cut_off_byte : {b : ℕ} {parts : List PatternPart} {further : Bytes} → IsCutBy parts further
       → IsCutBy (ByteOf b ∷ parts) (b ∷ further)
-  cut_off_star : {parts : List PatternPart} {further : List ℕ} (front : List ℕ) → IsCutBy parts further
+  cut_off_star : {parts : List PatternPart} {further : Bytes} (front : Bytes) → IsCutBy parts further
       → IsCutBy (Star ∷ parts) (front ++ further)
 
 -- the text itself, or what is left behind some front of it, passes the test
-abbrev pub some_end : (List ℕ → Bool) → List ℕ → Bool
+abbrev pub some_end : (Bytes → Bool) → Bytes → Bool
 some_end passes [] = passes []
 some_end passes (b ∷ bs) = passes (b ∷ bs) || some_end passes bs
 
 -- whether the text can be cut so
-abbrev pub is_cut_by : List PatternPart → List ℕ → Bool
+abbrev pub is_cut_by : List PatternPart → Bytes → Bool
 is_cut_by [] [] = true
 is_cut_by [] (b ∷ bs) = false
 is_cut_by (ByteOf b ∷ parts) [] = false
@@ -156,7 +157,7 @@ is_cut_by (ByteOf b ∷ parts) (c ∷ cs) = nat_eq b c && is_cut_by parts cs
 is_cut_by (Star ∷ parts) text = some_end (is_cut_by parts) text
 
 -- the value is a text and matches the pattern
-abbrev pub matches : List PatternPart → Option (List ℕ) → Bool
+abbrev pub matches : List PatternPart → Option Bytes → Bool
 matches pattern None = false
 matches pattern (Some text) = is_cut_by pattern text
 

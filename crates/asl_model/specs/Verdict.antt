@@ -1,6 +1,7 @@
 -- Which verdict is right for a machine, declared shapes and a certificate (the profile's own): yes exactly where no
 -- rule is broken, and else one finding for each name that has one.
-use Rattle.std.specs.Prelude.{◌≡◌, ◌≢◌, ℕ, List, [], ◌∷◌, Bool, true, IsTrue, ⊤, Contains}
+use Rattle.std.specs.Prelude.{◌≡◌, ◌≢◌, List, [], ◌∷◌, Bool, true, IsTrue, ⊤, Contains}
+use Rattle.asl_model.specs.Names.{StateName}
 use Rattle.asl_model.specs.Tree.{comes_before}
 use Rattle.asl_model.specs.Machine.{Scope}
 use Rattle.asl_model.specs.Certificate.{Declared, Certificate}
@@ -12,7 +13,7 @@ pub data Verdict : Type 0 where
   Rejected : List Finding → Verdict
 
 -- the name comes before that of the next finding
-abbrev pub before_next : List ℕ → List Finding → Bool
+abbrev pub before_next : StateName → List Finding → Bool
 before_next n [] = true
 before_next n (f ∷ fs) = comes_before n f.state
 
@@ -22,7 +23,7 @@ AreInNameOrder [] = ⊤
 AreInNameOrder (f ∷ fs) = IsTrue (before_next f.state fs) × AreInNameOrder fs
 
 -- one of the findings has that name
-abbrev pub TellsOf : List Finding → List ℕ → Type 0
+abbrev pub TellsOf : List Finding → StateName → Type 0
 TellsOf told n = (f : Finding) × Contains told f × (f.state ≡ n)
 
 -- the findings that are told: at least one, in the order of their names; each stands; each name with a broken rule has

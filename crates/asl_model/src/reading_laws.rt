@@ -3,6 +3,7 @@
 ghost use Rattle.std.specs.Prelude.{◌≡◌, ◌⊎◌, ◌↔◌, ℕ, List, length, Bool, Some, Ok, Err, IsTrue};
 ghost use Rattle.std.specs.Str.{encode_utf8_all};
 ghost use Rattle.serde_json.specs.Data.{Data};
+ghost use Rattle.asl_model.specs.Names.{Bytes};
 ghost use Rattle.asl_model.specs.Tree.{Tree, IsProper};
 ghost use Rattle.asl_model.specs.Path.{Segment};
 ghost use Rattle.asl_model.specs.Shape.{Shape, IsProperShape};
@@ -33,23 +34,23 @@ ghost use Rattle.asl_model.specs.Texts.{ReadsAsCertificate, IsDefinitionFault, I
 
 /// A text reads as at most one JSON value, tree, reference path, machine, declared shapes, certificate.
 pub fn texts_have_one_meaning()
-    ensures value { (text : List ℕ) (v w : Data) → ReadsAsValue text v → ReadsAsValue text w → v ≡ w }
-    ensures tree { (text : List ℕ) (t u : Tree) → ReadsAsTree text t → ReadsAsTree text u → t ≡ u }
-    ensures path { (text : List ℕ) (p q : List Segment) → Spells text p → Spells text q → p ≡ q }
-    ensures machine { (text : List ℕ) (m n : Scope) → ReadsAsMachine text m → ReadsAsMachine text n → m ≡ n }
-    ensures declared { (text : List ℕ) (d e : Declared) → ReadsAsDeclared text d → ReadsAsDeclared text e → d ≡ e }
-    ensures certificate { (text : List ℕ) (c d : Certificate) → ReadsAsCertificate text c → ReadsAsCertificate text d
+    ensures value { (text : Bytes) (v w : Data) → ReadsAsValue text v → ReadsAsValue text w → v ≡ w }
+    ensures tree { (text : Bytes) (t u : Tree) → ReadsAsTree text t → ReadsAsTree text u → t ≡ u }
+    ensures path { (text : Bytes) (p q : List Segment) → Spells text p → Spells text q → p ≡ q }
+    ensures machine { (text : Bytes) (m n : Scope) → ReadsAsMachine text m → ReadsAsMachine text n → m ≡ n }
+    ensures declared { (text : Bytes) (d e : Declared) → ReadsAsDeclared text d → ReadsAsDeclared text e → d ≡ e }
+    ensures certificate { (text : Bytes) (c d : Certificate) → ReadsAsCertificate text c → ReadsAsCertificate text d
         → c ≡ d }
 {}
 
 /// Nothing is wrong with a text that has a meaning.
 pub fn meaningful_texts_have_no_fault()
-    ensures path { (text : List ℕ) (p : List Segment) (f : PathFault) → Spells text p → IsRefusedPath text f → ⊥ }
-    ensures machine { (text : List ℕ) (m : Scope) (f : TextFault) → ReadsAsMachine text m → IsDefinitionFault text f
+    ensures path { (text : Bytes) (p : List Segment) (f : PathFault) → Spells text p → IsRefusedPath text f → ⊥ }
+    ensures machine { (text : Bytes) (m : Scope) (f : TextFault) → ReadsAsMachine text m → IsDefinitionFault text f
         → ⊥ }
-    ensures declared { (text : List ℕ) (d : Declared) (f : TextFault) → ReadsAsDeclared text d
+    ensures declared { (text : Bytes) (d : Declared) (f : TextFault) → ReadsAsDeclared text d
         → IsDeclaredFault text f → ⊥ }
-    ensures certificate { (text : List ℕ) (c : Certificate) (f : TextFault) → ReadsAsCertificate text c
+    ensures certificate { (text : Bytes) (c : Certificate) (f : TextFault) → ReadsAsCertificate text c
         → IsCertificateFault text f → ⊥ }
 {}
 
@@ -67,14 +68,14 @@ pub fn values_stand_for_one_thing()
 
 /// A tree that a text reads as is proper: its texts are UTF-8, and each object has its names once, in byte order.
 pub fn trees_as_read_are_proper()
-    ensures { (text : List ℕ) (t : Tree) → ReadsAsTree text t → IsProper t }
+    ensures { (text : Bytes) (t : Tree) → ReadsAsTree text t → IsProper t }
 {}
 
 /// The names in a machine that a definition stands for lead inside its scopes: each scope starts at one of its own
 /// states, and what follows a state is a state of the same scope.
 pub fn machines_as_read_lead_inside()
     ensures value { (v : Data) (m : Scope) → StandsFor v m → LeadsInside m }
-    ensures text { (text : List ℕ) (m : Scope) → ReadsAsMachine text m → LeadsInside m }
+    ensures text { (text : Bytes) (m : Scope) → ReadsAsMachine text m → LeadsInside m }
 {}
 
 /// A tree spells at most one shape, and nothing is wrong with one that does.
@@ -136,11 +137,11 @@ pub fn written_records_are_read_back()
 
 /// Each text has a meaning or a fault, and so has each JSON value as a definition and each tree as a shape.
 pub fn texts_have_a_meaning_or_a_fault()
-    ensures machine { (text : List ℕ)
+    ensures machine { (text : Bytes)
         → ((m : Scope) × ReadsAsMachine text m) ⊎ ((f : TextFault) × IsDefinitionFault text f) }
-    ensures declared { (text : List ℕ)
+    ensures declared { (text : Bytes)
         → ((d : Declared) × ReadsAsDeclared text d) ⊎ ((f : TextFault) × IsDeclaredFault text f) }
-    ensures certificate { (text : List ℕ)
+    ensures certificate { (text : Bytes)
         → ((c : Certificate) × ReadsAsCertificate text c) ⊎ ((f : TextFault) × IsCertificateFault text f) }
     ensures value { (v : Data) → ((m : Scope) × StandsFor v m) ⊎ ((c : Complaint) × HasComplaint v c) }
     ensures shape { (t : Tree) → ((a : Shape) × SpellsShape t a) ⊎ ((f : ShapeFault) × HasShapeFault t f) }
@@ -149,39 +150,39 @@ pub fn texts_have_a_meaning_or_a_fault()
 /// Each text spells a reference path or is refused, in one way. The function that reads paths gives exactly the path
 /// that a text spells.
 pub fn texts_spell_paths_or_are_refused()
-    ensures either { (text : List ℕ) → ((p : List Segment) × Spells text p) ⊎ ((f : PathFault) × IsRefusedPath text f) }
-    ensures one_refusal { (text : List ℕ) (f g : PathFault) → IsRefusedPath text f → IsRefusedPath text g → f ≡ g }
-    ensures read { (text : List ℕ) (p : List Segment) → (path_of text ≡ Some p) ↔ Spells text p }
+    ensures either { (text : Bytes) → ((p : List Segment) × Spells text p) ⊎ ((f : PathFault) × IsRefusedPath text f) }
+    ensures one_refusal { (text : Bytes) (f g : PathFault) → IsRefusedPath text f → IsRefusedPath text g → f ≡ g }
+    ensures read { (text : Bytes) (p : List Segment) → (path_of text ≡ Some p) ↔ Spells text p }
 {}
 
 /// The printed form of a path spells it, if any text does, and reads as that path again. Such paths are those whose
 /// segments have a spelling each.
 pub fn printed_paths_are_spelled()
-    ensures again { (text : List ℕ) (p : List Segment) → Spells text p → Spells (printed_path p) p }
+    ensures again { (text : Bytes) (p : List Segment) → Spells text p → Spells (printed_path p) p }
     ensures spelled { (p : List Segment) → IsTrue (have_spellings p) → Spells (printed_path p) p }
-    ensures have_spellings { (text : List ℕ) (p : List Segment) → Spells text p → IsTrue (have_spellings p) }
+    ensures have_spellings { (text : Bytes) (p : List Segment) → Spells text p → IsTrue (have_spellings p) }
     ensures read_back { (p : List Segment) → IsTrue (have_spellings p) → path_of (printed_path p) ≡ Some p }
 {}
 
 /// The characters of a text are as many as its bytes that continue no character.
 pub fn characters_are_counted()
-    ensures { (text : List ℕ) → characters (encode_utf8_all text) ≡ length text }
+    ensures { (text : Bytes) → characters (encode_utf8_all text) ≡ length text }
 {}
 
 /// A text reads as at most one list of answers, and reads as one or has a fault, never both.
 pub fn texts_have_one_list_of_answers()
-    ensures one { (text : List ℕ) (a b : List Action) → ReadsAsAnswers text a → ReadsAsAnswers text b → a ≡ b }
-    ensures no_fault { (text : List ℕ) (a : List Action) (f : TextFault) → ReadsAsAnswers text a
+    ensures one { (text : Bytes) (a b : List Action) → ReadsAsAnswers text a → ReadsAsAnswers text b → a ≡ b }
+    ensures no_fault { (text : Bytes) (a : List Action) (f : TextFault) → ReadsAsAnswers text a
         → IsAnswersFault text f → ⊥ }
-    ensures either { (text : List ℕ)
+    ensures either { (text : Bytes)
         → ((a : List Action) × ReadsAsAnswers text a) ⊎ ((f : TextFault) × IsAnswersFault text f) }
 {}
 
 /// The function that cuts a text as a call gives exactly the call that the text writes, and the one that reads paths in
 /// templates exactly the path that it spells.
 pub fn written_calls_are_exactly_cut()
-    ensures written { (text : List ℕ) (c : WrittenCall) → (written_call text ≡ Some c) ↔ WritesCall 32 text c }
-    ensures reference { (item : Bool) (text : List ℕ) (r : Reference)
+    ensures written { (text : Bytes) (c : WrittenCall) → (written_call text ≡ Some c) ↔ WritesCall 32 text c }
+    ensures reference { (item : Bool) (text : Bytes) (r : Reference)
         → (reference_of item text ≡ Some r) ↔ SpellsReference item text r }
 {}
 
@@ -189,24 +190,24 @@ pub fn written_calls_are_exactly_cut()
 /// function that reads calls gives exactly the call that a text spells, or its refusal. So it is with and without leave
 /// for paths to a Map's item.
 pub fn texts_spell_calls_or_are_refused()
-    ensures either { (item : Bool) (text : List ℕ)
+    ensures either { (item : Bool) (text : Bytes)
         → ((c : Call) × SpellsCall item text c) ⊎ ((f : FunctionFault) × IsRefusedCall item text f) }
-    ensures call { (item : Bool) (text : List ℕ) (c d : Call) → SpellsCall item text c → SpellsCall item text d
+    ensures call { (item : Bool) (text : Bytes) (c d : Call) → SpellsCall item text c → SpellsCall item text d
         → c ≡ d }
-    ensures no_refusal { (item : Bool) (text : List ℕ) (c : Call) (f : FunctionFault) → SpellsCall item text c
+    ensures no_refusal { (item : Bool) (text : Bytes) (c : Call) (f : FunctionFault) → SpellsCall item text c
         → IsRefusedCall item text f → ⊥ }
-    ensures one_refusal { (item : Bool) (text : List ℕ) (f g : FunctionFault) → IsRefusedCall item text f
+    ensures one_refusal { (item : Bool) (text : Bytes) (f g : FunctionFault) → IsRefusedCall item text f
         → IsRefusedCall item text g → f ≡ g }
-    ensures read { (item : Bool) (text : List ℕ) (c : Call) → (call_from item text ≡ Ok c) ↔ SpellsCall item text c }
-    ensures refused { (item : Bool) (text : List ℕ) (f : FunctionFault)
+    ensures read { (item : Bool) (text : Bytes) (c : Call) → (call_from item text ≡ Ok c) ↔ SpellsCall item text c }
+    ensures refused { (item : Bool) (text : Bytes) (f : FunctionFault)
         → (call_from item text ≡ Err f) ↔ IsRefusedCall item text f }
 {}
 
 /// A text reads as a list of answers exactly where it reads as a tree that stands for it, by the rules of the format,
 /// and an element is refused exactly where it stands for no answer.
 pub fn answers_are_exactly_read()
-    ensures read { (text : List ℕ) (answers : List Action)
+    ensures read { (text : Bytes) (answers : List Action)
         → ReadsAsAnswers text answers ↔ ((t : Tree) × ReadsAsTree text t × StandsForAnswers t answers) }
-    ensures bad { (text : List ℕ) (i : ℕ)
+    ensures bad { (text : Bytes) (i : ℕ)
         → IsAnswersFault text (BadAnswer i) ↔ ((t : Tree) × ReadsAsTree text t × IsBadAnswer t i) }
 {}
