@@ -9,39 +9,39 @@ use Rattle.asl_model.specs.ShapeOrder.{is_integer_shape, is_string_shape}
 use Rattle.asl_model.specs.ShapeFlow.{look, literal, rule_shape, leave, Flow, FlowFault}
 use Rattle.asl_model.specs.Certificate.{takes_of, gives_of}
 use Rattle.asl_model.specs.Finding.{Surroundings, Breach, FindingFault, OutputNotCertified, NextInput, ScopeOutput, BranchInput, PayloadNotTaken, breach_of, breach_unless, breach_unless_sub, breaches_then, effective_flow, next_breaches, end_breaches, output_breaches, result_breaches, kind_breaches, delay_breaches, child_breaches, branch_breaches, item_flow, element_shape, map_result, map_breaches, as_first_elements, array_parts, with_elements, with_items, chosen_breaches, rule_breaches, rules_breaches, default_breaches, error_placed_shape, caught_breaches, catcher_breaches, work_breaches, settled_breaches, flow_breaches}
-use Rattle.asl_model.specs.Edges.{Walked, Breaks, Standing, standing_at, breaks_unless, walk_then, to_next, to_end, onward, walk_result, walk_named, walk_delay, to_child, to_branches, walk_items_result, walk_elements, with_elements_walked, walk_items, walk_chosen, walk_rule, walk_rules, walk_default, walk_caught, walk_catchers, walk_work, walk_settled, walk, breaches_at, breaches_along}
+use Rattle.asl_model.specs.Edges.{Walked, Breaks, DestinationShapes, destination_shapes, breaks_unless, walk_then, to_next, to_end, onward, walk_result, walk_named, walk_delay, to_child, to_branches, walk_items_result, walk_elements, with_elements_walked, walk_items, walk_chosen, walk_rule, walk_rules, walk_default, walk_caught, walk_catchers, walk_work, walk_settled, walk, breaches_at, breaches_along}
 
 -- those along one walk and then another
-along_append : (standing : Standing) (steps further : List Walked) → breaches_along standing (steps ++ further) ≡ breaches_along standing steps ++ breaches_along standing further
+along_append : (standing : DestinationShapes) (steps further : List Walked) → breaches_along standing (steps ++ further) ≡ breaches_along standing steps ++ breaches_along standing further
 along_append standing [] further = refl
 along_append standing (step ∷ steps) further =
     ap (λ t. breaches_at standing step ++ t) (along_append standing steps further) ∙ sym (append_assoc (breaches_at standing step) (breaches_along standing steps) (breaches_along standing further))
 
 -- both parts of a walk by themselves
-both_along : (standing : Standing) (steps further : List Walked) (told others : List Breach) → breaches_along standing steps ≡ told → breaches_along standing further ≡ others → breaches_along standing (steps ++ further) ≡ told ++ others
+both_along : (standing : DestinationShapes) (steps further : List Walked) (told others : List Breach) → breaches_along standing steps ≡ told → breaches_along standing further ≡ others → breaches_along standing (steps ++ further) ≡ told ++ others
 both_along standing steps further told others h i = along_append standing steps further ∙ ap₂ (λ s t. s ++ t) h i
 
 -- what stops a flow
-stopped_along : (standing : Standing) (faults : List FlowFault) → breaches_along standing (map (λ fault. Breaks (breach_of fault)) faults) ≡ map breach_of faults
+stopped_along : (standing : DestinationShapes) (faults : List FlowFault) → breaches_along standing (map (λ fault. Breaks (breach_of fault)) faults) ≡ map breach_of faults
 stopped_along standing [] = refl
 stopped_along standing (fault ∷ faults) = ap (λ t. breach_of fault ∷ t) (stopped_along standing faults)
 
 -- what comes of a flow
-then_along : (standing : Standing) (go_on : Shape → List Walked) (told : Shape → List Breach) → ((s : Shape) → breaches_along standing (go_on s) ≡ told s) → (flow : Flow) → breaches_along standing (walk_then go_on flow) ≡ breaches_then told flow
+then_along : (standing : DestinationShapes) (go_on : Shape → List Walked) (told : Shape → List Breach) → ((s : Shape) → breaches_along standing (go_on s) ≡ told s) → (flow : Flow) → breaches_along standing (walk_then go_on flow) ≡ breaches_then told flow
 then_along standing go_on told same (Ok s) = same s
 then_along standing go_on told same (Err faults) = stopped_along standing faults
 
 -- a rule that is broken unless a test holds
-unless_along : (standing : Standing) (test : Bool) (field : List ℕ) (fault : FindingFault) → breaches_along standing (breaks_unless test field fault) ≡ breach_unless test field fault
+unless_along : (standing : DestinationShapes) (test : Bool) (field : List ℕ) (fault : FindingFault) → breaches_along standing (breaks_unless test field fault) ≡ breach_unless test field fault
 unless_along standing true field fault = refl
 unless_along standing false field fault = refl
 
 -- what a path names is of the kind that is wanted
-named_along : (standing : Standing) (field : List ℕ) (test : Shape → Bool) (named : Result Shape ℕ) → breaches_along standing (walk_named field test named) ≡ kind_breaches field test named
+named_along : (standing : DestinationShapes) (field : List ℕ) (test : Shape → Bool) (named : Result Shape ℕ) → breaches_along standing (walk_named field test named) ≡ kind_breaches field test named
 named_along standing field test (Ok s) = unless_along standing (test s) field _
 named_along standing field test (Err at) = refl
 
-delay_along : (standing : Standing) (delay : Delay) (s : Shape) → breaches_along standing (walk_delay delay s) ≡ delay_breaches delay s
+delay_along : (standing : DestinationShapes) (delay : Delay) (s : Shape) → breaches_along standing (walk_delay delay s) ≡ delay_breaches delay s
 delay_along standing (Seconds n) s = refl
 delay_along standing (SecondsPath path) s = named_along standing (codes "SecondsPath") is_integer_shape (look path s)
 delay_along standing (Timestamp t) s = refl
@@ -49,7 +49,7 @@ delay_along standing (TimestampPath path) s = named_along standing (codes "Times
 
 module _ (inputs : List ℕ → Option Shape) (output : Shape) (end : Option Shape) (takes : Shape) where
   -- what stands at the destinations
-  abbrev standing : Standing
+  abbrev standing : DestinationShapes
   standing = record { inputs = inputs; output = output; end = end; takes = takes }
 
   next_along : (field next : List ℕ) (s : Shape) → breaches_along standing (to_next field next s) ≡ next_breaches inputs output field next s
@@ -82,8 +82,8 @@ module _ (inputs : List ℕ → Option Shape) (output : Shape) (end : Option Sha
 
 module _ (around : Surroundings) (settings : Settings) where
   -- what stands at the destinations of the state's edges
-  abbrev here : Standing
-  here = standing_at around
+  abbrev here : DestinationShapes
+  here = destination_shapes around
 
   result_along : (kind : Kind) (s : Shape) → breaches_along here (walk_result settings kind around.entry.input s) ≡ result_breaches around settings kind s
   result_along kind s = then_along here (onward settings.next) (output_breaches around.inputs around.entry.output around.end settings.next) (onward_along around.inputs around.entry.output around.end (takes_of around.declared around.name) settings.next) (leave settings kind around.entry.input s)
@@ -130,8 +130,8 @@ module _ (around : Surroundings) (settings : Settings) where
 
 module _ (around : Surroundings) (settings : Settings) where
   -- what stands at the destinations of the state's edges
-  abbrev there : Standing
-  there = standing_at around
+  abbrev there : DestinationShapes
+  there = destination_shapes around
 
   work_along : (kind : Kind) (s : Shape) → breaches_along there (walk_work settings kind around.entry s) ≡ work_breaches around settings kind s
   work_along (Pass None) s = result_along around settings (Pass None) s

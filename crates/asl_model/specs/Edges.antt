@@ -195,32 +195,32 @@ walk gives settings kind entry =
 
 -- What stands at the destinations of a state's edges: the inputs of states by their names, the state's output, the
 -- scope's end, what its task takes. A comparison is passed over where nothing stands.
-pub record Standing : Type 0 where
+pub record DestinationShapes : Type 0 where
   pub inputs : StateName → Option Shape
   pub output : Shape
   pub end : Option Shape
   pub takes : Shape
 
-abbrev pub stands_at : Standing → Destination → Option Shape
-stands_at standing (ToInput n) = standing.inputs n
-stands_at standing ToOutput = Some standing.output
-stands_at standing ToEnd = standing.end
-stands_at standing ToTask = Some standing.takes
+abbrev pub stands_at : DestinationShapes → Destination → Option Shape
+stands_at shapes (ToInput n) = shapes.inputs n
+stands_at shapes ToOutput = Some shapes.output
+stands_at shapes ToEnd = shapes.end
+stands_at shapes ToTask = Some shapes.takes
 
 -- the rule that is broken at a step, if any
-abbrev pub breaches_at : Standing → Walked → List Breach
-breaches_at standing (Flows edge) =
-    breach_unless_sub edge.field edge.fault edge.flowing (stands_at standing edge.destination)
-breaches_at standing (Breaks breach) = breach ∷ []
+abbrev pub breaches_at : DestinationShapes → Walked → List Breach
+breaches_at shapes (Flows edge) =
+    breach_unless_sub edge.field edge.fault edge.flowing (stands_at shapes edge.destination)
+breaches_at shapes (Breaks breach) = breach ∷ []
 
 -- the rules that are broken along a walk
-abbrev pub breaches_along : Standing → List Walked → List Breach
-breaches_along standing [] = []
-breaches_along standing (step ∷ steps) = breaches_at standing step ++ breaches_along standing steps
+abbrev pub breaches_along : DestinationShapes → List Walked → List Breach
+breaches_along shapes [] = []
+breaches_along shapes (step ∷ steps) = breaches_at shapes step ++ breaches_along shapes steps
 
 -- what stands at the destinations of the edges of a state in those surroundings
-abbrev pub standing_at : Surroundings → Standing
-standing_at around =
+abbrev pub destination_shapes : Surroundings → DestinationShapes
+destination_shapes around =
     record {
       inputs = around.inputs;
       output = around.entry.output;

@@ -14,7 +14,7 @@ ghost use Rattle.asl_model.specs.ShapeOrder.{sub, join};
 ghost use Rattle.asl_model.specs.ShapeFlow.{look, put, ItemHas, template_shape, rule_shape};
 ghost use Rattle.asl_model.specs.ShapeFlow.{leave, leaving, WithInput, WithResult};
 ghost use Rattle.asl_model.specs.Certificate.{Certificate, Declared, StateShapes, IsClosed, gives_of};
-ghost use Rattle.asl_model.specs.Edges.{breaches_along, standing_at, walk};
+ghost use Rattle.asl_model.specs.Edges.{breaches_along, destination_shapes, walk};
 ghost use Rattle.asl_model.specs.Finding.{Finding, Surroundings, findings, flow_breaches, Stands};
 ghost use Rattle.asl_model.specs.FindingRules.{IsBroken};
 
@@ -99,7 +99,7 @@ pub fn findings_are_exactly_the_broken_rules()
 /// The rules that are broken along the walk through a state are those that a checker may tell of what flows through it.
 pub fn walk_breaks_what_flow_breaks()
     ensures breaches { (around : Surroundings) (settings : Settings) (kind : Kind)
-        → breaches_along (standing_at around)
+        → breaches_along (destination_shapes around)
         (walk (gives_of around.declared around.name) settings kind around.entry)
         ≡ flow_breaches around settings kind }
 {}
