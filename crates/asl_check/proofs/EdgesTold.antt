@@ -3,7 +3,7 @@ use Rattle.std.proofs.Common.{◌≡◌, ◌<◌, ◌≤◌, ◌+◌, ℕ, zero,
 use Rattle.std.specs.List.{Contains}
 use Rattle.std.proofs.lemmas.List.{get_or_default}
 use Rattle.std.proofs.lemmas.List.Elements.{Contains-append_right}
-use Rattle.asl_model.specs.Edges.{Standing, Walked, Breaks, breaches_along, breaches_at}
+use Rattle.asl_model.specs.Edges.{DestinationShapes, Walked, Breaks, breaches_along, breaches_at}
 use Rattle.asl_model.specs.Finding.{Breach}
 use Rattle.asl_model.specs.Shape.{Shape}
 use Rattle.asl_numbered.specs.Expansion.{AreBelow, expansions}
@@ -23,7 +23,7 @@ edge_below bound (e ∷ es) zero d within below = below.0
 edge_below bound (e ∷ es) (suc i) d within below = edge_below bound es i d (omega (arith, within)) below.1
 
 -- the rules that are broken at the edges, in a table that has stayed the same
-module _ (standing : List Shape → Standing) (a b : List Node) (same : b ≡ a) where
+module _ (standing : List Shape → DestinationShapes) (a b : List Node) (same : b ≡ a) where
   abbrev rules : List Edge → List Breach
   rules es = breaches_along (standing (expansions a)) (steps_of (expansions a) es)
 
@@ -45,7 +45,7 @@ module _ (standing : List Shape → Standing) (a b : List Node) (same : b ≡ a)
   pub edges_passed : (all : List Breach) (es : List Edge) (i : ℕ) → length es ≤ i → all ≡ rules (drop i es) → Told all None
   edges_passed all es i end left = all_passed rules (λ x. breaches_at (standing (expansions a)) (edge_view (expansions a) x)) (λ x xs. refl) all es i end refl left
 
-module _ (standing : Standing) where
+module _ (standing : DestinationShapes) where
   -- the rules broken along two walks, one behind the other
   along_both : (steps further : List Walked) → breaches_along standing (steps ++ further) ≡ breaches_along standing steps ++ breaches_along standing further
   along_both [] further = refl

@@ -2,8 +2,8 @@
 use Rattle.std.proofs.Common.{◌≡◌, ◌<◌, ℕ, List, length, map, Option, Some, None, option_map, option_to_list, Result, IfOk, IfSome, Bor, refl, ap, ◌∙◌, subst}
 use Rattle.asl_model.specs.Certificate.{Declared, StateShapes, gives_of}
 use Rattle.asl_model.specs.Edges as edges
-use Rattle.asl_model.specs.Edges.{breaches_along, standing_at, walk}
-use Rattle.asl_model.specs.Finding.{Breach, flow_breaches}
+use Rattle.asl_model.specs.Edges.{breaches_along, destination_shapes, walk}
+use Rattle.asl_model.specs.Finding.{Breach, Surroundings, surrounded_by, flow_breaches}
 use Rattle.asl_model.specs.Machine.{Kind, Settings}
 use Rattle.asl_model.specs.Numbering.{Placement}
 use Rattle.asl_model.specs.Shape.{Shape}
@@ -38,11 +38,11 @@ pub same_listed : (answer : Result (Option Broken) OutOfMemory) (xs ys : List Br
 same_listed answer xs ys e t = subst (λ bs. IfOk answer (λ told. option_to_list (option_map broken_view told) ≡ bs)) e t
 
 -- what is told along the walk with what stands there
-pub answered_along : (declared : Declared) (inputs : List ℕ → Option Shape) (end : Option Shape) (n : List ℕ) (own entry : StateShapes) (settings : Settings) (kind : Kind) (s : edges.Standing) (given : Shape) (answer : Result (Option Broken) OutOfMemory) → s ≡ standing_at declared inputs end n own → given ≡ gives_of declared n → entry ≡ own
-    → breaches_along (standing_at declared inputs end n own) (walk (gives_of declared n) settings kind own) ≡ flow_breaches declared inputs end n settings kind (Some own)
-    → IfOk answer (λ told. Told (breaches_along s (walk given settings kind entry)) (option_map broken_view told)) → IfOk answer (λ told. Told (flow_breaches declared inputs end n settings kind (Some own)) (option_map broken_view told))
-answered_along declared inputs end n own entry settings kind s given answer standing gives same law told =
-    let walked : breaches_along s (walk given settings kind entry) ≡ breaches_along (standing_at declared inputs end n own) (walk (gives_of declared n) settings kind own) = rw (standing, gives, same) refl in
+pub answered_along : (around : Surroundings) (entry : StateShapes) (settings : Settings) (kind : Kind) (s : edges.DestinationShapes) (given : Shape) (answer : Result (Option Broken) OutOfMemory) → s ≡ destination_shapes around → given ≡ gives_of around.declared around.name → entry ≡ around.entry
+    → breaches_along (destination_shapes around) (walk (gives_of around.declared around.name) settings kind around.entry) ≡ flow_breaches around settings kind
+    → IfOk answer (λ told. Told (breaches_along s (walk given settings kind entry)) (option_map broken_view told)) → IfOk answer (λ told. Told (flow_breaches around settings kind) (option_map broken_view told))
+answered_along around entry settings kind s given answer standing gives same law told =
+    let walked : breaches_along s (walk given settings kind entry) ≡ breaches_along (destination_shapes around) (walk (gives_of around.declared around.name) settings kind around.entry) = rw (standing, gives, same) refl in
     same_answered answer _ _ (walked ∙ law) told
 
 -- ---- an entry that is lent to the walk
@@ -81,10 +81,10 @@ module _ (a b d : List Node) (task_kept : Keeps (expansions a) (expansions b)) (
   -- they stand for what stands there
   pub standing_seen : (placement : Placement) (declared : Declared) (n : List ℕ) (task : TaskNumbers) → AreOfTask b declared n task → s.output ≡ entry.output → s.takes ≡ task.takes
       → option_map (shape_at (expansions d)) s.end ≡ end_in (table_view s.checker.now.machine.now) (certificate_of (expansions d) s.checker.now) placement
-      → standing_view (expansions d) s ≡ standing_at declared (inputs_in (table_view s.checker.now.machine.now) (certificate_of (expansions a) s.checker.now)) (end_in (table_view s.checker.now.machine.now) (certificate_of (expansions a) s.checker.now) placement) n (numbers_view (expansions a) entry)
+      → standing_view (expansions d) s ≡ destination_shapes (surrounded_by declared (inputs_in (table_view s.checker.now.machine.now) (certificate_of (expansions a) s.checker.now)) (end_in (table_view s.checker.now.machine.now) (certificate_of (expansions a) s.checker.now) placement) n (numbers_view (expansions a) entry))
   standing_seen placement declared n task are output takes end =
       let rows = table_view s.checker.now.machine.now in
       let same = certificate_kept a d all_kept s.checker.now all_within in
       let own : shape_at (expansions d) s.output ≡ shape_at (expansions a) entry.output = ap (shape_at (expansions d)) output ∙ shown a d all_kept entry.output below.output in
-      let taken : shape_at (expansions d) s.takes ≡ edges.Standing.takes (standing_at declared (inputs_in rows (certificate_of (expansions a) s.checker.now)) None n (numbers_view (expansions a) entry)) = ap (shape_at (expansions d)) takes ∙ shown b d kept task.takes are.takes_within ∙ are.takes in
+      let taken : shape_at (expansions d) s.takes ≡ edges.DestinationShapes.takes (destination_shapes (surrounded_by declared (inputs_in rows (certificate_of (expansions a) s.checker.now)) None n (numbers_view (expansions a) entry))) = ap (shape_at (expansions d)) takes ∙ shown b d kept task.takes are.takes_within ∙ are.takes in
       rw (own, taken, end, same) refl

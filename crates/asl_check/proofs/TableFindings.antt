@@ -6,14 +6,14 @@ use Rattle.std.proofs.lemmas.List.Elements.{Contains-append_left, Contains-appen
 use mathlib.Core.Path.{fun_ext}
 use Rattle.asl_model.specs.Machine.{Scope, settings_of, kind_of, start_of}
 use Rattle.asl_model.specs.Certificate.{Declared, Certificate, certified, under}
-use Rattle.asl_model.specs.Finding.{Breach, Finding, StartInput, found_at, breach_unless_sub, input_of_entry, input_to_compare, entry_breaches, flow_breaches, scope_findings, start_findings}
+use Rattle.asl_model.specs.Finding.{Breach, Finding, StartInput, found_at, breach_unless_sub, input_of_entry, input_to_compare, entry_breaches, flow_breaches, surrounded_by, where_certified, scope_findings, start_findings}
 use Rattle.asl_model.specs.Numbering.{Standing, standing, outlined, table_of, IsWellNamed}
 use Rattle.asl_check.specs.Rules.{Row, inputs_in, found_in, found_in_all, found_of_start, found_at_start, entry_rules, flow_rules}
 use Rattle.asl_check.proofs.TableRows.{found_of_each, row_among, found-in-table}
 use Rattle.asl_check.proofs.TableScopes.{found_of_state, of-scope}
 use Rattle.asl_check.proofs.TableNames.{state-named}
 use Rattle.asl_check.proofs.TableEnds.{distinct, ends_in, ends-are, start-is}
-use Rattle.asl_model.proofs.OutlinedRules.{entry-outlined, flow-outlined}
+use Rattle.asl_model.proofs.OutlinedRules.{entry-outlined, flow-outlined_where}
 
 -- ---- two lists that make up a third
 
@@ -80,16 +80,16 @@ module _ (machine : Scope) (declared : Declared) (certificate : Certificate) whe
   by_flow s = found_in (flow_rules (table_of machine) declared certificate) (Some (row_of_state s))
 
   -- what flows through a state breaks the same rules
-  flow-same : (s : Standing) → flow_rules (table_of machine) declared certificate (row_of_state s) ≡ flow_breaches declared (input_to_compare machine certificate) (ends_in machine certificate s.owner) s.name (settings_of s.state) (kind_of s.state) (certified certificate s.name)
+  flow-same : (s : Standing) → flow_rules (table_of machine) declared certificate (row_of_state s) ≡ where_certified (λ own. flow_breaches (surrounded_by declared (input_to_compare machine certificate) (ends_in machine certificate s.owner) s.name own) (settings_of s.state) (kind_of s.state)) (certified certificate s.name)
   flow-same s =
-      flow-outlined declared (inputs_in (table_of machine) certificate) (ends_in machine certificate s.owner) s.name s.state (certified certificate s.name)
-      ∙ ap (λ inputs. flow_breaches declared inputs (ends_in machine certificate s.owner) s.name (settings_of s.state) (kind_of s.state) (certified certificate s.name)) (fun_ext (input-same machine certificate))
+      flow-outlined_where declared (inputs_in (table_of machine) certificate) (ends_in machine certificate s.owner) s.name s.state (certified certificate s.name)
+      ∙ ap (λ inputs. where_certified (λ own. flow_breaches (surrounded_by declared inputs (ends_in machine certificate s.owner) s.name own) (settings_of s.state) (kind_of s.state)) (certified certificate s.name)) (fun_ext (input-same machine certificate))
 
   -- both together are what is found of the state
   both-found : (s : Standing) → found_of_state machine declared certificate (ends_in machine certificate) s ≡ by_entry s ++ by_flow s
   both-found s =
       let entry = entry_breaches (kind_of s.state) (certified certificate s.name) (under s.name declared.tasks) in
-      let flow = flow_breaches declared (input_to_compare machine certificate) (ends_in machine certificate s.owner) s.name (settings_of s.state) (kind_of s.state) (certified certificate s.name) in
+      let flow = where_certified (λ own. flow_breaches (surrounded_by declared (input_to_compare machine certificate) (ends_in machine certificate s.owner) s.name own) (settings_of s.state) (kind_of s.state)) (certified certificate s.name) in
       map-append (λ (b : Breach). record { state = s.name; field = b.field; fault = b.fault }) entry flow
       ∙ (ap (λ here. found_at s.name here ++ found_at s.name flow) (sym (entry-outlined s.state (certified certificate s.name) (under s.name declared.tasks)))
       ∙ ap (λ rest. by_entry s ++ found_at s.name rest) (sym (flow-same s)))

@@ -3,7 +3,7 @@ use Rattle.std.specs.Prelude.{ℕ, zero, suc, List, [], ◌++◌, length, Bool, 
 use Rattle.asl_model.specs.Shape.{Shape}
 use Rattle.asl_model.specs.Machine.{State, settings_of, kind_of, is_task}
 use Rattle.asl_model.specs.Certificate.{Declared, Certificate, certified, under, child_end}
-use Rattle.asl_model.specs.Finding.{Breach, Finding, StartInput, breach_unless_sub, found_at, input_of_entry, entry_breaches, flow_breaches}
+use Rattle.asl_model.specs.Finding.{Breach, Finding, StartInput, breach_unless_sub, found_at, input_of_entry, entry_breaches, flow_breaches, surrounded_by, where_certified}
 use Rattle.asl_model.specs.Numbering.{Table, Placement}
 
 -- ---- names
@@ -96,8 +96,9 @@ entry_rules declared certificate row =
 -- the rules on what flows through it
 abbrev pub flow_rules : Table → Declared → Certificate → Row → List Breach
 flow_rules table declared certificate row =
-    flow_breaches declared (inputs_in table certificate) (end_in table certificate row.placement) row.name
-    (settings_of row.state) (kind_of row.state) (certified certificate row.name)
+    where_certified (λ own. flow_breaches
+    (surrounded_by declared (inputs_in table certificate) (end_in table certificate row.placement) row.name own)
+    (settings_of row.state) (kind_of row.state)) (certified certificate row.name)
 
 -- what the rules find in a row, if there is one
 abbrev pub found_in : (Row → List Breach) → Option Row → List Finding

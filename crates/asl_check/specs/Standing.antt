@@ -10,7 +10,7 @@ use Rattle.asl_check.specs.Rules.{inputs_in}
 use Rattle.asl_check.specs.declared.standing.Standing.{Standing}
 
 -- with the shapes of a table
-abbrev pub standing_view : List Shape → Standing → model.Standing
+abbrev pub standing_view : List Shape → Standing → model.DestinationShapes
 standing_view table s = record {
   inputs = inputs_in (table_view s.checker.now.machine.now) (certificate_of table s.checker.now);
   output = shape_at table s.output;

@@ -70,14 +70,13 @@ impl Checker<'_> {
         requires within { IsWithin shapes.old self.now }
         requires entry { AreNumbersBelow (length shapes.old) entry.now }
         ensures told { IfOk result (λ told. Told (rules.flow_breaches
-            (declared_view self.now.declared.now)
+            (rules.surrounded_by (declared_view self.now.declared.now)
             (inputs_in (table_view self.now.machine.now)
             (certificate_of (expansions shapes.old) self.now))
             (end_in (table_view self.now.machine.now)
             (certificate_of (expansions shapes.old) self.now) (scope_view row.now.scope.now))
-            row.now.name.now (settings_view row.now.state.now.settings)
-            (kind_view row.now.state.now.kind)
-            (Some (numbers_view (expansions shapes.old) entry.now)))
+            row.now.name.now (numbers_view (expansions shapes.old) entry.now))
+            (settings_view row.now.state.now.settings) (kind_view row.now.state.now.kind))
             (option_map broken_view told)) }
         ensures keeps { Keeps (expansions shapes.old) (expansions shapes.new) }
     {

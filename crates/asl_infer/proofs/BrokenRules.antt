@@ -4,7 +4,7 @@ use Rattle.std.proofs.lemmas.List.Elements.{All-contains, All-from_recursion, Co
 use Rattle.std.specs.List.{AllByRecursion}
 use Rattle.std.specs.Prelude.{IsTrue}
 use Rattle.asl_model.specs.Certificate.{Declared, StateShapes, gives_of, takes_of}
-use Rattle.asl_model.specs.Edges.{Standing, ToInput, ToOutput, ToEnd, ToTask, Walked, Flows, Breaks, breaches_along, breaches_at, breaks, breaks_unless, flows_to, onward, standing_at, to_branches, to_child, to_end, to_next, walk, walk_catchers, walk_caught, walk_chosen, walk_default, walk_delay, walk_elements, walk_items, walk_items_result, walk_named, walk_result, walk_rule, walk_rules, walk_settled, walk_then, walk_work, with_elements_walked}
+use Rattle.asl_model.specs.Edges.{DestinationShapes, ToInput, ToOutput, ToEnd, ToTask, Walked, Flows, Breaks, breaches_along, breaches_at, breaks, breaks_unless, flows_to, onward, destination_shapes, to_branches, to_child, to_end, to_next, walk, walk_catchers, walk_caught, walk_chosen, walk_default, walk_delay, walk_elements, walk_items, walk_items_result, walk_named, walk_result, walk_rule, walk_rules, walk_settled, walk_then, walk_work, with_elements_walked}
 use Rattle.asl_model.specs.Finding.{Breach, FindingFault, WrongKind, PathMayBeMissing, ResultMayNotFit, NoDefault, array_parts, as_first_elements, breach_of, breach_unless_sub, effective_flow, element_shape, error_placed_shape, flow_breaches, item_flow, map_result}
 use Rattle.asl_model.specs.Inference.{IsBrokenAnyway, is_of_machine}
 use Rattle.asl_model.specs.Machine.{Catcher, Delay, Seconds, SecondsPath, Timestamp, TimestampPath, Kind, Pass, Task, Choice, Wait, Succeed, Fail, Parallel, Map, Scope, Scopes, NoScopes, AndScope, Settings, State, kind_of, settings_of, start_of}
@@ -165,7 +165,7 @@ walk_of_machine gives settings kind entry = by (inhabited entry.input)
 -- ---- a broken rule along a walk
 
 -- it is broken at one of the steps
-pub along : (standing : Standing) (steps : List Walked) (step : Walked) (b : Breach) → Contains steps step → Contains (breaches_at standing step) b → Contains (breaches_along standing steps) b
+pub along : (standing : DestinationShapes) (steps : List Walked) (step : Walked) (b : Breach) → Contains steps step → Contains (breaches_at standing step) b → Contains (breaches_along standing steps) b
 along standing [] step b there h = none_in step there
 along standing (first ∷ steps) step b there h = by (first_or_later first step steps there) (λ below. along standing steps step b below h)
   where

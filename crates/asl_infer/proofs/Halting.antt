@@ -6,9 +6,9 @@ use Rattle.serde_json.specs.Data as json
 use Rattle.serde_json.specs.Read.{max_depth}
 use Rattle.asl_model.specs.Certificate as model
 use Rattle.asl_model.specs.Certificate.{gives_of, takes_of}
-use Rattle.asl_model.specs.Edges.{Breaks, Standing, Walked, breaches_along, breaches_at, standing_at, walk}
+use Rattle.asl_model.specs.Edges.{Breaks, DestinationShapes, Walked, breaches_along, breaches_at, destination_shapes, walk}
 use Rattle.asl_model.specs.Finding as finding
-use Rattle.asl_model.specs.Finding.{Stands, findings, flow_breaches}
+use Rattle.asl_model.specs.Finding.{Stands, Surroundings, surrounded_by, findings, flow_breaches}
 use Rattle.asl_model.specs.Inference.{IsBrokenAnyway, IsWidest, StandsForSome, finding_of, is_of_machine}
 use Rattle.asl_model.specs.Json.{value_of}
 use Rattle.asl_model.specs.Machine.{Kind, Scope, Settings, State}
@@ -103,7 +103,7 @@ StandsInTable = (machine : Scope) (declared : model.Declared) (i : ℕ) (n : Lis
 
 -- the rules along a walk are those of what flows through a state
 abbrev pub WalkBreaks : Type 0
-WalkBreaks = (declared : model.Declared) (inputs : List ℕ → Option Shape) (end : Option Shape) (n : List ℕ) (entry : model.StateShapes) (settings : Settings) (kind : Kind) → breaches_along (standing_at declared inputs end n entry) (walk (gives_of declared n) settings kind entry) ≡ flow_breaches declared inputs end n settings kind (Some entry)
+WalkBreaks = (around : Surroundings) (settings : Settings) (kind : Kind) → breaches_along (destination_shapes around) (walk (gives_of around.declared around.name) settings kind around.entry) ≡ flow_breaches around settings kind
 
 module _ (table : List Shape) (declared : model.Declared) (n : List ℕ) (settings : Settings) (kind : Kind) (entry : model.StateShapes) (edges : Edges) (walked : AreEdgesOf table (walk (gives_of declared n) settings kind entry) edges) (takes : ℕ) (taken : shape_at table takes ≡ takes_of declared n) (rule : Broken) where
   abbrev steps : List Walked
@@ -123,7 +123,7 @@ module _ (table : List Shape) (declared : model.Declared) (n : List ℕ) (settin
     payload_of_machine : IsTrue (is_of_machine (broken_view rule).fault)
     payload_of_machine = subst (λ (b : finding.Breach). IsTrue (is_of_machine b.fault)) (sym is.told) (step_of_machine steps step all_of_machine there (ap destination_view is.payload))
 
-    told_at : (standing : Standing) → standing.takes ≡ takes_of declared n → Contains (breaches_at standing step) (broken_view rule)
+    told_at : (standing : DestinationShapes) → standing.takes ≡ takes_of declared n → Contains (breaches_at standing step) (broken_view rule)
     told_at standing same =
         let outside : sub (shape_at table edge.flowing) standing.takes ≡ false = ap (sub (shape_at table edge.flowing)) (same ∙ sym taken) ∙ is.outside in
         rw (is.payload, outside, is.told) (first_in (record { field = edge.field.now; fault = finding_fault_view edge.fault }) [])
@@ -141,12 +141,12 @@ module _ (table : List Shape) (declared : model.Declared) (n : List ℕ) (settin
       by (inr is) = step_of_machine steps (Breaks (broken_view rule)) all_of_machine (on_the_way is)
 
   -- it is broken whatever is certified elsewhere
-  rule_along : IsBrokenAlong table edges takes rule → (inputs : List ℕ → Option Shape) (end : Option Shape) → Contains (breaches_along (standing_at declared inputs end n entry) steps) (broken_view rule)
+  rule_along : IsBrokenAlong table edges takes rule → (inputs : List ℕ → Option Shape) (end : Option Shape) → Contains (breaches_along (destination_shapes (surrounded_by declared inputs end n entry)) steps) (broken_view rule)
   rule_along h inputs end = by h.broken
     where
-      by : ((edge : Edge) × Contains edges.edges.items edge × IsNotTaken table edge takes rule) ⊎ (edges.broken ≡ Some rule) → Contains (breaches_along (standing_at declared inputs end n entry) steps) (broken_view rule)
-      by (inl (edge, among, is)) = along (standing_at declared inputs end n entry) steps (edge_view table edge) (broken_view rule) (there edge among is) (told_at edge among is (standing_at declared inputs end n entry) refl)
-      by (inr is) = along (standing_at declared inputs end n entry) steps (Breaks (broken_view rule)) (broken_view rule) (on_the_way is) (first_in (broken_view rule) [])
+      by : ((edge : Edge) × Contains edges.edges.items edge × IsNotTaken table edge takes rule) ⊎ (edges.broken ≡ Some rule) → Contains (breaches_along (destination_shapes (surrounded_by declared inputs end n entry)) steps) (broken_view rule)
+      by (inl (edge, among, is)) = along (destination_shapes (surrounded_by declared inputs end n entry)) steps (edge_view table edge) (broken_view rule) (there edge among is) (told_at edge among is (destination_shapes (surrounded_by declared inputs end n entry)) refl)
+      by (inr is) = along (destination_shapes (surrounded_by declared inputs end n entry)) steps (Breaks (broken_view rule)) (broken_view rule) (on_the_way is) (first_in (broken_view rule) [])
 
 -- a broken rule of a row is a finding of the machine
 module _ (given : Given) (number : ℕ) (row : Row) (old new : List Shape) (state : Option GrowingState) (edges : Edges) (task : IsTaskOf (declared_view given.declared.now) row.name.now old row.task) (kept : shape_at new row.task.takes ≡ shape_at old row.task.takes) (some : AreStateEdges old new (shape_at old row.task.gives) (settings_view row.state.now.settings) (kind_view row.state.now.kind) state edges) (rule : Broken) (broken : IsBrokenAlong new edges row.task.takes rule) where
@@ -169,7 +169,7 @@ module _ (given : Given) (number : ℕ) (row : Row) (old new : List Shape) (stat
   taken = kept ∙ task.takes.same
 
   anyway : WalkBreaks → IsBrokenAnyway declared row.name.now (state_view row.state.now) entry (broken_view rule)
-  anyway bridge inputs end = subst (λ rules. Contains rules (broken_view rule)) (bridge declared inputs end row.name.now entry settings kind) (rule_along new declared row.name.now settings kind entry edges walked row.task.takes taken rule broken inputs end)
+  anyway bridge inputs end = subst (λ rules. Contains rules (broken_view rule)) (bridge (surrounded_by declared inputs end row.name.now entry) settings kind) (rule_along new declared row.name.now settings kind entry edges walked row.task.takes taken rule broken inputs end)
 
   pub rule_halts : StandsInTable → WalkBreaks → (found : Finding) → IsRowOf given number row → finding_view found ≡ finding_of row.name.now (broken_view rule) → Halts given.machine.now declared (refusal.Finding found)
   rule_halts law bridge found of told = record {

@@ -1,5 +1,6 @@
 use Rattle.std.proofs.Common.{◌≡◌, refl, ◌∙◌}
-use Rattle.asl_model.specs.Edges.{standing_at}
+use Rattle.asl_model.specs.Edges.{destination_shapes}
+use Rattle.asl_model.specs.Finding.{surrounded_by}
 use Rattle.asl_numbered.specs.Expansion.{expansions}
 use Rattle.asl_numbered.proofs.Expansions.{as_many}
 use Rattle.asl_states.specs.Machine.{kind_view, scope_view, settings_view}
@@ -41,7 +42,8 @@ returns-clause-told c =
     let end = end_in (table_view checker.machine.now) (certificate_of (expansions a) checker) (scope_view row.scope.now) in
     let own = numbers_view (expansions a) entry in
     let s : Standing = record { checker = c.args.self; output = entry.output; end = c.end_of.result; takes = task.takes } in
-    let seen : standing_view (expansions d) s ≡ standing_at declared inputs end n own =
+    let around = surrounded_by declared inputs end n own in
+    let seen : standing_view (expansions d) s ≡ destination_shapes around =
     standing_seen a b d c.number_task.ensures.keeps c.edges_of.ensures.keeps s c.requires.within entry c.requires.entry (scope_view row.scope.now) declared n task c.in_ok-task.ensures.numbered refl refl (c.end_of.ensures.seen d) in
     let same = entered entry c.deref.result c.deref.ensures.value (expansions b) ∙ numbers_shown a b c.number_task.ensures.keeps entry c.requires.entry in
-    answered_along declared inputs end n own _ settings kind _ _ c.broken_by.result seen c.in_ok-task.ensures.numbered.gives same (c.walk_breaks_what_flow_breaks.ensures.breaches declared inputs end n own settings kind) (c.broken_by.ensures.told _ c.in_ok-found.ensures.walked)
+    answered_along around _ settings kind _ _ c.broken_by.result seen c.in_ok-task.ensures.numbered.gives same (c.walk_breaks_what_flow_breaks.ensures.breaches around settings kind) (c.broken_by.ensures.told _ c.in_ok-found.ensures.walked)
