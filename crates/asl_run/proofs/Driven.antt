@@ -3,8 +3,8 @@ use Rattle.std.proofs.Common.{◌≡◌, ℕ, ◌+◌, ◌<◌, List, [], ◌∷
 use Rattle.std.proofs.lemmas.List.{length-map}
 use Rattle.asl_model.specs.Tree.{Tree}
 use Rattle.asl_model.specs.Machine.{Scope}
-use Rattle.asl_model.specs.Run.{Activity, Action, Event, Entry, activity_at}
-use Rattle.asl_run.specs.Driving.{answer_in, answer_given, ComesNext, Drives, GoesOn, IsLeft, IsPicked, IsTold}
+use Rattle.asl_model.specs.Run.{Activity, Action, Event, activity_at}
+use Rattle.asl_run.specs.Driving.{answer_in, answer_given, answers_among, ComesNext, Drives, IsLeft, IsPicked, IsTold, Policy, Stage}
 use Rattle.asl_run.specs.Entries.{answer_view, entry_view}
 use Rattle.asl_run.specs.Stepping.{Takes}
 use Rattle.asl_run.specs.Waiting.{WaitsAt}
@@ -13,32 +13,35 @@ use Rattle.asl_run.specs.declared.entries.Answer.TheVariants as answers
 use Rattle.asl_run.specs.declared.entries.Entry as code
 use Rattle.asl_run.specs.declared.waiting.Asked.{Asked}
 use Rattle.asl_run.proofs.FewEntries.{few_entries}
-use Rattle.asl_run.proofs.Turns.{drives_one, drives_then, drives_for}
+use Rattle.asl_run.proofs.Turns.{IsWithin, drives_one, drives_then, drives_for}
 use Rattle.asl_tree.specs.View.{view}
 
 -- the event that comes next is taken and told
-pub turn_taken : (MayPick : ℕ → ℕ → Type 0) (MayGive : List ℕ → Tree → Action → Type 0) (machine : Scope) (before after : Activity) (event : Event) (given left : List Action) (told longer : List (List ℕ × Option Entry))
-    → IsPicked MayPick machine before event.place → ComesNext MayGive before given event left → IsTold machine before event told longer after → GoesOn MayPick MayGive machine before given told longer after left
-turn_taken MayPick MayGive machine before after event given left told longer picked next taken =
-    let more = map (λ entry. (event.place, Some entry)) taken.step.entries in
-    let d : Drives MayPick MayGive machine before 1 (answer_in event.action ++ left) more taken.step.after left = drives_one MayPick MayGive machine before event taken.step left more taken.enabled picked next.allowed refl in
-    record {
-      more = more;
-      grown = taken.grown;
-      drives = subst (λ a. Drives MayPick MayGive machine before 1 given more a left) (sym taken.stands) (subst (λ v. Drives MayPick MayGive machine before 1 v more taken.step.after left) (sym next.answered) d);
-    }
+pub turn_taken : (policy : Policy) (machine : Scope) (before after : Stage) (event : Event)
+    → IsPicked policy.may_pick machine before.activity event.place
+    → ComesNext policy.may_give before.activity before.answers event after.answers
+    → IsTold machine before.activity event before.told after.told after.activity → Drives policy machine 1 before after
+turn_taken policy machine before after event picked next taken =
+    drives_one policy machine before after event taken.step taken.enabled picked next.allowed next.answered taken.grown (sym taken.stands)
 
 -- a turn more
-pub one_turn_more : {MayPick MayPick' : ℕ → ℕ → Type 0} {MayGive MayGive' : List ℕ → Tree → Action → Type 0} {machine : Scope} {a b c : Activity} {count : ℕ} {given between left : List Action} {told longer : List (List ℕ × Option Entry)}
-    → ((n k : ℕ) → MayPick' n k → MayPick n k) → ((n : List ℕ) (payload : Tree) (answer : Action) → MayGive' n payload answer → MayGive n payload answer) → Drives MayPick MayGive machine a count given told b between → GoesOn MayPick' MayGive' machine b between told longer c left → Drives MayPick MayGive machine a (count + 1) given longer c left
-one_turn_more {MayPick = MayPick} {MayGive = MayGive} {machine = machine} {a = a} {c = c} {count = count} {given = given} {left = left} may_pick wider so_far turn =
-    subst (λ v. Drives MayPick MayGive machine a (count + 1) given v c left) (sym turn.grown) (drives_then so_far (drives_for may_pick wider turn.drives))
+pub one_turn_more : {policy other wider : Policy} {machine : Scope} {a b c : Stage} {count : ℕ}
+    → Drives policy machine count a b → Drives other machine 1 b c → IsWithin policy wider → IsWithin other wider
+    → Drives wider machine (count + 1) a c
+one_turn_more so_far turn before second = drives_then (drives_for so_far before) (drives_for turn second)
 
 -- a turn that has no event
-pub no_turn_more : {MayPick : ℕ → ℕ → Type 0} {MayGive : List ℕ → Tree → Action → Type 0} {machine : Scope} {a b c : Activity} {count : ℕ} {given between left : List Action} {told longer : List (List ℕ × Option Entry)}
-    → Drives MayPick MayGive machine a count given told b between → IsLeft b told c longer → between ≡ left → Drives MayPick MayGive machine a count given longer c left
-no_turn_more {MayPick = MayPick} {MayGive = MayGive} {machine = machine} {a = a} {b = b} {c = c} {count = count} {given = given} {between = between} {left = left} {told = told} {longer = longer} so_far still same =
-    subst (λ v. Drives MayPick MayGive machine a count given longer c v) same (subst (λ v. Drives MayPick MayGive machine a count given v c between) (sym still.tells) (subst (λ v. Drives MayPick MayGive machine a count given told v between) (sym still.stands) so_far))
+pub no_turn_more : {policy : Policy} {machine : Scope} {a b : Stage} {count : ℕ} (c : Stage)
+    → Drives policy machine count a b → IsLeft b.activity b.told c.activity c.told → b.answers ≡ c.answers
+    → Drives policy machine count a c
+no_turn_more c so_far still same = record {
+  events = so_far.events;
+  counted = so_far.counted;
+  taken = so_far.taken;
+  answered = so_far.answered ∙ ap (λ v. answers_among so_far.events ++ v) same;
+  traced = still.tells ∙ so_far.traced;
+  stands = so_far.stands ∙ sym still.stands;
+}
 
 -- ---- one event
 

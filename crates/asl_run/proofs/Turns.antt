@@ -1,11 +1,11 @@
 -- Turns of a run, one after the other.
-use Rattle.std.proofs.Common.{◌≡◌, ℕ, ◌+◌, List, [], ◌∷◌, ◌++◌, map, length, Option, Some, refl, sym, ap, ◌∙◌, subst, append_assoc, length-append}
+use Rattle.std.proofs.Common.{◌≡◌, ℕ, ◌+◌, List, [], ◌∷◌, ◌++◌, map, length, Option, Some, refl, sym, ap, ◌∙◌, subst, append_assoc, append-nil, length-append}
 use Rattle.std.specs.Prelude.{All}
 use Rattle.std.proofs.lemmas.List.Elements.{All-append, All-nil, All-cons, All-weaker}
 use Rattle.asl_model.specs.Tree.{Tree}
 use Rattle.asl_model.specs.Machine.{Scope}
 use Rattle.asl_model.specs.Run.{Activity, Action, Event, Entry, Step, Turn, activity_at, after_step, run, step, trace, entries_of, last_activity}
-use Rattle.asl_run.specs.Driving.{answer_in, answers_among, MayHappen, any_move, answer_given, IsPicked, IsTaken, placed_entry, Drives}
+use Rattle.asl_run.specs.Driving.{answer_in, answers_among, Policy, Stage, Told, MayHappen, any_move, answer_given, IsPicked, IsTaken, placed_entry, Drives}
 
 -- the turns of events in a row
 pub run_append : (machine : Scope) (a b : Activity) (xs ys : List Event) → last_activity a (run machine a xs) ≡ b → run machine a (xs ++ ys) ≡ run machine a xs ++ run machine b ys
@@ -33,63 +33,87 @@ map_append f [] ys = refl
 map_append f (x ∷ xs) ys = ap (λ v. f x ∷ v) (map_append f xs ys)
 
 -- no event leaves all as it is
-pub drives_none : (MayPick : ℕ → ℕ → Type 0) (MayGive : List ℕ → Tree → Action → Type 0) (machine : Scope) (a : Activity) (given : List Action) → Drives MayPick MayGive machine a 0 given [] a given
-drives_none MayPick MayGive machine a given = record { events = []; counted = refl; taken = All-nil (IsTaken MayPick MayGive machine); answered = refl; traced = refl; stands = refl }
+pub drives_none : (policy : Policy) (machine : Scope) (stage : Stage) → Drives policy machine 0 stage stage
+drives_none policy machine stage = record {
+  events = [];
+  counted = refl;
+  taken = All-nil (IsTaken policy machine);
+  answered = refl;
+  traced = sym (append-nil stage.told);
+  stands = refl;
+}
 
 -- one event
-pub drives_one : (MayPick : ℕ → ℕ → Type 0) (MayGive : List ℕ → Tree → Action → Type 0) (machine : Scope) (a : Activity) (event : Event) (taken : Step) (left : List Action) (told : List (List ℕ × Option Entry))
-    → step machine a event ≡ Some taken → IsPicked MayPick machine a event.place → MayHappen MayGive (activity_at event.place a) event.action → told ≡ map (λ entry. (event.place, Some entry)) taken.entries
-    → Drives MayPick MayGive machine a 1 (answer_in event.action ++ left) told taken.after left
-drives_one MayPick MayGive machine a event taken left told is picked may entries =
-    let turn : Turn = record { before = a; event = event; taken = step machine a event } in
+pub drives_one : (policy : Policy) (machine : Scope) (before after : Stage) (event : Event) (taken : Step)
+    → step machine before.activity event ≡ Some taken → IsPicked policy.may_pick machine before.activity event.place
+    → MayHappen policy.may_give (activity_at event.place before.activity) event.action
+    → before.answers ≡ answer_in event.action ++ after.answers
+    → after.told ≡ before.told ++ map (λ entry. (event.place, Some entry)) taken.entries → taken.after ≡ after.activity
+    → Drives policy machine 1 before after
+drives_one policy machine before after event taken is picked may answered told stands =
+    let turn : Turn = record { before = before.activity; event = event; taken = step machine before.activity event } in
+    let P : Turn → Type 0 = IsTaken policy machine in
+    let placed : map placed_entry (trace (run machine before.activity (event ∷ []))) ≡ map (λ entry. (event.place, Some entry)) taken.entries =
+    rw is (ap (map placed_entry) (append-nil (map (λ entry. (event.place, entry)) taken.entries)) ∙ map_map taken.entries) in
     record {
       events = event ∷ [];
       counted = refl;
-      taken = All-cons (IsTaken MayPick MayGive machine) turn [] (record { step = taken; enabled = is; picked = picked; allowed = may }) (All-nil (IsTaken MayPick MayGive machine));
-      answered = ap (λ v. v ++ left) (sym (append_none (answer_in event.action)));
-      traced = entries ∙ rw is (sym (ap (map placed_entry) (append_none (map (λ entry. (event.place, entry)) taken.entries)) ∙ map_map taken.entries));
-      stands = rw is refl;
+      taken = All-cons P turn [] (record { step = taken; enabled = is; picked = picked; allowed = may }) (All-nil P);
+      answered = answered ∙ ap (λ v. v ++ after.answers) (sym (append-nil (answer_in event.action)));
+      traced = told ∙ ap (λ v. before.told ++ v) (sym placed);
+      stands = rw is stands;
     }
   where
-    append_none : {A : Type 0} (xs : List A) → xs ++ [] ≡ xs
-    append_none [] = refl
-    append_none (x ∷ xs) = ap (λ v. x ∷ v) (append_none xs)
-
     map_map : (es : List Entry) → map placed_entry (map (λ entry. (event.place, entry)) es) ≡ map (λ entry. (event.place, Some entry)) es
     map_map [] = refl
-    map_map (e ∷ es) = ap (λ (v : List (List ℕ × Option Entry)). (event.place, Some e) ∷ v) (map_map es)
+    map_map (e ∷ es) = ap (λ (v : Told). (event.place, Some e) ∷ v) (map_map es)
 
 -- events after events
-pub drives_then : {MayPick : ℕ → ℕ → Type 0} {MayGive : List ℕ → Tree → Action → Type 0} {machine : Scope} {a b c : Activity} {m n : ℕ} {given between left : List Action} {told further : List (List ℕ × Option Entry)}
-    → Drives MayPick MayGive machine a m given told b between → Drives MayPick MayGive machine b n between further c left → Drives MayPick MayGive machine a (m + n) given (told ++ further) c left
-drives_then {MayPick = MayPick} {MayGive = MayGive} {machine = machine} {a = a} {b = b} {c = c} {m = m} {left = left} {further = further} d e =
-    let s = run machine a d.events in
-    let t = run machine b e.events in
-    let rows : run machine a (d.events ++ e.events) ≡ s ++ t = run_append machine a b d.events e.events d.stands in
+pub drives_then : {policy : Policy} {machine : Scope} {a b c : Stage} {m n : ℕ}
+    → Drives policy machine m a b → Drives policy machine n b c → Drives policy machine (m + n) a c
+drives_then {policy = policy} {machine = machine} {a = a} {b = b} {c = c} {m = m} d e =
+    let s = run machine a.activity d.events in
+    let t = run machine b.activity e.events in
+    let rows : run machine a.activity (d.events ++ e.events) ≡ s ++ t = run_append machine a.activity b.activity d.events e.events d.stands in
+    let entries : map placed_entry (trace s) ++ map placed_entry (trace t) ≡ map placed_entry (trace (run machine a.activity (d.events ++ e.events))) =
+    sym (map_append placed_entry (trace s) (trace t)) ∙ ap (map placed_entry) (sym (trace_append s t)) ∙ ap (λ v. map placed_entry (trace v)) (sym rows) in
     record {
       events = d.events ++ e.events;
       counted = length-append d.events e.events ∙ ap (λ k. k + length e.events) d.counted ∙ ap (λ k. m + k) e.counted;
-      taken = subst (All (IsTaken MayPick MayGive machine)) (sym rows) (All-append (IsTaken MayPick MayGive machine) s t d.taken e.taken);
-      answered = d.answered ∙ ap (λ v. answers_among d.events ++ v) e.answered ∙ sym (append_assoc (answers_among d.events) (answers_among e.events) left) ∙ ap (λ v. v ++ left) (sym (answers_append d.events e.events));
-      traced = ap (λ v. v ++ further) d.traced ∙ ap (λ v. map placed_entry (trace s) ++ v) e.traced ∙ sym (map_append placed_entry (trace s) (trace t)) ∙ ap (map placed_entry) (sym (trace_append s t)) ∙ ap (λ v. map placed_entry (trace v)) (sym rows);
-      stands = ap (last_activity a) rows ∙ last_append a s t ∙ ap (λ x. last_activity x t) d.stands ∙ e.stands;
+      taken = subst (All (IsTaken policy machine)) (sym rows) (All-append (IsTaken policy machine) s t d.taken e.taken);
+      answered = d.answered ∙ ap (λ v. answers_among d.events ++ v) e.answered
+          ∙ sym (append_assoc (answers_among d.events) (answers_among e.events) c.answers)
+          ∙ ap (λ v. v ++ c.answers) (sym (answers_append d.events e.events));
+      traced = e.traced ∙ ap (λ v. v ++ map placed_entry (trace t)) d.traced
+          ∙ append_assoc a.told (map placed_entry (trace s)) (map placed_entry (trace t)) ∙ ap (λ v. a.told ++ v) entries;
+      stands = ap (last_activity a.activity) rows ∙ last_append a.activity s t ∙ ap (λ x. last_activity x t) d.stands ∙ e.stands;
     }
 
--- what may be picked and given may be so by another order and another source too
-pub drives_for : {MayPick MayPick' : ℕ → ℕ → Type 0} {MayGive MayGive' : List ℕ → Tree → Action → Type 0} {machine : Scope} {a b : Activity} {n : ℕ} {given left : List Action} {told : List (List ℕ × Option Entry)}
-    → ((n k : ℕ) → MayPick n k → MayPick' n k) → ((n : List ℕ) (payload : Tree) (answer : Action) → MayGive n payload answer → MayGive' n payload answer) → Drives MayPick MayGive machine a n given told b left → Drives MayPick' MayGive' machine a n given told b left
-drives_for {MayPick = MayPick} {MayPick' = MayPick'} {MayGive = MayGive} {MayGive' = MayGive'} {machine = machine} {a = a} may_pick wider d = record {
+-- what one policy lets be picked and given, the other lets too
+pub record IsWithin (policy wider : Policy) : Type 0 where
+  pub picks : (n k : ℕ) → policy.may_pick n k → wider.may_pick n k
+  pub gives : (n : List ℕ) (payload : Tree) (answer : Action) → policy.may_give n payload answer → wider.may_give n payload answer
+
+-- what was driven by the one was driven by the other
+pub drives_for : {policy wider : Policy} {machine : Scope} {a b : Stage} {n : ℕ}
+    → Drives policy machine n a b → IsWithin policy wider → Drives wider machine n a b
+drives_for {policy = policy} {wider = wider} {machine = machine} {a = a} d within = record {
   events = d.events;
   counted = d.counted;
-  taken = All-weaker (IsTaken MayPick MayGive machine) (IsTaken MayPick' MayGive' machine) wide (run machine a d.events) d.taken;
+  taken = All-weaker (IsTaken policy machine) (IsTaken wider machine) wide (run machine a.activity d.events) d.taken;
   answered = d.answered;
   traced = d.traced;
   stands = d.stands;
 }
   where
-    may : {here : Option Activity} {action : Action} → MayHappen MayGive here action → MayHappen MayGive' here action
+    may : {here : Option Activity} {action : Action} → MayHappen policy.may_give here action → MayHappen wider.may_give here action
     may any_move = any_move
-    may (answer_given {n = n} {payload = payload} {answer = answer} is h) = answer_given is (wider n payload answer h)
+    may (answer_given {n = n} {payload = payload} {answer = answer} is h) = answer_given is (within.gives n payload answer h)
 
-    wide : (turn : Turn) → IsTaken MayPick MayGive machine turn → IsTaken MayPick' MayGive' machine turn
-    wide turn h = record { step = h.step; enabled = h.enabled; picked = record { number = h.picked.number; picks = may_pick _ h.picked.number h.picked.picks; stands = h.picked.stands }; allowed = may h.allowed }
+    wide : (turn : Turn) → IsTaken policy machine turn → IsTaken wider machine turn
+    wide turn h = record {
+      step = h.step;
+      enabled = h.enabled;
+      picked = record { number = h.picked.number; picks = within.picks _ h.picked.number h.picked.picks; stands = h.picked.stands };
+      allowed = may h.allowed;
+    }

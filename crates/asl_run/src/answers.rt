@@ -17,15 +17,20 @@ pub trait Answers {
     ghost content: { Self → List Action };
     /// It may give that answer for a state of that name and that payload.
     ghost may_give: { Self → List ℕ → model.Tree → Action → Type 0 };
-    /// It may have none for a state of that name and that payload.
-    ghost may_be_silent: { Self → List ℕ → model.Tree → Type 0 };
+    /// Once it has come from the first to the second, it may have none for a state of that name and that payload.
+    ghost may_be_silent: { Self → Self → List ℕ → model.Tree → Type 0 };
 
     /// The next answer, for the state of that name and its task's payload; none where the source is silent.
     fn next(&mut self, state: &str, payload: &Tree) -> Result<Option<Answer>, OutOfMemory>
         ensures front { TakesFront result (content self.old) (content self.new) }
-        ensures given { IfOk result (λ o. IfSome o (λ answer. may_give self.old state.now (view payload.now) (answer_view answer))) }
-        ensures silent { result ≡ Ok None → may_be_silent self.new state.now (view payload.now) }
-        ensures lasting { (n : List ℕ) (t : model.Tree) (answer : Action) → may_give self.new n t answer → may_give self.old n t answer };
+        ensures given { IfOk result (λ o. IfSome o
+            (λ answer. may_give self.old state.now (view payload.now) (answer_view answer))) }
+        ensures silent { result ≡ Ok None
+            → may_be_silent self.old self.new state.now (view payload.now) }
+        ensures lasting { (n : List ℕ) (t : model.Tree) (answer : Action)
+            → may_give self.new n t answer → may_give self.old n t answer }
+        ensures lasting_silent { (later : Self) (n : List ℕ) (t : model.Tree)
+            → may_be_silent self.new later n t → may_be_silent self.old later n t };
 }
 
 /// Answers from a list, whatever state and payload they are for.
@@ -48,12 +53,13 @@ impl Answers for ListAnswers {
 
     ghost may_give = { λ _ _ _ _. Unit {0} };
 
-    ghost may_be_silent = { λ s _ _. s.list.items ≡ [] };
+    ghost may_be_silent = { λ _ s _ _. s.list.items ≡ [] };
 
-    /// Never wants memory.
+    /// Never out of memory.
     fn next(&mut self, _state: &str, _payload: &Tree) -> Result<Option<Answer>, OutOfMemory>
         ensures answered { OnErr result ⊥ }
-        ensures front { TakesFront result (map answer_view self.old.list.items) (map answer_view self.new.list.items) }
+        ensures front { TakesFront result (map answer_view self.old.list.items)
+            (map answer_view self.new.list.items) }
         ensures silent { result ≡ Ok None → self.new.list.items ≡ [] }
     {
         Ok(self.list.pop_front())

@@ -1,11 +1,12 @@
 //! Driving a run: its places take turns, in an order, and a source answers its tasks.
 
-ghost use Rattle.std.specs.Prelude.{◌≡◌, ℕ, List, map, Option, None, IfOk, IfErr, OnOk};
+ghost use Rattle.std.specs.Prelude.{◌≡◌, ℕ, List, [], map, Option, None, IfOk, IfErr, OnOk};
 ghost use Rattle.asl_states.specs.Table.{Shows, table_view};
 ghost use Rattle.asl_model.specs.Machine.{Scope};
 ghost use Rattle.asl_model.specs.Run as model;
 ghost use Rattle.asl_model.specs.Tree as trees;
-ghost use Rattle.asl_run.specs.Driving.{ComesNext, IsPicked, Pauses, GoesOn, Stops, BreaksOff, EndsSo, IsLeft, IsTold, Suits, answer_in, unused};
+ghost use Rattle.asl_run.specs.Driving.{policy_of, stage_of, Drives, Stops, BreaksOff, answer_in, unused};
+ghost use Rattle.asl_run.specs.Driving.{ComesNext, EndsSo, IsLeft, IsPicked, IsTold, Pauses, Suits};
 ghost use Rattle.asl_run.specs.Entries.{entry_view, event_view};
 ghost use Rattle.asl_run.specs.Nodes.{shown_at};
 ghost use Rattle.asl_run.specs.Running.{run_view, IsRunOf};
@@ -65,10 +66,25 @@ pub fn drive<O: Order, A: Answers>(
     max_steps: u64,
 ) -> Result<(Stop, Vec<Entry>), DriveRefusal>
     ensures run { (m : Scope) → IsRunOf m run.old → IsRunOf m run.new }
-    ensures stops { (m : Scope) → IsRunOf m run.old → IfOk result (λ driven. Stops (O.may_pick order.old) (A.may_give answers.old) (A.may_be_silent answers.new) m (run_view run.old) max_steps (A.content answers.old) driven.0 (map entry_view driven.1.items) (run_view run.new) (A.content answers.new)) }
-    ensures broken_off { (m : Scope) → IsRunOf m run.old → IfErr result (λ refusal. BreaksOff (O.may_pick order.old) (A.may_give answers.old) m (run_view run.old) max_steps (A.content answers.old) refusal (run_view run.new) (A.content answers.new)) }
+    ensures stops { (m : Scope) → IsRunOf m run.old
+        → let policy = policy_of (O.may_pick order.old) (A.may_give answers.old)
+        (A.may_be_silent answers.old answers.new) in
+        IfOk result (λ driven. Stops policy m max_steps
+        (stage_of (run_view run.old) (A.content answers.old) []) driven.0
+        (stage_of (run_view run.new) (A.content answers.new)
+        (map entry_view driven.1.items))) }
+    ensures broken_off { (m : Scope) → IsRunOf m run.old
+        → let policy = policy_of (O.may_pick order.old) (A.may_give answers.old)
+        (A.may_be_silent answers.old answers.new) in
+        IfErr result (λ refusal. BreaksOff policy m max_steps
+        (stage_of (run_view run.old) (A.content answers.old) []) refusal.answer
+        (stage_of (run_view run.new) (A.content answers.new)
+        (map entry_view refusal.trace.items))) }
     ensures lasting_order { (n : ℕ) (k : ℕ) → O.may_pick order.new n k → O.may_pick order.old n k }
-    ensures lasting { (n : List ℕ) (t : trees.Tree) (answer : model.Action) → A.may_give answers.new n t answer → A.may_give answers.old n t answer }
+    ensures lasting { (n : List ℕ) (t : trees.Tree) (answer : model.Action)
+        → A.may_give answers.new n t answer → A.may_give answers.old n t answer }
+    ensures lasting_silent { (later : A) (n : List ℕ) (t : trees.Tree)
+        → A.may_be_silent answers.new later n t → A.may_be_silent answers.old later n t }
 {
     let mut trace = Vec::new(run.alloc);
     'turns: for _taken in 0..max_steps {
@@ -109,11 +125,25 @@ fn turn<O: Order, A: Answers>(
 ) -> Result<(), Pause>
     requires goes_on { model.outcome_of (run_view run.old) ≡ None }
     ensures run { (m : Scope) → IsRunOf m run.old → IsRunOf m run.new }
-    ensures goes_on { (m : Scope) → IsRunOf m run.old → OnOk result (GoesOn (O.may_pick order.old) (A.may_give answers.old) m (run_view run.old) (A.content answers.old) (map entry_view trace.old.items) (map entry_view trace.new.items) (run_view run.new) (A.content answers.new)) }
-    ensures pauses { (m : Scope) → IsRunOf m run.old → IfErr result (λ pause. Pauses (A.may_be_silent answers.new) (table_view run.old.machine.now).names (run_view run.old) (A.content answers.old) (A.content answers.new) pause) }
-    ensures stays { (m : Scope) → IsRunOf m run.old → IfErr result (λ _. IsLeft (run_view run.old) (map entry_view trace.old.items) (run_view run.new) (map entry_view trace.new.items)) }
+    ensures goes_on { (m : Scope) → IsRunOf m run.old
+        → let policy = policy_of (O.may_pick order.old) (A.may_give answers.old)
+        (A.may_be_silent answers.old answers.new) in
+        OnOk result (Drives policy m 1
+        (stage_of (run_view run.old) (A.content answers.old) (map entry_view trace.old.items))
+        (stage_of (run_view run.new) (A.content answers.new)
+        (map entry_view trace.new.items))) }
+    ensures pauses { (m : Scope) → IsRunOf m run.old
+        → IfErr result (λ pause. Pauses (A.may_be_silent answers.old answers.new)
+        (table_view run.old.machine.now).names (run_view run.old) (A.content answers.old)
+        (A.content answers.new) pause) }
+    ensures stays { (m : Scope) → IsRunOf m run.old
+        → IfErr result (λ _. IsLeft (run_view run.old) (map entry_view trace.old.items)
+        (run_view run.new) (map entry_view trace.new.items)) }
     ensures lasting_order { (n : ℕ) (k : ℕ) → O.may_pick order.new n k → O.may_pick order.old n k }
-    ensures lasting { (n : List ℕ) (t : trees.Tree) (answer : model.Action) → A.may_give answers.new n t answer → A.may_give answers.old n t answer }
+    ensures lasting { (n : List ℕ) (t : trees.Tree) (answer : model.Action)
+        → A.may_give answers.new n t answer → A.may_give answers.old n t answer }
+    ensures lasting_silent { (later : A) (n : List ℕ) (t : trees.Tree)
+        → A.may_be_silent answers.new later n t → A.may_be_silent answers.old later n t }
 {
     let place = match picked_place(run, order) {
         Ok(place) => place,
@@ -132,7 +162,8 @@ fn turn<O: Order, A: Answers>(
 /// The place whose turn it is, of those where an event is enabled, of a run that hasn't ended.
 fn picked_place<O: Order>(run: &Run, order: &mut O) -> Result<Place, OutOfMemory>
     requires goes_on { model.outcome_of (run_view run.now) ≡ None }
-    ensures picked { (m : Scope) → IsRunOf m run.now → IfOk result (λ place. IsPicked (O.may_pick order.old) m (run_view run.now) place.items) }
+    ensures picked { (m : Scope) → IsRunOf m run.now
+        → IfOk result (λ place. IsPicked (O.may_pick order.old) m (run_view run.now) place.items) }
     ensures lasting { (n : ℕ) (k : ℕ) → O.may_pick order.new n k → O.may_pick order.old n k }
 {
     let count = run.standing.open_count();
@@ -156,12 +187,19 @@ fn next_event<A: Answers>(
     place: Place,
 ) -> Result<Event, Pause>
     ensures place { IfOk result (λ event. (event_view event).place ≡ place.items) }
-    ensures next { IfOk result (λ event. ComesNext (A.may_give answers.old) (shown_at (table_view machine.now).names nodes.now 0) (A.content answers.old) (event_view event) (A.content answers.new)) }
+    ensures next { IfOk result (λ event. ComesNext (A.may_give answers.old)
+        (shown_at (table_view machine.now).names nodes.now 0) (A.content answers.old)
+        (event_view event) (A.content answers.new)) }
     ensures suited { (m : Scope) → Shows machine.now m
         → let a = shown_at (table_view machine.now).names nodes.now 0 in StandsIn a m
         → IfOk result (λ event. Suits (model.activity_at (event_view event).place a) (event_view event).action) }
-    ensures pauses { IfErr result (λ pause. let names = (table_view machine.now).names in Pauses (A.may_be_silent answers.new) names (shown_at names nodes.now 0) (A.content answers.old) (A.content answers.new) pause) }
-    ensures lasting { (n : List ℕ) (t : trees.Tree) (answer : model.Action) → A.may_give answers.new n t answer → A.may_give answers.old n t answer }
+    ensures pauses { let names = (table_view machine.now).names in
+        IfErr result (λ pause. Pauses (A.may_be_silent answers.old answers.new) names
+        (shown_at names nodes.now 0) (A.content answers.old) (A.content answers.new) pause) }
+    ensures lasting { (n : List ℕ) (t : trees.Tree) (answer : model.Action)
+        → A.may_give answers.new n t answer → A.may_give answers.old n t answer }
+    ensures lasting_silent { (later : A) (n : List ℕ) (t : trees.Tree)
+        → A.may_be_silent answers.new later n t → A.may_be_silent answers.old later n t }
 {
     let Some(asked) = waiting_at(machine, nodes, &place) else {
         return Ok(Event::Move(place));
@@ -180,9 +218,14 @@ fn take(run: &mut Run, event: Event, trace: &mut Vec<Entry>) -> Result<(), Optio
     requires enabled { (m : Scope) → IsRunOf m run.old
         → IsSome (model.step m (run_view run.old) (event_view event)) }
     ensures run { (m : Scope) → IsRunOf m run.old → IsRunOf m run.new }
-    ensures taken { (m : Scope) → IsRunOf m run.old → OnOk result (IsTold m (run_view run.old) (event_view event) (map entry_view trace.old.items) (map entry_view trace.new.items) (run_view run.new)) }
-    ensures stays { (m : Scope) → IsRunOf m run.old → IfErr result (λ _. IsLeft (run_view run.old) (map entry_view trace.old.items) (run_view run.new) (map entry_view trace.new.items)) }
-    ensures returned { (m : Scope) → IsRunOf m run.old → IfErr result (λ answer. unused answer ≡ answer_in (event_view event).action) }
+    ensures taken { (m : Scope) → IsRunOf m run.old
+        → OnOk result (IsTold m (run_view run.old) (event_view event)
+        (map entry_view trace.old.items) (map entry_view trace.new.items) (run_view run.new)) }
+    ensures stays { (m : Scope) → IsRunOf m run.old
+        → IfErr result (λ _. IsLeft (run_view run.old) (map entry_view trace.old.items)
+        (run_view run.new) (map entry_view trace.new.items)) }
+    ensures returned { (m : Scope) → IsRunOf m run.old
+        → IfErr result (λ answer. unused answer ≡ answer_in (event_view event).action) }
 {
     let Ok(()) = trace.reserve(MOST_ENTRIES) else {
         return Err(answer_of(event));

@@ -355,7 +355,7 @@ impl<A: Answers> Answers for Scarce<A> {
 
     ghost may_give = { λ s. A.may_give s.answers };
 
-    ghost may_be_silent = { λ s. A.may_be_silent s.answers };
+    ghost may_be_silent = { λ s later. A.may_be_silent s.answers later.answers };
 
     fn next(&mut self, state: &str, payload: &Tree) -> Result<Option<Answer>, OutOfMemory> {
         self.calls = self.calls.saturating_add(1);

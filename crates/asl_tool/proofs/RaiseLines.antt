@@ -1,5 +1,5 @@
 -- Where a yes was given, no run with the same declared shapes tells a fault.
-use Rattle.std.proofs.Common.{◌≡◌, ℕ, List, [], Option, Some, None, sym, subst}
+use Rattle.std.proofs.Common.{◌≡◌, ℕ, List, [], Option, Some, None, refl, sym, subst}
 use Rattle.asl_model.specs.Certificate.{Declared, Obeys, TellsNoFault}
 use Rattle.asl_model.specs.Headline.{NeverFaults}
 use Rattle.asl_model.specs.Machine.{Scope}
@@ -8,7 +8,7 @@ use Rattle.asl_model.specs.Run.{Entry, Event, run_of, trace}
 use Rattle.asl_model.specs.Texts.{ReadsAsMachine, ReadsAsDeclared}
 use Rattle.asl_model.specs.TracePrinted.{HasNoRaiseLine, trace_text}
 use Rattle.asl_model.specs.Tree.{Tree}
-use Rattle.asl_tool.specs.Runs.{ReadsAsShapes, RunsTo, input_misfits, is_run, RunsTexts}
+use Rattle.asl_tool.specs.Runs.{ObeysShapes, ReadsAsShapes, RunsTo, RunsTexts, input_misfits, is_run, request_of, texts_of, turns_of}
 use Rattle.asl_tool.specs.declared.runs.Pick.{Pick}
 
 -- the laws that a text reads as one machine, and as one record of declared shapes, and that of the lines of a history
@@ -27,16 +27,17 @@ IsQuiet input events machine shapes = Obeys shapes machine input events → Tell
 
 pub no_raise : OneMachine → OneDeclared → Unraised → (definition declared certificate : List ℕ) → NeverFaults definition declared certificate
     → (input : List ℕ) (known : Option (List ℕ)) (order : Pick) (most : ℕ) (end : RunEnd) (text : List ℕ)
-    → RunsTexts definition (Some declared) input known order most end text → HasNoRaiseLine text
-no_raise one_machine one_declared unraised definition declared certificate safe input known order most end text r = by r.shapes end text r.read.as_shapes r.runs
+    → RunsTexts (request_of (texts_of definition (Some declared) input known) order most) end text → HasNoRaiseLine text
+no_raise one_machine one_declared unraised definition declared certificate safe input known order most end text r = by r.given.shapes end text refl r.read.as_shapes r.runs
   where
-    same_machine : safe.machine ≡ r.machine
-    same_machine = one_machine definition safe.machine r.machine safe.read.as_machine r.read.as_machine
+    same_machine : safe.machine ≡ r.given.machine
+    same_machine = one_machine definition safe.machine r.given.machine safe.read.as_machine r.read.as_machine
 
-    by : (shapes : Option Declared) (e : RunEnd) (written : List ℕ) → ReadsAsShapes (Some declared) shapes → RunsTo shapes r.machine r.given r.answers order most e written → HasNoRaiseLine written
-    by None e written reads runs = absurd reads
-    by (Some d) e written reads (input_misfits misfit) = unraised [] tt
-    by (Some d) e written reads (is_run run) =
+    by : (shapes : Option Declared) (e : RunEnd) (written : List ℕ) → r.given.shapes ≡ shapes → ReadsAsShapes (Some declared) shapes → RunsTo r.given order most e written → HasNoRaiseLine written
+    by None e written is reads runs = absurd reads
+    by (Some d) e written is reads (input_misfits misfit) = unraised [] tt
+    by (Some d) e written is reads (is_run run) =
         let same : safe.shapes ≡ d = one_declared declared safe.shapes d safe.read.as_declared reads in
-        let quiet : IsQuiet r.given run.events r.machine d = subst (λ m. IsQuiet r.given run.events m d) same_machine (subst (IsQuiet r.given run.events safe.machine) same (safe.tells_no_fault r.given run.events)) in
-        subst HasNoRaiseLine (sym run.told) (unraised (trace (run_of r.machine r.given run.events)) (quiet run.obeys))
+        let quiet : IsQuiet r.given.input run.events r.given.machine d = subst (λ m. IsQuiet r.given.input run.events m d) same_machine (subst (IsQuiet r.given.input run.events safe.machine) same (safe.tells_no_fault r.given.input run.events)) in
+        let obeys : ObeysShapes (Some d) r.given.machine r.given.input run.events = subst (λ s. ObeysShapes s r.given.machine r.given.input run.events) is run.obeys in
+        subst HasNoRaiseLine (sym run.told) (unraised (trace (turns_of r.given run.events)) (quiet obeys))

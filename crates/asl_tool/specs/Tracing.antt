@@ -6,7 +6,7 @@ use Rattle.asl_model.specs.Printed.{line_break}
 use Rattle.asl_model.specs.Run.{Activity, Action, Entry, start}
 use Rattle.asl_model.specs.Tree.{Tree, Integer, Text, Array, Fields, NoFields, AndField}
 use Rattle.asl_model.specs.TracePrinted.{numbers, entry_line, trace_text}
-use Rattle.asl_run.specs.Driving.{Stops, placed_entry}
+use Rattle.asl_run.specs.Driving.{Policy, Stage, Stops, placed_entry, stage_of}
 use Rattle.asl_run.specs.declared.driving.Stop.{Stop}
 use Rattle.asl_tree.specs.View.{view}
 use Rattle.asl_tool.specs.declared.tracing.Shown.{Shown}
@@ -37,9 +37,15 @@ AddsTree tree before longer = longer ≡ before ++ (compact_text tree ++ line_br
 pub record AddsEntry (placed : List ℕ × Option Entry) (before longer : List ℕ) : Type 0 where
   pub added : IfSome placed.1 (λ entry. longer ≡ before ++ entry_line (placed.0, entry))
 
--- a run of a machine on an input is driven by at most so many events until it stops so, and the text is that of its history
-pub record Traces (MayPick : ℕ → ℕ → Type 0) (MayGive : List ℕ → Tree → Action → Type 0) (MayBeSilent : List ℕ → Tree → Type 0) (machine : Scope) (input : Tree) (most : ℕ) (given : List Action) (stop : Stop) (text : List ℕ) (left : List Action) : Type 0 where
+-- where a run of a machine on an input begins, with those answers
+abbrev pub begun : Scope → Tree → List Action → Stage
+begun machine input answers = stage_of (start machine input) answers []
+
+-- a run that begins there is driven by at most so many events until it stops so, those answers are left, and the text is
+-- that of its history
+pub record Traces (policy : Policy) (machine : Scope) (most : ℕ) (before : Stage) (stop : Stop) (text : List ℕ)
+    (left : List Action) : Type 0 where
   pub told : List (List ℕ × Entry)
   pub after : Activity
-  pub stops : Stops MayPick MayGive MayBeSilent machine (start machine input) most given stop (map placed_entry told) after left
+  pub stops : Stops policy machine most before stop (stage_of after left (map placed_entry told))
   pub traced : text ≡ trace_text told

@@ -1,12 +1,12 @@
 //! Answers from a list, each of which has to be of the shape that is declared for it.
 
-ghost use Rattle.std.specs.Prelude.{◌≡◌, false, map, option_map};
+ghost use Rattle.std.specs.Prelude.{◌≡◌, map, option_map};
 ghost use Rattle.asl_model.specs.Certificate.{gives_of};
 ghost use Rattle.asl_model.specs.Shape.{has as has_shape};
 ghost use Rattle.asl_records.specs.View.{declared_view};
 ghost use Rattle.asl_run.specs.Entries.{answer_view};
 ghost use Rattle.asl_tree.specs.View.{view};
-ghost use Rattle.asl_tool.specs.Runs.{MayGive, shape_given, fits_task, is_spent, next_fits};
+ghost use Rattle.asl_tool.specs.Runs.{MayBeSilent, MayGive, shape_given, fits_task, is_spent, next_fits};
 
 use asl_records::Declared;
 use asl_run::{Answer, Answers};
@@ -27,7 +27,8 @@ impl Answers for DeclaredAnswers<'_> {
 
     ghost may_give = { λ s. MayGive (option_map (λ d. declared_view d.now) s.declared) };
 
-    ghost may_be_silent = { λ s n _. next_fits (option_map (λ d. declared_view d.now) s.declared) n (map answer_view s.list.items) ≡ false };
+    ghost may_be_silent = { λ s later. MayBeSilent (option_map (λ d. declared_view d.now) s.declared)
+        (map answer_view later.list.items) };
 
     /// Never out of memory.
     fn next(&mut self, state: &str, _payload: &Tree) -> Result<Option<Answer>, OutOfMemory> {
@@ -49,7 +50,8 @@ impl DeclaredAnswers<'_> {
 
     /// Whether there is a next answer, and the state of that name may be given it.
     fn next_fits(&self, state: &str) -> bool
-        ensures { result ≡ next_fits (option_map (λ d. declared_view d.now) self.now.declared) state.now (map answer_view self.now.list.items) }
+        ensures { result ≡ next_fits (option_map (λ d. declared_view d.now) self.now.declared)
+            state.now (map answer_view self.now.list.items) }
     {
         match self.list.front() {
             Some(answer) => fits_task(self.declared, state, answer),
@@ -60,7 +62,8 @@ impl DeclaredAnswers<'_> {
 
 /// Whether the state of that name may be given the answer: what it gives is of the shape that is declared for the task.
 fn fits_task(declared: Option<&Declared>, state: &str, answer: &Answer) -> bool
-    ensures { result ≡ fits_task (option_map (λ d. declared_view d.now) declared.entry) state.now (answer_view answer.now) }
+    ensures { result ≡ fits_task (option_map (λ d. declared_view d.now) declared.entry)
+        state.now (answer_view answer.now) }
 {
     match answer {
         Answer::Gives(tree) => is_given(declared, state, tree),
@@ -70,7 +73,9 @@ fn fits_task(declared: Option<&Declared>, state: &str, answer: &Answer) -> bool
 
 /// Whether the tree is of the shape of what the task of that name gives; where no shapes are declared, that is any.
 fn is_given(declared: Option<&Declared>, state: &str, tree: &Tree) -> bool
-    ensures { result ≡ has_shape (shape_given (option_map (λ d. declared_view d.now) declared.entry) state.now) (view tree.now) }
+    ensures { result ≡ has_shape
+        (shape_given (option_map (λ d. declared_view d.now) declared.entry) state.now)
+        (view tree.now) }
 {
     match declared {
         Some(declared) => is_given_by(declared, state, tree),
@@ -81,7 +86,8 @@ fn is_given(declared: Option<&Declared>, state: &str, tree: &Tree) -> bool
 /// Whether the tree is of the shape of what the task of that name is declared to give; where it isn't declared, that is
 /// any.
 fn is_given_by(declared: &Declared, state: &str, tree: &Tree) -> bool
-    ensures { result ≡ has_shape (gives_of (declared_view declared.now) state.now) (view tree.now) }
+    ensures { result
+        ≡ has_shape (gives_of (declared_view declared.now) state.now) (view tree.now) }
 {
     match declared.task(state) {
         Some(task) => has(&task.gives, tree),

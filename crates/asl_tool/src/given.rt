@@ -5,6 +5,7 @@ ghost use Rattle.asl_records.specs.View.{declared_view};
 ghost use Rattle.asl_run.specs.Entries.{answer_view};
 ghost use Rattle.asl_tool.specs.Fronts.{IfAnswersRead, NoFrontIsLong};
 ghost use Rattle.asl_tool.specs.Runs.{GivesFault, IsGiven, ReadsAsShapes, RefusesShapes, SourceFault, SourceReads};
+ghost use Rattle.asl_tool.specs.Runs.{texts_of};
 ghost use Rattle.asl_tool.specs.View.{text_fault_view};
 
 use crate::reading::{answers_text, declared_text, machine_text, tree_text};
@@ -38,10 +39,14 @@ pub(crate) fn read_given<S: Source>(
     input: &[u8],
     answers: &mut S,
 ) -> Result<Given, RunFault>
-    ensures given { IfOk result (λ given. IsGiven definition.now (option_map (λ text. text.now) declared.entry) input.now (S.remaining answers.old) given) }
+    ensures given { let texts = texts_of definition.now (option_map (λ text. text.now) declared.entry)
+        input.now (S.remaining answers.old) in
+        IfOk result (IsGiven texts) }
     ensures endless { OnOk result (NoFrontIsLong (S.begins answers.old)) }
     ensures endless_fault { IfErr result (IfAnswersRead (NoFrontIsLong (S.begins answers.old))) }
-    ensures fault { IfErr result (λ fault. GivesFault definition.now (option_map (λ text. text.now) declared.entry) input.now (S.remaining answers.old) (S.failed answers.new) fault) }
+    ensures fault { let texts = texts_of definition.now (option_map (λ text. text.now) declared.entry)
+        input.now (S.remaining answers.old) in
+        IfErr result (GivesFault texts (S.failed answers.new)) }
     ensures lasting { IsTrue (S.failed answers.old) → IsTrue (S.failed answers.new) }
 {
     let machine = match machine_text(alloc, definition) {
@@ -79,8 +84,10 @@ pub(crate) fn read_given<S: Source>(
 
 /// The declared shapes that a text stands for, where there is one.
 fn declared_where_given(alloc: Global, text: Option<&[u8]>) -> Result<Option<Declared>, TextFault>
-    ensures declared { IfOk result (λ declared. ReadsAsShapes (option_map (λ t. t.now) text.entry) (option_map declared_view declared)) }
-    ensures refused { IfErr result (λ fault. RefusesShapes (option_map (λ t. t.now) text.entry) (text_fault_view fault)) }
+    ensures declared { IfOk result (λ declared.
+        ReadsAsShapes (option_map (λ t. t.now) text.entry) (option_map declared_view declared)) }
+    ensures refused { IfErr result (λ fault.
+        RefusesShapes (option_map (λ t. t.now) text.entry) (text_fault_view fault)) }
 {
     let Some(text) = text else {
         return Ok(None);
@@ -93,7 +100,8 @@ fn declared_where_given(alloc: Global, text: Option<&[u8]>) -> Result<Option<Dec
 
 /// The answers that all the bytes of a source read as.
 fn answers_in_source<S: Source>(alloc: Global, source: &mut S) -> Result<VecDeque<Answer>, RunFault>
-    ensures answers { IfOk result (λ answers. SourceReads (S.remaining source.old) (map answer_view answers.items)) }
+    ensures answers { IfOk result (λ answers.
+        SourceReads (S.remaining source.old) (map answer_view answers.items)) }
     ensures endless { OnOk result (NoFrontIsLong (S.begins source.old)) }
     ensures endless_fault { IfErr result (IfAnswersRead (NoFrontIsLong (S.begins source.old))) }
     ensures fault { IfErr result (λ fault. SourceFault (S.remaining source.old) (S.failed source.new) fault) }

@@ -6,7 +6,7 @@ ghost use Rattle.asl_model.specs.Machine.{Scope, LeadsInside};
 ghost use Rattle.asl_model.specs.Certificate.{Declared, Certificate, IsClosed, MovesOn, Works, Nests, IsKeptBy};
 ghost use Rattle.asl_model.specs.Printed.{RunEnd};
 ghost use Rattle.asl_model.specs.TracePrinted.{HasNoRaiseLine};
-ghost use Rattle.asl_tool.specs.Runs.{RunsTexts};
+ghost use Rattle.asl_tool.specs.Runs.{RunsTexts, texts_of, request_of};
 ghost use Rattle.asl_tool.specs.declared.runs.Pick.{Pick};
 
 /// An event at a Pass, a Succeed or a Fail, wherever it is nested, leaves every activity of a run as certified: each state
@@ -43,7 +43,8 @@ pub fn nesting_activities_stay_as_certified()
 pub fn verified_runs_write_no_raise_line()
     ensures { (definition declared certificate : List ℕ) → NeverFaults definition declared certificate
         → (input : List ℕ) (known : Option (List ℕ)) (order : Pick) (most : ℕ) (end : RunEnd) (text : List ℕ)
-        → RunsTexts definition (Some declared) input known order most end text → HasNoRaiseLine text }
+        → RunsTexts (request_of (texts_of definition (Some declared) input known) order most) end text
+        → HasNoRaiseLine text }
 {
     asl_model::reading_laws::texts_have_one_meaning();
     asl_model::run_laws::faultless_traces_have_no_raise_line();

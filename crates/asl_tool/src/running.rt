@@ -1,17 +1,18 @@
 //! From the texts of a run to its trace.
 
-ghost use Rattle.std.specs.Prelude.{◌≡◌, ℕ, List, map, option_map, IsTrue, IfOk, IfErr, OnOk};
+ghost use Rattle.std.specs.Prelude.{◌≡◌, map, option_map, IsTrue, IfOk, IfErr, OnOk};
 ghost use Rattle.asl_states.specs.Table.{Shows, table_view};
 ghost use Rattle.asl_model.specs.Machine.{Scope};
-ghost use Rattle.asl_model.specs.Run as model;
-ghost use Rattle.asl_model.specs.Tree as trees;
 ghost use Rattle.asl_records.specs.View.{declared_view};
+ghost use Rattle.asl_run.specs.Driving.{policy_of};
 ghost use Rattle.asl_run.specs.Entries.{answer_view};
 ghost use Rattle.asl_tree.specs.View.{view};
 ghost use Rattle.asl_tool.specs.Fronts.{IfAnswersRead, NoFrontIsLong};
-ghost use Rattle.asl_tool.specs.Runs.{IsRun, RunsTo, RunFaultStands, WritesRun, end_at, fits_input};
-ghost use Rattle.asl_tool.specs.Tracing.{Traces};
+ghost use Rattle.asl_tool.specs.Runs.{texts_of, request_of, given_of, given_view, end_at, fits_input};
+ghost use Rattle.asl_tool.specs.Runs.{IsRun, RunsTo, RunFaultStands, WritesRun};
+ghost use Rattle.asl_tool.specs.Tracing.{Traces, begun};
 ghost use Rattle.asl_tool.specs.View.{run_end_view};
+ghost use Rattle.asl_tool.specs.Writing.{streams_of};
 
 use crate::declared_answers::DeclaredAnswers;
 use crate::given::{Given, read_given};
@@ -56,10 +57,19 @@ pub fn run_texts<R: Source, W: Sink>(
     order: Pick,
     max_steps: u64,
 ) -> Result<RunEnd, RunFault>
-    ensures run { IfOk result (λ end. WritesRun definition.now (option_map (λ text. text.now) declared.entry) input.now (R.remaining answers.old) order max_steps (W.contents out.old) (W.contents out.new) (run_end_view end)) }
+    ensures run { let texts = texts_of definition.now (option_map (λ text. text.now) declared.entry)
+        input.now (R.remaining answers.old) in
+        let streams = streams_of (W.contents out.old) (W.contents out.new)
+        (R.failed answers.new) (W.failed out.new) in
+        IfOk result (λ end. WritesRun (request_of texts order max_steps) streams
+        (run_end_view end)) }
     ensures endless { OnOk result (NoFrontIsLong (R.begins answers.old)) }
     ensures endless_fault { IfErr result (IfAnswersRead (NoFrontIsLong (R.begins answers.old))) }
-    ensures fault { IfErr result (λ fault. RunFaultStands definition.now (option_map (λ text. text.now) declared.entry) input.now (R.remaining answers.old) (R.failed answers.new) order max_steps (W.contents out.old) (W.contents out.new) (W.failed out.new) fault) }
+    ensures fault { let texts = texts_of definition.now (option_map (λ text. text.now) declared.entry)
+        input.now (R.remaining answers.old) in
+        let streams = streams_of (W.contents out.old) (W.contents out.new)
+        (R.failed answers.new) (W.failed out.new) in
+        IfErr result (RunFaultStands (request_of texts order max_steps) streams) }
     ensures lasting_read { IsTrue (R.failed answers.old) → IsTrue (R.failed answers.new) }
     ensures lasting_write { IsTrue (W.failed out.old) → IsTrue (W.failed out.new) }
 {
@@ -79,7 +89,9 @@ pub fn run_texts<R: Source, W: Sink>(
 
 /// The run of what the texts read as; none where the input isn't of its shape.
 fn run_given(alloc: Global, given: Given, order: Pick, max_steps: u64) -> Result<Told, OutOfMemory>
-    ensures { (m : Scope) → Shows given.machine m → IfOk result (λ told. RunsTo (option_map declared_view given.declared) m (view given.input) (map answer_view given.answers.items) order max_steps (run_end_view told.end) told.trace.items) }
+    ensures { (m : Scope) → Shows given.machine m
+        → IfOk result (λ told. RunsTo (given_view m given) order max_steps
+        (run_end_view told.end) told.trace.items) }
 {
     let Given {
         machine,
@@ -119,7 +131,11 @@ fn run_with(
     mut order: Pick,
     max_steps: u64,
 ) -> Result<Told, OutOfMemory>
-    ensures { let shapes = option_map (λ d. declared_view d.now) answers.old.declared in (m : Scope) → Shows machine.now m → IsTrue (fits_input shapes (view input)) → IfOk result (λ told. IsRun shapes m (view input) (map answer_view answers.old.list.items) order max_steps (run_end_view told.end) told.trace.items) }
+    ensures { let shapes = option_map (λ d. declared_view d.now) answers.old.declared in
+        (m : Scope) → Shows machine.now m → IsTrue (fits_input shapes (view input))
+        → let given = given_of m shapes (view input) (map answer_view answers.old.list.items) in
+        IfOk result (λ told. IsRun given order max_steps
+        (run_end_view told.end) told.trace.items) }
 {
     let (stop, trace) = trace(alloc, machine, input, &mut order, answers, max_steps)?;
     let end = end_of(alloc, machine, stop, answers.is_spent())?;
@@ -137,11 +153,11 @@ fn trace<O: Order, A: Answers>(
     max_steps: u64,
 ) -> Result<(Stop, Vec<u8>), OutOfMemory>
     ensures traces { (m : Scope) → Shows machine.now m
-        → IfOk result (λ traced. Traces (O.may_pick order.old) (A.may_give answers.old)
-        (A.may_be_silent answers.new) m (view input) max_steps (A.content answers.old)
+        → let policy = policy_of (O.may_pick order.old) (A.may_give answers.old)
+        (A.may_be_silent answers.old answers.new) in
+        IfOk result (λ traced. Traces policy m max_steps
+        (begun m (view input) (A.content answers.old))
         traced.0 traced.1.items (A.content answers.new)) }
-    ensures lasting { (n : List ℕ) (t : trees.Tree) (answer : model.Action)
-        → A.may_give answers.new n t answer → A.may_give answers.old n t answer }
 {
     let mut run = match start(alloc, machine, input) {
         Ok(run) => run,

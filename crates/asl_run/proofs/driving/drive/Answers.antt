@@ -9,31 +9,35 @@ turns-preserved g c =
     let so_far = c.turns.invariant in
     record {
       run = λ m h. c.in-Ok.ensures.run m (so_far.run m h);
-      drives = λ m h. one_turn_more so_far.lasting_order so_far.lasting (so_far.drives m h) (c.in-Ok.ensures.goes_on m (so_far.run m h));
+      drives = λ m h.
+          one_turn_more (so_far.drives m h) (c.in-Ok.ensures.goes_on m (so_far.run m h)) (record { picks = λ n k e. e; gives = λ n t answer e. e }) (record { picks = so_far.lasting_order; gives = so_far.lasting });
       lasting_order = λ n k e. so_far.lasting_order n k (c.in-Ok.ensures.lasting_order n k e);
       lasting = λ n t answer e. so_far.lasting n t answer (c.in-Ok.ensures.lasting n t answer e);
+      lasting_silent = λ later n t e. so_far.lasting_silent later n t (c.in-Ok.ensures.lasting_silent later n t e);
     }
 
 pub returns-in-Some-how_ended-clause-stops : goal.returns-in-Some-how_ended-clause-stops
 returns-in-Some-how_ended-clause-stops g c = λ m h.
-    stopped_at_end (g.A.Answers.may_be_silent c.turns.answers) c.args.max_steps c.in-Some-how_ended.stop (omega arith) (c.turns.invariant.drives m h) c.in-Some-how_ended.ensures
+    stopped_at_end c.args.max_steps c.in-Some-how_ended.stop (omega arith) (c.turns.invariant.drives m h) c.in-Some-how_ended.ensures
 
 pub returns-in-Some-clause-stops : goal.returns-in-Some-clause-stops
 returns-in-Some-clause-stops g c = λ m h.
-    stopped_at_end (g.A.Answers.may_be_silent c.turns.answers) c.args.max_steps c.in-Some.stop (omega arith) (c.turns.invariant.drives m h) c.in-Some.ensures
+    stopped_at_end c.args.max_steps c.in-Some.stop (omega arith) (c.turns.invariant.drives m h) c.in-Some.ensures
 
 pub returns-in-Err-NoAnswer-clause-stops : goal.returns-in-Err-NoAnswer-clause-stops
 returns-in-Err-NoAnswer-clause-stops g c = λ m h.
     let here = c.turns.invariant.run m h in
     let pause = c.in-Err-NoAnswer in
-    stopped_unanswered (g.A.Answers.may_be_silent c.turn.new.answers) (table_view c.turns.run.machine.now).names c.args.max_steps pause.state (omega arith) (ap (λ t. t.names) here.shown.table) (c.turns.invariant.drives m h) c.in_default.ensures (rw pause.field-0-is at (pause.ensures.pauses m here)) (pause.ensures.stays m here)
+    stopped_unanswered (g.A.Answers.may_be_silent c.turns.answers c.turn.new.answers) (table_view c.turns.run.machine.now).names c.args.max_steps pause.state (omega arith) (ap (λ t. t.names) here.shown.table)
+    (c.turns.invariant.drives m h) (record { picks = λ n k e. e; gives = λ n t answer e. e }) (c.turns.invariant.lasting_silent c.turn.new.answers) c.in_default.ensures (rw pause.field-0-is at (pause.ensures.pauses m here)) (pause.ensures.stays m here)
 
 pub returns-in-None-clause-stops : goal.returns-in-None-clause-stops
 returns-in-None-clause-stops g c = λ m h.
-    stopped_when_spent (g.A.Answers.may_be_silent c.turns.answers) c.args.max_steps (omega arith) (c.turns.invariant.drives m h) c.in-None.ensures
+    stopped_when_spent c.args.max_steps (omega arith) (c.turns.invariant.drives m h) c.in-None.ensures
 
 pub returns-in-Err-OutOfMemory-clause-broken_off : goal.returns-in-Err-OutOfMemory-clause-broken_off
 returns-in-Err-OutOfMemory-clause-broken_off g c = λ m h.
     let here = c.turns.invariant.run m h in
     let pause = c.in-Err-OutOfMemory in
-    broken_off_there (g.A.Answers.may_be_silent c.turn.new.answers) (table_view c.turns.run.machine.now).names c.args.max_steps (record { trace = c.turn.new.trace; answer = pause.answer }) (omega arith) (c.turns.invariant.drives m h) c.in_default.ensures (rw pause.field-0-is at (pause.ensures.pauses m here)) (pause.ensures.stays m here)
+    broken_off_there (g.A.Answers.may_be_silent c.turns.answers c.turn.new.answers) (table_view c.turns.run.machine.now).names c.args.max_steps pause.answer (omega arith)
+    (c.turns.invariant.drives m h) (record { picks = λ n k e. e; gives = λ n t answer e. e }) c.in_default.ensures (rw pause.field-0-is at (pause.ensures.pauses m here)) (pause.ensures.stays m here)

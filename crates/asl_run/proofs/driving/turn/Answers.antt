@@ -1,7 +1,7 @@
 use Rattle.std.proofs.Common.{List, map, ◌++◌, ap, sym, ◌∙◌, subst}
 use Rattle.asl_states.specs.Table.{table_view}
 use Rattle.asl_model.specs.Run.{activity_at}
-use Rattle.asl_run.specs.Driving.{ComesNext, IsPicked, Suits}
+use Rattle.asl_run.specs.Driving.{ComesNext, IsPicked, Suits, policy_of, stage_of}
 use Rattle.asl_run.specs.Entries.{entry_view, event_view}
 use Rattle.asl_run.specs.Nodes.{shown_at}
 use Rattle.asl_run.specs.Running.{run_view}
@@ -13,16 +13,15 @@ use Rattle.asl_run.proofs.driving.turn.Goals as goal
 
 pub returns-in-Ok-take-clause-goes_on : goal.returns-in-Ok-take-clause-goes_on
 returns-in-Ok-take-clause-goes_on g c =
-    let MayPick = g.O.Order.may_pick c.args.order.now in
-    let MayGive = g.A.Answers.may_give c.args.answers.now in
+    let policy = policy_of (g.O.Order.may_pick c.args.order.now) (g.A.Answers.may_give c.args.answers.now) (g.A.Answers.may_be_silent c.args.answers.now c.next_event.new.answers) in
     let names = (table_view c.args.run.now.machine.now).names in
     let event = event_view c.in-Ok-next_event.event in
-    let given = g.A.Answers.content c.args.answers.now in
-    let left = g.A.Answers.content c.next_event.new.answers in
-    let next = subst (λ (l : List Node). ComesNext MayGive (shown_at names l 0) given event left) c.nodes.ensures c.in-Ok-next_event.ensures.next in
+    let before = stage_of (run_view c.args.run.now) (g.A.Answers.content c.args.answers.now) (map entry_view c.args.trace.now.items) in
+    let after = stage_of (run_view c.take.new.run) (g.A.Answers.content c.next_event.new.answers) (map entry_view c.take.new.trace.items) in
+    let next = subst (λ (l : List Node). ComesNext policy.may_give (shown_at names l 0) before.answers event after.answers) c.nodes.ensures c.in-Ok-next_event.ensures.next in
     λ m h.
-    turn_taken MayPick MayGive m (run_view c.args.run.now) (run_view c.take.new.run) event given left (map entry_view c.args.trace.now.items) (map entry_view c.take.new.trace.items)
-    (subst (IsPicked MayPick m (run_view c.args.run.now)) (sym c.in-Ok-next_event.ensures.place) (c.in-Ok.ensures.picked m h)) next (c.in-Ok-take.ensures.taken m h)
+    turn_taken policy m before after event
+    (subst (IsPicked policy.may_pick m (run_view c.args.run.now)) (sym c.in-Ok-next_event.ensures.place) (c.in-Ok.ensures.picked m h)) next (c.in-Ok-take.ensures.taken m h)
 
 pub returns-in-Err-take-clause-pauses : goal.returns-in-Err-take-clause-pauses
 returns-in-Err-take-clause-pauses g c = λ m h.
