@@ -30,15 +30,18 @@ state_at here = state_view here.state.now
 
 -- what is defined for a state's name, its settings, its raw input and its counts, of those here
 abbrev pub by_settings : {A : Type 0} → (List ℕ → Settings → Tree → List ℕ → A) → Here → A
-by_settings defined here = defined here.name.now (settings_view here.state.now.settings) (view here.visit.now.raw.value) here.visit.now.counts.items
+by_settings defined here = defined here.name.now (settings_view here.state.now.settings)
+    (view here.visit.now.raw.value) here.visit.now.counts.items
 
 -- the same for the state itself
 abbrev pub by_state : {A : Type 0} → (List ℕ → State → Tree → List ℕ → A) → Here → A
-by_state defined here = defined here.name.now (state_at here) (view here.visit.now.raw.value) here.visit.now.counts.items
+by_state defined here = defined here.name.now (state_at here)
+    (view here.visit.now.raw.value) here.visit.now.counts.items
 
 -- the step that comes of an error so
 abbrev pub by_trouble_at : Here → List ℕ → List ℕ → model.Trouble → model.Step
-by_trouble_at here error cause trouble = model.by_trouble here.name.now (view here.visit.now.raw.value) here.visit.now.counts.items error cause trouble
+by_trouble_at here error cause trouble = model.by_trouble here.name.now
+    (view here.visit.now.raw.value) here.visit.now.counts.items error cause trouble
 
 -- the name is that of the execution's state, and its names lead on
 pub record IsAt (here : Here) : Type 0 where
@@ -73,7 +76,8 @@ pub record PlansAs (here : Here) (plan : Option Plan) (step : Option model.Step)
 
 -- the execution's state, found by its number in the machine's table, and its names lead on
 pub record StandsAt (machine : Machine) (visit : Visit) (state : State) : Type 0 where
-  pub name : slice_get (table_view machine).names visit.state ≡ Some (name_in (table_view machine).names visit.state)
+  pub name : slice_get (table_view machine).names visit.state
+      ≡ Some (name_in (table_view machine).names visit.state)
   pub shown : slice_get (table_view machine).states visit.state ≡ Some state
   pub leads : LeadsOn (table_view machine).names state
 
@@ -81,7 +85,8 @@ pub record StandsAt (machine : Machine) (visit : Visit) (state : State) : Type 0
 abbrev pub moves : model.Activity → model.Action → State → Option model.Step
 moves (model.Ready n raw counts) action state = model.moves_ready n raw counts action state
 moves (model.Waiting n raw counts payload) action state = model.moves_waiting n raw counts action state
-moves (model.Split n raw counts children) action state = model.moves_split n raw counts children action state
+moves (model.Split n raw counts children) action state =
+    model.moves_split n raw counts children action state
 moves (model.Done output) action state = None
 moves (model.Failed error cause) action state = None
 
@@ -89,28 +94,36 @@ moves (model.Failed error cause) action state = None
 -- ready, waits or is split, and its children
 abbrev pub moves_as : model.Activity → model.Action → List ℕ → State → Tree → List ℕ → Option model.Step
 moves_as (model.Ready m r cs) action n state raw counts = model.moves_ready n raw counts action state
-moves_as (model.Waiting m r cs payload) action n state raw counts = model.moves_waiting n raw counts action state
-moves_as (model.Split m r cs children) action n state raw counts = model.moves_split n raw counts children action state
+moves_as (model.Waiting m r cs payload) action n state raw counts =
+    model.moves_waiting n raw counts action state
+moves_as (model.Split m r cs children) action n state raw counts =
+    model.moves_split n raw counts children action state
 moves_as (model.Done output) action n state raw counts = None
 moves_as (model.Failed error cause) action n state raw counts = None
 
 -- the same for the execution here, which stands in the node over these children
 abbrev pub moves_at : Here → model.Activities → Node → model.Action → Option model.Step
-moves_at here below node action = by_state (moves_as (shown_over (names_at here) below node) action) here
+moves_at here below node action =
+    by_state (moves_as (shown_over (names_at here) below node) action) here
 
 -- the same where the execution here waits for an answer
 abbrev pub takes_at : Here → model.Action → Option model.Step
-takes_at here action = by_state (λ n state raw counts. model.moves_waiting n raw counts action state) here
+takes_at here action =
+    by_state (λ n state raw counts. model.moves_waiting n raw counts action state) here
 
 -- the execution stands in the node: what an action does there, it does for that execution
 pub record IsVisitOf (node : Node) (visit : Visit) : Type 0 where
   pub stands : visit_in node ≡ Some visit
-  pub does : (names : List (List ℕ)) (below : model.Activities) (action : model.Action) (state : State) → let shown = shown_over names below node in moves shown action state ≡ moves_as shown action (name_in names visit.state) state (view visit.raw.value) visit.counts.items
+  pub does : (names : List (List ℕ)) (below : model.Activities) (action : model.Action)
+      (state : State) → let shown = shown_over names below node in
+      moves shown action state
+      ≡ moves_as shown action (name_in names visit.state) state (view visit.raw.value) visit.counts.items
 
 -- no execution of a state stands in the node, and no action does anything there
 pub record HasNoVisit (node : Node) : Type 0 where
   pub none : visit_in node ≡ None
-  pub does : (names : List (List ℕ)) (below : model.Activities) (action : model.Action) (state : State) → moves (shown_over names below node) action state ≡ None
+  pub does : (names : List (List ℕ)) (below : model.Activities) (action : model.Action)
+      (state : State) → moves (shown_over names below node) action state ≡ None
 
 -- an execution with its state, as the machine has it by its number, at that place and in that node
 pub record IsFoundBy (machine : Machine) (place : List ℕ) (node : Node) (here : Here) : Type 0 where
@@ -122,27 +135,37 @@ pub record IsFoundBy (machine : Machine) (place : List ℕ) (node : Node) (here 
 
 -- no action does anything at the node
 pub record DoesNothing (machine : Machine) (node : Node) : Type 0 where
-  pub nothing : (below : model.Activities) (action : model.Action) (state : State) → IfSome (visit_in node) (λ visit. StandsAt machine visit state) → moves (shown_over (table_view machine).names below node) action state ≡ None
+  pub nothing : (below : model.Activities) (action : model.Action) (state : State)
+      → IfSome (visit_in node) (λ visit. StandsAt machine visit state)
+      → moves (shown_over (table_view machine).names below node) action state ≡ None
 
 -- the plan does what the step does where that execution stands
-pub record Does (names : List (List ℕ)) (place : List ℕ) (visit : Visit) (plan : Plan) (step : model.Step) : Type 0 where
+pub record Does (names : List (List ℕ)) (place : List ℕ) (visit : Visit) (plan : Plan)
+    (step : model.Step) : Type 0 where
   pub told : map entry_view plan.entries.items ≡ map (told_at place) step.entries
   pub left : changed names visit plan.change ≡ step.after
 
 -- there is a step, and the plan does it
-pub record DoesOne (names : List (List ℕ)) (place : List ℕ) (visit : Visit) (plan : Plan) (step : Option model.Step) : Type 0 where
+pub record DoesOne (names : List (List ℕ)) (place : List ℕ) (visit : Visit) (plan : Plan)
+    (step : Option model.Step) : Type 0 where
   pub that : model.Step
   pub is : step ≡ Some that
   pub does : Does names place visit plan that
 
 -- a plan is that of what the action does at the node over these children
-pub record ActsSo (machine : Machine) (place : List ℕ) (below : model.Activities) (node : Node) (action : model.Action) (plan : Plan) : Type 0 where
+pub record ActsSo (machine : Machine) (place : List ℕ) (below : model.Activities) (node : Node)
+    (action : model.Action) (plan : Plan) : Type 0 where
   pub visit : Visit
   pub stands : visit_in node ≡ Some visit
   pub rises : CanApply node plan.change
-  pub does : (state : State) → StandsAt machine visit state → DoesOne (table_view machine).names place visit plan (moves (shown_over (table_view machine).names below node) action state)
+  pub does : (state : State) → StandsAt machine visit state
+      → DoesOne (table_view machine).names place visit plan
+      (moves (shown_over (table_view machine).names below node) action state)
 
 -- so is the plan, if there is one; there is none only where the action does nothing there
-pub record Acts (machine : Machine) (place : List ℕ) (below : model.Activities) (node : Node) (action : model.Action) (plan : Option Plan) : Type 0 where
+pub record Acts (machine : Machine) (place : List ℕ) (below : model.Activities) (node : Node)
+    (action : model.Action) (plan : Option Plan) : Type 0 where
   pub planned : IfSome plan (λ p. ActsSo machine place below node action p)
-  pub nothing : plan ≡ None → (state : State) → IfSome (visit_in node) (λ visit. StandsAt machine visit state) → moves (shown_over (table_view machine).names below node) action state ≡ None
+  pub nothing : plan ≡ None → (state : State)
+      → IfSome (visit_in node) (λ visit. StandsAt machine visit state)
+      → moves (shown_over (table_view machine).names below node) action state ≡ None

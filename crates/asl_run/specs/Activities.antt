@@ -14,7 +14,8 @@ ended_view (outcomes.Failed error cause) = model.Failed (string_bytes error) (st
 
 -- an execution that is about to enter its state; the states have these names by their numbers
 abbrev pub ready_view : List (List ℕ) → Visit → model.Activity
-ready_view names visit = model.Ready (name_in names visit.state) (trees.view visit.raw.value) visit.counts.items
+ready_view names visit =
+    model.Ready (name_in names visit.state) (trees.view visit.raw.value) visit.counts.items
 
 -- so each of them, in order
 abbrev pub ready_children : List (List ℕ) → List Visit → model.Activities

@@ -17,15 +17,16 @@ use Rattle.asl_run.specs.declared.entries.Answer.{Answer}
 
 -- ---- what may happen, and how far a run is driven
 
--- What may happen while a run is driven: out of so many places where an event is enabled, that one may be picked, by its
--- number; that answer may be given for a state of that name and its payload; none may come for them.
+-- What may happen while a run is driven: out of so many places where an event is enabled, that one may be picked, by
+-- its number; that answer may be given for a state of that name and its payload; none may come for them.
 pub record Policy : Type 1 where
   pub may_pick : ℕ → ℕ → Type 0
   pub may_give : List ℕ → Tree → Action → Type 0
   pub may_be_silent : List ℕ → Tree → Type 0
 
 -- that of an order and a source that say so
-abbrev pub policy_of : (ℕ → ℕ → Type 0) → (List ℕ → Tree → Action → Type 0) → (List ℕ → Tree → Type 0) → Policy
+abbrev pub policy_of : (ℕ → ℕ → Type 0) → (List ℕ → Tree → Action → Type 0)
+    → (List ℕ → Tree → Type 0) → Policy
 policy_of may_pick may_give may_be_silent = record {
   may_pick = may_pick;
   may_give = may_give;
@@ -60,10 +61,12 @@ answers_among [] = []
 answers_among (event ∷ events) = answer_in event.action ++ answers_among events
 
 -- what may happen where that stands: a move, or an answer that may be given for the state and the payload that wait
-pub data MayHappen (MayGive : List ℕ → Tree → Action → Type 0) (here : Option Activity) : Action → Type 0 where
+pub data MayHappen (MayGive : List ℕ → Tree → Action → Type 0) (here : Option Activity)
+    : Action → Type 0 where
   any_move : MayHappen MayGive here Move
   answer_given : {n : List ℕ} {raw : Tree} {counts : List ℕ} {payload : Tree} {answer : Action}
-      → here ≡ Some (Waiting n raw counts payload) → MayGive n payload answer → MayHappen MayGive here answer
+      → here ≡ Some (Waiting n raw counts payload) → MayGive n payload answer
+      → MayHappen MayGive here answer
 
 -- a task waits there
 pub record IsWaiting (here : Option Activity) : Type 0 where
@@ -81,7 +84,8 @@ Suits here (Gives answer) = IsWaiting here
 Suits here (FailsTask error cause) = IsWaiting here
 
 -- out of the places where an event is enabled, in their order, that one may be picked, by its number among so many
-pub record IsPicked (MayPick : ℕ → ℕ → Type 0) (machine : Scope) (a : Activity) (place : List ℕ) : Type 0 where
+pub record IsPicked (MayPick : ℕ → ℕ → Type 0) (machine : Scope) (a : Activity)
+    (place : List ℕ) : Type 0 where
   pub number : ℕ
   pub picks : MayPick (length (enabled a machine)) number
   pub stands : option_map (λ wanted. wanted.0) (slice_get (enabled a machine) number) ≡ Some place
@@ -100,8 +104,8 @@ abbrev pub placed_entry : List ℕ × Entry → List ℕ × Option Entry
 placed_entry told = (told.0, Some told.1)
 
 -- That many events, all enabled and each at a place that may be picked, lead a run from one stage to another. Their
--- answers, in order, are those that stand before the ones that are left, and each may be given where it is taken. Behind
--- what was told before, what they add to the run's history is told.
+-- answers, in order, are those that stand before the ones that are left, and each may be given where it is taken.
+-- Behind what was told before, what they add to the run's history is told.
 pub record Drives (policy : Policy) (machine : Scope) (count : ℕ) (before after : Stage) : Type 0 where
   pub events : List Event
   pub counted : length events ≡ count
@@ -111,7 +115,8 @@ pub record Drives (policy : Policy) (machine : Scope) (count : ℕ) (before afte
   pub stands : last_activity before.activity (run machine before.activity events) ≡ after.activity
 
 -- a place of that state waits, and no answer may come for it and its payload
-pub record IsUnanswered (MayBeSilent : List ℕ → Tree → Type 0) (state : Option (List ℕ)) (a : Activity) : Type 0 where
+pub record IsUnanswered (MayBeSilent : List ℕ → Tree → Type 0) (state : Option (List ℕ))
+    (a : Activity) : Type 0 where
   pub place : List ℕ
   pub name : List ℕ
   pub raw : Tree
@@ -132,8 +137,8 @@ StopsSo policy names most count a (stops.NoAnswer state) =
 StopsSo policy names most count a stops.StepsSpent = (outcome_of a ≡ None) × (count ≡ most)
 
 -- a run is driven from one stage to another by at most so many events, until it stops so
-pub record Stops (policy : Policy) (machine : Scope) (most : ℕ) (before : Stage) (stop : Stop) (after : Stage)
-    : Type 0 where
+pub record Stops (policy : Policy) (machine : Scope) (most : ℕ) (before : Stage) (stop : Stop)
+    (after : Stage) : Type 0 where
   pub count : ℕ
   pub within : count ≤ most
   pub drives : Drives policy machine count before after
@@ -150,8 +155,8 @@ with_unused answer stage = stage_of stage.activity (unused answer ++ stage.answe
 
 -- a run is driven from one stage to another by fewer than so many events, until it is broken off before its end; the
 -- answer that comes back was the next one
-pub record BreaksOff (policy : Policy) (machine : Scope) (most : ℕ) (before : Stage) (answer : Option Answer)
-    (after : Stage) : Type 0 where
+pub record BreaksOff (policy : Policy) (machine : Scope) (most : ℕ) (before : Stage)
+    (answer : Option Answer) (after : Stage) : Type 0 where
   pub count : ℕ
   pub fewer : count < most
   pub going : outcome_of after.activity ≡ None
@@ -163,31 +168,34 @@ pub record BreaksOff (policy : Policy) (machine : Scope) (most : ℕ) (before : 
 abbrev pub EndsSo : Option Stop → Option Outcome → Type 0
 EndsSo None outcome = outcome ≡ None
 EndsSo (Some stops.Output) outcome = (output : Tree) × (outcome ≡ Some (Output output))
-EndsSo (Some stops.Failed) outcome = (error : List ℕ) × (cause : List ℕ) × (outcome ≡ Some (FailedWith error cause))
+EndsSo (Some stops.Failed) outcome =
+    (error : List ℕ) × (cause : List ℕ) × (outcome ≡ Some (FailedWith error cause))
 EndsSo (Some (stops.NoAnswer state)) outcome = ⊥
 EndsSo (Some stops.StepsSpent) outcome = ⊥
 
 -- the event may happen next, and its answer is the front of those that are given
-pub record ComesNext (MayGive : List ℕ → Tree → Action → Type 0) (a : Activity) (given : List Action) (event : Event)
-    (left : List Action) : Type 0 where
+pub record ComesNext (MayGive : List ℕ → Tree → Action → Type 0) (a : Activity)
+    (given : List Action) (event : Event) (left : List Action) : Type 0 where
   pub allowed : MayHappen MayGive (activity_at event.place a) event.action
   pub answered : given ≡ answer_in event.action ++ left
 
 -- why a turn has no event, and what that leaves of the answers
-abbrev pub Pauses : (List ℕ → Tree → Type 0) → List (List ℕ) → Activity → List Action → List Action → Pause → Type 0
+abbrev pub Pauses : (List ℕ → Tree → Type 0) → List (List ℕ) → Activity
+    → List Action → List Action → Pause → Type 0
 Pauses MayBeSilent names a given left (pauses.NoAnswer state) =
     IsUnanswered MayBeSilent (slice_get names state) a × (left ≡ given)
 Pauses MayBeSilent names a given left (pauses.OutOfMemory answer) = given ≡ unused answer ++ left
 
 -- the event is enabled, and what it leads to is told behind what was told before
-pub record IsTold (machine : Scope) (before : Activity) (event : Event) (told longer : Told) (after : Activity)
-    : Type 0 where
+pub record IsTold (machine : Scope) (before : Activity) (event : Event) (told longer : Told)
+    (after : Activity) : Type 0 where
   pub step : Step
   pub enabled : model.step machine before event ≡ Some step
   pub grown : longer ≡ told ++ map (λ entry. (event.place, Some entry)) step.entries
   pub stands : after ≡ step.after
 
 -- nothing has happened, and nothing was told
-pub record IsLeft (before : Activity) (told : Told) (after : Activity) (after_told : Told) : Type 0 where
+pub record IsLeft (before : Activity) (told : Told) (after : Activity)
+    (after_told : Told) : Type 0 where
   pub stands : after ≡ before
   pub tells : after_told ≡ told

@@ -7,7 +7,9 @@ use Rattle.asl_run.specs.Standing.{children_of}
 use Rattle.asl_run.specs.declared.nodes.Children.{Children}
 use Rattle.asl_run.specs.declared.nodes.Node.{Node}
 use Rattle.asl_run.specs.declared.entries.Want as code
-use Rattle.asl_model.specs.Run.{Activity, Ready, Waiting, Split, Done, Failed, Activities, NoActivities, AndActivity, Joining, AllDone, OneFailed, StillRunning, joining, Want, WantsMove, WantsAnswer, down_from}
+use Rattle.asl_model.specs.Run.{Activity, Ready, Waiting, Split, Done, Failed, Activities, NoActivities, AndActivity}
+use Rattle.asl_model.specs.Run.{Joining, AllDone, OneFailed, StillRunning, joining, Want, WantsMove, WantsAnswer}
+use Rattle.asl_model.specs.Run.{down_from}
 
 -- a Split wants its move where its children are far enough
 abbrev pub wanted_by_join : Joining → Option Want
@@ -55,14 +57,16 @@ abbrev mutual
   pub open_in : Activity → List (List ℕ × Want)
   open_in (Ready n raw counts) = own_place (Some WantsMove)
   open_in (Waiting n raw counts payload) = own_place (Some WantsAnswer)
-  open_in (Split n raw counts children) = own_place (wanted_by_join (joining 0 children)) ++ open_below children 0
+  open_in (Split n raw counts children) =
+      own_place (wanted_by_join (joining 0 children)) ++ open_below children 0
   open_in (Done output) = []
   open_in (Failed error cause) = []
 
   -- those of the children from number i on
   pub open_below : Activities → ℕ → List (List ℕ × Want)
   open_below NoActivities i = []
-  open_below (AndActivity child others) i = map (down_from i) (open_in child) ++ open_below others (suc i)
+  open_below (AndActivity child others) i =
+      map (down_from i) (open_in child) ++ open_below others (suc i)
 
 -- a place below that one, seen from the machine's own
 abbrev pub seen_from : List ℕ → List ℕ × Want → List ℕ × Want
@@ -77,13 +81,19 @@ abbrev pub found_view : Vec ℕ Global × code.Want → List ℕ × Want
 found_view found = (found.0.items, want_view found.1)
 
 -- those of a node of a table, whatever the states are called
-pub record AddsPlaces (nodes : List Node) (i : ℕ) (place : List ℕ) (before after : List (List ℕ × Want)) : Type 0 where
+pub record AddsPlaces (nodes : List Node) (i : ℕ) (place : List ℕ)
+    (before after : List (List ℕ × Want)) : Type 0 where
   pub adds : (names : List (List ℕ)) → Adds place (open_in (shown_at names nodes i)) before after
 
 -- those of some of its children
-pub record AddsPlacesBelow (nodes : List Node) (children : Children) (place : List ℕ) (before after : List (List ℕ × Want)) : Type 0 where
-  pub adds : (names : List (List ℕ)) → Adds place (open_below (children_of (in_table (Some children) (shown_from names 0 nodes))) 0) before after
+pub record AddsPlacesBelow (nodes : List Node) (children : Children) (place : List ℕ)
+    (before after : List (List ℕ × Want)) : Type 0 where
+  pub adds : (names : List (List ℕ)) → Adds place
+      (open_below (children_of (in_table (Some children) (shown_from names 0 nodes))) 0)
+      before after
 
 -- the own place of a node with these children
-pub record AddsOwn (node : Node) (children : List Node) (place : List ℕ) (before after : List (List ℕ × Want)) : Type 0 where
-  pub adds : (names : List (List ℕ)) (below : List Activity) → AreHeads names children below → Adds place (own_place (wanted_by (shown_over names (children_of below) node))) before after
+pub record AddsOwn (node : Node) (children : List Node) (place : List ℕ)
+    (before after : List (List ℕ × Want)) : Type 0 where
+  pub adds : (names : List (List ℕ)) (below : List Activity) → AreHeads names children below
+      → Adds place (own_place (wanted_by (shown_over names (children_of below) node))) before after

@@ -50,12 +50,20 @@ raised_view n field error = option_map (λ e. model.Raised n (record { error = e
 
 -- an entry, with its place; none where it raises what is no error of data flow, which no run's does
 abbrev pub entry_view : Entry → List ℕ × Option model.Entry
-entry_view (entries.Enter at state input) = (at.items, Some (model.Entered (string_bytes state) (trees.view input.value)))
-entry_view (entries.Task at state payload) = (at.items, Some (model.Asked (string_bytes state) (trees.view payload.value)))
-entry_view (entries.Leave at state output) = (at.items, Some (model.Left (string_bytes state) (trees.view output.value)))
-entry_view (entries.Raise at state error field) = (at.items, raised_view (string_bytes state) (string_bytes field) (error_named (string_bytes error)))
-entry_view (entries.TaskFailed at state error cause) = (at.items, Some (model.TaskFailed (string_bytes state) (string_bytes error) (string_bytes cause)))
-entry_view (entries.BranchFailed at state child error cause) = (at.items, Some (model.BranchFailed (string_bytes state) child (string_bytes error) (string_bytes cause)))
-entry_view (entries.Retried at state retrier) = (at.items, Some (model.Retried (string_bytes state) retrier))
-entry_view (entries.Caught at state catcher next) = (at.items, Some (model.Caught (string_bytes state) catcher (string_bytes next)))
+entry_view (entries.Enter at state input) =
+    (at.items, Some (model.Entered (string_bytes state) (trees.view input.value)))
+entry_view (entries.Task at state payload) =
+    (at.items, Some (model.Asked (string_bytes state) (trees.view payload.value)))
+entry_view (entries.Leave at state output) =
+    (at.items, Some (model.Left (string_bytes state) (trees.view output.value)))
+entry_view (entries.Raise at state error field) =
+    (at.items, raised_view (string_bytes state) (string_bytes field) (error_named (string_bytes error)))
+entry_view (entries.TaskFailed at state error cause) =
+    (at.items, Some (model.TaskFailed (string_bytes state) (string_bytes error) (string_bytes cause)))
+entry_view (entries.BranchFailed at state child error cause) =
+    (at.items, Some (model.BranchFailed (string_bytes state) child (string_bytes error) (string_bytes cause)))
+entry_view (entries.Retried at state retrier) =
+    (at.items, Some (model.Retried (string_bytes state) retrier))
+entry_view (entries.Caught at state catcher next) =
+    (at.items, Some (model.Caught (string_bytes state) catcher (string_bytes next)))
 entry_view (entries.Ended at outcome) = (at.items, Some (model.Ended (outcome_view outcome)))

@@ -1,7 +1,8 @@
 -- How far the children of a Split are, and their outputs.
 use Rattle.std.specs.Prelude.{ℕ, List, [], ◌∷◌, ◌++◌, Option, Some, None}
 use Rattle.std.specs.Option.{option_to_list}
-use Rattle.asl_model.specs.Run.{Activity, Ready, Waiting, Split, Done, Failed, Joining, AllDone, OneFailed, StillRunning}
+use Rattle.asl_model.specs.Run.{Activity, Ready, Waiting, Split, Done, Failed, Joining, AllDone, OneFailed}
+use Rattle.asl_model.specs.Run.{StillRunning}
 use Rattle.asl_model.specs.Tree.{Tree, NoTrees}
 use Rattle.asl_run.specs.declared.joining.Far.{Far}
 use Rattle.asl_run.specs.declared.joining.Far.TheVariants as fars

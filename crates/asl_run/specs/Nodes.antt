@@ -1,5 +1,6 @@
 -- What the nodes of a run's table show, and how their numbers lead along a place.
-use Rattle.std.specs.Prelude.{◌≡◌, ◌<◌, ◌≤◌, ◌+◌, ◌-◌, ◌^◌, ℕ, suc, List, [], ◌∷◌, length, take, drop, Option, Some, None, option_and_then, slice_get, nat_lt, if◌then◌else◌}
+use Rattle.std.specs.Prelude.{◌≡◌, ◌<◌, ◌≤◌, ◌+◌, ◌-◌, ◌^◌, ℕ, suc, List, [], ◌∷◌, length, take, drop, Option, Some}
+use Rattle.std.specs.Prelude.{None, option_and_then, slice_get, nat_lt, if◌then◌else◌}
 use Rattle.std.specs.Option.{unwrap_or}
 use Rattle.asl_model.specs.Run as model
 use Rattle.asl_model.specs.Tree.{Null}
@@ -17,8 +18,10 @@ use Rattle.asl_run.specs.declared.nodes.Node.TheVariants.{Ready, Waiting, Split,
 -- a node, over what its children show; the states have these names by their numbers
 abbrev pub shown_over : List (List ℕ) → model.Activities → Node → model.Activity
 shown_over names below (Ready visit) = ready_view names visit
-shown_over names below (Waiting visit payload) = model.Waiting (name_in names visit.state) (trees.view visit.raw.value) visit.counts.items (trees.view payload.value)
-shown_over names below (Split visit children) = model.Split (name_in names visit.state) (trees.view visit.raw.value) visit.counts.items below
+shown_over names below (Waiting visit payload) = model.Waiting (name_in names visit.state)
+    (trees.view visit.raw.value) visit.counts.items (trees.view payload.value)
+shown_over names below (Split visit children) =
+    model.Split (name_in names visit.state) (trees.view visit.raw.value) visit.counts.items below
 shown_over names below (Ended outcome) = ended_view outcome
 
 -- where the children of a node stand; only a Split has some
@@ -41,7 +44,8 @@ in_range i (Some children) behind = take children.count (drop (children.first.0 
 -- what is shown of each node of a table, from the number i on
 abbrev pub shown_from : List (List ℕ) → ℕ → List Node → List model.Activity
 shown_from names i [] = []
-shown_from names i (node ∷ nodes) = let behind = shown_from names (suc i) nodes in shown_over names (children_of (in_range i (range_of node) behind)) node ∷ behind
+shown_from names i (node ∷ nodes) = let behind = shown_from names (suc i) nodes in
+    shown_over names (children_of (in_range i (range_of node) behind)) node ∷ behind
 
 -- what is shown of node i of a table
 abbrev pub shown_at : List (List ℕ) → List Node → ℕ → model.Activity
@@ -79,7 +83,8 @@ pub record IsBegunWith (state : ℕ) (input : Tree) (nodes : List Node) : Type 0
 pub record IsTable (nodes : List Node) : Type 0 where
   pub parents : ℕ → ℕ
   pub lower : (k : ℕ) → parents k ≤ k
-  pub ranges : (i : ℕ) (node : Node) (children : Children) → slice_get nodes i ≡ Some node → range_of node ≡ Some children → IsRange parents (length nodes) i children
+  pub ranges : (i : ℕ) (node : Node) (children : Children) → slice_get nodes i ≡ Some node
+      → range_of node ≡ Some children → IsRange parents (length nodes) i children
   pub some : 0 < length nodes
 
 -- these children stand in a table, all of them
@@ -93,7 +98,8 @@ pub record HasRange (nodes : List Node) (children : Children) : Type 0 where
 -- the number of the child of that number
 abbrev pub number_in_range : Option Children → ℕ → Option ℕ
 number_in_range None k = None
-number_in_range (Some children) k = if nat_lt k children.count then Some (children.first.0 + k) else None
+number_in_range (Some children) k =
+    if nat_lt k children.count then Some (children.first.0 + k) else None
 
 -- the same of node i
 abbrev pub child_number : List Node → ℕ → ℕ → Option ℕ
@@ -102,4 +108,5 @@ child_number nodes i k = number_in_range (option_and_then range_of (slice_get no
 -- the number of the node at a place below node i
 abbrev pub number_from : List Node → ℕ → List ℕ → Option ℕ
 number_from nodes i [] = Some i
-number_from nodes i (k ∷ place) = option_and_then (λ c. number_from nodes c place) (child_number nodes i k)
+number_from nodes i (k ∷ place) =
+    option_and_then (λ c. number_from nodes c place) (child_number nodes i k)

@@ -1,11 +1,13 @@
 -- Names and numbers of states, and the scopes in which activities stand.
-use Rattle.std.specs.Prelude.{◌≡◌, ℕ, suc, List, [], ◌∷◌, ◌++◌, Option, Some, None, slice_get, position, bytes_eq, Contains}
+use Rattle.std.specs.Prelude.{◌≡◌, ℕ, suc, List, [], ◌∷◌, ◌++◌, Option, Some, None, slice_get, position, bytes_eq}
+use Rattle.std.specs.Prelude.{Contains}
 use Rattle.std.specs.Option.{unwrap_or}
 use Rattle.asl_model.specs.Flow.{Splits, first_move}
 use Rattle.asl_model.specs.Machine.{Scope, State, kind_of, child_scope}
 use Rattle.asl_model.specs.Numbering.{targets_of}
 pub use Rattle.asl_model.specs.Run.{StandsIn, EachStandsIn}
-use Rattle.asl_model.specs.Run.{Activity, Activities, NoActivities, AndActivity, Ready, Waiting, Split, Done, Failed, started}
+use Rattle.asl_model.specs.Run.{Activity, Activities, NoActivities, AndActivity, Ready, Waiting, Split, Done, Failed}
+use Rattle.asl_model.specs.Run.{started}
 use Rattle.asl_model.specs.Tree.{Tree, Trees}
 
 -- a text that is longer than each of these names, so none of them
@@ -37,7 +39,8 @@ EachIsNamed names (AndActivity (Failed error cause) others) = EachIsNamed names 
 -- the names of a state lead to states: those of the states that may follow, and the starts of its children
 pub record LeadsOn (names : List (List ℕ)) (state : State) : Type 0 where
   pub targets : (n : List ℕ) → Contains (targets_of state) n → IsNamed names n
-  pub starts : (raw : Tree) (inputs : Trees) → first_move state raw ≡ Splits inputs → EachIsNamed names (started (child_scope (kind_of state)) inputs)
+  pub starts : (raw : Tree) (inputs : Trees) → first_move state raw ≡ Splits inputs
+      → EachIsNamed names (started (child_scope (kind_of state)) inputs)
 
 -- a next state, where there is one, is one that may follow the state
 abbrev pub MayFollow : State → Option (List ℕ) → Type 0

@@ -20,14 +20,16 @@ use Rattle.asl_run.specs.declared.stepping.StepRefusal.{StepRefusal}
 use Rattle.asl_run.specs.declared.stepping.StepRefusal.TheVariants.{NoSuchPlace, NotEnabled, OutOfMemory}
 
 -- a step is defined; its entries are told, with that place, and it leaves what stands after it
-pub record IsStep (at : List ℕ) (defined : Option model.Step) (told : List (List ℕ × Option model.Entry)) (after : model.Activity) : Type 0 where
+pub record IsStep (at : List ℕ) (defined : Option model.Step)
+    (told : List (List ℕ × Option model.Entry)) (after : model.Activity) : Type 0 where
   pub step : model.Step
   pub is : defined ≡ Some step
   pub tells : told ≡ map (λ entry. (at, Some entry)) step.entries
   pub left : after ≡ step.after
 
 -- the machine takes the event so
-abbrev pub Takes : Scope → model.Activity → model.Event → List (List ℕ × Option model.Entry) → model.Activity → Type 0
+abbrev pub Takes : Scope → model.Activity → model.Event
+    → List (List ℕ × Option model.Entry) → model.Activity → Type 0
 Takes m before event told after = IsStep event.place (model.step m before event) told after
 
 -- what a refusal says of the step of an activity
@@ -37,14 +39,19 @@ RefusedSo NotEnabled there step = IsSome there × (step ≡ None)
 RefusedSo OutOfMemory there step = IsSome step
 
 -- an answer to a step is right for an activity that stands in a scope of a machine
-pub record StepsIn (scope : Scope) (at place : List ℕ) (before after : model.Activity) (action : model.Action) (r : Result (Vec Entry Global) StepRefusal) : Type 0 where
-  pub taken : IfOk r (λ entries. IsStep at (model.step_at place scope before action) (map entry_view entries.items) after)
-  pub refused : IfErr r (λ refusal. RefusedSo refusal (model.activity_at place before) (model.step_at place scope before action))
+pub record StepsIn (scope : Scope) (at place : List ℕ) (before after : model.Activity)
+    (action : model.Action) (r : Result (Vec Entry Global) StepRefusal) : Type 0 where
+  pub taken : IfOk r (λ entries.
+      IsStep at (model.step_at place scope before action) (map entry_view entries.items) after)
+  pub refused : IfErr r (λ refusal.
+      RefusedSo refusal (model.activity_at place before) (model.step_at place scope before action))
   pub unchanged : IfErr r (λ _. after ≡ before)
 
 -- so in each such scope of each machine that is shown
-pub record Steps (machine : Machine) (at place : List ℕ) (before after : model.Activity) (action : model.Action) (r : Result (Vec Entry Global) StepRefusal) : Type 0 where
-  pub steps : (m scope : Scope) → Shows machine m → IsScopeOf m scope → StandsIn before scope → StepsIn scope at place before after action r
+pub record Steps (machine : Machine) (at place : List ℕ) (before after : model.Activity)
+    (action : model.Action) (r : Result (Vec Entry Global) StepRefusal) : Type 0 where
+  pub steps : (m scope : Scope) → Shows machine m → IsScopeOf m scope → StandsIn before scope
+      → StepsIn scope at place before after action r
 
 -- the names of the machine's states, by number
 abbrev pub names_for : Happening → List (List ℕ)
@@ -55,20 +62,30 @@ abbrev pub action_of : Happening → model.Action
 action_of happening = unwrap_or (option_map (λ a. answer_view a.now) happening.answer) model.Move
 
 -- an answer to what happens to a table of nodes is right
-pub record StepsAt (happening : Happening) (before after : List Node) (r : Result (Vec Entry Global) StepRefusal) : Type 0 where
-  pub whole : Steps happening.machine.now happening.at.now happening.at.now (shown_at (names_for happening) before 0) (shown_at (names_for happening) after 0) (action_of happening) r
+pub record StepsAt (happening : Happening) (before after : List Node)
+    (r : Result (Vec Entry Global) StepRefusal) : Type 0 where
+  pub whole : Steps happening.machine.now happening.at.now happening.at.now
+      (shown_at (names_for happening) before 0) (shown_at (names_for happening) after 0)
+      (action_of happening) r
 
 -- what is shown of the children of a node of a table
 abbrev pub below_node : Happening → List Node → Node → model.Activities
-below_node happening nodes node = children_of (in_table (range_of node) (shown_from (names_for happening) 0 nodes))
+below_node happening nodes node =
+    children_of (in_table (range_of node) (shown_from (names_for happening) 0 nodes))
 
 -- a refusal is right for an activity itself
-pub record RefusesThere (machine : Machine) (a : model.Activity) (action : model.Action) (refusal : StepRefusal) : Type 0 where
-  pub refuses : (m scope : Scope) → Shows machine m → IsScopeOf m scope → StandsIn a scope → RefusedSo refusal (Some a) (model.acts scope a action)
+pub record RefusesThere (machine : Machine) (a : model.Activity) (action : model.Action)
+    (refusal : StepRefusal) : Type 0 where
+  pub refuses : (m scope : Scope) → Shows machine m → IsScopeOf m scope → StandsIn a scope
+      → RefusedSo refusal (Some a) (model.acts scope a action)
 
 -- what is to be done at node i, or why there is nothing
-pub record IsPlanned (happening : Happening) (nodes : List Node) (i : ℕ) (r : Result Plan StepRefusal) : Type 0 where
+pub record IsPlanned (happening : Happening) (nodes : List Node) (i : ℕ)
+    (r : Result Plan StepRefusal) : Type 0 where
   pub node : Node
   pub there : slice_get nodes i ≡ Some node
-  pub planned : IfOk r (λ plan. ActsSo happening.machine.now happening.at.now (below_node happening nodes node) node (action_of happening) plan)
-  pub refused : IfErr r (λ refusal. RefusesThere happening.machine.now (shown_over (names_for happening) (below_node happening nodes node) node) (action_of happening) refusal)
+  pub planned : IfOk r (λ plan. ActsSo happening.machine.now happening.at.now
+      (below_node happening nodes node) node (action_of happening) plan)
+  pub refused : IfErr r (λ refusal. RefusesThere happening.machine.now
+      (shown_over (names_for happening) (below_node happening nodes node) node)
+      (action_of happening) refusal)

@@ -22,8 +22,8 @@ use asl_states::Machine;
 use asl_tree::OutOfMemory;
 use std::alloc::Global;
 
-/// What an answer, or without one a move, is to do at that place, where this node stands over these children; none where it
-/// isn't enabled there. Nothing is changed yet.
+/// What an answer, or without one a move, is to do at that place, where this node stands over these children; none
+/// where it isn't enabled there. Nothing is changed yet.
 pub(crate) fn plan(
     alloc: Global,
     machine: &Machine,
@@ -32,7 +32,10 @@ pub(crate) fn plan(
     children: &[Node],
     answer: Option<&Answer>,
 ) -> Result<Option<Plan>, OutOfMemory>
-    ensures { IfOk result (λ plan. (below : List model.Activity) → AreHeads (table_view machine.now).names children.now below → Acts machine.now at.now (children_of below) node.now (unwrap_or (option_map (λ a. answer_view a.now) answer.entry) model.Move) plan) }
+    ensures { IfOk result (λ plan. (below : List model.Activity)
+        → AreHeads (table_view machine.now).names children.now below
+        → Acts machine.now at.now (children_of below) node.now
+        (unwrap_or (option_map (λ a. answer_view a.now) answer.entry) model.Move) plan) }
 {
     match find(alloc, machine, at, node) {
         Some(here) => act(&here, node, children, answer),
@@ -84,7 +87,10 @@ fn act(
     children: &[Node],
     answer: Option<&Answer>,
 ) -> Result<Option<Plan>, OutOfMemory>
-    ensures { IfOk result (λ plan. (below : List model.Activity) → AreHeads (names_at here.now) children.now below → PlansAs here.now plan (moves_at here.now (children_of below) node.now (unwrap_or (option_map (λ a. answer_view a.now) answer.entry) model.Move))) }
+    ensures { IfOk result (λ plan. (below : List model.Activity)
+        → AreHeads (names_at here.now) children.now below
+        → PlansAs here.now plan (moves_at here.now (children_of below) node.now
+        (unwrap_or (option_map (λ a. answer_view a.now) answer.entry) model.Move))) }
 {
     match answer {
         Some(answer) => take(here, node, answer),
@@ -94,7 +100,9 @@ fn act(
 
 /// What a move is to do there.
 fn make_move(here: &Here, node: &Node, children: &[Node]) -> Result<Option<Plan>, OutOfMemory>
-    ensures { IfOk result (λ plan. (below : List model.Activity) → AreHeads (names_at here.now) children.now below → PlansAs here.now plan (moves_at here.now (children_of below) node.now model.Move)) }
+    ensures { IfOk result (λ plan. (below : List model.Activity)
+        → AreHeads (names_at here.now) children.now below
+        → PlansAs here.now plan (moves_at here.now (children_of below) node.now model.Move)) }
 {
     match node {
         Node::Ready(_) => {
@@ -109,7 +117,8 @@ fn make_move(here: &Here, node: &Node, children: &[Node]) -> Result<Option<Plan>
 
 /// What an answer is to do there.
 fn take(here: &Here, node: &Node, answer: &Answer) -> Result<Option<Plan>, OutOfMemory>
-    ensures { IfOk result (λ plan. (below : model.Activities) → PlansAs here.now plan (moves_at here.now below node.now (answer_view answer.now))) }
+    ensures { IfOk result (λ plan. (below : model.Activities)
+        → PlansAs here.now plan (moves_at here.now below node.now (answer_view answer.now))) }
 {
     match node {
         Node::Waiting { .. } => {
@@ -124,7 +133,8 @@ fn take(here: &Here, node: &Node, answer: &Answer) -> Result<Option<Plan>, OutOf
 
 /// The Task takes the answer that it waits for.
 fn take_on(here: &Here, answer: &Answer) -> Result<Plan, OutOfMemory>
-    ensures { IfOk result (λ plan. PlansOne here.now plan (takes_at here.now (answer_view answer.now))) }
+    ensures { IfOk result
+        (λ plan. PlansOne here.now plan (takes_at here.now (answer_view answer.now))) }
 {
     match answer {
         Answer::Gives(tree) => finish(here, Data::Lent(tree)),
@@ -134,7 +144,9 @@ fn take_on(here: &Here, answer: &Answer) -> Result<Plan, OutOfMemory>
 
 /// The Task's task has failed: the state is in trouble.
 fn fail(here: &Here, error: &str, cause: &str) -> Result<Plan, OutOfMemory>
-    ensures { IfOk result (λ plan. Plans here.now plan (model.entry_then (model.TaskFailed here.now.name.now error.now cause.now) (by_settings model.troubled here.now error.now cause.now))) }
+    ensures { IfOk result (λ plan. Plans here.now plan
+        (model.entry_then (model.TaskFailed here.now.name.now error.now cause.now)
+        (by_settings model.troubled here.now error.now cause.now))) }
 {
     let plan = in_trouble(here, error, cause)?;
     plan.after(here.task_failed(error, cause))

@@ -46,7 +46,8 @@ impl Change {
 impl Node {
     /// Its task waits for the answer to that payload.
     pub(crate) fn wait(&mut self, alloc: Global, payload: Datum)
-        ensures waits { (visit : Visit) → visit_in self.old ≡ Some visit → self.new ≡ variants.Waiting visit payload }
+        ensures waits { (visit : Visit) → visit_in self.old ≡ Some visit
+            → self.new ≡ variants.Waiting visit payload }
         ensures alone { range_of self.new ≡ None }
     {
         if let Some(visit) = self.take_visit(alloc) {
@@ -56,19 +57,23 @@ impl Node {
 
     /// It has these children.
     pub(crate) fn split(&mut self, alloc: Global, children: Children)
-        ensures splits { (visit : Visit) → visit_in self.old ≡ Some visit → self.new ≡ variants.Split visit children }
-        ensures no_others { (others : nodes.Children) → range_of self.new ≡ Some others → others ≡ children }
+        ensures splits { (visit : Visit) → visit_in self.old ≡ Some visit
+            → self.new ≡ variants.Split visit children }
+        ensures no_others { (others : nodes.Children) → range_of self.new ≡ Some others
+            → others ≡ children }
     {
         if let Some(visit) = self.take_visit(alloc) {
             *self = Node::Split { visit, children };
         }
     }
 
-    /// Its state is about to be entered again, the count of the retrier of that number one higher. A refusal leaves what
-    /// stands there as it is.
+    /// Its state is about to be entered again, the count of the retrier of that number one higher. A refusal leaves
+    /// what stands there as it is.
     pub(crate) fn retry(&mut self, alloc: Global, retrier: usize) -> Result<(), OutOfMemory>
-        requires { (visit : Visit) → visit_in self.old ≡ Some visit → CanRise visit.counts.items retrier }
-        ensures retries { IfOk result (λ _. (visit : Visit) → visit_in self.old ≡ Some visit → (after : Visit) × (self.new ≡ variants.Ready after) × IsRaised retrier visit after) }
+        requires { (visit : Visit) → visit_in self.old ≡ Some visit
+            → CanRise visit.counts.items retrier }
+        ensures retries { IfOk result (λ _. (visit : Visit) → visit_in self.old ≡ Some visit
+            → (after : Visit) × (self.new ≡ variants.Ready after) × IsRaised retrier visit after) }
         ensures alone { IfOk result (λ _. range_of self.new ≡ None) }
         ensures unchanged { IfErr result (λ _. IsAlike self.old self.new) }
     {
@@ -99,8 +104,10 @@ impl Node {
 
     /// Raises the count of the retrier of that number by one. A refusal leaves the node as it is.
     fn raise(&mut self, retrier: usize) -> Result<(), OutOfMemory>
-        requires { (visit : Visit) → visit_in self.old ≡ Some visit → CanRise visit.counts.items retrier }
-        ensures raised { IfOk result (λ _. (visit : Visit) → visit_in self.old ≡ Some visit → (after : Visit) × (visit_in self.new ≡ Some after) × IsRaised retrier visit after) }
+        requires { (visit : Visit) → visit_in self.old ≡ Some visit
+            → CanRise visit.counts.items retrier }
+        ensures raised { IfOk result (λ _. (visit : Visit) → visit_in self.old ≡ Some visit
+            → (after : Visit) × (visit_in self.new ≡ Some after) × IsRaised retrier visit after) }
         ensures unchanged { IfErr result (λ _. IsAlike self.old self.new) }
     {
         match self {

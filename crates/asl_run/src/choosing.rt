@@ -16,7 +16,8 @@ pub(crate) fn choose<'m>(
     default: &'m Option<String>,
     input: &Tree,
 ) -> Result<&'m str, Fault>
-    ensures { Finds (λ n. n.now) result (model.chosen (map rule_view rules.now) (option_map string_bytes default.now) (view input.now)) }
+    ensures { Finds (λ n. n.now) result (model.chosen (map rule_view rules.now)
+        (option_map string_bytes default.now) (view input.now)) }
 {
     for rule in rules {
         match holds(&rule.test, input) {

@@ -55,8 +55,8 @@ pub(crate) enum Pause {
     OutOfMemory(Option<Answer>),
 }
 
-/// Drives the run until it has ended, until `max_steps` events were taken, or until the place whose turn it is waits and
-/// the source has no answer for it. It tells what has happened.
+/// Drives the run until it has ended, until `max_steps` events were taken, or until the place whose turn it is
+/// waits and the source has no answer for it. It tells what has happened.
 ///
 /// Refused: want of memory.
 pub fn drive<O: Order, A: Answers>(
@@ -192,7 +192,8 @@ fn next_event<A: Answers>(
         (event_view event) (A.content answers.new)) }
     ensures suited { (m : Scope) → Shows machine.now m
         → let a = shown_at (table_view machine.now).names nodes.now 0 in StandsIn a m
-        → IfOk result (λ event. Suits (model.activity_at (event_view event).place a) (event_view event).action) }
+        → IfOk result (λ event.
+        Suits (model.activity_at (event_view event).place a) (event_view event).action) }
     ensures pauses { let names = (table_view machine.now).names in
         IfErr result (λ pause. Pauses (A.may_be_silent answers.old answers.new) names
         (shown_at names nodes.now 0) (A.content answers.old) (A.content answers.new) pause) }

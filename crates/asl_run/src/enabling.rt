@@ -16,7 +16,9 @@ use std::alloc::Global;
 
 /// The kind of event that the node itself wants, over these children, if any.
 pub(crate) fn wanted_by(node: &Node, children: &[Node]) -> Option<Want>
-    ensures { (names : List (List ℕ)) (below : List Activity) → AreHeads names children.now below → option_map want_view result ≡ model.wanted_by (shown_over names (children_of below) node.now) }
+    ensures { (names : List (List ℕ)) (below : List Activity) → AreHeads names children.now below
+        → option_map want_view result
+        ≡ model.wanted_by (shown_over names (children_of below) node.now) }
 {
     match node {
         Node::Ready(_) => Some(Want::Move),
@@ -34,7 +36,8 @@ pub(crate) fn wanted_by(node: &Node, children: &[Node]) -> Option<Want>
 
 /// Whether the children of a Parallel or a Map are far enough for its move: one has failed, or all have ended.
 fn is_joinable(children: &[Node]) -> bool
-    ensures { (names : List (List ℕ)) (below : List Activity) → AreHeads names children.now below → result ≡ model.is_joinable (joining 0 (children_of below)) }
+    ensures { (names : List (List ℕ)) (below : List Activity) → AreHeads names children.now below
+        → result ≡ model.is_joinable (joining 0 (children_of below)) }
 {
     let mut all_ended = true;
     for child in children {
@@ -48,20 +51,22 @@ fn is_joinable(children: &[Node]) -> bool
 
 /// Whether a scope has ended there with an error.
 pub(crate) fn has_failed(node: &Node) -> bool
-    ensures { (names : List (List ℕ)) (below : Activities) → result ≡ model.has_failed (shown_over names below node.now) }
+    ensures { (names : List (List ℕ)) (below : Activities)
+        → result ≡ model.has_failed (shown_over names below node.now) }
 {
     matches!(node, Node::Ended(Outcome::Failed { .. }))
 }
 
 /// Whether a scope has ended there.
 pub(crate) fn has_ended(node: &Node) -> bool
-    ensures { (names : List (List ℕ)) (below : Activities) → result ≡ model.has_ended (shown_over names below node.now) }
+    ensures { (names : List (List ℕ)) (below : Activities)
+        → result ≡ model.has_ended (shown_over names below node.now) }
 {
     matches!(node, Node::Ended(_))
 }
 
-/// Adds the places where an event is wanted at the node of that number, which stands at that place, or below it to those
-/// that were found, a place before those below it.
+/// Adds the places where an event is wanted at the node of that number, which stands at that place, or below it to
+/// those that were found, a place before those below it.
 #[cycle(add_places)]
 pub(crate) fn add_places(
     alloc: Global,
@@ -71,7 +76,8 @@ pub(crate) fn add_places(
     found: &mut Vec<(Place, Want)>,
 ) -> Result<(), OutOfMemory>
     requires { number.0 < length nodes.now }
-    ensures added { IfOk result (λ _. AddsPlaces nodes.now number.0 place.old.items (map found_view found.old.items) (map found_view found.new.items)) }
+    ensures added { IfOk result (λ _. AddsPlaces nodes.now number.0 place.old.items
+        (map found_view found.old.items) (map found_view found.new.items)) }
     ensures place { IfOk result (λ _. place.new.items ≡ place.old.items) }
 {
     let node = nodes.node(number);
@@ -94,7 +100,8 @@ fn add_places_below(
     found: &mut Vec<(Place, Want)>,
 ) -> Result<(), OutOfMemory>
     requires { HasRange nodes.now children }
-    ensures added { IfOk result (λ _. AddsPlacesBelow nodes.now children place.old.items (map found_view found.old.items) (map found_view found.new.items)) }
+    ensures added { IfOk result (λ _. AddsPlacesBelow nodes.now children place.old.items
+        (map found_view found.old.items) (map found_view found.new.items)) }
     ensures place { IfOk result (λ _. place.new.items ≡ place.old.items) }
 {
     for number in 0..children.count {
@@ -114,7 +121,8 @@ fn add_own_place(
     place: &Place,
     found: &mut Vec<(Place, Want)>,
 ) -> Result<(), OutOfMemory>
-    ensures { IfOk result (λ _. AddsOwn node.now children.now place.now.items (map found_view found.old.items) (map found_view found.new.items)) }
+    ensures { IfOk result (λ _. AddsOwn node.now children.now place.now.items
+        (map found_view found.old.items) (map found_view found.new.items)) }
 {
     if let Some(want) = wanted_by(node, children) {
         let own = Vec::from_slice(alloc, place)?;

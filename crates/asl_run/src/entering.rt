@@ -35,7 +35,9 @@ pub(crate) fn enter(here: &Here) -> Result<Plan, OutOfMemory>
 
 /// What its first move comes to is done.
 fn carry_out(here: &Here, work: Work) -> Result<Plan, OutOfMemory>
-    ensures { IfOk result (λ plan. flow.first_move (state_at here.now) (view here.now.visit.now.raw.value) ≡ work_view work.entry → Plans here.now plan (by_state model.by_work here.now (work_view work.entry))) }
+    ensures { IfOk result (λ plan.
+        flow.first_move (state_at here.now) (view here.now.visit.now.raw.value) ≡ work_view work.entry
+        → Plans here.now plan (by_state model.by_work here.now (work_view work.entry))) }
 {
     match work {
         Work::Finishes(value) => finish(here, value),
@@ -52,7 +54,8 @@ fn carry_out(here: &Here, work: Work) -> Result<Plan, OutOfMemory>
 
 /// Its task is asked with a payload.
 fn ask(here: &Here, payload: Data) -> Result<Plan, OutOfMemory>
-    ensures { IfOk result (λ plan. Plans here.now plan (by_state model.by_work here.now (flow.Asks (data_view payload.entry)))) }
+    ensures { IfOk result (λ plan. Plans here.now plan
+        (by_state model.by_work here.now (flow.Asks (data_view payload.entry)))) }
 {
     let payload = payload.into_datum(here.alloc)?;
     wait_for(here, payload)
@@ -60,7 +63,8 @@ fn ask(here: &Here, payload: Data) -> Result<Plan, OutOfMemory>
 
 /// It waits for the answer to its payload.
 fn wait_for(here: &Here, payload: Datum) -> Result<Plan, OutOfMemory>
-    ensures { IfOk result (λ plan. Plans here.now plan (by_state model.by_work here.now (flow.Asks (view payload.value)))) }
+    ensures { IfOk result (λ plan.
+        Plans here.now plan (by_state model.by_work here.now (flow.Asks (view payload.value)))) }
 {
     let told = here.asked(&payload);
     Plan::new(here.alloc, Change::Ask(payload)).after(told)
@@ -68,7 +72,10 @@ fn wait_for(here: &Here, payload: Datum) -> Result<Plan, OutOfMemory>
 
 /// It starts a child for each of these inputs.
 fn split(here: &Here, inputs: Vec<Datum>) -> Result<Plan, OutOfMemory>
-    ensures { IfOk result (λ plan. flow.first_move (state_at here.now) (view here.now.visit.now.raw.value) ≡ flow.Splits (data_of inputs.items) → Plans here.now plan (by_state model.by_work here.now (flow.Splits (data_of inputs.items)))) }
+    ensures { IfOk result (λ plan.
+        flow.first_move (state_at here.now) (view here.now.visit.now.raw.value)
+        ≡ flow.Splits (data_of inputs.items)
+        → Plans here.now plan (by_state model.by_work here.now (flow.Splits (data_of inputs.items)))) }
 {
     let children = start_children(here, inputs)?;
     Ok(Plan::new(here.alloc, Change::SplitInto(children)))
@@ -76,7 +83,11 @@ fn split(here: &Here, inputs: Vec<Datum>) -> Result<Plan, OutOfMemory>
 
 /// A child for each input, about to enter the start of its scope.
 fn start_children(here: &Here, inputs: Vec<Datum>) -> Result<Vec<Visit>, OutOfMemory>
-    ensures { IfOk result (λ children. EachIsNamed (names_at here.now) (model.started (machine.child_scope (kind_view here.now.state.now.kind)) (data_of inputs.items)) → ready_children (names_at here.now) children.items ≡ model.started (machine.child_scope (kind_view here.now.state.now.kind)) (data_of inputs.items)) }
+    ensures { let scopes = machine.child_scope (kind_view here.now.state.now.kind) in
+        IfOk result (λ children.
+        EachIsNamed (names_at here.now) (model.started scopes (data_of inputs.items))
+        → ready_children (names_at here.now) children.items
+        ≡ model.started scopes (data_of inputs.items)) }
 {
     let mut children = Vec::with_capacity(here.alloc, inputs.len())?;
     for input in inputs {

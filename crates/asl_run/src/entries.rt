@@ -3,8 +3,8 @@
 use asl_tree::Tree;
 use std::rc::Rc;
 
-/// Where an activity stands: the numbers of the children on the way down from the machine's own activity, whose place is
-/// empty.
+/// Where an activity stands: the numbers of the children on the way down from the machine's own activity, whose
+/// place is empty.
 pub type Place = Vec<usize>;
 
 /// A tree that several parts of a run show and none changes: what leaves a state is what enters the next, and what the

@@ -28,7 +28,8 @@ pub(crate) fn effective_input<'t>(
     settings: &Settings,
     raw: &'t Datum,
 ) -> Result<Data<'t>, Stop>
-    ensures { Flows data_view result (model.effective_input (settings_view settings.now) (view raw.now.value)) }
+    ensures { Flows data_view result
+        (model.effective_input (settings_view settings.now) (view raw.now.value)) }
 {
     let input = at_input_path(alloc, &settings.input_path, raw)?;
     match &settings.parameters {
@@ -94,7 +95,8 @@ pub(crate) fn by_template(
     input: &Tree,
     item: Option<Item>,
 ) -> Result<Tree, Stop>
-    ensures { Flows view result (model.met_in field.now (template_value (templates.view template.now) (view input.now) (at_hand item.entry))) }
+    ensures { Flows view result (model.met_in field.now
+        (template_value (templates.view template.now) (view input.now) (at_hand item.entry))) }
 {
     let error = match eval(alloc, template, input, item) {
         Ok(value) => return Ok(value),
@@ -107,7 +109,8 @@ pub(crate) fn by_template(
 
 /// What `OutputPath` leaves of a tree: the empty object where it is null, else what the path names.
 pub(crate) fn at_output_path(alloc: Global, settings: &Settings, value: Data) -> Result<Datum, Stop>
-    ensures { Flows datum_view result (model.at_output_path (settings_view settings.now) (data_view value.entry)) }
+    ensures { Flows datum_view result
+        (model.at_output_path (settings_view settings.now) (data_view value.entry)) }
 {
     if is_whole(&settings.output_path) {
         return Ok(value.into_datum(alloc)?);
@@ -124,7 +127,8 @@ pub(crate) fn output_of(
     raw: &Datum,
     value: Data,
 ) -> Result<Datum, Stop>
-    ensures { Flows datum_view result (model.output_of (settings_view settings.now) (view raw.now.value) (data_view value.entry)) }
+    ensures { Flows datum_view result (model.output_of (settings_view settings.now)
+        (view raw.now.value) (data_view value.entry)) }
 {
     let selected = match &settings.result_selector {
         Some(template) => {
@@ -144,7 +148,8 @@ fn place_result<'t>(
     raw: &'t Datum,
     value: Data<'t>,
 ) -> Result<Data<'t>, Stop>
-    ensures { Flows data_view result (model.result_placed path.now (view raw.now.value) (data_view value.entry)) }
+    ensures { Flows data_view result
+        (model.result_placed path.now (view raw.now.value) (data_view value.entry)) }
 {
     let Some(path) = path else {
         return Ok(Data::Shared(raw));

@@ -24,7 +24,8 @@ pub(crate) fn branch_inputs(
     branches: &[String],
     input: &Datum,
 ) -> Result<Vec<Datum>, OutOfMemory>
-    ensures { IfOk result (λ v. data_of v.items ≡ model.branch_inputs (branches_view branches.now) (view input.now.value)) }
+    ensures { IfOk result (λ v.
+        data_of v.items ≡ model.branch_inputs (branches_view branches.now) (view input.now.value)) }
 {
     let mut inputs = Vec::with_capacity(alloc, branches.len())?;
     for _branch in branches {
@@ -55,7 +56,8 @@ pub(crate) fn item_inputs(
     input: &Tree,
     items: &[Tree],
 ) -> Result<Vec<Datum>, Stop>
-    ensures { Flows (λ v. data_of v.items) result (model.item_inputs (option_map templates.view selector.now) (view input.now) 0 (elements_view items.now)) }
+    ensures { Flows (λ v. data_of v.items) result (model.item_inputs
+        (option_map templates.view selector.now) (view input.now) 0 (elements_view items.now)) }
 {
     let mut inputs = Vec::with_capacity(alloc, items.len())?;
     for (index, item) in items.iter().enumerate() {
@@ -73,7 +75,8 @@ fn item_input(
     item: &Tree,
 ) -> Result<Datum, Stop>
     requires { number < 2 ^ 63 }
-    ensures { Flows datum_view result (model.item_input (option_map templates.view selector.now) (view input.now) number (view item.now)) }
+    ensures { Flows datum_view result (model.item_input (option_map templates.view selector.now)
+        (view input.now) number (view item.now)) }
 {
     match selector {
         Some(template) => {

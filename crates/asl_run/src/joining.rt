@@ -37,7 +37,10 @@ enum Far<'c> {
 
 /// The state's children are joined; none where they aren't far enough.
 pub(crate) fn join(here: &Here, children: &[Node]) -> Result<Option<Plan>, OutOfMemory>
-    ensures { IfOk result (λ plan. (below : List model.Activity) → AreHeads (names_at here.now) children.now below → PlansAs here.now plan (by_state model.joins here.now (model.joining 0 (children_of below)))) }
+    ensures { IfOk result (λ plan. (below : List model.Activity)
+        → AreHeads (names_at here.now) children.now below
+        → PlansAs here.now plan
+        (by_state model.joins here.now (model.joining 0 (children_of below)))) }
 {
     match how_far(children) {
         Far::AllDone => {
@@ -59,7 +62,10 @@ pub(crate) fn join(here: &Here, children: &[Node]) -> Result<Option<Plan>, OutOf
 
 /// Its child of that number has failed: the state is in trouble.
 fn break_off(here: &Here, child: usize, error: &str, cause: &str) -> Result<Plan, OutOfMemory>
-    ensures { IfOk result (λ plan. Plans here.now plan (model.entry_then (model.BranchFailed here.now.name.now child error.now cause.now) (by_settings model.troubled here.now (model.join_error (kind_view here.now.state.now.kind) error.now) cause.now))) }
+    ensures { IfOk result (λ plan. Plans here.now plan
+        (model.entry_then (model.BranchFailed here.now.name.now child error.now cause.now)
+        (by_settings model.troubled here.now
+        (model.join_error (kind_view here.now.state.now.kind) error.now) cause.now))) }
 {
     let plan = in_trouble(here, join_error(&here.state.kind, error), cause)?;
     plan.after(here.branch_failed(child, error, cause))
@@ -84,7 +90,9 @@ fn join_error<'e>(kind: &Kind, error: &'e str) -> &'e str
 
 /// How far the children are.
 fn how_far(children: &[Node]) -> Far<'_>
-    ensures { (names : List (List ℕ)) (below : List model.Activity) → AreHeads names children.now below → far_view result ≡ without_outputs (model.joining 0 (children_of below)) }
+    ensures { (names : List (List ℕ)) (below : List model.Activity)
+        → AreHeads names children.now below
+        → far_view result ≡ without_outputs (model.joining 0 (children_of below)) }
 {
     let mut all_ended = true;
     for (number, child) in children.iter().enumerate() {
@@ -106,7 +114,9 @@ fn how_far(children: &[Node]) -> Far<'_>
 
 /// The error and the cause with which a scope has ended there, if it has failed.
 fn failure_of(node: &Node) -> Option<(&str, &str)>
-    ensures { (names : List (List ℕ)) (below : model.Activities) → option_map (λ f. (f.0.now, f.1.now)) result ≡ failure_in (shown_over names below node.now) }
+    ensures { (names : List (List ℕ)) (below : model.Activities)
+        → option_map (λ f. (f.0.now, f.1.now)) result
+        ≡ failure_in (shown_over names below node.now) }
 {
     match node {
         Node::Ended(Outcome::Failed { error, cause }) => Some((error, cause)),
@@ -119,7 +129,8 @@ fn failure_of(node: &Node) -> Option<(&str, &str)>
 
 /// The outputs of the children that are done, in order.
 fn outputs_of(alloc: Global, children: &[Node]) -> Result<Vec<Tree>, OutOfMemory>
-    ensures { IfOk result (λ v. (names : List (List ℕ)) (below : List model.Activity) → AreHeads names children.now below → map view v.items ≡ outputs_among below) }
+    ensures { IfOk result (λ v. (names : List (List ℕ)) (below : List model.Activity)
+        → AreHeads names children.now below → map view v.items ≡ outputs_among below) }
 {
     let mut outputs = Vec::with_capacity(alloc, children.len())?;
     for child in children {
@@ -130,7 +141,9 @@ fn outputs_of(alloc: Global, children: &[Node]) -> Result<Vec<Tree>, OutOfMemory
 
 /// Adds the output of a scope that is done there to those of others.
 fn add_output(alloc: Global, node: &Node, outputs: &mut Vec<Tree>) -> Result<(), OutOfMemory>
-    ensures { IfOk result (λ _. (names : List (List ℕ)) (below : model.Activities) → map view outputs.new.items ≡ map view outputs.old.items ++ option_to_list (output_in (shown_over names below node.now))) }
+    ensures { IfOk result (λ _. (names : List (List ℕ)) (below : model.Activities)
+        → map view outputs.new.items ≡ map view outputs.old.items
+        ++ option_to_list (output_in (shown_over names below node.now))) }
 {
     if let Some(output) = output_of(node) {
         let output = copy(alloc, output)?;
@@ -141,7 +154,8 @@ fn add_output(alloc: Global, node: &Node, outputs: &mut Vec<Tree>) -> Result<(),
 
 /// The output of a scope that is done there.
 fn output_of(node: &Node) -> Option<&Tree>
-    ensures { (names : List (List ℕ)) (below : model.Activities) → option_map (λ t. view t.now) result ≡ output_in (shown_over names below node.now) }
+    ensures { (names : List (List ℕ)) (below : model.Activities)
+        → option_map (λ t. view t.now) result ≡ output_in (shown_over names below node.now) }
 {
     match node {
         Node::Ended(Outcome::Output(output)) => Some(output),

@@ -21,7 +21,9 @@ use asl_tree::OutOfMemory;
 
 /// The state leaves with an output, for that next state or for the end of its scope.
 fn leave(here: &Here, next: Option<&str>, output: Datum) -> Result<Plan, OutOfMemory>
-    ensures { IfOk result (λ plan. MayFollow (state_at here.now) (option_map (λ n. n.now) next.entry) → Plans here.now plan (model.leaves_for here.now.name.now (option_map (λ n. n.now) next.entry) (view output.value))) }
+    ensures { let target = option_map (λ n. n.now) next.entry in
+        IfOk result (λ plan. MayFollow (state_at here.now) target
+        → Plans here.now plan (model.leaves_for here.now.name.now target (view output.value))) }
 {
     match next {
         Some(name) => leave_for(here, name, output),
@@ -31,7 +33,9 @@ fn leave(here: &Here, next: Option<&str>, output: Datum) -> Result<Plan, OutOfMe
 
 /// So for that next state.
 fn leave_for(here: &Here, next: &str, output: Datum) -> Result<Plan, OutOfMemory>
-    ensures { IfOk result (λ plan. MayFollow (state_at here.now) (Some next.now) → Plans here.now plan (model.leaves_for here.now.name.now (Some next.now) (view output.value))) }
+    ensures { IfOk result (λ plan. MayFollow (state_at here.now) (Some next.now)
+        → Plans here.now plan
+        (model.leaves_for here.now.name.now (Some next.now) (view output.value))) }
 {
     let told = here.left(&output);
     Plan::new(here.alloc, Change::Enter(here.ready(next, output))).after(told)
@@ -39,7 +43,8 @@ fn leave_for(here: &Here, next: &str, output: Datum) -> Result<Plan, OutOfMemory
 
 /// So for the end of its scope.
 fn leave_scope(here: &Here, output: Datum) -> Result<Plan, OutOfMemory>
-    ensures { IfOk result (λ plan. Plans here.now plan (model.leaves_for here.now.name.now None (view output.value))) }
+    ensures { IfOk result (λ plan.
+        Plans here.now plan (model.leaves_for here.now.name.now None (view output.value))) }
 {
     let entries = here.left_and_ended(&output)?;
     let ended = Outcome::Output(output);
@@ -55,7 +60,10 @@ pub(crate) fn leave_with(
     next: Option<&str>,
     output: Result<Datum, Stop>,
 ) -> Result<Plan, OutOfMemory>
-    ensures { IfOk result (λ plan. (defined : Result trees.Tree faults.Fault) → Flows datum_view output defined → MayFollow (state_at here.now) (option_map (λ n. n.now) next.entry) → Plans here.now plan (by_settings model.leaves_with here.now (option_map (λ n. n.now) next.entry) defined)) }
+    ensures { let target = option_map (λ n. n.now) next.entry in
+        IfOk result (λ plan. (defined : Result trees.Tree faults.Fault)
+        → Flows datum_view output defined → MayFollow (state_at here.now) target
+        → Plans here.now plan (by_settings model.leaves_with here.now target defined)) }
 {
     match output {
         Ok(output) => leave(here, next, output),
@@ -68,7 +76,8 @@ pub(crate) fn leave_with(
 
 /// The state has a result.
 pub(crate) fn finish(here: &Here, value: Data) -> Result<Plan, OutOfMemory>
-    ensures { IfOk result (λ plan. Plans here.now plan (by_settings model.finishes here.now (data_view value.entry))) }
+    ensures { IfOk result (λ plan.
+        Plans here.now plan (by_settings model.finishes here.now (data_view value.entry))) }
 {
     let settings = &here.state.settings;
     let output = output_of(here.alloc, settings, &here.visit.raw, value);

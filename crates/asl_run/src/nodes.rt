@@ -135,11 +135,13 @@ impl Nodes {
     /// Changes what stands at the node of that number. A refusal leaves what the table shows as it is.
     pub(crate) fn change(&mut self, number: NodeNumber, change: Change) -> Result<(), OutOfMemory>
         requires within { number.0 < length self.old }
-        requires rises { (node : code.Node) → slice_get self.old number.0 ≡ Some node → CanApply node change }
+        requires rises { (node : code.Node) → slice_get self.old number.0 ≡ Some node
+            → CanApply node change }
         ensures changed { IfOk result (λ _. IsApplied number.0 self.old change self.new) }
         ensures few { length self.new < 2 ^ 64 }
         ensures alike { IfErr result (λ _. AreAlike self.old self.new) }
-        ensures unchanged { IfErr result (λ _. (names : List (List ℕ)) → shown_from names 0 self.new ≡ shown_from names 0 self.old) }
+        ensures unchanged { IfErr result (λ _. (names : List (List ℕ))
+            → shown_from names 0 self.new ≡ shown_from names 0 self.old) }
     {
         apply(&mut self.nodes, number.0, change)
     }
@@ -160,7 +162,8 @@ impl Nodes {
 /// Changes what stands at the node of that number. A refusal leaves what the nodes show as it is.
 fn apply(nodes: &mut Vec<Node>, number: usize, change: Change) -> Result<(), OutOfMemory>
     requires within { number < length nodes.old.items }
-    requires rises { (node : code.Node) → slice_get nodes.old.items number ≡ Some node → CanApply node change }
+    requires rises { (node : code.Node) → slice_get nodes.old.items number ≡ Some node
+        → CanApply node change }
     ensures changed { IfOk result (λ _. IsWritten number nodes.old.items change nodes.new.items) }
     ensures unchanged { IfErr result (λ _. AreAlike nodes.old.items nodes.new.items) }
 {
@@ -182,7 +185,8 @@ fn apply(nodes: &mut Vec<Node>, number: usize, change: Change) -> Result<(), Out
 fn add(nodes: &mut Vec<Node>, visits: Vec<Visit>) -> Result<Children, OutOfMemory>
     ensures first { IfOk result (λ children. children.first.0 ≡ length nodes.old.items) }
     ensures count { IfOk result (λ children. children.count ≡ length visits.items) }
-    ensures added { IfOk result (λ _. nodes.new.items ≡ nodes.old.items ++ map variants.Ready visits.items) }
+    ensures added { IfOk result
+        (λ _. nodes.new.items ≡ nodes.old.items ++ map variants.Ready visits.items) }
     ensures none { IfErr result (λ _. nodes.new.items ≡ nodes.old.items) }
 {
     let children = Children {

@@ -12,7 +12,8 @@ pub trait Order {
         requires { 0 < n }
         ensures below { result < n }
         ensures picked { may_pick self.old n result }
-        ensures lasting { (many : ℕ) (number : ℕ) → may_pick self.new many number → may_pick self.old many number };
+        ensures lasting { (many : ℕ) (number : ℕ) → may_pick self.new many number
+            → may_pick self.old many number };
 }
 
 /// The first place.

@@ -49,7 +49,8 @@ impl Plan {
 
     /// The plan with one more entry in front, where that could be made.
     pub(crate) fn after(self, entry: Result<Entry, OutOfMemory>) -> Result<Plan, OutOfMemory>
-        ensures first { IfOk result (λ plan. IsOkAnd entry (λ e. plan.entries.items ≡ e ∷ self.entries.items)) }
+        ensures first { IfOk result
+            (λ plan. IsOkAnd entry (λ e. plan.entries.items ≡ e ∷ self.entries.items)) }
         ensures change { IfOk result (λ plan. plan.change ≡ self.change) }
     {
         let Plan { entries, change } = self;
@@ -81,7 +82,8 @@ impl<'m> Here<'m> {
 
     /// The place and the state's name.
     fn place_and_name(&self) -> Result<(Place, String), OutOfMemory>
-        ensures { IfOk result (λ own. (own.0.items ≡ self.now.at.now) × (string_bytes own.1 ≡ self.now.name.now)) }
+        ensures { IfOk result (λ own. (own.0.items ≡ self.now.at.now)
+            × (string_bytes own.1 ≡ self.now.name.now)) }
     {
         let place = self.place()?;
         let name = self.text(self.name)?;
@@ -90,7 +92,8 @@ impl<'m> Here<'m> {
 
     /// Two texts of its own.
     fn two_texts(&self, first: &str, second: &str) -> Result<(String, String), OutOfMemory>
-        ensures { IfOk result (λ own. (string_bytes own.0 ≡ first.now) × (string_bytes own.1 ≡ second.now)) }
+        ensures { IfOk result (λ own. (string_bytes own.0 ≡ first.now)
+            × (string_bytes own.1 ≡ second.now)) }
     {
         let first = self.text(first)?;
         let second = self.text(second)?;
@@ -106,7 +109,8 @@ impl<'m> Here<'m> {
 
     /// The entry that the state is entered with its raw input.
     pub(crate) fn entered(&self) -> Result<Entry, OutOfMemory>
-        ensures { IfOk result (λ entry. entry_view entry ≡ told_at self.now.at.now (model.Entered self.now.name.now (view self.now.visit.now.raw.value))) }
+        ensures { IfOk result (λ entry. entry_view entry ≡ told_at self.now.at.now
+            (model.Entered self.now.name.now (view self.now.visit.now.raw.value))) }
     {
         let (at, state) = self.place_and_name()?;
         let input = self.visit.raw.clone()?;
@@ -115,7 +119,8 @@ impl<'m> Here<'m> {
 
     /// The entry that its task is asked with a payload.
     pub(crate) fn asked(&self, payload: &Datum) -> Result<Entry, OutOfMemory>
-        ensures { IfOk result (λ entry. entry_view entry ≡ told_at self.now.at.now (model.Asked self.now.name.now (view payload.now.value))) }
+        ensures { IfOk result (λ entry. entry_view entry
+            ≡ told_at self.now.at.now (model.Asked self.now.name.now (view payload.now.value))) }
     {
         let (at, state) = self.place_and_name()?;
         let payload = payload.clone()?;
@@ -124,7 +129,8 @@ impl<'m> Here<'m> {
 
     /// The entry that it is left with an output.
     pub(crate) fn left(&self, output: &Datum) -> Result<Entry, OutOfMemory>
-        ensures { IfOk result (λ entry. entry_view entry ≡ told_at self.now.at.now (model.Left self.now.name.now (view output.now.value))) }
+        ensures { IfOk result (λ entry. entry_view entry
+            ≡ told_at self.now.at.now (model.Left self.now.name.now (view output.now.value))) }
     {
         let (at, state) = self.place_and_name()?;
         let output = output.clone()?;
@@ -133,7 +139,8 @@ impl<'m> Here<'m> {
 
     /// The entry that it raises a data-flow fault.
     pub(crate) fn raised(&self, fault: Fault) -> Result<Entry, OutOfMemory>
-        ensures { IfOk result (λ entry. entry_view entry ≡ told_at self.now.at.now (model.Raised self.now.name.now (fault_view fault))) }
+        ensures { IfOk result (λ entry. entry_view entry
+            ≡ told_at self.now.at.now (model.Raised self.now.name.now (fault_view fault))) }
     {
         let (at, state) = self.place_and_name()?;
         let (error, field) = self.two_texts(fault.error.name(), fault.field)?;
@@ -147,7 +154,8 @@ impl<'m> Here<'m> {
 
     /// The entry that its task has failed.
     pub(crate) fn task_failed(&self, error: &str, cause: &str) -> Result<Entry, OutOfMemory>
-        ensures { IfOk result (λ entry. entry_view entry ≡ told_at self.now.at.now (model.TaskFailed self.now.name.now error.now cause.now)) }
+        ensures { IfOk result (λ entry. entry_view entry
+            ≡ told_at self.now.at.now (model.TaskFailed self.now.name.now error.now cause.now)) }
     {
         let (at, state) = self.place_and_name()?;
         let (error, cause) = self.two_texts(error, cause)?;
@@ -166,7 +174,8 @@ impl<'m> Here<'m> {
         error: &str,
         cause: &str,
     ) -> Result<Entry, OutOfMemory>
-        ensures { IfOk result (λ entry. entry_view entry ≡ told_at self.now.at.now (model.BranchFailed self.now.name.now child error.now cause.now)) }
+        ensures { IfOk result (λ entry. entry_view entry ≡ told_at self.now.at.now
+            (model.BranchFailed self.now.name.now child error.now cause.now)) }
     {
         let (at, state) = self.place_and_name()?;
         let (error, cause) = self.two_texts(error, cause)?;
@@ -181,7 +190,8 @@ impl<'m> Here<'m> {
 
     /// The entry that its retrier of that number retries.
     pub(crate) fn retried(&self, retrier: usize) -> Result<Entry, OutOfMemory>
-        ensures { IfOk result (λ entry. entry_view entry ≡ told_at self.now.at.now (model.Retried self.now.name.now retrier)) }
+        ensures { IfOk result (λ entry.
+            entry_view entry ≡ told_at self.now.at.now (model.Retried self.now.name.now retrier)) }
     {
         let (at, state) = self.place_and_name()?;
         Ok(Entry::Retried { at, state, retrier })
@@ -189,7 +199,8 @@ impl<'m> Here<'m> {
 
     /// The entry that its catcher of that number hands on to that state.
     pub(crate) fn caught(&self, catcher: usize, next: &str) -> Result<Entry, OutOfMemory>
-        ensures { IfOk result (λ entry. entry_view entry ≡ told_at self.now.at.now (model.Caught self.now.name.now catcher next.now)) }
+        ensures { IfOk result (λ entry. entry_view entry
+            ≡ told_at self.now.at.now (model.Caught self.now.name.now catcher next.now)) }
     {
         let (at, state) = self.place_and_name()?;
         let next = self.text(next)?;
@@ -203,7 +214,9 @@ impl<'m> Here<'m> {
 
     /// The entries that it is left with an output and that its scope ends with that.
     pub(crate) fn left_and_ended(&self, output: &Datum) -> Result<Vec<Entry>, OutOfMemory>
-        ensures { IfOk result (λ entries. map entry_view entries.items ≡ map (told_at self.now.at.now) (model.Left self.now.name.now (view output.now.value) ∷ model.Ended (model.Output (view output.now.value)) ∷ [])) }
+        ensures { IfOk result (λ entries. map entry_view entries.items
+            ≡ map (told_at self.now.at.now) (model.Left self.now.name.now (view output.now.value)
+            ∷ model.Ended (model.Output (view output.now.value)) ∷ [])) }
     {
         let entries = with_first(self.ended_with(output), Vec::new(self.alloc))?;
         with_first(self.left(output), entries)
@@ -211,7 +224,8 @@ impl<'m> Here<'m> {
 
     /// The entry that its scope ends with an output.
     fn ended_with(&self, output: &Datum) -> Result<Entry, OutOfMemory>
-        ensures { IfOk result (λ entry. entry_view entry ≡ told_at self.now.at.now (model.Ended (model.Output (view output.now.value)))) }
+        ensures { IfOk result (λ entry. entry_view entry
+            ≡ told_at self.now.at.now (model.Ended (model.Output (view output.now.value)))) }
     {
         let at = self.place()?;
         let outcome = Outcome::Output(output.clone()?);
@@ -220,7 +234,8 @@ impl<'m> Here<'m> {
 
     /// The entry that its scope ends with an error and a cause.
     fn ended_failing(&self, error: &str, cause: &str) -> Result<Entry, OutOfMemory>
-        ensures { IfOk result (λ entry. entry_view entry ≡ told_at self.now.at.now (model.Ended (model.FailedWith error.now cause.now))) }
+        ensures { IfOk result (λ entry. entry_view entry
+            ≡ told_at self.now.at.now (model.Ended (model.FailedWith error.now cause.now))) }
     {
         let at = self.place()?;
         let outcome = self.failure(error, cause)?;
@@ -236,10 +251,11 @@ impl<'m> Here<'m> {
         Ok(Outcome::Failed { error, cause })
     }
 
-    /// The execution of the state of that name that is about to be entered with that raw input. It is found by its number; a name that is no
-    /// state's counts as that of the state 0.
+    /// The execution of the state of that name that is about to be entered with that raw input. It is found by its
+    /// number; a name that is no state's counts as that of the state 0.
     pub(crate) fn ready(&self, name: &str, raw: Datum) -> Visit
-        ensures { ready_view (names_at self.now) result ≡ model.Ready (name_in (names_at self.now) (number_in (names_at self.now) name.now)) (view raw.value) [] }
+        ensures { ready_view (names_at self.now) result ≡ model.Ready (name_in (names_at self.now)
+            (number_in (names_at self.now) name.now)) (view raw.value) [] }
     {
         Visit {
             state: self.machine.state_named(name).unwrap_or(0),

@@ -33,7 +33,8 @@ pub struct Run<'m> {
 
 /// The number of the machine's start state: the state 0 stands in the machine's own scope.
 fn first_state(machine: &Machine) -> usize
-    ensures { (m : Scope) → Shows machine.now m → name_in (table_view machine.now).names result ≡ start_of m }
+    ensures { (m : Scope) → Shows machine.now m
+        → name_in (table_view machine.now).names result ≡ start_of m }
 {
     match machine.scope_of(0) {
         Some(scope) => scope.start,
@@ -49,7 +50,8 @@ pub fn start<'m>(
     input: Tree,
 ) -> Result<Run<'m>, (OutOfMemory, Tree)>
     ensures of_machine { IfOk result (λ run. (m : Scope) → Shows machine.now m → IsRunOf m run) }
-    ensures starts { IfOk result (λ run. (m : Scope) → Shows machine.now m → run_view run ≡ model.start m (view input)) }
+    ensures starts { IfOk result
+        (λ run. (m : Scope) → Shows machine.now m → run_view run ≡ model.start m (view input)) }
     ensures returned { IfErr result (λ refusal. refusal.1 ≡ input) }
 {
     match Standing::new(alloc, first_state(machine), input) {
@@ -65,16 +67,26 @@ pub fn start<'m>(
 impl<'m> Run<'m> {
     /// Takes the event: its entries, in order. A refusal gives the event back, and the run is as it was.
     ///
-    /// `NoSuchPlace` where nothing stands at the event's place; `NotEnabled` where what stands there wants no such event;
-    /// these two take no memory. `OutOfMemory` where an allocation was refused.
+    /// `NoSuchPlace` where nothing stands at the event's place; `NotEnabled` where what stands there wants no such
+    /// event; these two take no memory. `OutOfMemory` where an allocation was refused.
     pub fn step(&mut self, event: Event) -> Result<Vec<Entry>, (StepRefusal, Event)>
         ensures kept { (m : Scope) → IsRunOf m self.old → IsRunOf m self.new }
-        ensures taken { (m : Scope) → IsRunOf m self.old → IfOk result (λ entries. Takes m (run_view self.old) (event_view event) (map entry_view entries.items) (run_view self.new)) }
-        ensures unchanged { (m : Scope) → IsRunOf m self.old → IfErr result (λ _. run_view self.new ≡ run_view self.old) }
+        ensures taken { (m : Scope) → IsRunOf m self.old
+            → IfOk result (λ entries. Takes m (run_view self.old) (event_view event)
+            (map entry_view entries.items) (run_view self.new)) }
+        ensures unchanged { (m : Scope) → IsRunOf m self.old
+            → IfErr result (λ _. run_view self.new ≡ run_view self.old) }
         ensures returned { IfErr result (λ refusal. refusal.1 ≡ event) }
-        ensures no_place { (m : Scope) → IsRunOf m self.old → IfErr result (λ refusal. (refusal.0 ≡ refusals.NoSuchPlace) ↔ (model.activity_at (event_view event).place (run_view self.old) ≡ None)) }
-        ensures not_enabled { (m : Scope) → IsRunOf m self.old → IfErr result (λ refusal. (refusal.0 ≡ refusals.NotEnabled) ↔ (IsSome (model.activity_at (event_view event).place (run_view self.old)) × (model.step m (run_view self.old) (event_view event) ≡ None))) }
-        ensures enabled { (m : Scope) → IsRunOf m self.old → IfErr result (λ refusal. (refusal.0 ≡ refusals.OutOfMemory) ↔ IsSome (model.step m (run_view self.old) (event_view event))) }
+        ensures no_place { (m : Scope) → IsRunOf m self.old
+            → IfErr result (λ refusal. (refusal.0 ≡ refusals.NoSuchPlace)
+            ↔ (model.activity_at (event_view event).place (run_view self.old) ≡ None)) }
+        ensures not_enabled { (m : Scope) → IsRunOf m self.old
+            → IfErr result (λ refusal. (refusal.0 ≡ refusals.NotEnabled)
+            ↔ (IsSome (model.activity_at (event_view event).place (run_view self.old))
+            × (model.step m (run_view self.old) (event_view event) ≡ None))) }
+        ensures enabled { (m : Scope) → IsRunOf m self.old
+            → IfErr result (λ refusal. (refusal.0 ≡ refusals.OutOfMemory)
+            ↔ IsSome (model.step m (run_view self.old) (event_view event))) }
     {
         match self.take(&event) {
             Ok(entries) => Ok(entries),
@@ -85,7 +97,9 @@ impl<'m> Run<'m> {
     /// Takes the event. A refusal leaves the run as it was.
     fn take(&mut self, event: &Event) -> Result<Vec<Entry>, StepRefusal>
         ensures kept { (m : Scope) → IsRunOf m self.old → IsRunOf m self.new }
-        ensures steps { Steps self.old.machine.now (event_view event.now).place (event_view event.now).place (run_view self.old) (run_view self.new) (event_view event.now).action result }
+        ensures steps { Steps self.old.machine.now (event_view event.now).place
+            (event_view event.now).place (run_view self.old) (run_view self.new)
+            (event_view event.now).action result }
     {
         match event {
             Event::Move(place) => self.happens(place, None),
@@ -100,7 +114,9 @@ impl<'m> Run<'m> {
         answer: Option<&Answer>,
     ) -> Result<Vec<Entry>, StepRefusal>
         ensures kept { (m : Scope) → IsRunOf m self.old → IsRunOf m self.new }
-        ensures steps { Steps self.old.machine.now place.now place.now (run_view self.old) (run_view self.new) (unwrap_or (option_map (λ a. answer_view a.now) answer.entry) model.Move) result }
+        ensures steps { Steps self.old.machine.now place.now place.now
+            (run_view self.old) (run_view self.new)
+            (unwrap_or (option_map (λ a. answer_view a.now) answer.entry) model.Move) result }
     {
         let happening = Happening {
             alloc: self.alloc,
@@ -111,18 +127,21 @@ impl<'m> Run<'m> {
         happening.take_step(&mut self.standing)
     }
 
-    /// The places where an event is enabled, each with its kind, in lexicographic order, a place before those below it. A
-    /// run that hasn't ended has one.
+    /// The places where an event is enabled, each with its kind, in lexicographic order, a place before those below
+    /// it. A run that hasn't ended has one.
     pub fn enabled(&self) -> Result<Vec<(Place, Want)>, OutOfMemory>
-        ensures goes_on { IfOk result (λ found. (m : Scope) → IsRunOf m self.now → model.outcome_of (run_view self.now) ≡ None → found.items ≢ []) }
-        ensures exactly { IfOk result (λ found. (m : Scope) → IsRunOf m self.now → map found_view found.items ≡ model.enabled (run_view self.now) m) }
+        ensures goes_on { IfOk result (λ found. (m : Scope) → IsRunOf m self.now
+            → model.outcome_of (run_view self.now) ≡ None → found.items ≢ []) }
+        ensures exactly { IfOk result (λ found. (m : Scope) → IsRunOf m self.now
+            → map found_view found.items ≡ model.enabled (run_view self.now) m) }
     {
         self.open_places()
     }
 
     /// The places where an event is wanted, each with its kind, a place before those below it.
     pub(crate) fn open_places(&self) -> Result<Vec<(Place, Want)>, OutOfMemory>
-        ensures { IfOk result (λ found. (names : List (List ℕ)) → map found_view found.items ≡ open_in (shown_at names self.now.standing 0)) }
+        ensures { IfOk result (λ found. (names : List (List ℕ))
+            → map found_view found.items ≡ open_in (shown_at names self.now.standing 0)) }
     {
         let mut place = Vec::new(self.alloc);
         let mut found = Vec::new(self.alloc);

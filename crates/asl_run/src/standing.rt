@@ -106,8 +106,8 @@ impl Standing {
         self.open_count
     }
 
-    /// Changes what stands at that place, at the node of that number, which wants an event. A refusal leaves what is shown
-    /// as it is.
+    /// Changes what stands at that place, at the node of that number, which wants an event. A refusal leaves what
+    /// is shown as it is.
     pub(crate) fn change(
         &mut self,
         place: &[usize],
@@ -116,7 +116,8 @@ impl Standing {
     ) -> Result<(), OutOfMemory>
         requires at { number_from self.old 0 place.now ≡ Some number.0 }
         requires wanted { (names : List (List ℕ)) → 0 < open_count (shown_at names self.old number.0) }
-        requires rises { (node : code.Node) → slice_get self.old number.0 ≡ Some node → CanApply node change }
+        requires rises { (node : code.Node) → slice_get self.old number.0 ≡ Some node
+            → CanApply node change }
         ensures changed { IfOk result (λ _. IsApplied number.0 self.old change self.new) }
         ensures unchanged { IfErr result (λ _. (names : List (List ℕ))
             → shown_from names 0 self.new ≡ shown_from names 0 self.old) }
@@ -252,7 +253,8 @@ fn first_running(nodes: &Nodes, children: Children, first: usize, behind: usize)
     found
 }
 
-/// The number behind the last child that hasn't ended, of those from one on and before another; before these if each has.
+/// The number behind the last child that hasn't ended, of those from one on and before another; before these if
+/// each has.
 fn behind_running(nodes: &Nodes, children: Children, first: usize, behind: usize) -> usize
     requires range { HasRange nodes.now children }
     requires inside { behind ≤ children.count }

@@ -63,7 +63,8 @@ impl<'m> Happening<'m> {
     fn plan_at(self, nodes: &Nodes, number: NodeNumber) -> Result<Plan, StepRefusal>
         requires { number.0 < length nodes.now }
         ensures planned { IsPlanned self.entry nodes.now number.0 result }
-        ensures wanted { IfOk result (λ _. (names : List (List ℕ)) → 0 < open_count (shown_at names nodes.now number.0)) }
+        ensures wanted { IfOk result
+            (λ _. (names : List (List ℕ)) → 0 < open_count (shown_at names nodes.now number.0)) }
     {
         let node = nodes.node(number);
         let children = nodes.children(node);
@@ -86,7 +87,10 @@ impl<'m> Happening<'m> {
 
     /// Whether the node with these children wants such an event.
     fn is_wanted_by(self, node: &Node, children: &[Node]) -> bool
-        ensures { (names : List (List ℕ)) (below : List model.Activity) → AreHeads names children.now below → IsTrue result ↔ (wanted_by (shown_over names (children_of below) node.now) ≡ Some (want_of (action_of self.entry))) }
+        ensures { (names : List (List ℕ)) (below : List model.Activity)
+            → AreHeads names children.now below
+            → IsTrue result ↔ (wanted_by (shown_over names (children_of below) node.now)
+            ≡ Some (want_of (action_of self.entry))) }
     {
         match wanted_by(node, children) {
             Some(Want::Move) => self.answer.is_none(),

@@ -44,7 +44,8 @@ pub(crate) fn trouble_of<'m>(
     cause: &str,
 ) -> Result<Trouble<'m>, OutOfMemory>
     ensures rises { (i : ℕ) → result ≡ Ok (Retries i) → CanRise counts.now i }
-    ensures exact { IfOk result (λ t. trouble_view t ≡ model.trouble_of (settings_view settings.now) (view raw.now.value) counts.now error.now cause.now) }
+    ensures exact { IfOk result (λ t. trouble_view t ≡ model.trouble_of (settings_view settings.now)
+        (view raw.now.value) counts.now error.now cause.now) }
 {
     if let Some(retrier) = retrying(&settings.retriers, counts, error) {
         return Ok(Trouble::Retries(retrier));
@@ -97,7 +98,8 @@ fn count_at(counts: &[u64], retrier: usize) -> u64
 
 /// The first catcher that takes the error, with its number.
 fn catching<'m>(catchers: &'m [Catcher], error: &str) -> Option<(usize, &'m Catcher)>
-    ensures { option_map (λ f. (f.0, catcher_view f.1.now)) result ≡ model.catching 0 (map catcher_view catchers.now) error.now }
+    ensures { option_map (λ f. (f.0, catcher_view f.1.now)) result
+        ≡ model.catching 0 (map catcher_view catchers.now) error.now }
 {
     for (number, catcher) in catchers.iter().enumerate() {
         if takes_error(&catcher.error_equals, error) {
@@ -116,7 +118,9 @@ fn caught<'m>(
     error: &str,
     cause: &str,
 ) -> Result<Trouble<'m>, OutOfMemory>
-    ensures { IfOk result (λ t. trouble_view t ≡ model.caught_as number (string_bytes catcher.now.next) (model.caught_input (catcher_view catcher.now) (view raw.now.value) error.now cause.now)) }
+    ensures { IfOk result
+        (λ t. trouble_view t ≡ model.caught_as number (string_bytes catcher.now.next)
+        (model.caught_input (catcher_view catcher.now) (view raw.now.value) error.now cause.now)) }
 {
     match caught_input(alloc, catcher, raw, error, cause)? {
         Some(input) => Ok(Trouble::Catches {
@@ -137,7 +141,8 @@ fn caught_input(
     error: &str,
     cause: &str,
 ) -> Result<Option<Datum>, OutOfMemory>
-    ensures { IfOk result (λ d. option_map datum_view d ≡ model.caught_input (catcher_view catcher.now) (view raw.now.value) error.now cause.now) }
+    ensures { IfOk result (λ d. option_map datum_view d
+        ≡ model.caught_input (catcher_view catcher.now) (view raw.now.value) error.now cause.now) }
 {
     let Some(path) = &catcher.result_path else {
         return Ok(Some(raw.clone()?));
@@ -157,7 +162,8 @@ fn place_error(
     error: &str,
     cause: &str,
 ) -> Result<Option<Tree>, OutOfMemory>
-    ensures { IfOk result (λ t. option_map view t ≡ model.error_placed (Some path.now) (view raw.now) error.now cause.now) }
+    ensures { IfOk result (λ t.
+        option_map view t ≡ model.error_placed (Some path.now) (view raw.now) error.now cause.now) }
 {
     let output = error_output(alloc, error, cause)?;
     if path.segments().is_empty() {

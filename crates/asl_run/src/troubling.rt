@@ -17,7 +17,8 @@ use asl_tree::OutOfMemory;
 
 /// The state is in trouble with an error and a cause.
 pub(crate) fn in_trouble(here: &Here, error: &str, cause: &str) -> Result<Plan, OutOfMemory>
-    ensures { IfOk result (λ plan. Plans here.now plan (by_settings model.troubled here.now error.now cause.now)) }
+    ensures { IfOk result
+        (λ plan. Plans here.now plan (by_settings model.troubled here.now error.now cause.now)) }
 {
     let settings = &here.state.settings;
     let visit = here.visit;
@@ -43,14 +44,17 @@ pub(crate) fn in_trouble(here: &Here, error: &str, cause: &str) -> Result<Plan, 
 /// The retrier of that number retries.
 fn retry(here: &Here, retrier: usize) -> Result<Plan, OutOfMemory>
     requires { CanRise here.now.visit.now.counts.items retrier }
-    ensures { IfOk result (λ plan. (error cause : List ℕ) → Plans here.now plan (by_trouble_at here.now error cause (model.Retries retrier))) }
+    ensures { IfOk result (λ plan. (error cause : List ℕ)
+        → Plans here.now plan (by_trouble_at here.now error cause (model.Retries retrier))) }
 {
     Plan::new(here.alloc, Change::Retry(retrier)).after(here.retried(retrier))
 }
 
 /// The catcher of that number hands this input to that state.
 fn hand_on(here: &Here, catcher: usize, next: &str, input: Datum) -> Result<Plan, OutOfMemory>
-    ensures { IfOk result (λ plan. MayFollow (state_at here.now) (Some next.now) → (error cause : List ℕ) → Plans here.now plan (by_trouble_at here.now error cause (model.Catches catcher next.now (view input.value)))) }
+    ensures { IfOk result (λ plan. MayFollow (state_at here.now) (Some next.now)
+        → (error cause : List ℕ) → Plans here.now plan
+        (by_trouble_at here.now error cause (model.Catches catcher next.now (view input.value)))) }
 {
     let told = here.caught(catcher, next);
     Plan::new(here.alloc, Change::Enter(here.ready(next, input))).after(told)
@@ -58,7 +62,8 @@ fn hand_on(here: &Here, catcher: usize, next: &str, input: Datum) -> Result<Plan
 
 /// A catcher's output can't be placed: that is a fault, which nothing takes.
 fn misfit(here: &Here) -> Result<Plan, OutOfMemory>
-    ensures { IfOk result (λ plan. (error cause : List ℕ) → Plans here.now plan (by_trouble_at here.now error cause model.Misfits)) }
+    ensures { IfOk result (λ plan. (error cause : List ℕ)
+        → Plans here.now plan (by_trouble_at here.now error cause model.Misfits)) }
 {
     let fault = Fault {
         error: DataFlowError::ResultPathMatchFailure,
@@ -71,7 +76,8 @@ fn misfit(here: &Here) -> Result<Plan, OutOfMemory>
 /// The state has met a data-flow fault: it is raised, and the state is in trouble with its error and, as the cause, its
 /// field.
 pub(crate) fn raise(here: &Here, fault: Fault) -> Result<Plan, OutOfMemory>
-    ensures { IfOk result (λ plan. Plans here.now plan (by_settings model.faulted here.now (fault_view fault))) }
+    ensures { IfOk result
+        (λ plan. Plans here.now plan (by_settings model.faulted here.now (fault_view fault))) }
 {
     let plan = in_trouble(here, fault.error.name(), fault.field)?;
     plan.after(here.raised(fault))

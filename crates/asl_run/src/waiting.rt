@@ -25,8 +25,11 @@ pub(crate) fn waiting_at<'r>(
     nodes: &'r Nodes,
     place: &[usize],
 ) -> Option<Asked<'r>>
-    ensures found { IfSome result (λ asked. let names = (table_view machine.now).names in WaitsAt names place.now (shown_at names nodes.now 0) asked) }
-    ensures none { (m : Scope) → Shows machine.now m → let a = shown_at (table_view machine.now).names nodes.now 0 in StandsIn a m → IfNone result (NoneWaitsAt place.now a) }
+    ensures found { IfSome result (λ asked. let names = (table_view machine.now).names in
+        WaitsAt names place.now (shown_at names nodes.now 0) asked) }
+    ensures none { (m : Scope) → Shows machine.now m
+        → let a = shown_at (table_view machine.now).names nodes.now 0 in StandsIn a m
+        → IfNone result (NoneWaitsAt place.now a) }
 {
     let number = nodes.number_at(place)?;
     match nodes.node(number) {

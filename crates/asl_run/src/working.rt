@@ -52,7 +52,8 @@ pub(crate) fn first_move<'m>(
     state: &'m State,
     raw: &'m Datum,
 ) -> Result<Work<'m>, OutOfMemory>
-    ensures { IfOk result (λ w. work_view w ≡ model.first_move (state_view state.now) (view raw.now.value)) }
+    ensures { IfOk result
+        (λ w. work_view w ≡ model.first_move (state_view state.now) (view raw.now.value)) }
 {
     match work_of(alloc, state, raw) {
         Ok(work) => Ok(work),
@@ -63,7 +64,8 @@ pub(crate) fn first_move<'m>(
 
 /// The same by the state's type.
 fn work_of<'m>(alloc: Global, state: &'m State, raw: &'m Datum) -> Result<Work<'m>, Stop>
-    ensures { Works result (model.work_of (kind_view state.now.kind) (settings_view state.now.settings) (view raw.now.value)) }
+    ensures { Works result (model.work_of (kind_view state.now.kind)
+        (settings_view state.now.settings) (view raw.now.value)) }
 {
     let settings = &state.settings;
     match &state.kind {
@@ -92,7 +94,8 @@ fn pass<'m>(
     value: &'m Option<Tree>,
     raw: &'m Datum,
 ) -> Result<Work<'m>, Stop>
-    ensures { Works result (model.work_of (machine.Pass (option_map view value.now)) (settings_view settings.now) (view raw.now.value)) }
+    ensures { Works result (model.work_of (machine.Pass (option_map view value.now))
+        (settings_view settings.now) (view raw.now.value)) }
 {
     let input = effective_input(alloc, settings, raw)?;
     match value {
@@ -109,7 +112,8 @@ fn choice<'m>(
     default: &'m Option<String>,
     raw: &'m Datum,
 ) -> Result<Work<'m>, Stop>
-    ensures { Works result (model.work_of (machine.Choice (map rule_view rules.now) (option_map string_bytes default.now)) (settings_view settings.now) (view raw.now.value)) }
+    ensures { Works result (model.work_of (machine.Choice (map rule_view rules.now)
+        (option_map string_bytes default.now)) (settings_view settings.now) (view raw.now.value)) }
 {
     let input = effective_input(alloc, settings, raw)?;
     let next = choose(rules, default, input.as_tree())?;
@@ -126,7 +130,8 @@ fn wait<'m>(
     delay: &Delay,
     raw: &'m Datum,
 ) -> Result<Work<'m>, Stop>
-    ensures { Works result (model.work_of (machine.Wait (delay_view delay.now)) (settings_view settings.now) (view raw.now.value)) }
+    ensures { Works result (model.work_of (machine.Wait (delay_view delay.now))
+        (settings_view settings.now) (view raw.now.value)) }
 {
     let input = effective_input(alloc, settings, raw)?;
     find_delay(delay, input.as_tree())?;
@@ -143,7 +148,8 @@ fn parallel<'m>(
     branches: &[String],
     raw: &Datum,
 ) -> Result<Work<'m>, Stop>
-    ensures { Works result (model.work_of (machine.Parallel (branches_view branches.now)) (settings_view settings.now) (view raw.now.value)) }
+    ensures { Works result (model.work_of (machine.Parallel (branches_view branches.now))
+        (settings_view settings.now) (view raw.now.value)) }
 {
     let input = effective_input(alloc, settings, raw)?;
     let shared = input.into_datum(alloc)?;
@@ -158,7 +164,9 @@ fn map<'m>(
     item_selector: &Option<Template>,
     raw: &Datum,
 ) -> Result<Work<'m>, Stop>
-    ensures { (processor : machine.Scope) → Works result (model.work_of (machine.Map items_path.now (option_map templates.view item_selector.now) processor) (settings_view settings.now) (view raw.now.value)) }
+    ensures { (processor : machine.Scope) → Works result (model.work_of
+        (machine.Map items_path.now (option_map templates.view item_selector.now) processor)
+        (settings_view settings.now) (view raw.now.value)) }
 {
     let input = effective_input(alloc, settings, raw)?;
     let items = find_items(items_path, input.as_tree())?;

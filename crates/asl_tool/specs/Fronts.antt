@@ -1,5 +1,5 @@
--- What a source is known to begin with, where not all of its bytes are known. A source that never ends begins with texts of
--- every length, so what is said of each of its fronts is said of it.
+-- What a source is known to begin with, where not all of its bytes are known. A source that never ends begins with
+-- texts of every length, so what is said of each of its fronts is said of it.
 use Rattle.std.specs.Prelude.{◌≡◌, ◌<◌, ℕ, List, [], ◌++◌, length, take, Some, IsFalse, ⊤}
 use Rattle.asl_model.specs.Printed.{first_line, further_lines, is_too_long}
 use Rattle.asl_model.specs.Texts.{Which, DefinitionText, DeclaredText, CertificateText, InputText, AnswersText}
@@ -15,14 +15,14 @@ pub record HasFront (Begins : List ℕ → Type 0) (taken front : List ℕ) : Ty
   pub begun : Begins more
   pub parts : taken ++ more ≡ front ++ back
 
--- A read gave the first bytes of a buffer, so many. With them each front goes on; and none are given, where there is room,
--- only where nothing of it is left.
+-- A read gave the first bytes of a buffer, so many. With them each front goes on; and none are given, where there is
+-- room, only where nothing of it is left.
 abbrev pub ReadsFronts : (List ℕ → Type 0) → (List ℕ → Type 0) → ℕ → List ℕ → Type 0
 ReadsFronts Before After count buffer = (front : List ℕ) → Before front
     → HasFront After (take count buffer) front × (count ≡ 0 → 0 < length buffer → front ≡ [])
 
--- Bytes that aren't taken yet were made up from what is read. With them each front goes on; and none are there only where
--- nothing of it is left.
+-- Bytes that aren't taken yet were made up from what is read. With them each front goes on; and none are there only
+-- where nothing of it is left.
 abbrev pub FillsFronts : (List ℕ → Type 0) → (List ℕ → Type 0) → List ℕ → List ℕ → Type 0
 FillsFronts Before After old new = (more : List ℕ) → Before more
     → HasFront After new (old ++ more) × (new ≡ [] → old ++ more ≡ [])

@@ -1,6 +1,7 @@
 -- Lines that are taken from known bytes.
 use Rattle.std.specs.Prelude.{◌≡◌, ◌⊎◌, List, ℕ, Option, None, Some, Bool, IsTrue, IsFalse, ⊤}
-use Rattle.asl_model.specs.Printed.{first_line, further_lines, definition_line, declared_line, certificate_line, is_too_long}
+use Rattle.asl_model.specs.Printed.{first_line, further_lines, definition_line, declared_line, certificate_line}
+use Rattle.asl_model.specs.Printed.{is_too_long}
 use Rattle.asl_tool.specs.declared.refusals.RunFault.{RunFault}
 use Rattle.asl_tool.specs.declared.refusals.RunFault.TheVariants as run
 
@@ -26,17 +27,20 @@ LineFaultStands known failed run.OutOfMemory = ⊤
 -- these are the first three lines of known bytes
 abbrev pub AreLines : Option (List ℕ) → List ℕ → List ℕ → List ℕ → Type 0
 AreLines None definition declared certificate = ⊤
-AreLines (Some xs) definition declared certificate = (definition ≡ definition_line xs) × (declared ≡ declared_line xs) × (certificate ≡ certificate_line xs)
+AreLines (Some xs) definition declared certificate = (definition ≡ definition_line xs)
+    × (declared ≡ declared_line xs) × (certificate ≡ certificate_line xs)
 
 -- one of the first three lines of known bytes is too long
 abbrev pub SomeLineIsLong : Option (List ℕ) → Type 0
 SomeLineIsLong None = ⊤
-SomeLineIsLong (Some xs) = IsTrue (is_too_long (definition_line xs)) ⊎ IsTrue (is_too_long (declared_line xs)) ⊎ IsTrue (is_too_long (certificate_line xs))
+SomeLineIsLong (Some xs) = IsTrue (is_too_long (definition_line xs))
+    ⊎ IsTrue (is_too_long (declared_line xs)) ⊎ IsTrue (is_too_long (certificate_line xs))
 
 -- none of them is
 abbrev pub NoLineIsLong : Option (List ℕ) → Type 0
 NoLineIsLong None = ⊤
-NoLineIsLong (Some xs) = IsFalse (is_too_long (definition_line xs)) × IsFalse (is_too_long (declared_line xs)) × IsFalse (is_too_long (certificate_line xs))
+NoLineIsLong (Some xs) = IsFalse (is_too_long (definition_line xs))
+    × IsFalse (is_too_long (declared_line xs)) × IsFalse (is_too_long (certificate_line xs))
 
 -- why the first three lines of known bytes aren't taken
 abbrev pub LinesFaultStands : Option (List ℕ) → Bool → RunFault → Type 0

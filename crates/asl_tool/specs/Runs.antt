@@ -1,6 +1,6 @@
 -- Runs of what texts read as: what they end with and what is written of them, and how they fail.
-use Rattle.std.specs.Prelude.{◌≡◌, ◌<◌, ◌≤◌, ◌-◌, ℕ, List, [], ◌∷◌, ◌++◌, map, length, slice_get, Bool, true, false, IsTrue}
-use Rattle.std.specs.Prelude.{Option, Some, None, is_some, option_map, ⊤}
+use Rattle.std.specs.Prelude.{◌≡◌, ◌<◌, ◌≤◌, ◌-◌, ℕ, List, [], ◌∷◌, ◌++◌, map, length, slice_get, Bool, true, false}
+use Rattle.std.specs.Prelude.{IsTrue, Option, Some, None, is_some, option_map, ⊤}
 use Rattle.std.specs.Option.{unwrap_or}
 use Rattle.std.specs.Io.KnownBytes.{Appends, Keeps}
 use Rattle.serde_json.specs.Data.{Data}
@@ -35,8 +35,8 @@ use Rattle.asl_tool.specs.declared.runs.Pick.TheVariants as picks
 
 -- ---- what a run goes by
 
--- The texts that a run goes by: a definition, declared shapes where they are given, an input, and the answers, which are
--- the bytes that a source has left, where they are known.
+-- The texts that a run goes by: a definition, declared shapes where they are given, an input, and the answers, which
+-- are the bytes that a source has left, where they are known.
 pub record GivenTexts : Type 0 where
   pub definition : List ℕ
   pub declared : Option (List ℕ)
@@ -52,7 +52,8 @@ texts_of definition declared input answers = record {
   answers = answers;
 }
 
--- What is asked for: a run of what these texts read as, whose places take turns in that order, by at most so many events.
+-- What is asked for: a run of what these texts read as, whose places take turns in that order, by at most so many
+-- events.
 pub record RunRequest : Type 0 where
   pub texts : GivenTexts
   pub order : Pick
@@ -81,7 +82,8 @@ given_of machine shapes input answers = record {
 -- what the code has read, where its machine shows that one
 abbrev pub given_view : Scope → Given → RunGiven
 given_view machine given =
-    given_of machine (option_map declared_view given.declared) (view given.input) (map answer_view given.answers.items)
+    given_of machine (option_map declared_view given.declared) (view given.input)
+    (map answer_view given.answers.items)
 
 -- the turns of a run that takes those events
 abbrev pub turns_of : RunGiven → List Event → List Turn
@@ -99,7 +101,8 @@ place_picked picks.Last n = n - 1
 -- the place whose turn it is: in the order asked for it is picked out of those where an event is enabled
 abbrev pub place_of_turn : Pick → Scope → Activity → Option (List ℕ)
 place_of_turn order machine a =
-    let wanted = enabled a machine in option_map (λ w. w.0) (slice_get wanted (place_picked order (length wanted)))
+    let wanted = enabled a machine in
+    option_map (λ w. w.0) (slice_get wanted (place_picked order (length wanted)))
 
 -- ---- what fits the declared shapes, where some are given
 
@@ -174,10 +177,11 @@ EndsSo shapes most count a left InputShape = ⊥
 EndsSo shapes most count a left (AnswerShape n) =
     (outcome_of a ≡ None) × (count < most) × Waits n a × NextMisfits shapes n left
 
--- A run of what is given ends so, and its history is that text: at most so many events are taken, all enabled, each at the
--- place whose turn it is in the order asked for, and their answers are a front of those that are given. The input and the
--- events obey the declared shapes.
-pub record IsRun (given : RunGiven) (order : Pick) (most : ℕ) (end : RunEnd) (text : List ℕ) : Type 0 where
+-- A run of what is given ends so, and its history is that text: at most so many events are taken, all enabled, each
+-- at the place whose turn it is in the order asked for, and their answers are a front of those that are given. The
+-- input and the events obey the declared shapes.
+pub record IsRun (given : RunGiven) (order : Pick) (most : ℕ) (end : RunEnd)
+    (text : List ℕ) : Type 0 where
   pub events : List Event
   pub left : List Action
   pub within : length events ≤ most
@@ -191,7 +195,8 @@ pub record IsRun (given : RunGiven) (order : Pick) (most : ℕ) (end : RunEnd) (
 -- what comes of what is given: no run where the input isn't of its shape, else a run
 pub data RunsTo (given : RunGiven) (order : Pick) (most : ℕ) : RunEnd → List ℕ → Type 0 where
   input_misfits : fits_input given.shapes given.input ≡ false → RunsTo given order most InputShape []
-  is_run : {end : RunEnd} {text : List ℕ} → IsRun given order most end text → RunsTo given order most end text
+  is_run : {end : RunEnd} {text : List ℕ} → IsRun given order most end text
+      → RunsTo given order most end text
 
 -- no answer is left
 abbrev pub is_spent : List Action → Bool
@@ -320,5 +325,6 @@ RunFaultStands request streams run.TooLong =
 RunFaultStands request streams run.Read =
     InputReads request.texts × IsTrue streams.read_failed × Keeps streams.before streams.after
 RunFaultStands request streams run.Write = IsTrue streams.write_failed
-    × ((end : RunEnd) × (text : List ℕ) × RunsTexts request end text × AppendsFront streams.before streams.after text)
+    × ((end : RunEnd) × (text : List ℕ) × RunsTexts request end text
+    × AppendsFront streams.before streams.after text)
 RunFaultStands request streams run.OutOfMemory = Keeps streams.before streams.after

@@ -41,10 +41,10 @@ pub record AddsEntry (placed : List ℕ × Option Entry) (before longer : List �
 abbrev pub begun : Scope → Tree → List Action → Stage
 begun machine input answers = stage_of (start machine input) answers []
 
--- a run that begins there is driven by at most so many events until it stops so, those answers are left, and the text is
--- that of its history
-pub record Traces (policy : Policy) (machine : Scope) (most : ℕ) (before : Stage) (stop : Stop) (text : List ℕ)
-    (left : List Action) : Type 0 where
+-- a run that begins there is driven by at most so many events until it stops so, those answers are left, and the text
+-- is that of its history
+pub record Traces (policy : Policy) (machine : Scope) (most : ℕ) (before : Stage) (stop : Stop)
+    (text : List ℕ) (left : List Action) : Type 0 where
   pub told : List (List ℕ × Entry)
   pub after : Activity
   pub stops : Stops policy machine most before stop (stage_of after left (map placed_entry told))

@@ -53,7 +53,8 @@ text_fault_view text.OutOfMemory = texts.NoMemory
 
 -- how a call over a reader and a writer fails
 abbrev pub run_fault_view : RunFault → printed.CallFault
-run_fault_view (run.Text refusal) = printed.RefusedText (which_view refusal.which) (text_fault_view refusal.fault)
+run_fault_view (run.Text refusal) =
+    printed.RefusedText (which_view refusal.which) (text_fault_view refusal.fault)
 run_fault_view run.TooLong = printed.TooLong
 run_fault_view run.Read = printed.ReadFailed
 run_fault_view run.Write = printed.WriteFailed

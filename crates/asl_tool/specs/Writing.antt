@@ -33,13 +33,17 @@ pub record AppendsFront (old new : Option (List ℕ)) (bs : List ℕ) : Type 0 w
   pub parts : bs ≡ front ++ back
   pub appended : Appends old new front
 
--- why the check of three lines of known bytes ends without a verdict, and what the sink holds then: a failed write leaves
--- a front of the lines of the verdict there, every other fault what it held before
-abbrev pub CheckFaultStands : Option (List ℕ) → Bool → Option (List ℕ) → Option (List ℕ) → Bool → RunFault → Type 0
-CheckFaultStands known read_failed old new write_failed (run.Text refusal) = NoLineIsLong known × Keeps old new
-CheckFaultStands known read_failed old new write_failed run.TooLong = SomeLineIsLong known × Keeps old new
+-- why the check of three lines of known bytes ends without a verdict, and what the sink holds then: a failed write
+-- leaves a front of the lines of the verdict there, every other fault what it held before
+abbrev pub CheckFaultStands : Option (List ℕ) → Bool → Option (List ℕ) → Option (List ℕ) → Bool
+    → RunFault → Type 0
+CheckFaultStands known read_failed old new write_failed (run.Text refusal) =
+    NoLineIsLong known × Keeps old new
+CheckFaultStands known read_failed old new write_failed run.TooLong =
+    SomeLineIsLong known × Keeps old new
 CheckFaultStands known read_failed old new write_failed run.Read = IsTrue read_failed × Keeps old new
-CheckFaultStands known read_failed old new write_failed run.Write = NoLineIsLong known × IsTrue write_failed
+CheckFaultStands known read_failed old new write_failed run.Write = NoLineIsLong known
+    × IsTrue write_failed
     × ((verdict : Verdict)
     × OfLines known (λ definition declared certificate. IsVerdictOn definition declared certificate verdict)
     × AppendsFront old new (verdict_text verdict))

@@ -48,7 +48,8 @@ impl<T: Drop> From<AllocFailed<T>> for AnswersRefusal {
 /// Refused: BadAnswer with the position of the first element that is no answer, 0 where the tree is no list.
 pub(crate) fn read_answers(alloc: Global, tree: Tree) -> Result<VecDeque<Answer>, AnswersRefusal>
     ensures right { OnOk result (answer_faults (view tree) ≡ []) }
-    ensures answers { IfOk result (λ answers. map answer_view answers.items ≡ answers_from (view tree)) }
+    ensures answers { IfOk result
+        (λ answers. map answer_view answers.items ≡ answers_from (view tree)) }
     ensures refused { IfErr result (IsAnswersRefusal (view tree)) }
 {
     match tree {
@@ -59,11 +60,12 @@ pub(crate) fn read_answers(alloc: Global, tree: Tree) -> Result<VecDeque<Answer>
     }
 }
 
-/// The answers that the elements of a list stand for. An element that is no answer stands behind those that gave one, so
-/// its position is their number.
+/// The answers that the elements of a list stand for. An element that is no answer stands behind those that gave
+/// one, so its position is their number.
 fn answers_in(alloc: Global, elements: Vec<Tree>) -> Result<VecDeque<Answer>, AnswersRefusal>
     ensures right { OnOk result (bad_answers 0 (elements_view elements.items) ≡ []) }
-    ensures answers { IfOk result (λ answers. map answer_view answers.items ≡ each_answer (elements_view elements.items)) }
+    ensures answers { IfOk result
+        (λ answers. map answer_view answers.items ≡ each_answer (elements_view elements.items)) }
     ensures refused { IfErr result (IsFirstOf (bad_answers 0 (elements_view elements.items))) }
 {
     let mut answers = Vec::with_capacity(alloc, elements.len())?;
@@ -125,7 +127,8 @@ fn text_of(tree: Tree) -> Option<String>
 
 /// Whether every field is one that a failure may have.
 fn are_of_failure(fields: &BTreeMap<String, Tree>) -> bool
-    ensures { result ≡ only_fields (codes "Error" ∷ codes "Cause" ∷ []) (entries_view fields.now.entries) }
+    ensures { result
+        ≡ only_fields (codes "Error" ∷ codes "Cause" ∷ []) (entries_view fields.now.entries) }
 {
     for (name, _) in fields.iter() {
         if !is_of_failure(name) {

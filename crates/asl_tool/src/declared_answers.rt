@@ -14,8 +14,8 @@ use asl_shape::has;
 use asl_tree::{OutOfMemory, Tree};
 use std::collections::VecDeque;
 
-/// A list of answers, from its front on, and the declared shapes where there are any. It is silent where the next answer
-/// gives what isn't of the shape that the state's task is declared to give: that answer stays.
+/// A list of answers, from its front on, and the declared shapes where there are any. It is silent where the next
+/// answer gives what isn't of the shape that the state's task is declared to give: that answer stays.
 #[derive(Drop)]
 pub(crate) struct DeclaredAnswers<'d> {
     pub(crate) declared: Option<&'d Declared>,

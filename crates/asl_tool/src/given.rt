@@ -104,7 +104,8 @@ fn answers_in_source<S: Source>(alloc: Global, source: &mut S) -> Result<VecDequ
         SourceReads (S.remaining source.old) (map answer_view answers.items)) }
     ensures endless { OnOk result (NoFrontIsLong (S.begins source.old)) }
     ensures endless_fault { IfErr result (IfAnswersRead (NoFrontIsLong (S.begins source.old))) }
-    ensures fault { IfErr result (λ fault. SourceFault (S.remaining source.old) (S.failed source.new) fault) }
+    ensures fault { IfErr result
+        (λ fault. SourceFault (S.remaining source.old) (S.failed source.new) fault) }
     ensures lasting { IsTrue (S.failed source.old) → IsTrue (S.failed source.new) }
 {
     let text = match read_text(alloc, source) {

@@ -43,8 +43,8 @@ pub fn nesting_activities_stay_as_certified()
 pub fn verified_runs_write_no_raise_line()
     ensures { (definition declared certificate : List ℕ) → NeverFaults definition declared certificate
         → (input : List ℕ) (known : Option (List ℕ)) (order : Pick) (most : ℕ) (end : RunEnd) (text : List ℕ)
-        → RunsTexts (request_of (texts_of definition (Some declared) input known) order most) end text
-        → HasNoRaiseLine text }
+        → let request = request_of (texts_of definition (Some declared) input known) order most in
+        RunsTexts request end text → HasNoRaiseLine text }
 {
     asl_model::reading_laws::texts_have_one_meaning();
     asl_model::run_laws::faultless_traces_have_no_raise_line();

@@ -25,10 +25,12 @@ pub(crate) struct Lines {
 ///
 /// Refused: TooLong for a line of more than `TEXT_LIMIT` bytes; Read where a read failed.
 pub(crate) fn read_lines<S: Source>(alloc: Global, source: &mut S) -> Result<Lines, RunFault>
-    ensures lines { IfOk result (λ lines. AreLines (S.remaining source.old) lines.definition.items lines.declared.items lines.certificate.items) }
+    ensures lines { IfOk result (λ lines. AreLines (S.remaining source.old) lines.definition.items
+        lines.declared.items lines.certificate.items) }
     ensures short { OnOk result (NoLineIsLong (S.remaining source.old)) }
     ensures endless { OnOk result (NoFrontLineIsLong (S.begins source.old)) }
-    ensures fault { IfErr result (λ fault. LinesFaultStands (S.remaining source.old) (S.failed source.new) fault) }
+    ensures fault { IfErr result
+        (λ fault. LinesFaultStands (S.remaining source.old) (S.failed source.new) fault) }
     ensures lasting { IsTrue (S.failed source.old) → IsTrue (S.failed source.new) }
 {
     let mut chunk = Chunk::new();
@@ -59,13 +61,14 @@ pub(crate) fn next_line<S: Source>(
     source: &mut S,
     chunk: &mut Chunk,
 ) -> Result<Vec<u8>, RunFault>
-    ensures line { IfOk result (λ line. TakesLine (prepend_known (pending chunk.old) (S.remaining source.old))
+    ensures line { IfOk result
+        (λ line. TakesLine (prepend_known (pending chunk.old) (S.remaining source.old))
         (prepend_known (pending chunk.new) (S.remaining source.new)) line.items) }
     ensures within { IfOk result (λ line. vec_len line ≤ 16777216) }
     ensures fronts { OnOk result (TakesFrontLine (S.begins source.old) (S.begins source.new)
         (pending chunk.old) (pending chunk.new)) }
-    ensures fault { IfErr result (λ fault. LineFaultStands (prepend_known (pending chunk.old) (S.remaining source.old))
-        (S.failed source.new) fault) }
+    ensures fault { IfErr result (λ fault. LineFaultStands
+        (prepend_known (pending chunk.old) (S.remaining source.old)) (S.failed source.new) fault) }
     ensures lasting { IsTrue (S.failed source.old) → IsTrue (S.failed source.new) }
 {
     let mut line = Vec::new(alloc);

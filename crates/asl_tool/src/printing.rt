@@ -28,7 +28,8 @@ pub fn verdict_text(alloc: Global, verdict: &Verdict) -> Result<String, OutOfMem
 
 /// The lines of findings.
 fn findings_text(alloc: Global, findings: &Vec<Finding>) -> Result<String, OutOfMemory>
-    ensures { IfOk result (λ text. string_bytes text ≡ finding_lines (findings_view findings.now.items)) }
+    ensures { IfOk result
+        (λ text. string_bytes text ≡ finding_lines (findings_view findings.now.items)) }
 {
     let mut text = String::new(alloc);
     for finding in findings {
@@ -55,9 +56,9 @@ fn finding_text(alloc: Global, finding: &Finding) -> Result<String, OutOfMemory>
 
 /// The exit status of the program and the line on standard error, with its break, empty where there is none.
 ///
-/// Status 0 is a yes, a certificate or a run's output; 1 a no, a certificate that wasn't settled or a failed run; 2 a text
-/// that is refused or too long; 3 an input or an answer that isn't of its shape; 4 a run without answer or steps left; 5
-/// out of memory, or a reader or writer that failed.
+/// Status 0 is a yes, a certificate or a run's output; 1 a no, a certificate that wasn't settled or a failed run; 2
+/// a text that is refused or too long; 3 an input or an answer that isn't of its shape; 4 a run without answer or
+/// steps left; 5 out of memory, or a reader or writer that failed.
 pub fn closing(alloc: Global, closing: &Closing) -> Result<(u8, String), OutOfMemory>
     ensures status { IfOk result (λ end. end.0 ≡ closing_status (closing_view closing.now)) }
     ensures line { IfOk result (λ end. string_bytes end.1 ≡ closing_line (closing_view closing.now)) }
@@ -136,7 +137,8 @@ fn refusal_closing(
     fault: &TextFault,
 ) -> Result<(u8, String), OutOfMemory>
     ensures status { IfOk result (λ end. end.0 ≡ refusal_status (text_fault_view fault.now)) }
-    ensures line { IfOk result (λ end. string_bytes end.1 ≡ refusal_line (which_view which) (text_fault_view fault.now)) }
+    ensures line { IfOk result
+        (λ end. string_bytes end.1 ≡ refusal_line (which_view which) (text_fault_view fault.now)) }
 {
     match fault {
         TextFault::Tree(refusal) => tree_closing(alloc, which, refusal),
@@ -154,7 +156,8 @@ fn tree_closing(
     refusal: &TreeRefusal,
 ) -> Result<(u8, String), OutOfMemory>
     ensures status { IfOk result (λ end. end.0 ≡ refusal_status (tree_refusal_view refusal.now)) }
-    ensures line { IfOk result (λ end. string_bytes end.1 ≡ refusal_line (which_view which) (tree_refusal_view refusal.now)) }
+    ensures line { IfOk result (λ end.
+        string_bytes end.1 ≡ refusal_line (which_view which) (tree_refusal_view refusal.now)) }
 {
     match refusal {
         TreeRefusal::NotJson => Ok((2, refusal_text(alloc, which, "NotJson", "")?)),
@@ -170,7 +173,8 @@ fn def_closing(
     refusal: &DefRefusal,
 ) -> Result<(u8, String), OutOfMemory>
     ensures status { IfOk result (λ end. end.0 ≡ refusal_status (def_refusal_view refusal.now)) }
-    ensures line { IfOk result (λ end. string_bytes end.1 ≡ refusal_line (which_view which) (def_refusal_view refusal.now)) }
+    ensures line { IfOk result (λ end.
+        string_bytes end.1 ≡ refusal_line (which_view which) (def_refusal_view refusal.now)) }
 {
     if refusal.fault == DefFault::OutOfMemory {
         return memory_closing(alloc);
@@ -186,7 +190,8 @@ fn record_closing(
     refusal: &RecordRefusal,
 ) -> Result<(u8, String), OutOfMemory>
     ensures status { IfOk result (λ end. end.0 ≡ refusal_status (record_refusal_view refusal.now)) }
-    ensures line { IfOk result (λ end. string_bytes end.1 ≡ refusal_line (which_view which) (record_refusal_view refusal.now)) }
+    ensures line { IfOk result (λ end.
+        string_bytes end.1 ≡ refusal_line (which_view which) (record_refusal_view refusal.now)) }
 {
     match refusal.fault {
         RecordFault::OutOfMemory | RecordFault::BadShape(ShapeRefusal::OutOfMemory) => {
@@ -201,7 +206,8 @@ fn record_closing(
 /// The exit status and the line of an answer that is none.
 fn answer_closing(alloc: Global, which: Which, position: usize) -> Result<(u8, String), OutOfMemory>
     ensures status { IfOk result (λ end. end.0 ≡ 2) }
-    ensures line { IfOk result (λ end. string_bytes end.1 ≡ refusal_text (which_view which) (codes "BadAnswer") (codes " " ++ decimal position)) }
+    ensures line { IfOk result (λ end. string_bytes end.1
+        ≡ refusal_text (which_view which) (codes "BadAnswer") (codes " " ++ decimal position)) }
 {
     let mut place = String::from_str(alloc, " ")?;
     let digits = position.to_string(alloc)?;
@@ -216,7 +222,8 @@ fn refusal_text(
     fault: &str,
     place: &str,
 ) -> Result<String, OutOfMemory>
-    ensures { IfOk result (λ text. string_bytes text ≡ refusal_text (which_view which) fault.now place.now) }
+    ensures { IfOk result
+        (λ text. string_bytes text ≡ refusal_text (which_view which) fault.now place.now) }
 {
     let mut text = String::from_str(alloc, "refused ")?;
     text.push_str(which.name())?;

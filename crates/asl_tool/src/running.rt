@@ -38,15 +38,15 @@ struct Told {
 /// Runs the machine of a definition on an input, with the answers that a source has, by at most `max_steps` events, and
 /// writes the lines of the run's trace to the sink.
 ///
-/// Where declared shapes are given, the input has to be of its shape, and each answer of that of what its task gives. An
-/// input that isn't ends the run before it begins, and nothing is written; an answer that isn't ends it where it was to
-/// be taken.
+/// Where declared shapes are given, the input has to be of its shape, and each answer of that of what its task
+/// gives. An input that isn't ends the run before it begins, and nothing is written; an answer that isn't ends it
+/// where it was to be taken.
 ///
-/// The definition, the declared shapes, the input and the answers are read in this order, all before the run. Refused:
-/// Text for the first text that is refused; TooLong for answers of more than 16777216 bytes; Read and Write where the
-/// source or the sink failed; OutOfMemory where a growth was refused. So answers that never end are TooLong, but for a text
-/// in front of them, a failed read or a refused growth. After a failed write a front of a run's lines is written, after
-/// every other fault nothing.
+/// The definition, the declared shapes, the input and the answers are read in this order, all before the run.
+/// Refused: Text for the first text that is refused; TooLong for answers of more than 16777216 bytes; Read and
+/// Write where the source or the sink failed; OutOfMemory where a growth was refused. So answers that never end are
+/// TooLong, but for a text in front of them, a failed read or a refused growth. After a failed write a front of a
+/// run's lines is written, after every other fault nothing.
 pub fn run_texts<R: Source, W: Sink>(
     alloc: Global,
     definition: &[u8],
@@ -114,7 +114,8 @@ fn run_given(alloc: Global, given: Given, order: Pick, max_steps: u64) -> Result
 
 /// Whether the input is of its declared shape, where one is declared.
 fn fits_input(declared: Option<&Declared>, input: &Tree) -> bool
-    ensures { result ≡ fits_input (option_map (λ d. declared_view d.now) declared.entry) (view input.now) }
+    ensures { result
+        ≡ fits_input (option_map (λ d. declared_view d.now) declared.entry) (view input.now) }
 {
     match declared {
         Some(declared) => has(&declared.input, input),

@@ -14,8 +14,8 @@ pub struct Failed;
 pub trait Source {
     /// The bytes that are left to read, where they are known.
     ghost remaining: { Self → Option (List ℕ) };
-    /// Texts that the bytes which are left are known to begin with. A source that never ends may have texts of every length
-    /// here.
+    /// Texts that the bytes which are left are known to begin with. A source that never ends may have texts of
+    /// every length here.
     ghost begins: { Self → List ℕ → Type 0 } = { λ _ _. ⊥ };
     /// Whether a read has failed.
     ghost failed: { Self → Bool };

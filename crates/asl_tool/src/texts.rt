@@ -14,12 +14,13 @@ pub(crate) const TEXT_LIMIT: usize = 16777216;
 
 /// All bytes that a source has left.
 ///
-/// Refused: TooLong where there are more than 16777216, which aren't held; Read where a read failed; OutOfMemory where a
-/// growth was refused. So a source that never ends is TooLong, but for a failed read or a refused growth.
+/// Refused: TooLong where there are more than 16777216, which aren't held; Read where a read failed; OutOfMemory
+/// where a growth was refused. So a source that never ends is TooLong, but for a failed read or a refused growth.
 pub fn read_text<S: Source>(alloc: Global, source: &mut S) -> Result<Vec<u8>, RunFault>
     ensures text { IfOk result (λ text. AreText (S.remaining source.old) text.items) }
     ensures endless { OnOk result (NoFrontIsLong (S.begins source.old)) }
-    ensures fault { IfErr result (λ fault. TextUnreadStands (S.remaining source.old) (S.failed source.new) fault) }
+    ensures fault { IfErr result
+        (λ fault. TextUnreadStands (S.remaining source.old) (S.failed source.new) fault) }
     ensures lasting { IsTrue (S.failed source.old) → IsTrue (S.failed source.new) }
 {
     let mut text = Vec::new(alloc);
