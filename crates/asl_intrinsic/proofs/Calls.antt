@@ -5,7 +5,7 @@ use Rattle.std.proofs.lemmas.Bool.Decides.{nat_tests}
 use Rattle.std.specs.List.{slice_index}
 use Rattle.std.specs.Str.Pattern.{FindsTextPrefix, LacksTextAt, StripsPrefix}
 use Rattle.asl_model.specs.Intrinsic as model
-use Rattle.asl_model.specs.CallSpelling.{Cut, FunctionFault, Malformed, UnknownFunction, BadPath, WrittenArgument, WrittenArguments, WrittenCall, WrittenAs, WrittenNested, WrittenPath, NoneWritten, AndWritten, after_argument, argument_of, arguments_of, call_of, call_from, call_or_bad_path, call_or_fault, cut_argument, cut_arguments, cut_call, cut_negative, cut_parentheses, cut_word, followed_by, function_named, in_function_name, know_functions, knows_functions, knows_functions_in, path_length, whole_call, without_spaces, literal_argument}
+use Rattle.asl_model.specs.CallSpelling.{Cut, CallFault, Malformed, UnknownFunction, BadPath, WrittenArgument, WrittenArguments, WrittenCall, WrittenAs, WrittenNested, WrittenPath, NoneWritten, AndWritten, after_argument, argument_of, arguments_of, call_of, call_from, call_or_bad_path, call_or_fault, cut_argument, cut_arguments, cut_call, cut_negative, cut_parentheses, cut_word, followed_by, function_named, in_function_name, know_functions, knows_functions, knows_functions_in, path_length, whole_call, without_spaces, literal_argument}
 use Rattle.asl_model.specs.PathSpelling.{front_length}
 use Rattle.asl_model.proofs.CallMeaning.{refusal_exactly}
 use Rattle.asl_intrinsic.specs.Cutting.{Cuts}
@@ -43,7 +43,7 @@ pushed [] new a is = ap arguments_view is
 pushed (b ∷ given) new a is = ap arguments_view is ∙ ap (model.AndArgument (argument_view b)) (pushed given (given ++ a ∷ []) a refl)
 
 -- what arguments mean with one more in front
-abbrev first_meaning : Result model.Argument FunctionFault → Result model.Arguments FunctionFault → Result model.Arguments FunctionFault
+abbrev first_meaning : Result model.Argument CallFault → Result model.Arguments CallFault → Result model.Arguments CallFault
 first_meaning (Ok a) (Ok others) = Ok (model.AndArgument a others)
 first_meaning (Ok a) (Err fault) = Err fault
 first_meaning (Err fault) (Ok others) = Err fault
@@ -65,7 +65,7 @@ first_means item a others = go (knows_functions_in a) (know_functions others) (a
     go false false x y = refl
 
 -- of three faults the same counts, however they are grouped
-lesser-lesser : (f g h : FunctionFault) → lesser_fault f (lesser_fault g h) ≡ lesser_fault (lesser_fault f g) h
+lesser-lesser : (f g h : CallFault) → lesser_fault f (lesser_fault g h) ≡ lesser_fault (lesser_fault f g) h
 lesser-lesser Malformed g h = refl
 lesser-lesser UnknownFunction Malformed h = refl
 lesser-lesser UnknownFunction UnknownFunction Malformed = refl
@@ -75,7 +75,7 @@ lesser-lesser UnknownFunction BadPath h = refl
 lesser-lesser BadPath g h = refl
 
 -- it is the same whether the first argument is put to the others before the last one or after it
-first_and_last : (x : Result model.Argument FunctionFault) (others : Result model.Arguments FunctionFault) (y : Result model.Argument FunctionFault) → first_meaning x (and_meaning others y) ≡ and_meaning (first_meaning x others) y
+first_and_last : (x : Result model.Argument CallFault) (others : Result model.Arguments CallFault) (y : Result model.Argument CallFault) → first_meaning x (and_meaning others y) ≡ and_meaning (first_meaning x others) y
 first_and_last (Ok x) (Ok others) (Ok y) = refl
 first_and_last (Ok x) (Ok others) (Err h) = refl
 first_and_last (Ok x) (Err g) (Ok y) = refl
@@ -86,7 +86,7 @@ first_and_last (Err f) (Err g) (Ok y) = refl
 first_and_last (Err f) (Err g) (Err h) = ap Err (lesser-lesser f g h)
 
 -- a single argument is the first and the last
-alone : (x : Result model.Argument FunctionFault) → first_meaning x (Ok model.NoArguments) ≡ and_meaning (Ok model.NoArguments) x
+alone : (x : Result model.Argument CallFault) → first_meaning x (Ok model.NoArguments) ≡ and_meaning (Ok model.NoArguments) x
 alone (Ok x) = refl
 alone (Err f) = refl
 
@@ -136,7 +136,7 @@ abbrev pub behind_front : List WrittenArgument → WrittenArguments × List ℕ 
 behind_front front c = (in_front front c.0, c.1)
 
 -- the arguments that were cut off so far, those that may follow, and what the former mean
-pub record SoFar (item : Bool) (whole left : Cut WrittenArguments) (meaning : Result model.Arguments FunctionFault) : Type 0 where
+pub record SoFar (item : Bool) (whole left : Cut WrittenArguments) (meaning : Result model.Arguments CallFault) : Type 0 where
   pub front : List WrittenArgument
   pub cut : whole ≡ option_map (behind_front front) left
   pub means : arguments_meaning item (in_front front NoneWritten) ≡ meaning
@@ -161,7 +161,7 @@ module _ (nested : List ℕ → Cut WrittenCall) where
   regrouped front w (Some c) = ap (λ arguments. Some (arguments, c.1)) (in_front-last front w c.0)
 
   -- a comma follows the argument
-  pub one_more : (item : Bool) (whole : Cut WrittenArguments) (meaning together : Result model.Arguments FunctionFault) (a : Result model.Argument FunctionFault) (fuel m : ℕ) (left behind further : List ℕ) (w : WrittenArgument)
+  pub one_more : (item : Bool) (whole : Cut WrittenArguments) (meaning together : Result model.Arguments CallFault) (a : Result model.Argument CallFault) (fuel m : ℕ) (left behind further : List ℕ) (w : WrittenArgument)
       → SoFar item whole (cut_arguments nested fuel left) meaning → fuel ≡ suc m → cut_argument nested (without_spaces left) ≡ Some (w, behind) → without_spaces behind ≡ 44 ∷ further → argument_meaning item w ≡ a → together ≡ and_meaning meaning a
       → SoFar item whole (cut_arguments nested m further) together
   one_more item whole meaning together a fuel m left behind further w so_far is found comma means all = record {
@@ -172,7 +172,7 @@ module _ (nested : List ℕ → Cut WrittenCall) where
   }
 
   -- a parenthesis follows it
-  pub last_one : (item : Bool) (whole : Cut WrittenArguments) (meaning together : Result model.Arguments FunctionFault) (a : Result model.Argument FunctionFault) (fuel m : ℕ) (left behind rest : List ℕ) (w : WrittenArgument)
+  pub last_one : (item : Bool) (whole : Cut WrittenArguments) (meaning together : Result model.Arguments CallFault) (a : Result model.Argument CallFault) (fuel m : ℕ) (left behind rest : List ℕ) (w : WrittenArgument)
       → SoFar item whole (cut_arguments nested fuel left) meaning → fuel ≡ suc m → cut_argument nested (without_spaces left) ≡ Some (w, behind) → without_spaces behind ≡ 41 ∷ rest → argument_meaning item w ≡ a → together ≡ and_meaning meaning a
       → (arguments : WrittenArguments) × (whole ≡ Some (arguments, rest)) × (arguments_meaning item arguments ≡ together)
   last_one item whole meaning together a fuel m left behind rest w so_far is found parenthesis means all = (
@@ -195,7 +195,7 @@ module _ (nested : List ℕ → Cut WrittenCall) where
       go false e false f = ap (λ b. by_tests b (x == 44)) e ∙ ap (λ b. by_tests false b) f
 
   -- neither follows it
-  pub nothing_follows : (item : Bool) (whole : Cut WrittenArguments) (meaning : Result model.Arguments FunctionFault) (fuel m : ℕ) (left behind : List ℕ) (w : WrittenArgument)
+  pub nothing_follows : (item : Bool) (whole : Cut WrittenArguments) (meaning : Result model.Arguments CallFault) (fuel m : ℕ) (left behind : List ℕ) (w : WrittenArgument)
       → SoFar item whole (cut_arguments nested fuel left) meaning → fuel ≡ suc m → cut_argument nested (without_spaces left) ≡ Some (w, behind) → ((rest : List ℕ) → without_spaces behind ≡ 41 ∷ rest → ⊥) → ((rest : List ℕ) → without_spaces behind ≡ 44 ∷ rest → ⊥) → whole ≡ None
   nothing_follows item whole meaning fuel m left behind w so_far is found no_parenthesis no_comma =
       so_far.cut ∙ ap (option_map (behind_front so_far.front)) (ap (λ n. cut_arguments nested n left) is ∙ behind_argument m left behind w found ∙ neither (λ rest. cut_arguments nested m rest) w (without_spaces behind) no_parenthesis no_comma)
@@ -206,7 +206,7 @@ module _ (nested : List ℕ → Cut WrittenCall) where
   without_argument (suc m) left none = rw none refl
 
   -- there is no argument
-  pub no_argument : (item : Bool) (whole : Cut WrittenArguments) (meaning : Result model.Arguments FunctionFault) (fuel : ℕ) (left : List ℕ) → SoFar item whole (cut_arguments nested fuel left) meaning → cut_argument nested (without_spaces left) ≡ None → whole ≡ None
+  pub no_argument : (item : Bool) (whole : Cut WrittenArguments) (meaning : Result model.Arguments CallFault) (fuel : ℕ) (left : List ℕ) → SoFar item whole (cut_arguments nested fuel left) meaning → cut_argument nested (without_spaces left) ≡ None → whole ≡ None
   no_argument item whole meaning fuel left so_far none = so_far.cut ∙ ap (option_map (behind_front so_far.front)) (without_argument fuel left none)
 
 -- ---- one argument

@@ -6,7 +6,7 @@ use Rattle.std.proofs.lemmas.Slice.Eq.{bytes_eq-Decides}
 use Rattle.asl_model.specs.Path.{Segment}
 use Rattle.asl_model.specs.Intrinsic.{Reference, InInput, ItemIndex, InItem, Function, StatesArray, StatesArrayLength, StatesFormat, Call, CallOf, Argument, NullArgument, BooleanArgument, IntegerArgument, TextArgument, PathArgument, CallArgument, Arguments, NoArguments, AndArgument}
 use Rattle.asl_model.specs.PathSpelling.{after, Begins, Spells, segments_of, path_of}
-use Rattle.asl_model.specs.CallSpelling.{behind, context_of, is_context, reference_of, WrittenCall, WrittenAs, WrittenArgument, WrittenNull, WrittenBoolean, WrittenInteger, WrittenText, WrittenPath, WrittenNested, WrittenArguments, NoneWritten, AndWritten, written_call, function_named, knows_functions, knows_functions_in, know_functions, call_of, argument_of, arguments_of, FunctionFault, Malformed, UnknownFunction, BadPath, call_or_bad_path, call_or_fault, call_from}
+use Rattle.asl_model.specs.CallSpelling.{behind, context_of, is_context, reference_of, WrittenCall, WrittenAs, WrittenArgument, WrittenNull, WrittenBoolean, WrittenInteger, WrittenText, WrittenPath, WrittenNested, WrittenArguments, NoneWritten, AndWritten, written_call, function_named, knows_functions, knows_functions_in, know_functions, call_of, argument_of, arguments_of, CallFault, Malformed, UnknownFunction, BadPath, call_or_bad_path, call_or_fault, call_from}
 use Rattle.asl_model.specs.CallGrammar.{WritesCall, NamesFunction, names_array, names_array_length, names_format, SpellsReference, spells_in_input, spells_item_index, spells_in_item, MeansCall, means_call, MeansArgument, means_null, means_boolean, means_integer, means_text, means_path, means_nested, MeansArguments, means_none, means_further, SpellsCall, HasUnknownFunction, own_is_unknown, one_inside_is_unknown, HaveUnknownFunction, unknown_in_this, unknown_in_later, HasBadPath, one_inside_is_bad, HaveBadPath, this_is_bad, bad_in_this, bad_in_later, IsRefusedCall, is_malformed, has_unknown_function, has_bad_path}
 use Rattle.asl_model.proofs.RunOptions.{same_ok, same_err, ok_or_err}
 use Rattle.asl_model.proofs.ReadingSteps.{then_from, map_from}
@@ -308,7 +308,7 @@ spelled_read item text c s =
     ∙ ap call_or_bad_path (call_meant s.meaning))
 
 -- a refusal that stands is told
-refused_read : (item : Bool) (text : List ℕ) (f : FunctionFault) → IsRefusedCall item text f → call_from item text ≡ Err f
+refused_read : (item : Bool) (text : List ℕ) (f : CallFault) → IsRefusedCall item text f → call_from item text ≡ Err f
 refused_read item text f (is_malformed none) = go (written_call text) refl
   where
     go : (o : Option WrittenCall) → written_call text ≡ o → call_or_fault item o ≡ Err Malformed
@@ -327,18 +327,18 @@ refused_read item text f (has_bad_path {written = written} writes known bad) =
     all_known false e = absurd (known (found_unknown written e))
 
 -- each text spells a call or is refused
-pub spelled_or_refused : (item : Bool) (text : List ℕ) → ((c : Call) × SpellsCall item text c) ⊎ ((f : FunctionFault) × IsRefusedCall item text f)
+pub spelled_or_refused : (item : Bool) (text : List ℕ) → ((c : Call) × SpellsCall item text c) ⊎ ((f : CallFault) × IsRefusedCall item text f)
 spelled_or_refused item text = go (written_call text) refl
   where
-    meaning : (w : WrittenCall) → WritesCall 32 text w → knows_functions w ≡ true → (o : Option Call) → call_of item w ≡ o → ((c : Call) × SpellsCall item text c) ⊎ ((f : FunctionFault) × IsRefusedCall item text f)
+    meaning : (w : WrittenCall) → WritesCall 32 text w → knows_functions w ≡ true → (o : Option Call) → call_of item w ≡ o → ((c : Call) × SpellsCall item text c) ⊎ ((f : CallFault) × IsRefusedCall item text f)
     meaning w writes known None e = inr (BadPath, has_bad_path writes (λ unknown. true≢false (sym known ∙ unknown_found unknown)) (found_bad item w known e))
     meaning w writes known (Some c) e = inl (c, record { written = w; as_written = writes; meaning = meant_call item w c e })
 
-    known : (w : WrittenCall) → WritesCall 32 text w → (t : Bool) → knows_functions w ≡ t → ((c : Call) × SpellsCall item text c) ⊎ ((f : FunctionFault) × IsRefusedCall item text f)
+    known : (w : WrittenCall) → WritesCall 32 text w → (t : Bool) → knows_functions w ≡ t → ((c : Call) × SpellsCall item text c) ⊎ ((f : CallFault) × IsRefusedCall item text f)
     known w writes true e = meaning w writes e (call_of item w) refl
     known w writes false e = inr (UnknownFunction, has_unknown_function writes (found_unknown w e))
 
-    go : (o : Option WrittenCall) → written_call text ≡ o → ((c : Call) × SpellsCall item text c) ⊎ ((f : FunctionFault) × IsRefusedCall item text f)
+    go : (o : Option WrittenCall) → written_call text ≡ o → ((c : Call) × SpellsCall item text c) ⊎ ((f : CallFault) × IsRefusedCall item text f)
     go None e = inr (Malformed, is_malformed (λ w writes. none-some w (sym e ∙ (written_exactly text w).1 writes)))
     go (Some w) e = known w ((written_exactly text w).0 e) (knows_functions w) refl
 
@@ -346,15 +346,15 @@ spelled_or_refused item text = go (written_call text) refl
 read_spelled : (item : Bool) (text : List ℕ) (c : Call) → call_from item text ≡ Ok c → SpellsCall item text c
 read_spelled item text c h = go (spelled_or_refused item text)
   where
-    go : ((d : Call) × SpellsCall item text d) ⊎ ((f : FunctionFault) × IsRefusedCall item text f) → SpellsCall item text c
+    go : ((d : Call) × SpellsCall item text d) ⊎ ((f : CallFault) × IsRefusedCall item text f) → SpellsCall item text c
     go (inl s) = subst (SpellsCall item text) (same_ok (sym (spelled_read item text s.0 s.1) ∙ h)) s.1
     go (inr r) = absurd (ok_or_err (sym h ∙ refused_read item text r.0 r.1))
 
 -- a refusal that is told stands
-read_refused : (item : Bool) (text : List ℕ) (f : FunctionFault) → call_from item text ≡ Err f → IsRefusedCall item text f
+read_refused : (item : Bool) (text : List ℕ) (f : CallFault) → call_from item text ≡ Err f → IsRefusedCall item text f
 read_refused item text f h = go (spelled_or_refused item text)
   where
-    go : ((c : Call) × SpellsCall item text c) ⊎ ((g : FunctionFault) × IsRefusedCall item text g) → IsRefusedCall item text f
+    go : ((c : Call) × SpellsCall item text c) ⊎ ((g : CallFault) × IsRefusedCall item text g) → IsRefusedCall item text f
     go (inl s) = absurd (ok_or_err (sym (spelled_read item text s.0 s.1) ∙ h))
     go (inr r) = subst (IsRefusedCall item text) (same_err (sym (refused_read item text r.0 r.1) ∙ h)) r.1
 
@@ -363,7 +363,7 @@ pub call_exactly : (item : Bool) (text : List ℕ) (c : Call) → (call_from ite
 call_exactly item text c = (read_spelled item text c, spelled_read item text c)
 
 -- both ways
-pub refusal_exactly : (item : Bool) (text : List ℕ) (f : FunctionFault) → (call_from item text ≡ Err f) ↔ IsRefusedCall item text f
+pub refusal_exactly : (item : Bool) (text : List ℕ) (f : CallFault) → (call_from item text ≡ Err f) ↔ IsRefusedCall item text f
 refusal_exactly item text f = (read_refused item text f, refused_read item text f)
 
 -- a text spells one call
@@ -371,9 +371,9 @@ pub one_call : (item : Bool) (text : List ℕ) (c d : Call) → SpellsCall item 
 one_call item text c d s t = same_ok (sym (spelled_read item text c s) ∙ spelled_read item text d t)
 
 -- a text that spells a call isn't refused
-pub spelled_not_refused : (item : Bool) (text : List ℕ) (c : Call) (f : FunctionFault) → SpellsCall item text c → IsRefusedCall item text f → ⊥
+pub spelled_not_refused : (item : Bool) (text : List ℕ) (c : Call) (f : CallFault) → SpellsCall item text c → IsRefusedCall item text f → ⊥
 spelled_not_refused item text c f s r = ok_or_err (sym (spelled_read item text c s) ∙ refused_read item text f r)
 
 -- a text is refused in one way
-pub one_refusal : (item : Bool) (text : List ℕ) (f g : FunctionFault) → IsRefusedCall item text f → IsRefusedCall item text g → f ≡ g
+pub one_refusal : (item : Bool) (text : List ℕ) (f g : CallFault) → IsRefusedCall item text f → IsRefusedCall item text g → f ≡ g
 one_refusal item text f g r s = same_err (sym (refused_read item text f r) ∙ refused_read item text g s)

@@ -9,7 +9,7 @@ use Rattle.asl_model.specs.Tree.{Tree, Null, Boolean, Integer, Text, Array, Obje
 use Rattle.asl_model.specs.Intrinsic.{Reference, Call}
 use Rattle.asl_model.specs.Template.{Template, Literal, FromPath, FieldTemplates, NoFieldTemplates, AndFieldTemplate, before_each, IsInOrder, AreInOrder, HasFieldsInOrder}
 use Rattle.asl_model.specs.ShapeSpelling.{is_among, are_distinct}
-use Rattle.asl_model.specs.CallSpelling.{FunctionFault, call_from, reference_of}
+use Rattle.asl_model.specs.CallSpelling.{CallFault, call_from, reference_of}
 use Rattle.asl_model.specs.TemplateSpelling.{TemplateFault, NotObject, DuplicateAfterStrip, is_marked, renamed, renamed_names, begins_path, call_or_null, marked_value, with_field, part_of, parts_of, field_templates_of, part_faults, parts_faults, fields_faults, duplicate_faults, template_faults, marked_faults, SpellsTemplate}
 use Rattle.asl_model.proofs.FindingScopes.{append-none}
 use Rattle.asl_model.proofs.ShapeWitness.{comes_before-trans}
@@ -82,7 +82,7 @@ absent_as_read item k (AndField n t fs) h =
     let parts = neither (bytes_eq (renamed n) k) (is_among k (renamed_names fs)) h in
     absent_with k (renamed n) (elim (is_marked n) [ true ↦ marked_value item t | false ↦ part_of item t ]) (field_templates_of item fs) parts.0 (absent_as_read item k fs parts.1)
 
-call_in_order : (c : Result Call FunctionFault) → IsInOrder (call_or_null c)
+call_in_order : (c : Result Call CallFault) → IsInOrder (call_or_null c)
 call_in_order (Ok c) = tt
 call_in_order (Err fault) = tt
 

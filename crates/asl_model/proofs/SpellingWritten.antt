@@ -7,7 +7,7 @@ use Rattle.std.proofs.lemmas.Bool.Decides.{Decides-int_eq}
 use Rattle.std.proofs.lemmas.Cmp.{nat_list_cmp_total, nat_list_eq_equiv}
 use Rattle.asl_model.specs.Tree.{Tree, Integer, Array, Object, Trees, comes_before, count}
 use Rattle.asl_model.specs.Shape.{Shape, Any, Never, NullShape, BooleanShape, IntegerShape, StringShape, ArrayShape, ObjectShape, Shapes, NoShapes, AndShape, FieldShapes, NoFieldShapes, AndFieldShape, mentions, before_mentions, insert_mention, IsProperShape, AreProperShapes, AreProperFields}
-use Rattle.asl_model.specs.ShapeSpelling.{shape_of, shapes_of, element_shapes, properties_of, field_shapes, shape_faults, shapes_faults, element_faults, properties_faults, field_shape_faults, min_items_faults, element_count, required_faults, texts_among, are_texts, are_distinct, is_among, with_mention_needed, with_needed, with_all_needed, unless, NotAShape, MinItems, SpellsShape}
+use Rattle.asl_model.specs.ShapeSpelling.{shape_of, shapes_of, element_shapes, properties_of, field_shapes, shape_faults, shapes_faults, element_faults, properties_faults, field_faults, min_items_faults, element_count, required_faults, texts_among, are_texts, are_distinct, is_among, with_mention_needed, with_needed, with_all_needed, unless, NotAShape, MinItems, SpellsShape}
 use Rattle.asl_model.specs.ShapeOrder.{is_any_shape}
 use Rattle.asl_model.specs.ShapeFlow.{how_many_shapes}
 use Rattle.asl_model.specs.Written.{some_shapes, some_fields, needed_names, some_names, as_texts, array_fields, object_fields, written_shape, written_shapes, written_fields}
@@ -171,7 +171,7 @@ properties_back : (shapes : FieldShapes) → field_shapes (written_fields shapes
 properties_back NoFieldShapes h = refl
 properties_back (AndFieldShape n needed s shapes) h = h
 
-properties_right : (shapes : FieldShapes) → field_shape_faults (written_fields shapes) ≡ [] → (if some_fields shapes then properties_faults (Object (written_fields shapes)) else []) ≡ []
+properties_right : (shapes : FieldShapes) → field_faults (written_fields shapes) ≡ [] → (if some_fields shapes then properties_faults (Object (written_fields shapes)) else []) ≡ []
 properties_right NoFieldShapes h = refl
 properties_right (AndFieldShape n needed s shapes) h = h
 
@@ -224,7 +224,7 @@ mutual
   shapes_right NoShapes p = refl
   shapes_right (AndShape s others) p = both_none (shape_right s p.0) (shapes_right others p.1)
 
-  fields_right : (shapes : FieldShapes) → AreProperFields shapes → field_shape_faults (written_fields shapes) ≡ []
+  fields_right : (shapes : FieldShapes) → AreProperFields shapes → field_faults (written_fields shapes) ≡ []
   fields_right NoFieldShapes p = refl
   fields_right (AndFieldShape n needed s shapes) p = both_none (shape_right s p.2) (fields_right shapes p.3)
 

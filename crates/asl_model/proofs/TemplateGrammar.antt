@@ -7,7 +7,7 @@ use Rattle.asl_model.specs.Tree.{Tree, Null, Boolean, Integer, Text, Array, Obje
 use Rattle.asl_model.specs.Intrinsic.{Reference, Call}
 use Rattle.asl_model.specs.Template.{Template, Literal, FromPath, ArrayTemplate, ObjectTemplate, Templates, AndTemplate, FieldTemplates, NoFieldTemplates, AndFieldTemplate, before_each, HasFieldsInOrder}
 use Rattle.asl_model.specs.ShapeSpelling.{is_among, are_distinct}
-use Rattle.asl_model.specs.CallSpelling.{in_function_name, is_context, reference_of, WrittenCall, FunctionFault, call_from}
+use Rattle.asl_model.specs.CallSpelling.{in_function_name, is_context, reference_of, WrittenCall, CallFault, call_from}
 use Rattle.asl_model.specs.CallGrammar.{SpellsReference, spells_in_input, spells_item_index, spells_in_item, WritesCall, writes_call}
 use Rattle.asl_model.specs.TemplateSpelling.{TemplateFault, BadPath, LeftOutContext, DuplicateAfterStrip, is_marked, renamed, begins_path, call_or_null, marked_text, marked_value, unless_call, marked_text_faults, marked_faults, with_field, part_of, parts_of, field_templates_of, renamed_names, duplicate_faults, part_faults, parts_faults, fields_faults, template_faults, SpellsTemplate}
 use Rattle.asl_model.specs.TemplateGrammar.{StandsForMarked, stands_for_path, stands_for_call, PutsField, puts_last, puts_in_front, puts_behind, StandsForPart, stands_for_null, stands_for_boolean, stands_for_integer, stands_for_text, stands_for_array, stands_for_object, StandForParts, no_part_is_left, and_part, StandForFields, no_field_is_left, and_marked_field, and_plain_field, StandsForTemplate, object_stands}
@@ -83,7 +83,7 @@ read_marked item s h = go (begins_path s) h
     path (Some r) e k = stands_for_path ((reference_exactly item s r).0 e)
     path None e k = context (is_context s) k
 
-    call : (r : Result Call FunctionFault) → call_from item s ≡ r → unless_call r ≡ [] → StandsForMarked item s (call_or_null r)
+    call : (r : Result Call CallFault) → call_from item s ≡ r → unless_call r ≡ [] → StandsForMarked item s (call_or_null r)
     call (Ok c) e k = stands_for_call ((call_exactly item s c).0 e)
     call (Err f) e k = absurd (cc)
 

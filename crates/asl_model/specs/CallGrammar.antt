@@ -14,7 +14,7 @@ use Rattle.asl_model.specs.PathSpelling.{is_one_of, Begins, Spells}
 use Rattle.asl_model.specs.CallSpelling.{in_function_name, negated, WrittenCall, WrittenAs, WrittenArgument}
 use Rattle.asl_model.specs.CallSpelling.{WrittenNull, WrittenBoolean, WrittenInteger, WrittenText}
 use Rattle.asl_model.specs.CallSpelling.{WrittenPath, WrittenNested, WrittenArguments, NoneWritten}
-use Rattle.asl_model.specs.CallSpelling.{AndWritten, FunctionFault, Malformed, UnknownFunction, BadPath}
+use Rattle.asl_model.specs.CallSpelling.{AndWritten, CallFault, Malformed, UnknownFunction, BadPath}
 
 -- ---- bytes
 
@@ -195,7 +195,7 @@ mutual
 
 -- How a text is refused as a call: it writes none; or a function is unknown; or, where all are known, a path is
 -- refused.
-pub data IsRefusedCall (item : Bool) (text : List ℕ) : FunctionFault → Type 0 where
+pub data IsRefusedCall (item : Bool) (text : List ℕ) : CallFault → Type 0 where
   is_malformed : ((written : WrittenCall) → WritesCall 32 text written → ⊥) → IsRefusedCall item text Malformed
   has_unknown_function : {written : WrittenCall} → WritesCall 32 text written → HasUnknownFunction written
       → IsRefusedCall item text UnknownFunction

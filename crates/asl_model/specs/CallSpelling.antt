@@ -282,23 +282,23 @@ abbrev mutual
       option_and_then (λ a. option_map (AndArgument a) (arguments_of item others)) (argument_of item argument)
 
 -- how a text is refused as a call; the first of these that stands
-pub data FunctionFault : Type 0 where
+pub data CallFault : Type 0 where
   -- it isn't written as a call, or a number is out of range
-  Malformed : FunctionFault
-  UnknownFunction : FunctionFault
+  Malformed : CallFault
+  UnknownFunction : CallFault
   -- a path that is none, or a context path that isn't allowed
-  BadPath : FunctionFault
+  BadPath : CallFault
 
 -- the call, or that a path in it is refused
-abbrev pub call_or_bad_path : Option Call → Result Call FunctionFault
+abbrev pub call_or_bad_path : Option Call → Result Call CallFault
 call_or_bad_path None = Err BadPath
 call_or_bad_path (Some c) = Ok c
 
 -- the call that a written one means, or what is wrong with it
-abbrev pub call_or_fault : Bool → Option WrittenCall → Result Call FunctionFault
+abbrev pub call_or_fault : Bool → Option WrittenCall → Result Call CallFault
 call_or_fault item None = Err Malformed
 call_or_fault item (Some c) = if knows_functions c then call_or_bad_path (call_of item c) else Err UnknownFunction
 
 -- the call that a text spells, or its refusal
-abbrev pub call_from : Bool → List ℕ → Result Call FunctionFault
+abbrev pub call_from : Bool → List ℕ → Result Call CallFault
 call_from item text = call_or_fault item (written_call text)

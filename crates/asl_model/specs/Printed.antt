@@ -138,12 +138,12 @@ refusal_status NoMemory = 5
 -- ---- ends of the program
 
 -- how a call over a reader and a writer fails
-pub data CallFault : Type 0 where
-  RefusedText : Which → TextFault → CallFault
-  TooLong : CallFault
-  ReadFailed : CallFault
-  WriteFailed : CallFault
-  OutOfMemory : CallFault
+pub data CommandFault : Type 0 where
+  RefusedText : Which → TextFault → CommandFault
+  TooLong : CommandFault
+  ReadFailed : CommandFault
+  WriteFailed : CommandFault
+  OutOfMemory : CommandFault
 
 -- how a run ends
 pub data RunEnd : Type 0 where
@@ -161,7 +161,7 @@ pub data Closing : Type 0 where
   ClosingRun : RunEnd → Closing
   ClosingCertificate : Closing
   ClosingNotSettled : Closing
-  ClosingFault : CallFault → Closing
+  ClosingFault : CommandFault → Closing
 
 -- the exit status with a verdict
 abbrev pub verdict_status : Verdict → ℕ
@@ -169,7 +169,7 @@ verdict_status Accepted = 0
 verdict_status (Rejected fs) = 1
 
 -- the exit status where a call fails
-abbrev pub fault_status : CallFault → ℕ
+abbrev pub fault_status : CommandFault → ℕ
 fault_status (RefusedText which f) = refusal_status f
 fault_status TooLong = 2
 fault_status ReadFailed = 5
@@ -177,7 +177,7 @@ fault_status WriteFailed = 5
 fault_status OutOfMemory = 5
 
 -- the line on standard error then
-abbrev pub fault_line : CallFault → Bytes
+abbrev pub fault_line : CommandFault → Bytes
 fault_line (RefusedText which f) = refusal_line which f
 fault_line TooLong = codes "text too long\n"
 fault_line ReadFailed = codes "read failed\n"

@@ -158,15 +158,15 @@ abbrev complaint : List ℕ → List ℕ → RecordFault → RecordComplaint
 complaint name field fault = record { fault = fault; name = name; field = field }
 
 -- what is wrong with the value of a row, or with its absence
-abbrev pub field_faults : Option (List Tree) → RecordRow → Option Data → List RecordFault
-field_faults listed row None = if row.required then MissingField ∷ [] else []
-field_faults listed row (Some v) = misfits listed row.value v
+abbrev pub record_row_faults : Option (List Tree) → RecordRow → Option Data → List RecordFault
+record_row_faults listed row None = if row.required then MissingField ∷ [] else []
+record_row_faults listed row (Some v) = misfits listed row.value v
 
 -- what is wrong with the fields that rows name
 abbrev pub rows_complaints : Option (List Tree) → List ℕ → List RecordRow → Members → List RecordComplaint
 rows_complaints listed name [] ms = []
 rows_complaints listed name (row ∷ rows) ms =
-    map (complaint name row.field) (field_faults listed row (get_member row.field ms))
+    map (complaint name row.field) (record_row_faults listed row (get_member row.field ms))
     ++ rows_complaints listed name rows ms
 
 -- the name is that of a row

@@ -346,12 +346,12 @@ abbrev mutual
   properties_faults (Integer n) = NotAShape ∷ []
   properties_faults (Text s) = NotAShape ∷ []
   properties_faults (Array ts) = NotAShape ∷ []
-  properties_faults (Object fs) = field_shape_faults fs
+  properties_faults (Object fs) = field_faults fs
 
   -- with each field
-  pub field_shape_faults : Fields → List ShapeFault
-  field_shape_faults NoFields = []
-  field_shape_faults (AndField n t fs) = shape_faults t ++ field_shape_faults fs
+  pub field_faults : Fields → List ShapeFault
+  field_faults NoFields = []
+  field_faults (AndField n t fs) = shape_faults t ++ field_faults fs
 
   -- with the object in the field of that name
   pub properties_faults_under : List ℕ → Fields → List ShapeFault

@@ -13,7 +13,7 @@ use Rattle.asl_model.specs.Intrinsic.{Call}
 use Rattle.asl_model.specs.Template.{Template, Literal, FromPath, FromCall, ArrayTemplate, ObjectTemplate, Templates}
 use Rattle.asl_model.specs.Template.{NoTemplates, AndTemplate, FieldTemplates, NoFieldTemplates, AndFieldTemplate}
 use Rattle.asl_model.specs.ShapeSpelling.{are_distinct}
-use Rattle.asl_model.specs.CallSpelling.{is_context, reference_of, FunctionFault, call_from}
+use Rattle.asl_model.specs.CallSpelling.{is_context, reference_of, CallFault, call_from}
 
 -- what can be wrong with a template
 pub data TemplateFault : Type 0 where
@@ -42,7 +42,7 @@ abbrev pub begins_path : List ℕ → Bool
 begins_path s = slice_index s 0 == 36
 
 -- the call, or null where there is none
-abbrev pub call_or_null : Result Call FunctionFault → Template
+abbrev pub call_or_null : Result Call CallFault → Template
 call_or_null (Ok c) = FromCall c
 call_or_null (Err fault) = Literal Null
 
@@ -62,7 +62,7 @@ marked_value item (Array ts) = Literal Null
 marked_value item (Object fs) = Literal Null
 
 -- the fault of a call, where it has one
-abbrev pub unless_call : Result Call FunctionFault → List TemplateFault
+abbrev pub unless_call : Result Call CallFault → List TemplateFault
 unless_call (Ok c) = []
 unless_call (Err fault) = BadIntrinsic ∷ []
 

@@ -21,7 +21,7 @@ ghost use Rattle.asl_model.specs.TemplateGrammar.{StandsForTemplate};
 ghost use Rattle.asl_model.specs.RuleSpelling.{RuleFault, rule_of, SpellsRule, HasRuleFault};
 ghost use Rattle.asl_model.specs.RuleGrammar.{StandsForRule};
 ghost use Rattle.asl_model.specs.Intrinsic.{Reference, Call};
-ghost use Rattle.asl_model.specs.CallSpelling.{reference_of, WrittenCall, written_call, FunctionFault, call_from};
+ghost use Rattle.asl_model.specs.CallSpelling.{reference_of, WrittenCall, written_call, CallFault, call_from};
 ghost use Rattle.asl_model.specs.CallGrammar.{WritesCall, SpellsReference, SpellsCall, IsRefusedCall};
 ghost use Rattle.asl_model.specs.Run.{Action};
 ghost use Rattle.asl_model.specs.AnswersSpelling.{ReadsAsAnswers, IsAnswersFault, StandsForAnswers, IsBadAnswer};
@@ -191,15 +191,15 @@ pub fn written_calls_are_exactly_cut()
 /// for paths to a Map's item.
 pub fn texts_spell_calls_or_are_refused()
     ensures either { (item : Bool) (text : Bytes)
-        → ((c : Call) × SpellsCall item text c) ⊎ ((f : FunctionFault) × IsRefusedCall item text f) }
+        → ((c : Call) × SpellsCall item text c) ⊎ ((f : CallFault) × IsRefusedCall item text f) }
     ensures call { (item : Bool) (text : Bytes) (c d : Call) → SpellsCall item text c → SpellsCall item text d
         → c ≡ d }
-    ensures no_refusal { (item : Bool) (text : Bytes) (c : Call) (f : FunctionFault) → SpellsCall item text c
+    ensures no_refusal { (item : Bool) (text : Bytes) (c : Call) (f : CallFault) → SpellsCall item text c
         → IsRefusedCall item text f → ⊥ }
-    ensures one_refusal { (item : Bool) (text : Bytes) (f g : FunctionFault) → IsRefusedCall item text f
+    ensures one_refusal { (item : Bool) (text : Bytes) (f g : CallFault) → IsRefusedCall item text f
         → IsRefusedCall item text g → f ≡ g }
     ensures read { (item : Bool) (text : Bytes) (c : Call) → (call_from item text ≡ Ok c) ↔ SpellsCall item text c }
-    ensures refused { (item : Bool) (text : Bytes) (f : FunctionFault)
+    ensures refused { (item : Bool) (text : Bytes) (f : CallFault)
         → (call_from item text ≡ Err f) ↔ IsRefusedCall item text f }
 {}
 

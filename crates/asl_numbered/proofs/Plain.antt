@@ -5,7 +5,7 @@ use Rattle.std.specs.List.{Contains}
 use Rattle.std.proofs.lemmas.List.Elements.{Contains-append_left, Contains-append_right, Contains-append_cases}
 use Rattle.asl_model.specs.Json.{tree_of, value_of}
 use Rattle.asl_model.specs.Shape as model
-use Rattle.asl_model.specs.ShapeSpelling.{ShapeFault, SpellsShape, shape_faults, element_shapes, element_faults, field_shapes, field_shape_faults, with_all_needed}
+use Rattle.asl_model.specs.ShapeSpelling.{ShapeFault, SpellsShape, shape_faults, element_shapes, element_faults, field_shapes, field_faults, with_all_needed}
 use Rattle.asl_model.specs.Tree.{Tree, Trees, NoTrees, AndTree, Fields, NoFields, AndField}
 use Rattle.asl_shape.specs.Level.{Level, Plain, ListLevel, ObjectLevel, shape_over, inner_faults, rest_shape, rest_faults}
 use Rattle.asl_shape.specs.Spelled.{spelled}
@@ -49,12 +49,12 @@ mutual
   rest_plain no_rest = (refl, refl)
   rest_plain (some_rest h) = let own = spells_plain h in (own.same, own.none_wrong)
 
-  fields_plain : {fs : Fields} {ss : model.FieldShapes} → SpellFields NoShapes fs ss → (field_shapes fs ≡ ss) × (field_shape_faults fs ≡ [])
+  fields_plain : {fs : Fields} {ss : model.FieldShapes} → SpellFields NoShapes fs ss → (field_shapes fs ≡ ss) × (field_faults fs ≡ [])
   fields_plain no_field = (refl, refl)
   fields_plain (and_field {n = n} {t = t} {s = s} {fs = fs} {shapes = shapes} h further) =
       let own = spells_plain h in
       let p = fields_plain further in
-      (ap (λ x. model.AndFieldShape n false x (field_shapes fs)) own.same ∙ ap (model.AndFieldShape n false s) p.0, both_none (shape_faults t) (field_shape_faults fs) own.none_wrong p.1)
+      (ap (λ x. model.AndFieldShape n false x (field_shapes fs)) own.same ∙ ap (model.AndFieldShape n false s) p.0, both_none (shape_faults t) (field_faults fs) own.none_wrong p.1)
 
 -- ---- faults
 
@@ -70,13 +70,13 @@ element_fault (AndTree t ts) part f there fault = go (Contains-append_cases (t �
     go (inl here) behind = Contains-append_left (shape_faults t) (element_faults ts) f (subst (λ x. Contains (shape_faults x) f) (sym (contained_alone t part here)) fault)
     go (inr later) behind = Contains-append_right (shape_faults t) (element_faults ts) f (behind later)
 
-field_fault : (fs : Fields) (part : Tree) (f : ShapeFault) → Contains (values_of fs) part → Contains (shape_faults part) f → Contains (field_shape_faults fs) f
+field_fault : (fs : Fields) (part : Tree) (f : ShapeFault) → Contains (values_of fs) part → Contains (shape_faults part) f → Contains (field_faults fs) f
 field_fault NoFields part f (k, h, e) fault = absurd (omega (arith, h))
 field_fault (AndField n t fs) part f there fault = go (Contains-append_cases (t ∷ []) (values_of fs) part there) (λ later. field_fault fs part f later fault)
   where
-    go : Contains (t ∷ []) part ⊎ Contains (values_of fs) part → (Contains (values_of fs) part → Contains (field_shape_faults fs) f) → Contains (shape_faults t ++ field_shape_faults fs) f
-    go (inl here) behind = Contains-append_left (shape_faults t) (field_shape_faults fs) f (subst (λ x. Contains (shape_faults x) f) (sym (contained_alone t part here)) fault)
-    go (inr later) behind = Contains-append_right (shape_faults t) (field_shape_faults fs) f (behind later)
+    go : Contains (t ∷ []) part ⊎ Contains (values_of fs) part → (Contains (values_of fs) part → Contains (field_faults fs) f) → Contains (shape_faults t ++ field_faults fs) f
+    go (inl here) behind = Contains-append_left (shape_faults t) (field_faults fs) f (subst (λ x. Contains (shape_faults x) f) (sym (contained_alone t part here)) fault)
+    go (inr later) behind = Contains-append_right (shape_faults t) (field_faults fs) f (behind later)
 
 rest_fault : (rest : Option Tree) (part : Tree) (f : ShapeFault) → Contains (option_to_list rest) part → Contains (shape_faults part) f → Contains (rest_faults rest) f
 rest_fault None part f (k, h, e) fault = absurd (omega (arith, h))

@@ -7,7 +7,7 @@ use Rattle.std.specs.List.{Contains}
 use Rattle.std.proofs.lemmas.List.{map-append}
 use Rattle.std.proofs.lemmas.Slice.Eq.{bytes_eq-Decides}
 use Rattle.asl_model.specs.References.{reference_among, meant_by, Held, OneShape, SeveralShapes, NamedShapes, NoShape, held_under, replaced, means_none, has_wrong_number, number_wrong_under, an_element_has_wrong_number, one_has_wrong_number, a_value_has_wrong_number, a_field_has_wrong_number, spelled_out, keywords_spelled_out, list_spelled_out, each_spelled_out, object_spelled_out, values_spelled_out}
-use Rattle.asl_model.specs.ShapeSpelling.{ShapeFault, Keyword, BadType, object_keywords, array_keywords, simple_keywords, annotations, TypeWord, OfObject, OfArray, OfInteger, OfString, OfBoolean, OfNull, OtherType, NotAType, NoType, type_word_of, type_in, typed_faults, foreign_faults, is_among, element_count, shape_of, shape_faults, SpellsShape, element_shapes, element_faults, field_shapes, field_shape_faults, with_all_needed}
+use Rattle.asl_model.specs.ShapeSpelling.{ShapeFault, Keyword, BadType, object_keywords, array_keywords, simple_keywords, annotations, TypeWord, OfObject, OfArray, OfInteger, OfString, OfBoolean, OfNull, OtherType, NotAType, NoType, type_word_of, type_in, typed_faults, foreign_faults, is_among, element_count, shape_of, shape_faults, SpellsShape, element_shapes, element_faults, field_shapes, field_faults, with_all_needed}
 use Rattle.asl_model.specs.Shape.{Shape, ArrayShape, ObjectShape, Shapes, AndShape, FieldShapes, AndFieldShape}
 use Rattle.asl_model.specs.Tree.{Tree, Null, Boolean, Integer, Text, Array, Object, Trees, NoTrees, AndTree, Fields, NoFields, AndField, field_named, count}
 use Rattle.asl_shape.specs.Level.{Level, Plain, ListLevel, ObjectLevel, level_of, level_faults, typed_level, array_level, object_level, array_level_faults, object_level_faults, elements_in, fields_in, list_faults, object_faults, SpelledOver, shape_over, inner_faults, rest_shape, rest_faults}
@@ -404,13 +404,13 @@ module _ (listed : List Tree) (given : List Shape) (are : AreSpelledIn listed gi
     rest_out no_rest = (refl, refl, refl)
     rest_out (rest_spelled h) = let own = spells_out h in (own.spells.same, own.spells.none_wrong, own.right)
 
-    fields_out : {fs : Fields} {ss : FieldShapes} → SpellFields (Some given) fs ss → (field_shapes (values_spelled_out listed fs) ≡ ss) × (field_shape_faults (values_spelled_out listed fs) ≡ []) × (a_field_has_wrong_number listed fs ≡ false)
+    fields_out : {fs : Fields} {ss : FieldShapes} → SpellFields (Some given) fs ss → (field_shapes (values_spelled_out listed fs) ≡ ss) × (field_faults (values_spelled_out listed fs) ≡ []) × (a_field_has_wrong_number listed fs ≡ false)
     fields_out no_field = (refl, refl, refl)
     fields_out (and_field {n = n} {t = t} {s = s} {fs = fs} {shapes = shapes} h further) =
         let own = spells_out h in
         let p = fields_out further in (
           ap (λ x. AndFieldShape n false x (field_shapes (values_spelled_out listed fs))) own.spells.same ∙ ap (AndFieldShape n false s) p.0,
-          both_none (shape_faults (spelled_out listed t)) (field_shape_faults (values_spelled_out listed fs)) own.spells.none_wrong p.1,
+          both_none (shape_faults (spelled_out listed t)) (field_faults (values_spelled_out listed fs)) own.spells.none_wrong p.1,
           ap (λ b. b || a_field_has_wrong_number listed fs) own.right ∙ p.2,
         )
 

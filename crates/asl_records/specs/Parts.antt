@@ -13,7 +13,7 @@ use Rattle.asl_model.specs.ShapeSpelling.{is_among}
 use Rattle.asl_model.specs.Json.{tree_of, elements_of, members_of}
 use Rattle.asl_model.specs.Tree.{Tree}
 use Rattle.asl_model.specs.Certificate as model
-use Rattle.asl_model.specs.Records.{RecordFault, UnknownField, BadShape, BadNumber, RecordComplaint, RecordRow, ShapeValue, ShapesValue, ListedValue, EntriesValue, VersionValue, field_faults, members_in, shape_from, shapes_from, shape_misfits, shapes_misfits, listed_after, listed_misfits, state_rows, state_from, entries_complaints, entries_from}
+use Rattle.asl_model.specs.Records.{RecordFault, UnknownField, BadShape, BadNumber, RecordComplaint, RecordRow, ShapeValue, ShapesValue, ListedValue, EntriesValue, VersionValue, record_row_faults, members_in, shape_from, shapes_from, shape_misfits, shapes_misfits, listed_after, listed_misfits, state_rows, state_from, entries_complaints, entries_from}
 use Rattle.asl_shape.specs.Refusal.{fault_named}
 use Rattle.asl_numbered.specs.declared.NumberedRefusal.{NumberedRefusal}
 use Rattle.asl_numbered.specs.declared.NumberedRefusal.TheVariants as numbered
@@ -68,7 +68,7 @@ listing_complaints trees vs = map (complaint_of [] (codes "shapes")) (listed_mis
 
 -- what is wrong with what stands in a field
 abbrev pub field_complaints : Option (List Tree) → List ℕ → RecordRow → Option Data → List RecordComplaint
-field_complaints listed name row value = map (complaint_of name row.field) (field_faults listed row value)
+field_complaints listed name row value = map (complaint_of name row.field) (record_row_faults listed row value)
 
 -- a field with a shape
 abbrev pub shape_row : List ℕ → Bool → RecordRow

@@ -10,7 +10,7 @@ use Rattle.std.specs.Ordering.{nat_cmp, match_ordering, ordering_reverse}
 use Rattle.std.specs.String.{string_cmp}
 use Rattle.std.proofs.lemmas.Cmp.{nat_list_cmp_total}
 use Rattle.asl_model.specs.Shape as model
-use Rattle.asl_model.specs.ShapeSpelling.{shape_of, element_shapes, field_shapes, shape_faults, field_shape_faults, element_faults}
+use Rattle.asl_model.specs.ShapeSpelling.{shape_of, element_shapes, field_shapes, shape_faults, field_faults, element_faults}
 use Rattle.asl_model.specs.Tree as json
 use Rattle.asl_shape.specs.Spelled as trees
 use Rattle.asl_shape.specs.Spelled.{spelled}
@@ -77,13 +77,13 @@ member_read done e more fs k f sorted so_far named needed shape =
 
 -- ---- faults
 
-pub faults_step : (e : Entry) (left now : List Entry) → now ≡ e ∷ left → shape_faults (trees.view e.1) ≡ [] → field_shape_faults (trees.entries_view now) ≡ field_shape_faults (trees.entries_view left)
-faults_step e left now split right = ap (λ es. field_shape_faults (trees.entries_view es)) split ∙ ap (λ xs. xs ++ field_shape_faults (trees.entries_view left)) right
+pub faults_step : (e : Entry) (left now : List Entry) → now ≡ e ∷ left → shape_faults (trees.view e.1) ≡ [] → field_faults (trees.entries_view now) ≡ field_faults (trees.entries_view left)
+faults_step e left now split right = ap (λ es. field_faults (trees.entries_view es)) split ∙ ap (λ xs. xs ++ field_faults (trees.entries_view left)) right
 
 pub element_told : (e : ShapeRefusal) (all left rest : List Value) (t : Value) → element_faults (trees.elements_view all) ≡ element_faults (trees.elements_view left) → left ≡ t ∷ rest → Tells e (shape_faults (trees.view t)) → Tells e (element_faults (trees.elements_view all))
 element_told e all left rest t so_far split told =
     told_same e _ _ (told_left e (shape_faults (trees.view t)) (element_faults (trees.elements_view rest)) told) (sym (so_far ∙ ap (λ ts. element_faults (trees.elements_view ts)) split))
 
-pub member_told : (e : ShapeRefusal) (all now left : List Entry) (m : Entry) → field_shape_faults (trees.entries_view all) ≡ field_shape_faults (trees.entries_view now) → now ≡ m ∷ left → Tells e (shape_faults (trees.view m.1)) → Tells e (field_shape_faults (trees.entries_view all))
+pub member_told : (e : ShapeRefusal) (all now left : List Entry) (m : Entry) → field_faults (trees.entries_view all) ≡ field_faults (trees.entries_view now) → now ≡ m ∷ left → Tells e (shape_faults (trees.view m.1)) → Tells e (field_faults (trees.entries_view all))
 member_told e all now left m so_far split told =
-    told_same e _ _ (told_left e (shape_faults (trees.view m.1)) (field_shape_faults (trees.entries_view left)) told) (sym (so_far ∙ ap (λ es. field_shape_faults (trees.entries_view es)) split))
+    told_same e _ _ (told_left e (shape_faults (trees.view m.1)) (field_faults (trees.entries_view left)) told) (sym (so_far ∙ ap (λ es. field_faults (trees.entries_view es)) split))

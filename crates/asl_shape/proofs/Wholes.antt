@@ -5,7 +5,7 @@ use Rattle.std.specs.List.{Contains}
 use Rattle.std.proofs.lemmas.List.Elements.{Contains-append_left, Contains-append_right, Contains-append_cases}
 use Rattle.asl_model.proofs.SpellingLookups.{shape_under-field_named, shapes_under-field_named, properties_under-field_named, shape_faults_under-field_named, shapes_faults_under-field_named, properties_faults_under-field_named}
 use Rattle.asl_model.specs.Shape as model
-use Rattle.asl_model.specs.ShapeSpelling.{ShapeFault, TypeWord, OfObject, OfArray, OfInteger, OfString, OfBoolean, OfNull, OtherType, NotAType, NoType, type_word_of, foreign_faults, object_keywords, array_keywords, Keyword, shapes_of, shapes_under, shape_under, properties_of, properties_under, shapes_faults, shapes_faults_under, shape_faults_under, properties_faults, properties_faults_under, required_in, required_faults, extra_in, extra_faults, with_all_needed, min_items_faults, element_count, typed_shape, typed_faults, shape_of, shape_faults, element_shapes, element_faults, field_shapes, field_shape_faults}
+use Rattle.asl_model.specs.ShapeSpelling.{ShapeFault, TypeWord, OfObject, OfArray, OfInteger, OfString, OfBoolean, OfNull, OtherType, NotAType, NoType, type_word_of, foreign_faults, object_keywords, array_keywords, Keyword, shapes_of, shapes_under, shape_under, properties_of, properties_under, shapes_faults, shapes_faults_under, shape_faults_under, properties_faults, properties_faults_under, required_in, required_faults, extra_in, extra_faults, with_all_needed, min_items_faults, element_count, typed_shape, typed_faults, shape_of, shape_faults, element_shapes, element_faults, field_shapes, field_faults}
 use Rattle.asl_model.specs.Tree.{Tree, Null, Boolean, Integer, Text, Array, Object, Fields, field_named, count}
 use Rattle.asl_shape.specs.Level.{Level, level_of, level_faults, typed_level, array_level, object_level, array_level_faults, object_level_faults, all_array_faults, all_object_faults, elements_in, fields_in, list_faults, object_faults, rest_faults, shape_over, inner_faults, SpelledOver}
 use Rattle.asl_shape.specs.LevelView.{level_view}
@@ -51,7 +51,7 @@ first_faults (Some (Text s)) = refl
 first_faults (Some (Array ts)) = refl
 first_faults (Some (Object fs)) = refl
 
-mentioned_faults : (o : Option Tree) → unwrap_or (option_map properties_faults o) [] ≡ object_faults o ++ field_shape_faults (fields_in o)
+mentioned_faults : (o : Option Tree) → unwrap_or (option_map properties_faults o) [] ≡ object_faults o ++ field_faults (fields_in o)
 mentioned_faults None = refl
 mentioned_faults (Some Null) = refl
 mentioned_faults (Some (Boolean b)) = refl
@@ -127,7 +127,7 @@ object_faults_over : (fs : Fields) → object_level_faults fs ≡ [] → whole_o
 object_faults_over fs none =
     let o = field_named (codes "properties") fs in
     let others = required_faults (field_named (codes "required") fs) ++ extra_faults (field_named (codes "additionalProperties") fs) in
-    rw (properties_faults_under-field_named (codes "properties") fs, mentioned_faults o, none_left (object_faults o) others none, none_right (object_faults o) others none) (append-nil (field_shape_faults (fields_in o)))
+    rw (properties_faults_under-field_named (codes "properties") fs, mentioned_faults o, none_left (object_faults o) others none, none_right (object_faults o) others none) (append-nil (field_faults (fields_in o)))
 
 typed_faults_over : (w : TypeWord) (fs : Fields) → typed_faults w fs (array_level_faults fs) (object_level_faults fs) ≡ [] → typed_faults w fs (whole_array_faults fs) (whole_object_faults fs) ≡ inner_faults (typed_level w (array_level fs) (object_level fs))
 typed_faults_over OfObject fs none =
@@ -188,7 +188,7 @@ typed_within OfObject fs =
     let others = required_faults (field_named (codes "required") fs) ++ extra_faults (field_named (codes "additionalProperties") fs) in
     let known = foreign_faults Keyword object_keywords fs in
     let inside = properties_faults_under (codes "properties") fs in
-    let own : IsWithin (object_faults o) inside = λ f h. rw (properties_faults_under-field_named (codes "properties") fs, mentioned_faults o) (Contains-append_left (object_faults o) (field_shape_faults (fields_in o)) f h) in
+    let own : IsWithin (object_faults o) inside = λ f h. rw (properties_faults_under-field_named (codes "properties") fs, mentioned_faults o) (Contains-append_left (object_faults o) (field_faults (fields_in o)) f h) in
     both_within known (object_level_faults fs) known (whole_object_faults fs) (λ f h. h) (both_within (object_faults o) others inside others own (λ f h. h))
 typed_within OfArray fs =
     let o = field_named (codes "prefixItems") fs in

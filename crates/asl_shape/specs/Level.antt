@@ -2,7 +2,7 @@
 use Rattle.std.specs.Prelude.{◌≡◌, ℕ, List, [], ◌∷◌, ◌++◌, Bool, if◌then◌else◌, Option, Some, None, option_map, codes}
 use Rattle.std.specs.Option.{unwrap_or}
 use Rattle.asl_model.specs.Shape.{Shape, Any, Never, NullShape, BooleanShape, IntegerShape, StringShape, ArrayShape, ObjectShape}
-use Rattle.asl_model.specs.ShapeSpelling.{ShapeFault, NotAShape, Keyword, foreign_faults, array_keywords, object_keywords, TypeWord, OfObject, OfArray, OfInteger, OfString, OfBoolean, OfNull, OtherType, NotAType, NoType, type_word_of, typed_faults, required_in, required_faults, extra_in, extra_faults, with_all_needed, min_items_faults, element_count, shape_of, element_shapes, field_shapes, shape_faults, element_faults, field_shape_faults}
+use Rattle.asl_model.specs.ShapeSpelling.{ShapeFault, NotAShape, Keyword, foreign_faults, array_keywords, object_keywords, TypeWord, OfObject, OfArray, OfInteger, OfString, OfBoolean, OfNull, OtherType, NotAType, NoType, type_word_of, typed_faults, required_in, required_faults, extra_in, extra_faults, with_all_needed, min_items_faults, element_count, shape_of, element_shapes, field_shapes, shape_faults, element_faults, field_faults}
 use Rattle.asl_model.specs.Tree.{Tree, Null, Boolean, Integer, Text, Array, Object, Trees, NoTrees, Fields, NoFields, field_named}
 
 -- what one level says
@@ -126,7 +126,7 @@ shape_over (ObjectLevel properties names extra) = ObjectShape (with_all_needed e
 abbrev pub inner_faults : Level → List ShapeFault
 inner_faults (Plain s) = []
 inner_faults (ListLevel first rest) = element_faults first ++ rest_faults rest
-inner_faults (ObjectLevel properties names extra) = field_shape_faults properties
+inner_faults (ObjectLevel properties names extra) = field_faults properties
 
 -- The spelling says that level, and nothing is wrong with it but what is with the spellings inside: it spells the shape
 -- over the level where these spell theirs.

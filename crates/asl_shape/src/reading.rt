@@ -154,11 +154,11 @@ fn read_members(
     members: &Map<String, Value>,
 ) -> Result<BTreeMap<String, Field>, ShapeRefusal>
     ensures right { IfOk result
-        (λ _. model.field_shape_faults (trees.entries_view members.now.entries) ≡ []) }
+        (λ _. model.field_faults (trees.entries_view members.now.entries) ≡ []) }
     ensures fields { IfOk result
         (λ m. fields_view m.entries ≡ model.field_shapes (trees.entries_view members.now.entries)) }
     ensures refused { IfErr result
-        (λ e. Tells e (model.field_shape_faults (trees.entries_view members.now.entries))) }
+        (λ e. Tells e (model.field_faults (trees.entries_view members.now.entries))) }
 {
     let mut fields = BTreeMap::new(alloc);
     for (name, member) in members.iter() {

@@ -3,7 +3,7 @@ use Rattle.std.proofs.Common.{◌≡◌, ℕ, List, ◌++◌, Bool, Option, Some
 use Rattle.std.specs.Prelude.{IfSome}
 use Rattle.std.specs.List.{Contains}
 use Rattle.std.proofs.lemmas.List.Elements.{Contains-append_left, Contains-append_right}
-use Rattle.asl_model.specs.CallSpelling.{FunctionFault, call_from}
+use Rattle.asl_model.specs.CallSpelling.{CallFault, call_from}
 use Rattle.asl_model.specs.CallGrammar.{IsRefusedCall}
 use Rattle.asl_model.specs.TemplateSpelling.{TemplateFault, unless_call}
 use Rattle.asl_model.proofs.CallMeaning.{refusal_exactly}
@@ -34,5 +34,5 @@ pub told_same : (e : SpellingRefusal) (xs ys : List TemplateFault) → Tells e x
 told_same e xs ys h same = subst (Tells e) same h
 
 -- a text that is refused as a call
-pub call_told : (item : Bool) (text : List ℕ) (f : FunctionFault) → IsRefusedCall item text f → Tells BadIntrinsic (unless_call (call_from item text))
+pub call_told : (item : Bool) (text : List ℕ) (f : CallFault) → IsRefusedCall item text f → Tells BadIntrinsic (unless_call (call_from item text))
 call_told item text f h = rw ((refusal_exactly item text f).1 h) (record { listed = search rules })

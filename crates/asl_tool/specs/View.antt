@@ -52,7 +52,7 @@ text_fault_view (text.BadAnswer n) = texts.BadAnswer n
 text_fault_view text.OutOfMemory = texts.NoMemory
 
 -- how a call over a reader and a writer fails
-abbrev pub run_fault_view : RunFault → printed.CallFault
+abbrev pub run_fault_view : RunFault → printed.CommandFault
 run_fault_view (run.Text refusal) =
     printed.RefusedText (which_view refusal.which) (text_fault_view refusal.fault)
 run_fault_view run.TooLong = printed.TooLong

@@ -33,5 +33,5 @@ invariant-read_elements-loop-element l =
 
 abbrev pub invariant-read_members-loop-name : goal.invariant-read_members-loop-name
 invariant-read_members-loop-name l =
-    (model.field_shape_faults (trees.entries_view l.members.entries) ≡ model.field_shape_faults (trees.entries_view l.name-iterator))
+    (model.field_faults (trees.entries_view l.members.entries) ≡ model.field_faults (trees.entries_view l.name-iterator))
     × ((done : List (String Global × Value)) × (l.members.entries ≡ done ++ l.name-iterator) × (fields_view l.fields.entries ≡ model.field_shapes (trees.entries_view done)))

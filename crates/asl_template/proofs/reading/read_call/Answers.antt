@@ -1,5 +1,5 @@
 use Rattle.std.proofs.Common.{sym, ap, ◌∙◌, subst, ⊎_elim}
-use Rattle.asl_model.specs.CallSpelling.{FunctionFault, Malformed, UnknownFunction, BadPath}
+use Rattle.asl_model.specs.CallSpelling.{CallFault, Malformed, UnknownFunction, BadPath}
 use Rattle.asl_model.specs.CallGrammar.{IsRefusedCall}
 use Rattle.asl_model.specs.TemplateSpelling.{unless_call, call_or_null}
 use Rattle.asl_model.proofs.CallMeaning.{call_exactly}
@@ -19,7 +19,7 @@ returns-in-Ok-clause-template c =
 
 pub returns-in-Malformed : goal.returns-in-Malformed
 returns-in-Malformed c =
-    let told = λ (f : FunctionFault) (is : IsRefusedCall c.args.item c.args.text.now f). call_told c.args.item c.args.text.now f is in
+    let told = λ (f : CallFault) (is : IsRefusedCall c.args.item c.args.text.now f). call_told c.args.item c.args.text.now f is in
     let refused = c.in-Err.ensures.refused in
     record {
       right = tt;
