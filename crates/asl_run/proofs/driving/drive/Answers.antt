@@ -1,8 +1,26 @@
-use Rattle.std.proofs.Common.{arith, ap}
+use Rattle.std.proofs.Common.{List, [], map, arith, ap, sym, subst}
+use Rattle.asl_run.specs.Driving.{Drives, policy_of, stage_of}
+use Rattle.asl_run.specs.Entries.{entry_view}
+use Rattle.asl_run.specs.Running.{run_view}
+use Rattle.asl_run.specs.declared.entries.Entry as code
 use Rattle.asl_run.proofs.Driven.{one_turn_more}
+use Rattle.asl_run.proofs.Turns.{drives_none}
 use Rattle.asl_run.proofs.Stopping.{broken_off_there, stopped_at_end, stopped_unanswered, stopped_when_spent}
 use Rattle.asl_states.specs.Table.{table_view}
 use Rattle.asl_run.proofs.driving.drive.Goals as goal
+
+pub turns-init : goal.turns-init
+turns-init g c =
+    let policy = policy_of (g.O.Order.may_pick c.args.order.now) (g.A.Answers.may_give c.args.answers.now) (g.A.Answers.may_be_silent c.args.answers.now c.args.answers.now) in
+    let answers = g.A.Answers.content c.args.answers.now in
+    let begun = stage_of (run_view c.args.run.now) answers [] in
+    record {
+      run = λ m h. h;
+      drives = λ m h. subst (λ (es : List code.Entry). Drives policy m 0 begun (stage_of (run_view c.args.run.now) answers (map entry_view es))) (sym c.new-trace.ensures.items) (drives_none policy m begun);
+      lasting_order = λ n k e. e;
+      lasting = λ n t answer e. e;
+      lasting_silent = λ later n t e. e;
+    }
 
 pub turns-preserved : goal.turns-preserved
 turns-preserved g c =
