@@ -6,20 +6,17 @@ use Rattle.std.proofs.lemmas.List.Elements.{All-head, All-tail}
 use Rattle.asl_model.specs.Certificate.{Declared, ActionObeys, TakenObeys, AnswersObey, waiting_name}
 use Rattle.asl_model.specs.Machine.{Scope}
 use Rattle.asl_model.specs.Numbering.{table_of}
-use Rattle.asl_model.specs.Run.{Activity, Action, Move, Gives, FailsTask, Event, Entry, Turn, activity_at, enabled, start, run_of, trace, last_activity}
+use Rattle.asl_model.specs.Run.{Activity, Action, Move, Gives, FailsTask, Event, Entry, Turn, activity_at, enabled, run_of, trace}
 use Rattle.asl_model.specs.TracePrinted.{trace_text}
 use Rattle.asl_model.specs.Tree.{Tree}
 use Rattle.asl_model.specs.Printed.{RunEnd, InputShape}
 use Rattle.asl_records.specs.View.{declared_view}
 use Rattle.asl_records.specs.declared.records.Declared as code
 use Rattle.asl_run.specs.Driving.{MayHappen, answer_given, IsTaken, IsUnanswered, Policy, StopsSo, placed_entry, policy_of}
-use Rattle.asl_run.specs.Entries.{answer_view}
 use Rattle.asl_run.specs.declared.driving.Stop.{Stop}
 use Rattle.asl_run.specs.declared.driving.Stop.TheVariants as stops
-use Rattle.asl_run.specs.declared.entries.Answer.{Answer}
-use Rattle.asl_run.specs.declared.entries.Answer.TheVariants as answers
 use Rattle.asl_tool.specs.Tracing.{Traces, begun}
-use Rattle.asl_tool.specs.Runs.{AllEnabled, AllPicked, EndsSo, IsRun, MayBeSilent, MayGive, NextMisfits, ObeysShapes, RunGiven, RunsTo, Waits, end_at, fits_input, fits_task, input_misfits, is_run, is_spent, left_standing, next_fits, place_picked, turns_of}
+use Rattle.asl_tool.specs.Runs.{AllEnabled, AllPicked, EndsSo, IsRun, MayBeSilent, MayGive, NextMisfits, ObeysShapes, RunGiven, RunsTo, Waits, end_at, fits_input, input_misfits, is_run, is_spent, left_standing, next_fits, place_picked, turns_of}
 use Rattle.asl_tool.specs.declared.runs.Pick.{Pick}
 
 -- so the order picks the places

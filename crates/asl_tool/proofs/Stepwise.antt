@@ -1,5 +1,5 @@
 -- A run that is driven one step after another, its history written after each.
-use Rattle.std.proofs.Common.{◌≡◌, ◌<◌, ◌≤◌, ◌+◌, ℕ, List, [], ◌∷◌, ◌++◌, map, Option, None, slice_get, refl, sym, ap, subst, ◌∙◌, append_assoc, arith}
+use Rattle.std.proofs.Common.{◌≡◌, ◌<◌, ◌≤◌, ◌+◌, ℕ, List, [], ◌∷◌, ◌++◌, map, None, slice_get, refl, sym, ap, subst, ◌∙◌, append_assoc, arith}
 use Rattle.asl_model.specs.Machine.{Scope}
 use Rattle.asl_model.specs.Numbering.{table_of}
 use Rattle.asl_model.specs.Run.{Activity, Action, Entry, outcome_of, run, trace}

@@ -153,7 +153,7 @@ fn trace<O: Order, A: Answers>(
     answers: &mut A,
     max_steps: u64,
 ) -> Result<(Stop, Vec<u8>), OutOfMemory>
-    ensures traces { (m : Scope) → Shows machine.now m
+    ensures { (m : Scope) → Shows machine.now m
         → let policy = policy_of (O.may_pick order.old) (A.may_give answers.old)
         (A.may_be_silent answers.old answers.new) in
         IfOk result (λ traced. Traces policy m max_steps

@@ -30,8 +30,8 @@ steps-init g c =
       lasting_silent = λ later n t e. e;
     }
 
-pub returns-in_default-clause-traces : goal.returns-in_default-clause-traces
-returns-in_default-clause-traces g c = λ m h.
+pub returns-in_default : goal.returns-in_default
+returns-in_default g c = λ m h.
     let so_far = c.steps.invariant in
     let lines = c.in_ok-lines.lines.items in
     let P : List code.Entry → Type 0 = λ es. (told : List (List ℕ × model.Entry)) → map entry_view es ≡ map placed_entry told → lines ≡ c.steps.lines.items ++ trace_text told in

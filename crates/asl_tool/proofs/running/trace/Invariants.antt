@@ -20,5 +20,5 @@ invariant-steps g l = record {
   goes_on : (m : Scope) → Shows l.machine m → outcome_of (run_view l.run) ≡ None;
   lasting_order : (n k : ℕ) → g.O.Order.may_pick l.order n k → g.O.Order.may_pick l.fn.order n k;
   lasting : (n : List ℕ) (t : Tree) (answer : Action) → g.A.Answers.may_give l.answers n t answer → g.A.Answers.may_give l.fn.answers n t answer;
-  lasting_silent : (later : g.row.A) (n : List ℕ) (t : Tree) → g.A.Answers.may_be_silent l.answers later n t → g.A.Answers.may_be_silent l.fn.answers later n t;
+  lasting_silent : (later : g.row.A.Denot) (n : List ℕ) (t : Tree) → g.A.Answers.may_be_silent l.answers later n t → g.A.Answers.may_be_silent l.fn.answers later n t;
 }
