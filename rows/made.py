@@ -6,6 +6,9 @@
 <<states N>>        N Pass states S00000, S00001, .., each followed by the next, the last one ending
 <<entries N>>       a certificate's entries for these states, integers going in and out
 <<loop N>>          N Pass states, each followed by the one before it, and the first, which wraps its input, by the last
+<<lists N over K>>  shapes that a certificate lists behind its number K: N, each of the lists of the shape in front of it
+<<pairs N over K>>  the same, each of the lists whose first two elements have the shape in front of it
+<<twins N over K>>  the same, each of the objects whose fields a and b have to be there, and have the shape in front of it
 <<all of PATH>>     the file with that path from the top of the repository
 """
 
@@ -57,11 +60,27 @@ def made_part(part):
     if counted:
         make = {"states": states, "entries": entries, "loop": loop}[counted[1]]
         return make(int(counted[2])).encode()
+    listed = re.fullmatch(r"(lists|pairs|twins) (\d+) over (\d+)", part)
+    if listed:
+        return chained(SPELLINGS[listed[1]], int(listed[2]), int(listed[3])).encode()
     if part.startswith("all of "):
         return (TOP / part[len("all of "):]).read_bytes()
     if part.startswith("bytes "):
         return bytes.fromhex(part[len("bytes "):])
     raise ValueError(f"nothing makes <<{part}>>")
+
+
+# A shape over the one of number K.
+SPELLINGS = {
+    "lists": '{"type":"array","items":{"shape":K}}',
+    "pairs": '{"type":"array","prefixItems":[{"shape":K},{"shape":K}],"minItems":2}',
+    "twins": '{"type":"object","properties":{"a":{"shape":K},"b":{"shape":K}},"required":["a","b"]}',
+}
+
+
+def chained(spelling, count, first):
+    """Returns so many shapes behind that number, each over the one in front of it."""
+    return ",".join(spelling.replace("K", str(first + i)) for i in range(count))
 
 
 def states(count):

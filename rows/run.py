@@ -17,6 +17,7 @@ import subprocess
 import sys
 import tempfile
 import threading
+import time
 
 from made import made
 
@@ -25,7 +26,7 @@ TOP = ROWS.parent
 BUILDS = [TOP / "crates/asl/out/asl", TOP / "crates/asl/out/asl.by-rattle"]
 LINES = ["definition", "declared", "certificate"]
 TEXTS = [*LINES, "input", "answers"]
-ONCE = [*TEXTS, "lines", "unended", "after", "words", "stdin", "stdout", "memory", "times", "status"]
+ONCE = [*TEXTS, "lines", "unended", "after", "words", "stdin", "shrinks", "stdout", "memory", "seconds", "times", "status"]
 MANY = ["word", "prints", "tells"]
 COMMON = [*TEXTS, "words", "stdin"]
 SECONDS = 120
@@ -130,6 +131,13 @@ def opened_input(case, folder):
     return os.open(path, os.O_RDONLY)
 
 
+def shrink(path, opened, kept, has_ended):
+    """Cuts the file at standard input to so many bytes once the program has read more of it."""
+    while os.lseek(opened, 0, os.SEEK_CUR) <= kept and not has_ended.is_set():
+        time.sleep(0)
+    os.truncate(path, kept)
+
+
 def piped(text, step):
     """Returns the reading end of a pipe into which a thread writes the text, `step` bytes at a time."""
     reader, writer = os.pipe()
@@ -166,6 +174,10 @@ def opened_output(case, folder):
 def answer(case, folder):
     """Runs the case with the program that stands in the folder; returns its status and streams."""
     ends = [opened_input(case, folder), opened_output(case, folder)]
+    has_ended = threading.Event()
+    if "shrinks" in case.given:
+        given = folder / "stdin", ends[0], int(case.given["shrinks"]), has_ended
+        threading.Thread(target=shrink, args=given, name="shrink").start()
 
     def prepare():
         for number, end in enumerate(ends):
@@ -176,10 +188,14 @@ def answer(case, folder):
 
     try:
         done = subprocess.run(
-            [b"./asl", *case.words()], executable=folder / "asl", cwd=folder, env={}, timeout=SECONDS,
+            [b"./asl", *case.words()], executable=folder / "asl", cwd=folder, env={},
+            timeout=int(case.given.get("seconds", SECONDS)),
             stdin=ends[0], stdout=ends[1], stderr=subprocess.PIPE,
             preexec_fn=prepare if None in ends or "memory" in case.given else None, check=False)
     finally:
+        has_ended.set()
+        for thread in (it for it in threading.enumerate() if it.name == "shrink"):
+            thread.join()
         for end in ends:
             if end is not None:
                 os.close(end)
