@@ -27,7 +27,7 @@ pub(crate) struct Draft {
 }
 
 impl Draft {
-    ghost use Rattle.std.specs.Prelude.{◌≡◌, ◌*◌, ◌<◌, length, slice_get, IfOk};
+    ghost use Rattle.std.specs.Prelude.{◌≡◌, ◌*◌, ◌<◌, length, slice_get, IfOk, IfSome};
     ghost use Rattle.asl_model.specs.RecordShapes.{HoldsForCertificate};
     ghost use Rattle.asl_model.specs.ShapeOrder as order;
     ghost use Rattle.asl_states.specs.Machine.{kind_view, settings_view};
@@ -118,6 +118,43 @@ impl Draft {
             | Target::Item(state) => {
                 take_in_state(&mut self.store, &mut self.states, state, target, flowing)
             }
+        }
+    }
+
+    /// Whether one of the shapes would be changed by what flows into it. A shape that isn't there isn't changed, and
+    /// neither is one by a number that no shape has.
+    pub(crate) fn would_change(
+        &mut self,
+        target: Target,
+        flowing: usize,
+    ) -> Result<bool, OutOfMemory>
+        ensures keeps { Keeps (expansions self.old.store)
+            (expansions self.new.store) }
+        ensures room { room self.new ≡ room self.old }
+    {
+        let Some(growing) = self.growing(target) else {
+            return Ok(false);
+        };
+        if !self.store.has(flowing) {
+            return Ok(false);
+        }
+        let mut changed = growing;
+        changed.take(&mut self.store, flowing)
+    }
+
+    // The shape, so far, where it is there.
+    fn growing(&self, target: Target) -> Option<Growing>
+        ensures { IfSome result (IsGrown self.now.store) }
+    {
+        match target {
+            Target::MachineOutput => Some(self.output),
+            Target::Input(state)
+            | Target::Output(state)
+            | Target::Branch(state, _)
+            | Target::Item(state) => match self.states.get(state) {
+                Some(state) => state.growing(target),
+                None => None,
+            },
         }
     }
 

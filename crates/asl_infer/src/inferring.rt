@@ -47,10 +47,11 @@ impl From<OutOfMemory> for InferRefusal {
 
 /// Infers a certificate of the machine that is closed for what is declared.
 ///
-/// At first no tree has any of its shapes. In each round the declared input flows into the start state's input, and the
-/// states, in byte order of their names, are walked whose input changed since they were walked last, or the end of one
-/// of their branches or of their processor: what flows out of each is joined into the shapes that it would be compared
-/// with. The certificate is answered after a round that changed no shape. Refuses with a finding where a rule is broken
+/// At first no tree has any of its shapes. In each round the declared input flows into the start state's input, and then
+/// what flows out of each state, in byte order of their names, is joined into the shapes that it would be compared
+/// with. A state is passed over where this would change nothing: its input hasn't changed since it was walked last, nor
+/// the end of one of its branches or of its processor, and what flowed out of it then would change none of the shapes
+/// into which it flowed. The certificate is answered after a round that changed no shape. Refuses with a finding where a rule is broken
 /// that compares nothing with the certificate, where a Task isn't declared, and where a declared task names no Task;
 /// where all rounds changed a shape; and where an allocation was refused.
 ///

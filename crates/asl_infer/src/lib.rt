@@ -7,6 +7,7 @@ mod depths;
 mod draft;
 mod growing;
 mod inferring;
+mod predecessors;
 mod rebuilding;
 mod rounds;
 mod settling;

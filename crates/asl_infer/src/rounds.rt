@@ -13,6 +13,7 @@ ghost use Rattle.asl_infer.specs.Rounds.{IsBrokenAlong, IsGiven, IsGivenOf, IsRo
 
 use crate::draft::Draft;
 use crate::inferring::InferRefusal;
+use crate::predecessors::Inflow;
 use crate::states::Target;
 use crate::store::Store;
 use crate::tasks::{TaskNumbers, task_numbers};
@@ -203,19 +204,20 @@ impl<'m> Given<'m> {
             (expansions draft.new.store) }
     {
         let mut changed = false;
-        for edge in edges {
-            if self.take_edge(number, edge, draft, waiting)? {
+        for (place, edge) in edges.iter().enumerate() {
+            if self.take_edge(number, place, edge, draft, waiting)? {
                 changed = true;
             }
         }
         Ok(changed)
     }
 
-    // Takes in what flows along one of the edges, and says whether this changed a shape. What flows to a task goes into
-    // none.
+    // Takes in what flows along one of the edges, the one at that place, and says whether this changed a shape. What flows
+    // to a task goes into none.
     fn take_edge(
         &self,
         number: usize,
+        place: usize,
         edge: &Edge<'m>,
         draft: &mut Draft,
         waiting: &mut Waiting<'m>,
@@ -227,13 +229,20 @@ impl<'m> Given<'m> {
             (expansions draft.new.store) }
     {
         match self.target(number, edge.destination) {
-            Some(target) => self.take(target, edge.flowing, draft, waiting),
+            Some(target) => {
+                let inflow = Inflow {
+                    state: number,
+                    flowing: edge.flowing,
+                };
+                waiting.predecessors.add(target, place, inflow)?;
+                self.take(target, edge.flowing, draft, waiting)
+            }
             None => Ok(false),
         }
     }
 
     // Takes in what flows into one of the shapes, and says whether this changed it. The state that looks at the shape
-    // waits then.
+    // waits then, and so do the states whose edges lead to it and would change it again.
     fn take(
         &self,
         target: Target,
@@ -249,21 +258,48 @@ impl<'m> Given<'m> {
     {
         let changed = draft.take(target, flowing)?;
         if changed {
-            self.wake(target, waiting)?;
+            self.wake_reader(target, waiting)?;
+            self.wake_predecessors(target, draft, waiting)?;
         }
         Ok(changed)
     }
 
     // The state that looks at that shape when it is walked waits: none looks at its own output or at the machine's.
-    fn wake(&self, target: Target, waiting: &mut Waiting<'m>) -> Result<(), OutOfMemory> {
+    fn wake_reader(&self, target: Target, waiting: &mut Waiting<'m>) -> Result<(), OutOfMemory> {
         match target {
             Target::Input(number) | Target::Branch(number, _) | Target::Item(number) => {
-                match self.machine.name(number) {
-                    Some(name) => waiting.add(name, number),
-                    None => Ok(()),
-                }
+                self.wake(number, waiting)
             }
             Target::Output(_) | Target::MachineOutput => Ok(()),
+        }
+    }
+
+    // The states wait that would change that shape by what flowed out of them when they were walked last: a join may
+    // undo what another one did.
+    fn wake_predecessors(
+        &self,
+        target: Target,
+        draft: &mut Draft,
+        waiting: &mut Waiting<'m>,
+    ) -> Result<(), OutOfMemory>
+        ensures keeps { Keeps (expansions draft.old.store)
+            (expansions draft.new.store) }
+        ensures room { room draft.new ≡ room draft.old }
+    {
+        let inflows = waiting.predecessors.inflows(target)?;
+        for inflow in &inflows {
+            if draft.would_change(target, inflow.flowing)? {
+                self.wake(inflow.state, waiting)?;
+            }
+        }
+        Ok(())
+    }
+
+    // The state of that number waits.
+    fn wake(&self, number: usize, waiting: &mut Waiting<'m>) -> Result<(), OutOfMemory> {
+        match self.machine.name(number) {
+            Some(name) => waiting.add(name, number),
+            None => Ok(()),
         }
     }
 

@@ -1,6 +1,6 @@
 // The shapes of the states of a draft.
 
-ghost use Rattle.std.specs.Prelude.{◌≡◌, ◌*◌, ◌<◌, length, map, option_map, IfOk, List, OnOk};
+ghost use Rattle.std.specs.Prelude.{◌≡◌, ◌*◌, ◌<◌, length, map, option_map, IfOk, IfSome, List, OnOk};
 ghost use Rattle.std.specs.List.{All};
 ghost use Rattle.std.specs.Option.{ForSome};
 ghost use Rattle.asl_model.specs.Certificate as certificates;
@@ -35,7 +35,7 @@ pub(crate) struct GrowingState {
 }
 
 /// A shape of a draft.
-#[derive(Clone, Copy)]
+#[derive(Clone, Copy, PartialEq, Eq, Hash)]
 pub(crate) enum Target {
     /// That of the machine's output.
     MachineOutput,
@@ -128,6 +128,20 @@ impl GrowingState {
             branches: new_branches(alloc, branches_in(kind), never)?,
             item: if is_map(kind) { Some(never) } else { None },
         })
+    }
+
+    // The shape, so far, where it is one of the state's.
+    pub(crate) fn growing(&self, target: Target) -> Option<Growing>
+        ensures { (nodes : List Level) → IsStateGrown nodes self.now
+            → IfSome result (IsGrown nodes) }
+    {
+        match target {
+            Target::Input(_) => Some(self.input),
+            Target::Output(_) => Some(self.output),
+            Target::Branch(_, branch) => self.branches.get(branch).copied(),
+            Target::Item(_) => self.item,
+            Target::MachineOutput => None,
+        }
     }
 
     // The entry that the state's shapes have come to.

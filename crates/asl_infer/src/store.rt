@@ -1,6 +1,6 @@
 // The table of a draft's shapes, with what is found out about them.
 
-ghost use Rattle.std.specs.Prelude.{◌≡◌, ◌<◌, length, map, IfOk, IfSome, OnOk};
+ghost use Rattle.std.specs.Prelude.{◌≡◌, ◌<◌, ◌↔◌, length, map, IfOk, IfSome, IsTrue, OnOk};
 ghost use Rattle.asl_model.specs.ShapeOrder as order;
 ghost use Rattle.asl_model.specs.Edges.{walk};
 ghost use Rattle.asl_shape.specs.View.{view};
@@ -76,6 +76,13 @@ impl Store {
         ensures { result ≡ self }
     {
         self.shapes
+    }
+
+    /// Whether a shape has that number.
+    pub(crate) fn has(&self, number: usize) -> bool
+        ensures { IsTrue result ↔ (number < length self.now) }
+    {
+        number < self.shapes.len()
     }
 
     /// The number of the shape.

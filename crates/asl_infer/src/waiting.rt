@@ -1,5 +1,6 @@
-// The states that are still to be walked.
+// The states that are still to be walked, and what has flowed out of those that were.
 
+use crate::predecessors::Predecessors;
 use asl_states::Machine;
 use asl_tree::OutOfMemory;
 use std::alloc::Global;
@@ -12,6 +13,8 @@ pub(crate) struct Waiting<'m> {
     now: BTreeMap<&'m str, usize>,
     next: BTreeMap<&'m str, usize>,
     walked: Option<&'m str>,
+    /// Where what flowed into the shapes came from.
+    pub(crate) predecessors: Predecessors,
 }
 
 impl<'m> Waiting<'m> {
@@ -27,6 +30,7 @@ impl<'m> Waiting<'m> {
             now: BTreeMap::new(alloc),
             next,
             walked: None,
+            predecessors: Predecessors::new(alloc),
         })
     }
 

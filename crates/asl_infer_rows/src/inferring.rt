@@ -144,6 +144,15 @@ const AGAINST_NAMES: &str =
 const TWO_RULES: &str =
     r#"{"StartAt":"A","States":{"A":{"Type":"Choice","Choices":[{"Variable":"$.a","IsPresent":true,"Next":"Z"},{"Variable":"$.b","IsPresent":true,"Next":"Z"}],"Default":"Y"},"Y":{"Type":"Pass","End":true},"Z":{"Type":"Pass","End":true}}}"#;
 
+// Two tasks lead to one state.
+const TWO_TASKS: &str =
+    r#"{"StartAt":"A","States":{"A":{"Type":"Choice","Choices":[{"Variable":"$","IsNumeric":true,"Next":"B"}],"Default":"C"},"B":{"Type":"Task","Resource":"r","Next":"D"},"C":{"Type":"Task","Resource":"r","Next":"D"},"D":{"Type":"Succeed"}}}"#;
+
+// What the two give are the lists without elements, in two spellings of shapes: the join of both is the second one, in
+// either order. So in each round each task's replaces the other's.
+const TWO_EMPTY_LISTS: &str =
+    r#"{"input":{"type":"integer"},"tasks":{"B":{"gives":{"type":"array","items":{"type":"object","properties":{"f":false},"required":["f"]}}},"C":{"gives":{"type":"array","items":false}}}}"#;
+
 const TASKS: &str =
     r#"{"input":{"type":"integer"},"tasks":{"T0":{"gives":{"type":"integer"}},"T1":{"gives":{"type":"string"}}}}"#;
 
@@ -193,6 +202,12 @@ fn certificates(rt: HostRuntime) {
             3,
             r#"{"output":{"items":{"type":"integer"},"type":"array"},"states":{"B":{"input":{"type":"integer"},"output":{"type":"integer"}},"M":{"input":{"items":{"type":"integer"},"type":"array"},"item":{"type":"integer"},"output":{"items":{"type":"integer"},"type":"array"}}},"version":1}"#,
         ),
+        (
+            TWO_TASKS,
+            TWO_EMPTY_LISTS,
+            18,
+            r#"{"output":true,"states":{"A":{"input":{"type":"integer"},"output":{"type":"integer"}},"B":{"input":{"type":"integer"},"output":{"items":{"properties":{"f":false},"required":["f"],"type":"object"},"type":"array"}},"C":{"input":{"type":"integer"},"output":{"items":false,"type":"array"}},"D":{"input":true,"output":true}},"version":1}"#,
+        ),
     ];
     for (definition, declared, rounds, certificate) in vectors {
         let is_inferred = infers(&rt, alloc, definition, declared, rounds, certificate);
@@ -212,6 +227,7 @@ fn refusals(rt: HostRuntime) {
         (BRANCHES, TASKS, 2, "not settled"),
         (TWO_RULES, TWO_FIELDS, 1, "not settled"),
         (MAP, INTEGERS, 2, "not settled"),
+        (TWO_TASKS, TWO_EMPTY_LISTS, 17, "not settled"),
         (MAP, INTEGER, 3, "M ItemsPath WrongKind"),
         (PAST_BRANCHES, TASKS, 3, "N InputPath PathMayBeMissing"),
         (BRANCHES, INTEGER, 0, "T0 Resource TaskUndeclared"),
