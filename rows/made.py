@@ -5,6 +5,8 @@
 <<bytes 00 ff>>     these bytes, in hexadecimal
 <<states N>>        N Pass states S00000, S00001, .., each followed by the next, the last one ending
 <<entries N>>       a certificate's entries for these states, integers going in and out
+<<pairs N>>         a certificate's listed shapes: integers, and N of closed objects, each with two fields of the one before
+<<lists N>>         the same of N listed shapes: integers, and lists, each of the one before
 <<loop N>>          N Pass states, each followed by the one before it, and the first, which wraps its input, by the last
 <<lists N over K>>  shapes that a certificate lists behind its number K: N, each of the lists of the shape in front of it
 <<pairs N over K>>  the same, each of the lists whose first two elements have the shape in front of it
@@ -56,9 +58,9 @@ def made_part(part):
     repeated = re.fullmatch(r"(.+) \* (\d+)", part)
     if repeated:
         return repeated[1].encode() * int(repeated[2])
-    counted = re.fullmatch(r"(states|entries|loop) (\d+)", part)
+    counted = re.fullmatch(r"(states|entries|pairs|lists|loop) (\d+)", part)
     if counted:
-        make = {"states": states, "entries": entries, "loop": loop}[counted[1]]
+        make = {"states": states, "entries": entries, "pairs": pairs, "lists": lists, "loop": loop}[counted[1]]
         return make(int(counted[2])).encode()
     listed = re.fullmatch(r"(lists|pairs|twins) (\d+) over (\d+)", part)
     if listed:
@@ -93,6 +95,21 @@ def entries(count):
     """Returns the members of a certificate's `states` for that chain."""
     integers = '{"input":{"type":"integer"},"output":{"type":"integer"}}'
     return ",".join(f'"S{i:05}":{integers}' for i in range(count))
+
+
+def pairs(count):
+    """Returns the shape of integers, and behind it so many of closed objects that need two fields of the one before."""
+    listed = ['{"type":"integer"}']
+    for i in range(count):
+        fields = f'"a":{{"shape":{i}}},"b":{{"shape":{i}}}'
+        listed.append(f'{{"type":"object","additionalProperties":false,"properties":{{{fields}}},"required":["a","b"]}}')
+    return ",".join(listed)
+
+
+def lists(count):
+    """Returns so many listed shapes: that of integers, and of lists, each of the one before."""
+    listed = (f'{{"items":{{"shape":{i}}},"type":"array"}}' for i in range(count - 1))
+    return ",".join(['{"type":"integer"}', *listed])
 
 
 def loop(count):

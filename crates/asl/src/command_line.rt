@@ -2,7 +2,7 @@
 
 use asl_tool::Pick;
 use clap::error::ErrorKind;
-use clap::{Arg, ArgMatches, Command, Error, value_parser};
+use clap::{Arg, ArgAction, ArgMatches, Command, Error, value_parser};
 use std::alloc::{AllocError, Global};
 use std::rt::Env;
 use std::{env, io};
@@ -14,8 +14,8 @@ pub(crate) enum Request<'a> {
     CheckInput,
     /// To check the texts in these files.
     CheckFiles(TextFiles<'a>),
-    /// To infer a certificate of the texts in these files.
-    Infer(MachineFiles<'a>),
+    /// To infer a certificate.
+    Infer(InferRequest<'a>),
     /// To infer a certificate of the texts in these files, and to check it.
     Verify(MachineFiles<'a>),
     /// To run a machine.
@@ -35,6 +35,13 @@ pub(crate) struct TextFiles<'a> {
 pub(crate) struct MachineFiles<'a> {
     pub(crate) definition: &'a str,
     pub(crate) declared: &'a str,
+}
+
+/// What a certificate is inferred of, and whether it lists its shapes.
+#[derive(Drop)]
+pub(crate) struct InferRequest<'a> {
+    pub(crate) files: MachineFiles<'a>,
+    pub(crate) numbered: bool,
 }
 
 /// What is run, by the names of the files with the texts, and how.
@@ -62,6 +69,9 @@ const CERTIFICATE: &str = "CERTIFICATE";
 const INPUT: &str = "INPUT";
 
 const ANSWERS: &str = "ANSWERS";
+
+/// The option for a list of shapes.
+const NUMBERED: &str = "numbered";
 
 /// The option with the file of the declared shapes.
 const DECLARED_FILE: &str = "declared";
@@ -100,7 +110,10 @@ pub(crate) fn asked<'a>(alloc: Global, words: &'a [String]) -> Result<Request<'a
         }));
     }
     if let Some(given) = matches.subcommand_matches("infer") {
-        return Ok(Request::Infer(machine_files(given)));
+        return Ok(Request::Infer(InferRequest {
+            files: machine_files(given),
+            numbered: given.get_flag(NUMBERED),
+        }));
     }
     if let Some(given) = matches.subcommand_matches("verify") {
         return Ok(Request::Verify(machine_files(given)));
@@ -164,7 +177,13 @@ fn infer_command<'a>(alloc: Global) -> Result<Command<'a>, AllocError> {
     Command::new(alloc, "infer")
         .about("Infer a certificate of shapes and print it")
         .arg(definition(alloc))?
-        .arg(declared(alloc))
+        .arg(declared(alloc))?
+        .arg(
+            Arg::new(alloc, NUMBERED)
+                .long(NUMBERED)
+                .action(ArgAction::SetTrue)
+                .help("List each shape of lists or objects once, and refer to it by its number"),
+        )
 }
 
 /// The command `verify`.

@@ -1,6 +1,6 @@
 //! From files to an inferred certificate, or to the verdict on it, on standard output.
 
-use crate::command_line::MachineFiles;
+use crate::command_line::{InferRequest, MachineFiles};
 use crate::endings::finish;
 use crate::files::file_text;
 use crate::printing::{print_text, print_verdict};
@@ -13,9 +13,9 @@ const ROUNDS: u32 = 4096;
 /// Infers a certificate of the texts in two files, writes it to standard output, and gives the exit status.
 pub(crate) fn infer_files<R: Files + Print + Eprint + AllocGlobal>(
     rt: &R,
-    files: &MachineFiles<'_>,
+    request: &InferRequest<'_>,
 ) -> u8 {
-    finish(rt, &closing_of(infer_on(rt, files)))
+    finish(rt, &closing_of(infer_on(rt, request)))
 }
 
 /// Infers a certificate of the texts in two files, checks it, writes the verdict to standard output, and gives the exit
@@ -42,19 +42,20 @@ fn closing_of(ended: Result<Closing, RunFault>) -> Closing {
 /// a refused text; Write; OutOfMemory.
 fn infer_on<R: Files + Print + AllocGlobal>(
     rt: &R,
-    files: &MachineFiles<'_>,
+    request: &InferRequest<'_>,
 ) -> Result<Closing, RunFault> {
-    let definition = file_text(rt, files.definition)?;
-    let declared = file_text(rt, files.declared)?;
-    match infer_texts(rt.alloc(), &definition, &declared, ROUNDS)? {
+    let definition = file_text(rt, request.files.definition)?;
+    let declared = file_text(rt, request.files.declared)?;
+    let numbered = request.numbered;
+    match infer_texts(rt.alloc(), &definition, &declared, ROUNDS, numbered)? {
         Inferred::Certificate(text) => tell_certificate(rt, text),
         Inferred::Finding(finding) => tell_finding(rt, finding),
         Inferred::NotSettled => Ok(Closing::NotSettled),
     }
 }
 
-/// The check of what is inferred of the texts in two files, whose verdict is written to standard output; that of the
-/// inference, where it has a finding. Both files are read, the definition first, before a text is looked at.
+/// The check of what is inferred of the texts in two files, in the text that lists its shapes. Its verdict is written to
+/// standard output, or that of the inference, where it has a finding. Both files are read, the definition first, before a text is looked at.
 ///
 /// Refused as by [`infer_on`].
 fn verify_on<R: Files + Print + AllocGlobal>(
@@ -63,7 +64,7 @@ fn verify_on<R: Files + Print + AllocGlobal>(
 ) -> Result<Closing, RunFault> {
     let definition = file_text(rt, files.definition)?;
     let declared = file_text(rt, files.declared)?;
-    match infer_texts(rt.alloc(), &definition, &declared, ROUNDS)? {
+    match infer_texts(rt.alloc(), &definition, &declared, ROUNDS, true)? {
         Inferred::Certificate(text) => {
             match verify_texts(rt.alloc(), &definition, &declared, text.as_bytes()) {
                 Ok(verdict) => tell_verdict(rt, verdict),

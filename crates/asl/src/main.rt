@@ -34,7 +34,7 @@ fn run<R: Env + Files + Input + Print + Eprint + AllocGlobal>(rt: &R) -> u8 {
     match asked(rt.alloc(), &words) {
         Ok(Request::CheckInput) => check_input(rt),
         Ok(Request::CheckFiles(files)) => check_files(rt, &files),
-        Ok(Request::Infer(files)) => infer_files(rt, &files),
+        Ok(Request::Infer(request)) => infer_files(rt, &request),
         Ok(Request::Verify(files)) => verify_files(rt, &files),
         Ok(Request::Run(request)) => run_files(rt, &request),
         Err(error) => refuse(rt, &error),

@@ -8,6 +8,8 @@ mod endless;
 #[cfg(test)]
 mod hostile;
 #[cfg(test)]
+mod inferring;
+#[cfg(test)]
 mod texts;
 
 pub use endless::{Endless, endless_text};

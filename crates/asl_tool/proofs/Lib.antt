@@ -1,6 +1,7 @@
 pub mod Failures
 pub mod Fronts
 pub mod LineSteps
+pub mod NumberedNesting
 pub mod Promises
 pub mod RaiseLines
 pub mod RefusedAnswers

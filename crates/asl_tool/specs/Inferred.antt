@@ -1,13 +1,16 @@
 -- What is inferred of two texts, a definition and declared shapes, and why nothing is.
-use Rattle.std.specs.Prelude.{◌≡◌, ◌*◌, ◌≤◌, ℕ, List, string_bytes, ⊤}
+use Rattle.std.specs.Prelude.{◌≡◌, ◌*◌, ◌≤◌, ℕ, List, Bool, true, false, string_bytes, ⊤}
 use Rattle.asl_model.specs.Certificate as model
 use Rattle.asl_model.specs.Certificate.{Declared, IsClosed}
 use Rattle.asl_model.specs.Finding as finding
+use Rattle.asl_model.specs.Headline.{ReadAs}
 use Rattle.asl_model.specs.Json.{compact_text}
 use Rattle.asl_model.specs.Machine.{Scope}
 use Rattle.asl_model.specs.Numbering.{table_of}
+use Rattle.asl_model.specs.Tree.{Tree}
 use Rattle.asl_model.specs.Texts.{Which, DefinitionText, DeclaredText, CertificateText, InputText, AnswersText, TextFault, ReadsAsMachine, ReadsAsDeclared}
 use Rattle.asl_model.specs.Written.{written_certificate}
+use Rattle.asl_model.specs.WrittenNumbered.{written_numbered}
 use Rattle.asl_check.specs.View.{finding_view}
 use Rattle.asl_infer.specs.Inferring.{IsOfMachine, certified_shapes}
 use Rattle.asl_tool.specs.Verifying.{MachineReads, RefusesDefinition, RefusesDeclared}
@@ -17,16 +20,21 @@ use Rattle.asl_tool.specs.declared.inferring.Inferred.TheVariants.{Certificate, 
 use Rattle.asl_tool.specs.declared.refusals.RunFault.{RunFault}
 use Rattle.asl_tool.specs.declared.refusals.RunFault.TheVariants as run
 
--- the two texts read, and the third is the compact text of what is written of a certificate that is closed for that
--- machine and those declared shapes
-pub record IsWrittenFor (definition declared text : List ℕ) : Type 0 where
+-- the tree of a certificate, with a list of its shapes or without one
+abbrev pub written_as : Bool → model.Certificate → Tree
+written_as true certificate = written_numbered certificate
+written_as false certificate = written_certificate certificate
+
+-- The three texts read, and the certificate that the third one reads as is closed for the machine and the declared shapes
+-- that the others read as. The text is the compact one of what is written of that certificate, with a list of its shapes
+-- or without one.
+pub record IsWrittenFor (numbered : Bool) (definition declared text : List ℕ) : Type 0 where
   pub machine : Scope
   pub shapes : Declared
   pub certified : model.Certificate
-  pub as_machine : ReadsAsMachine definition machine
-  pub as_declared : ReadsAsDeclared declared shapes
+  pub read : ReadAs definition declared text machine shapes certified
   pub closed : IsClosed shapes certified machine
-  pub compact : text ≡ compact_text (written_certificate certified)
+  pub compact : text ≡ compact_text (written_as numbered certified)
 
 -- the two texts read, and the finding is of that machine or of what is declared, and stands for some certificate
 pub record IsFindingOn (definition declared : List ℕ) (found : finding.Finding) : Type 0 where

@@ -3,18 +3,18 @@
 ghost use Rattle.std.specs.Prelude.{◌≡◌, ◌≤◌, IfOk, IfErr, string_bytes};
 ghost use Rattle.serde_json.specs.Data.{depth};
 ghost use Rattle.serde_json.specs.Read.{max_depth};
-ghost use Rattle.asl_model.specs.Headline.{AreClosed};
 ghost use Rattle.asl_model.specs.Json.{compact_text, value_of};
 ghost use Rattle.asl_model.specs.Texts.{ReadsAsCertificate};
 ghost use Rattle.asl_model.specs.Written.{written_certificate};
-ghost use Rattle.asl_records.specs.View.{certificate_view};
-ghost use Rattle.asl_tool.specs.Inferred.{AreFewRounds, InferFaultStands, IsFindingOn, IsWrittenFor, WhereCertificate, WhereFinding, WhereNotSettled};
+ghost use Rattle.asl_model.specs.WrittenNumbered.{written_numbered};
+ghost use Rattle.asl_records.specs.Numbered.{AreWithin, numbered_view};
+ghost use Rattle.asl_tool.specs.Inferred.{AreFewRounds, InferFaultStands, IsFindingOn, IsWrittenFor, WhereCertificate, WhereFinding, WhereNotSettled, written_as};
 
 use crate::reading::{declared_text, machine_text};
 use crate::refusals::{RunFault, TextRefusal, Which};
 use asl_check::Finding;
-use asl_infer::{InferRefusal, infer};
-use asl_records::{Certificate, write_certificate};
+use asl_infer::{InferRefusal, infer_numbered};
+use asl_records::{NumberedCertificate, expand_certificate, write_certificate, write_numbered};
 use asl_tree::{OutOfMemory, to_text};
 use std::alloc::Global;
 
@@ -31,9 +31,10 @@ pub enum Inferred {
 
 /// Infers a certificate of a definition and declared shapes, both given as JSON texts, in at most `max_rounds` rounds.
 ///
-/// A certificate is closed for what the two texts read as. Its text is compact, with names in byte order, and reads as
-/// it. A finding is of the machine or of what is declared. The certificate isn't settled only where the rounds are no
-/// more than 33 for each of its shapes.
+/// The text of a certificate reads as it, and it is closed for what the two texts read as. It is compact, with names in
+/// byte order. Where `numbered` is true each distinct shape of lists or objects is listed once in it, in `shapes`, and
+/// stands everywhere as a reference; otherwise each shape is spelled out wherever it stands. A finding is of the machine or
+/// of what is declared. The certificate isn't settled only where the rounds are no more than 33 for each of its shapes.
 ///
 /// The texts are read in this order. Refused: Text for the first text that is refused, with a fault that stands in it, or
 /// with OutOfMemory where there was none to read it; OutOfMemory where a growth was refused afterwards.
@@ -42,11 +43,13 @@ pub fn infer_texts(
     definition: &[u8],
     declared: &[u8],
     max_rounds: u32,
+    numbered: bool,
 ) -> Result<Inferred, RunFault>
-    ensures certificate { IfOk result (WhereCertificate (IsWrittenFor definition.now declared.now)) }
-    ensures reads_back { IfOk result (WhereCertificate (AreClosed definition.now declared.now)) }
+    ensures certificate { IfOk result
+        (WhereCertificate (IsWrittenFor numbered definition.now declared.now)) }
     ensures finding { IfOk result (WhereFinding (IsFindingOn definition.now declared.now)) }
-    ensures not_settled { IfOk result (WhereNotSettled (AreFewRounds definition.now declared.now max_rounds)) }
+    ensures not_settled { IfOk result
+        (WhereNotSettled (AreFewRounds definition.now declared.now max_rounds)) }
     ensures refused { IfErr result (InferFaultStands definition.now declared.now) }
 {
     let machine = match machine_text(alloc, definition) {
@@ -63,24 +66,61 @@ pub fn infer_texts(
             fault,
         })),
     };
-    let certificate = match infer(alloc, &machine, &declared, max_rounds) {
+    let certificate = match infer_numbered(alloc, &machine, &declared, max_rounds) {
         Ok(certificate) => certificate,
         Err(InferRefusal::Finding(finding)) => return Ok(Inferred::Finding(finding)),
         Err(InferRefusal::NotSettled) => return Ok(Inferred::NotSettled),
         Err(InferRefusal::OutOfMemory) => return Err(RunFault::OutOfMemory),
     };
-    match written_text(alloc, &certificate) {
+    match written_text(alloc, &certificate, numbered) {
         Ok(text) => Ok(Inferred::Certificate(text)),
         Err(_) => Err(RunFault::OutOfMemory),
     }
 }
 
-/// The compact text of what is written of a certificate. It reads as the certificate where that doesn't nest deeper than
-/// 127 levels.
-fn written_text(alloc: Global, certificate: &Certificate) -> Result<String, OutOfMemory>
-    ensures text { IfOk result (λ text. string_bytes text ≡ compact_text (written_certificate (certificate_view certificate.now))) }
-    ensures reads_back { IfOk result (λ text. depth (value_of (written_certificate (certificate_view certificate.now))) ≤ max_depth → ReadsAsCertificate (string_bytes text) (certificate_view certificate.now)) }
+/// The compact text of what is written of a certificate, with a list of its shapes or without one.
+fn written_text(
+    alloc: Global,
+    certificate: &NumberedCertificate,
+    numbered: bool,
+) -> Result<String, OutOfMemory>
+    requires within { AreWithin certificate.now }
+    requires shallow { depth (value_of (written_certificate (numbered_view certificate.now))) ≤ max_depth }
+    ensures text { IfOk result (λ text. string_bytes text
+        ≡ compact_text (written_as numbered (numbered_view certificate.now))) }
+    ensures reads_back { IfOk result
+        (λ text. ReadsAsCertificate (string_bytes text) (numbered_view certificate.now)) }
 {
-    let tree = write_certificate(alloc, certificate)?;
+    if numbered {
+        numbered_text(alloc, certificate)
+    } else {
+        plain_text(alloc, certificate)
+    }
+}
+
+/// The one with a list of its shapes.
+fn numbered_text(alloc: Global, certificate: &NumberedCertificate) -> Result<String, OutOfMemory>
+    requires { AreWithin certificate.now }
+    ensures text { IfOk result (λ text. string_bytes text
+        ≡ compact_text (written_numbered (numbered_view certificate.now))) }
+    ensures reads_back { IfOk result
+        (λ text. ReadsAsCertificate (string_bytes text) (numbered_view certificate.now)) }
+{
+    certificate.shapes.are_proper();
+    let tree = write_numbered(alloc, certificate)?;
+    to_text(alloc, &tree)
+}
+
+/// The one without.
+fn plain_text(alloc: Global, certificate: &NumberedCertificate) -> Result<String, OutOfMemory>
+    requires within { AreWithin certificate.now }
+    requires shallow { depth (value_of (written_certificate (numbered_view certificate.now))) ≤ max_depth }
+    ensures text { IfOk result (λ text. string_bytes text
+        ≡ compact_text (written_certificate (numbered_view certificate.now))) }
+    ensures reads_back { IfOk result
+        (λ text. ReadsAsCertificate (string_bytes text) (numbered_view certificate.now)) }
+{
+    let certificate = expand_certificate(alloc, certificate)?;
+    let tree = write_certificate(alloc, &certificate)?;
     to_text(alloc, &tree)
 }

@@ -1,0 +1,60 @@
+//! Texts of inferred certificates, with a list of their shapes and without one.
+use asl_tool::{Inferred, Verdict, infer_texts, verify_texts};
+use std::alloc::Global;
+
+const PARALLEL: &str =
+    r#"{"StartAt":"P","States":{"P":{"Type":"Parallel","Branches":[{"StartAt":"T0","States":{"T0":{"Type":"Task","Resource":"r","End":true}}},{"StartAt":"T1","States":{"T1":{"Type":"Task","Resource":"r","End":true}}}],"End":true}}}"#;
+
+const TASKS: &str =
+    r#"{"input":{"type":"integer"},"tasks":{"T0":{"gives":{"type":"integer"}},"T1":{"gives":{"type":"string"}}}}"#;
+
+const SPELLED_OUT: &str =
+    r#"{"output":{"items":false,"minItems":2,"prefixItems":[{"type":"integer"},{"type":"string"}],"type":"array"},"states":{"P":{"branches":[{"type":"integer"},{"type":"string"}],"input":{"type":"integer"},"output":{"items":false,"minItems":2,"prefixItems":[{"type":"integer"},{"type":"string"}],"type":"array"}},"T0":{"input":{"type":"integer"},"output":{"type":"integer"}},"T1":{"input":{"type":"integer"},"output":{"type":"string"}}},"version":1}"#;
+
+const LISTED: &str =
+    r#"{"output":{"shape":0},"shapes":[{"items":false,"minItems":2,"prefixItems":[{"type":"integer"},{"type":"string"}],"type":"array"}],"states":{"P":{"branches":[{"type":"integer"},{"type":"string"}],"input":{"type":"integer"},"output":{"shape":0}},"T0":{"input":{"type":"integer"},"output":{"type":"integer"}},"T1":{"input":{"type":"integer"},"output":{"type":"string"}}},"version":1}"#;
+
+const PASS: &str = r#"{"StartAt":"A","States":{"A":{"Type":"Pass","End":true}}}"#;
+
+// Objects whose two fields have the same shape, one of other objects.
+const NESTED: &str =
+    r#"{"input":{"type":"object","additionalProperties":false,"properties":{"a":{"type":"object","properties":{"c":{"type":"null"}}},"b":{"type":"object","properties":{"c":{"type":"null"}}}},"required":["b"]}}"#;
+
+const NESTED_LISTED: &str =
+    r#"{"output":{"shape":1},"shapes":[{"properties":{"c":{"type":"null"}},"type":"object"},{"additionalProperties":false,"properties":{"a":{"shape":0},"b":{"shape":0}},"required":["b"],"type":"object"}],"states":{"A":{"input":{"shape":1},"output":{"shape":1}}},"version":1}"#;
+
+/// The text of the certificate that is inferred; an empty one where there is none.
+fn inferred(alloc: Global, definition: &str, declared: &str, numbered: bool) -> String {
+    match infer_texts(
+        alloc,
+        definition.as_bytes(),
+        declared.as_bytes(),
+        8,
+        numbered,
+    ) {
+        Ok(Inferred::Certificate(text)) => text,
+        _ => String::new(alloc),
+    }
+}
+
+/// Each text is the wanted one, and is accepted as a certificate.
+#[test]
+fn certificates(rt: HostRuntime) {
+    let alloc = rt.alloc();
+    let vectors = [
+        (PARALLEL, TASKS, false, SPELLED_OUT),
+        (PARALLEL, TASKS, true, LISTED),
+        (PASS, NESTED, true, NESTED_LISTED),
+    ];
+    for (definition, declared, numbered, wanted) in vectors {
+        let text = inferred(alloc, definition, declared, numbered);
+        assert_eq!(rt; text.as_str(), wanted);
+        let verdict = verify_texts(
+            alloc,
+            definition.as_bytes(),
+            declared.as_bytes(),
+            text.as_bytes(),
+        );
+        assert!(rt; matches!(&verdict, Ok(Verdict::Yes)));
+    }
+}
