@@ -6,5 +6,5 @@ use Rattle.asl_infer.proofs.rounds.Given.take_edges.Goals as goal
 
 pub take_edge-requires : goal.take_edge-requires
 take_edge-requires c =
-    let l = c.loop-edge in
-    within c.args.draft.now.store l.draft.store _ l.invariant.1 (flowing_below (length c.args.draft.now.store) c.args.edges.now l.edge-index _ c.loop-edge-test.true c.requires)
+    let l = c.loop-place in
+    within c.args.draft.now.store l.draft.store _ l.invariant.1 (flowing_below (length c.args.draft.now.store) c.args.edges.now l.place _ c.loop-place-test.true c.requires)
