@@ -23,7 +23,7 @@ use Rattle.asl_numbered.specs.declared.node.Node.{Node}
 use Rattle.asl_numbered.specs.Expansion.{expansions, shape_at, AreBelow}
 use Rattle.asl_numbered.specs.Joins.{Shows as ShowsNumber}
 use Rattle.asl_numbered.proofs.Expansions.{as_many}
-use Rattle.asl_records.specs.Numbered.{numbered_view}
+use Rattle.asl_records.specs.Numbered.{numbered_view, AreWithin}
 use Rattle.asl_records.specs.View.{declared_view}
 use Rattle.asl_records.specs.declared.records.Declared.{Declared}
 use Rattle.asl_records.specs.declared.records.NumberedCertificate.{NumberedCertificate}
@@ -231,3 +231,12 @@ settled_widest closed fits shown given certificate judged numbered widest few (i
 pub settled_shallow : {E : Type 0} (shown : Machine) (declared : model.Declared) (r : Result NumberedCertificate E) → IfOk r (IsSettled shown declared) → IfOk r (λ numbered. json.depth (value_of (written_certificate (numbered_view numbered))) ≤ max_depth)
 settled_shallow shown given (Ok numbered) h = written_shallow {E = InferRefusal} numbered_view (Ok numbered) h.shallow
 settled_shallow shown given (Err e) h = tt
+
+-- it is closed, and its numbers are in its table
+pub settled_closed : {E : Type 0} (shown : Machine) (declared : model.Declared) (r : Result NumberedCertificate E) → IfOk r (IsSettled shown declared) → IfOk r (λ numbered. (machine : Scope) → Shows shown machine → model.IsClosed declared (numbered_view numbered) machine)
+settled_closed shown given (Ok numbered) h = h.closed
+settled_closed shown given (Err e) h = tt
+
+pub settled_within : {E : Type 0} (shown : Machine) (declared : model.Declared) (r : Result NumberedCertificate E) → IfOk r (IsSettled shown declared) → IfOk r AreWithin
+settled_within shown given (Ok numbered) h = h.within
+settled_within shown given (Err e) h = tt

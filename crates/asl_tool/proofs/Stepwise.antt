@@ -39,8 +39,8 @@ pub written_more : {policy other wider : Policy} {machine : Scope} {before : Sta
     → IsWithin policy wider → IsWithin other wider → Lengthens told text longer
     → Written wider machine (count + more) before longer c left
 written_more {wider = wider} {machine = machine} {b = b} {c = c} {more = more} {between = between} {left = left} so_far further first second added =
-    let events = trace (run machine b further.events) in
     let turns = drives_for further second in
+    let events = trace (run machine b turns.events) in
     let both : Drives wider machine more (stage_of b between (map placed_entry so_far.told)) (stage_of c left (map placed_entry (so_far.told ++ events))) = record {
       events = turns.events;
       counted = turns.counted;
@@ -52,7 +52,7 @@ written_more {wider = wider} {machine = machine} {b = b} {c = c} {more = more} {
     record {
       told = so_far.told ++ events;
       drives = drives_then (drives_for so_far.drives first) both;
-      traced = added events further.traced ∙ ap (λ v. v ++ trace_text events) so_far.traced ∙ sym (lines_append so_far.told events);
+      traced = added events turns.traced ∙ ap (λ v. v ++ trace_text events) so_far.traced ∙ sym (lines_append so_far.told events);
     }
 
 -- why one step more was the last is why the run stops

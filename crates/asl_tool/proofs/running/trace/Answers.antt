@@ -1,4 +1,4 @@
-use Rattle.std.proofs.Common.{◌≡◌, List, ℕ, ◌++◌, map, sym, ap, subst, arith}
+use Rattle.std.proofs.Common.{◌≡◌, List, ℕ, None, ◌+◌, ◌++◌, map, sym, ap, subst, arith}
 use Rattle.asl_states.specs.Table.{Shows}
 use Rattle.asl_model.specs.Machine.{Scope}
 use Rattle.asl_model.specs.Run as model
