@@ -33,7 +33,7 @@ pub use endings::Closing;
 pub use inferring::{Inferred, infer_texts};
 pub use laws::{
     activities_stay_as_certified, nesting_activities_stay_as_certified,
-    working_activities_stay_as_certified,
+    verified_runs_write_no_raise_line, working_activities_stay_as_certified,
 };
 pub use printing::{closing, verdict_text};
 pub use refusals::{RunFault, TextFault, TextRefusal, Which};
