@@ -5,7 +5,7 @@ use asl_tool::{
     run_texts, verify_texts,
 };
 use std::alloc::Global;
-use std::io::{self, ErrorKind, Read};
+use std::io::{self, ErrorKind, Read, Write};
 use std::process::Abort;
 
 /// The exit status and the line on standard error.
@@ -277,6 +277,53 @@ fn full_writers(rt: HostRuntime) {
             };
             assert_eq!(rt; answer.as_str(), tells, "at {room}");
             assert_eq!(rt; bytes.as_slice(), &wanted[..room], "at {room}");
+        }
+    }
+}
+
+/// A writer of std that takes a byte at a time as long as it has room, and is interrupted from then on.
+#[derive(Drop)]
+struct Interrupting {
+    bytes: Vec<u8>,
+    room: usize,
+}
+
+impl Write for Interrupting {
+    fn write(&mut self, bytes: &[u8]) -> io::Result<usize> {
+        if self.bytes.len() >= self.room {
+            return Err(io::Error::from(ErrorKind::Interrupted));
+        }
+        let count = bytes.len().min(1);
+        self.bytes.extend_from_slice(&bytes[..count])?;
+        Ok(count)
+    }
+
+    fn flush(&mut self) -> io::Result<()> {
+        Ok(())
+    }
+}
+
+/// A writer of std that is interrupted after each front of what is wanted in turn.
+#[test]
+fn interrupted_writers(rt: HostRuntime) {
+    let alloc = rt.alloc();
+    for stream in &streams(&rt, alloc) {
+        let wanted = stream.writes.as_bytes();
+        for room in 0..=wanted.len() {
+            let mut writer = Interrupting {
+                bytes: Vec::new(alloc),
+                room,
+            };
+            let mut source = FromRead::new(stream.text.as_bytes());
+            let mut sink = ToWrite::new(&mut writer);
+            let answer = ended(&rt, alloc, stream.call, &mut source, &mut sink);
+            let tells = if room < wanted.len() {
+                "5 write failed\n"
+            } else {
+                stream.tells
+            };
+            assert_eq!(rt; answer.as_str(), tells, "at {room}");
+            assert_eq!(rt; writer.bytes.as_slice(), &wanted[..room], "at {room}");
         }
     }
 }
