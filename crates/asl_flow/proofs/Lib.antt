@@ -15,3 +15,4 @@ pub mod Puts
 pub mod Replaced
 pub mod ShapeParts
 pub mod SourcesKept
+pub mod Stays

@@ -34,9 +34,19 @@ fn part_of(shapes: &Shapes, number: usize, segment: &Segment) -> Option<usize>
     ensures within { IfSome result (λ part. part < length shapes.now) }
 {
     match segment {
-        Segment::Name(name) => needed_field(shapes.node(number)?, name),
+        Segment::Name(name) => field_of(shapes, number, name),
         Segment::Index(index) => place_of(shapes, number, *index),
     }
+}
+
+/// The number of the shape of the field of that name, where each tree of the shape is an object that has it.
+pub(crate) fn field_of(shapes: &Shapes, number: usize, name: &String) -> Option<usize>
+    requires number { number < length shapes.now }
+    ensures part { option_map (shape_at (expansions shapes.now)) result
+        ≡ part_at (Name (string_bytes name.now)) (shape_at (expansions shapes.now) number) }
+    ensures within { IfSome result (λ field. field < length shapes.now) }
+{
+    needed_field(shapes.node(number)?, name)
 }
 
 /// The number of the shape of the place at an index, where each tree of the shape is a list that has it.

@@ -7,13 +7,14 @@ ghost use Rattle.asl_numbered.specs.Expansion.{expansions, shape_at, Keeps};
 
 use crate::composing::set_field;
 use crate::numbers::put_node;
+use crate::parts::field_of;
 use asl_numbered::{Node, NodeField, Shapes};
 use asl_tree::OutOfMemory;
 use std::alloc::Global;
 use std::collections::BTreeMap;
 
 /// The number of an object shape with a field of that name, which is needed and has the shape of the other number, in
-/// place of any other of its name. Another shape stays as it is.
+/// place of any other of its name. Another shape stays as it is, and so does one that has that field already.
 pub(crate) fn put_field(
     alloc: Global,
     shapes: &mut Shapes,
@@ -29,6 +30,10 @@ pub(crate) fn put_field(
         (shape_at (expansions shapes.old) number))) }
     ensures keeps { Keeps (expansions shapes.old) (expansions shapes.new) }
 {
+    if field_of(shapes, number, name) == Some(field) {
+        shapes.are_proper();
+        return Ok(number);
+    }
     let Some(Node::Object { fields, extra }) = shapes.node(number) else {
         return Ok(number);
     };
