@@ -1,12 +1,10 @@
 -- What is told of the doubts of elements and fields that are gone through, and the numbers of the shapes of their values.
 use Rattle.std.proofs.Common.{◌≡◌, ℕ, ◌+◌, ◌<◌, ◌≤◌, List, [], ◌∷◌, ◌++◌, length, get_or, drop, take, Option, Some, None, Result, Ok, Err, Vec, String, Global, true, false, string_bytes, string_cmp, refl, sym, ap, subst, ◌∙◌, rules}
 use Rattle.std.proofs.lemmas.List.{append-nil, take_all}
-use Rattle.std.proofs.lemmas.List.Elements.{Contains-append_left, Contains-push}
 use Rattle.std.specs.BTreeMap.{BTreeMap}
-use Rattle.std.specs.List.{Contains}
 use Rattle.std.specs.List.Sorted.{IsStrictlySortedBy}
 use Rattle.std.specs.Map.{keys_of}
-use Rattle.std.specs.Prelude.{IfOk, IfErr, IfSome}
+use Rattle.std.specs.Prelude.{IfOk, IfErr, IfSome, slice_get}
 use Rattle.asl_model.specs.Shape as model
 use Rattle.asl_model.specs.ShapeFlow.{Doubt, doubts, doubts_at, element_doubts, field_doubts, filled_shape, filled_elements, filled_fields, or_none, template_shape}
 use Rattle.asl_model.specs.ShapeOrder.{set_mention}
@@ -29,13 +27,18 @@ use Rattle.asl_flow.proofs.Needed.{needed_by, set_in_order}
 abbrev Found : Type 0
 Found = List (List ℕ × Doubt)
 
+-- what is first in a list is first where others stand behind
+pub first_append : {A : Type 0} (xs ys : List A) (x : A) → slice_get xs 0 ≡ Some x → slice_get (xs ++ ys) 0 ≡ Some x
+first_append [] ys x h = absurd (cc)
+first_append (y ∷ xs) ys x h = h
+
 -- what is told of the first doubts is told of all
 pub first_told : {A B : Type 0} (e : TemplateShapeRefusal) (whole own further : Found) → whole ≡ own ++ further → Tells {A = A} (Err e) own → Tells {A = B} (Err e) whole
-first_told e whole own further is told = record { none = tt; listed = subst (λ found. IfSome (doubt_told e) (Contains found)) (sym is) (at (doubt_told e) told.listed) }
+first_told e whole own further is told = record { none = tt; first = subst (λ found. IfSome (doubt_told e) (λ doubt. slice_get found 0 ≡ Some doubt)) (sym is) (at (doubt_told e) told.first) }
   where
-    at : (o : Option (List ℕ × Doubt)) → IfSome o (Contains own) → IfSome o (Contains (own ++ further))
+    at : (o : Option (List ℕ × Doubt)) → IfSome o (λ doubt. slice_get own 0 ≡ Some doubt) → IfSome o (λ doubt. slice_get (own ++ further) 0 ≡ Some doubt)
     at None h = h
-    at (Some doubt) h = Contains-append_left own further doubt h
+    at (Some doubt) h = first_append own further doubt h
 
 -- so is a refusal that is handed on
 pub first_refused : {A B : Type 0} (given : Result B TemplateShapeRefusal) (e : TemplateShapeRefusal) (one : Result A TemplateShapeRefusal) (whole own further : Found) → given ≡ Err e → one ≡ Err e → whole ≡ own ++ further → Tells one own → Tells given whole
@@ -116,16 +119,16 @@ module _ (nodes : List Node) (field : List ℕ) (part : Result ℕ Doubted) (fou
   doubt-found (Ok n) doubt h e = absurd (cc)
   doubt-found (Err d) doubt h e = subst (λ o. IfSome o (λ x. found ≡ Err x)) e h
 
-  listed : (told : Option (List ℕ × Doubt)) → IfSome told (λ d. (d.0 ≡ field) × (doubt_in part ≡ Some d.1)) → IfSome told (Contains (doubts_at field found))
-  listed None h = tt
-  listed (Some d) h = subst (λ f. Contains (doubts_at f found) d) h.0 (rw (doubt-found part d.1 is.doubted h.1) (Contains-push [] d))
+  first-listed : (told : Option (List ℕ × Doubt)) → IfSome told (λ d. (d.0 ≡ field) × (doubt_in part ≡ Some d.1)) → IfSome told (λ d. slice_get (doubts_at field found) 0 ≡ Some d)
+  first-listed None h = tt
+  first-listed (Some d) h = subst (λ f. slice_get (doubts_at f found) 0 ≡ Some d) h.0 (rw (doubt-found part d.1 is.doubted h.1) refl)
 
   -- and where there is none, its doubt is told
   pub part_told : (r : Result ℕ TemplateShapeRefusal) → IsToldAt field part r → Tells r (doubts_at field found)
   part_told (Ok n) told =
       let at : found ≡ Ok (shape_at (expansions nodes) n) = subst (λ p. IfOk p (λ m. found ≡ Ok (shape_at (expansions nodes) m))) told.same is.found in
-      record { none = ap (doubts_at field) at; listed = tt }
-  part_told (Err e) told = record { none = tt; listed = listed (doubt_told e) told.told }
+      record { none = ap (doubts_at field) at; first = tt }
+  part_told (Err e) told = record { none = tt; first = first-listed (doubt_told e) told.told }
 
 -- ---- the whole template
 

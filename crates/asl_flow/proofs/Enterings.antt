@@ -1,5 +1,5 @@
 -- The way of a shape into a state, by number.
-use Rattle.std.proofs.Common.{◌≡◌, ℕ, List, Some, Result, Err, refl, arith}
+use Rattle.std.proofs.Common.{◌≡◌, ℕ, List, Some, Result, Err, refl}
 use Rattle.asl_model.specs.Shape.{Shape}
 use Rattle.asl_model.specs.ShapeFlow as model
 use Rattle.asl_numbered.specs.declared.node.Node.{Node}
@@ -10,7 +10,7 @@ use Rattle.asl_flow.proofs.Leavings.{stopped_first}
 -- a path that may name nothing stops the shape at the path's field
 pub missing_stops : (field : List ℕ) (found : Result Shape ℕ) (at : ℕ) → found ≡ Err at
     → stops (Some (model.MissingAt field)) (model.path_flow field found)
-missing_stops field found at is = rw is (0, omega arith, refl)
+missing_stops field found at is = rw is refl
 
 -- a fault of `InputPath` stops the shape on its way to what follows
 pub stopped_early : (middle nodes : List Node) (go_on : Shape → model.Flow) (first : model.Flow) (fault : FlowFault)

@@ -1,5 +1,6 @@
 -- What a shape on its way through a state comes to, and what that means.
-use Rattle.std.proofs.Common.{◌≡◌, refl, sym, ap, ◌∙◌, subst, String, string_bytes, option_map, ℕ, zero, suc, ◌<◌, length, get_or, arith, List, [], ◌∷◌, map, Option, None, Some, Result, Ok, Err, Bool, true, ◌&&◌, codes, if◌then◌else◌}
+use Rattle.std.proofs.Common.{◌≡◌, refl, sym, ap, ◌∙◌, subst, String, string_bytes, option_map, ℕ, ◌<◌, length, List, Option, None, Some, Result, Ok, Err, Bool, true, ◌&&◌, codes, if◌then◌else◌}
+use Rattle.std.proofs.lemmas.Option.{slice_get-map}
 use Rattle.std.specs.Prelude.{IfOk}
 use Rattle.std.specs.declared.alloc.Global.{Global}
 use Rattle.asl_model.specs.Shape as shapes
@@ -14,19 +15,10 @@ use Rattle.asl_flow.specs.TemplateAnswer.{IsDoubted, doubt_told}
 use Rattle.asl_numbered.specs.declared.node.Node.{Node}
 use Rattle.asl_numbered.specs.Expansion.{expansions, shape_at, AreDistinct, IsNumberOf, Keeps}
 
--- what is in a list is mapped to what is in the mapped list
-mapped_at : {A B : Type 0} (f : A → B) (xs : List A) (a : A) (k : ℕ) → k < length xs → get_or xs k a ≡ a → (k < length (map f xs)) × (get_or (map f xs) k (f a) ≡ f a)
-mapped_at f [] a k h e = absurd (omega arith)
-mapped_at f (x ∷ xs) a zero h e = (omega arith, ap f e)
-mapped_at f (x ∷ xs) a (suc k) h e = let below = mapped_at f xs a k (omega arith) e in (below_more below.0, below.1)
-  where
-    below_more : k < length (map f xs) → suc k < length (map f (x ∷ xs))
-    below_more g = omega arith
-
 -- a template's doubt stops the shape at the template's field
 pub doubt_stops : (field inner : List ℕ) (doubt : model.Doubt) (answer : Result shapes.Shape (List (List ℕ × model.Doubt))) → IsDoubted answer inner doubt → stops (Some (model.doubt_fault field doubt)) (model.template_flow field answer)
 doubt_stops field inner doubt (Ok s) h = absurd h
-doubt_stops field inner doubt (Err found) h = let m = mapped_at (λ d. model.doubt_fault field d.1) found (inner, doubt) h.0 h.1 h.2 in (h.0, m.0, m.1)
+doubt_stops field inner doubt (Err found) h = slice_get-map (λ d. model.doubt_fault field d.1) found 0 ∙ ap (option_map (λ (d : List ℕ × model.Doubt). model.doubt_fault field d.1)) h
 
 -- what a template's refusal tells stops the shape at the template's field
 pub refusal_stops : (field : List ℕ) (answer : Result shapes.Shape (List (List ℕ × model.Doubt))) (refusal : TemplateShapeRefusal) (told : Option model.FlowFault) → told ≡ option_map (λ d. model.doubt_fault field d.1) (doubt_told refusal)

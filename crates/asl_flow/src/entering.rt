@@ -22,7 +22,7 @@ use std::alloc::Global;
 use std::collections::BTreeMap;
 
 /// The number of the shape of a state's effective input, for that of its raw input: what `InputPath` and `Parameters`
-/// make of it (States Language, "Input and Output Processing"). Of several faults one is told, with its field;
+/// make of it (States Language, "Input and Output Processing"). Of several faults the first is told, with its field;
 /// `OutOfMemory` comes only where an allocation was refused. What is refused may leave further shapes in the table.
 pub fn effective_at(
     alloc: Global,

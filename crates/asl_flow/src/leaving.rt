@@ -55,8 +55,8 @@ impl From<OutOfMemory> for FlowFault {
 ///
 /// The work is the result, which goes through `ResultSelector`, `ResultPath` and `OutputPath`, or for Choice, Wait and
 /// Succeed the effective input, which goes through `OutputPath` alone. `Never` where no tree has one of the two shapes,
-/// and for a Fail, which nothing leaves. Of several faults one is told, with its field; `OutOfMemory` comes only where an
-/// allocation was refused.
+/// and for a Fail, which nothing leaves. Of several faults the first is told, with its field; `OutOfMemory` comes only where
+/// an allocation was refused.
 pub fn leave(alloc: Global, state: &State, raw: &Shape, work: &Shape) -> Result<Shape, FlowFault>
     ensures as_defined { IfOk result (λ s. model.leave (settings_view state.now.settings) (kind_view state.now.kind) (view raw.now) (view work.now) ≡ Ok (view s)) }
     ensures result_leaves { IfOk result (λ s. model.leaving (kind_view state.now.kind) ≡ model.WithResult → (v x : trees.Tree) → Has (view raw.now) v → Has (view work.now) x → (u : trees.Tree) × (output_of (settings_view state.now.settings) v x ≡ Ok u) × Has (view s) u) }

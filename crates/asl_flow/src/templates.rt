@@ -77,7 +77,7 @@ impl From<OutOfMemory> for TemplateShapeRefusal {
 ///
 /// It is refused where a path may name nothing, where an item path stands and there is no shape of an item, and where a
 /// call may fail: a path in it may name nothing, or a function may not be given as many arguments, or values of the
-/// kinds, that it takes. Of several doubts one is told, with the field where it stands.
+/// kinds, that it takes. Of several doubts the first is told, with the field where it stands.
 pub fn template_shape(
     alloc: Global,
     template: &Template,

@@ -45,7 +45,7 @@ element_shapes-returns t c =
     let item = item_of (expansions c.args.shapes.now) c.args.sources in
     record {
       filled = elements_end input item (expansions l.shapes) c.args.elements.now l.element-index l.numbers.items c.loop-element-test.false l.invariant.shown;
-      told = record { none = no_element_doubts input item c.args.field.now _ c.args.elements.now l.element-index c.loop-element-test.false l.invariant.passed; listed = tt };
+      told = record { none = no_element_doubts input item c.args.field.now _ c.args.elements.now l.element-index c.loop-element-test.false l.invariant.passed; first = tt };
       keeps = l.invariant.keeps;
     }
 
@@ -81,7 +81,7 @@ field_shapes-returns t c =
     let item = item_of (expansions c.args.shapes.now) c.args.sources in
     record {
       filled = fields_end input item (expansions l.shapes) c.args.fields.now.entries l.invariant.done l.name-iterator l.mentions.entries l.invariant.whole c.in-None.ensures.steps.0 c.iter-name-items.ensures.ordered l.invariant.shown;
-      told = record { none = l.invariant.passed ∙ ap (λ es. field_doubts (entries_view es) input item) c.in-None.ensures.steps.0; listed = tt };
+      told = record { none = l.invariant.passed ∙ ap (λ es. field_doubts (entries_view es) input item) c.in-None.ensures.steps.0; first = tt };
       keeps = l.invariant.keeps;
     }
 
