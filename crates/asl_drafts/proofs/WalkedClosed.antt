@@ -1,0 +1,322 @@
+-- Where all that flows through a state is inside what is certified there, and nothing stops it, the certificate is closed
+-- at the state, whatever its type.
+use Rattle.std.proofs.Common.{◌≡◌, ℕ, suc, List, [], ◌∷◌, ◌++◌, length, Bool, true, false, Option, Some, None, Result, Ok, Err, refl, ap, subst, arith}
+use Rattle.std.specs.Prelude.{pos, IsTrue, is_some, codes, if◌then◌else◌}
+use Rattle.std.proofs.lemmas.Bool.{and_parts, and_from, false≢true}
+use Rattle.asl_model.specs.Tree.{Tree, Integer, Text, Array, Trees, NoTrees, AndTree, count}
+use Rattle.asl_model.specs.Path.{Segment}
+use Rattle.asl_model.specs.Placing.{placed}
+use Rattle.asl_model.specs.Template.{Template}
+use Rattle.asl_model.specs.Test.{Rule, truth}
+use Rattle.asl_model.specs.Machine.{Catcher, Settings, Delay, Seconds, SecondsPath, Timestamp, TimestampPath, StateOf, Kind, Pass, Task, Choice, Wait, Succeed, Fail, Parallel, Map, Scopes, NoScopes, AndScope, start_of, scope_at, how_many}
+use Rattle.asl_model.specs.Flow.{effective_input, at_output_path, output_of, chosen, delay_in, branch_inputs, item_input, item_inputs, map_items, work_of, first_move}
+use Rattle.asl_model.specs.Run.{error_output, error_placed}
+use Rattle.asl_model.specs.Shape.{Shape, Any, Never, NullShape, BooleanShape, IntegerShape, StringShape, ArrayShape, ObjectShape, Shapes, NoShapes, AndShape, Has, has, elements_have, each_element, inhabited}
+use Rattle.asl_model.specs.ShapeOrder.{join, joined_with_each, is_integer_shape, is_string_shape}
+use Rattle.asl_model.specs.ShapeFlow.{look, put, literal, template_shape, rule_shape, Flow, template_flow, output_flow, result_leaves}
+use Rattle.asl_model.specs.Certificate.{Declared, StateShapes, Certificate, certified, certified_input, input_among, branches_in, is_map, branch_shape, branch_end, item_end, or_never, gives_of, EachHas, OutputFits, WorkFits, CaughtFits, CatchersFit, HasEntry, IsClosedAt}
+use Rattle.asl_model.specs.Finding.{FindingFault, as_first_elements, element_shape, item_flow, at_each_place, map_result, array_parts, error_output_shape, error_placed_shape, effective_flow}
+use Rattle.asl_model.specs.Edges.{Walked, breaks_unless, walk_then, to_next, to_end, onward, walk_named, walk_delay, to_child, to_branches, walk_items_result, walk_elements, walk_items, walk_chosen, walk_rule, walk_rules, walk_default, walk_caught, walk_catchers, walk_result, walk_work, walk_settled, walk}
+use Rattle.asl_drafts.specs.Fits.{AllFit}
+use Rattle.asl_model.proofs.ShapeInhabited.{has-inhabited}
+use Rattle.asl_model.proofs.ShapeInside.{only_integer, only_string}
+use Rattle.asl_model.proofs.ShapeJoin.{join_above, join_each-above, all_inside-more, elements_above}
+use Rattle.asl_model.proofs.ShapePut.{put-gives}
+use Rattle.asl_model.proofs.ShapeTemplate.{look-gives, literal-has_itself, template-gives}
+use Rattle.asl_model.proofs.ShapeRule.{rule-decided}
+use Rattle.asl_model.proofs.ShapeLeave.{Gives, IsTold, leaves-told, output-told, effective-told, template-told, template-parts, leaves-gives, output-gives, effective-gives}
+
+-- Values that are wanted
+
+number-there : (field : List ℕ) (w : Tree) → Has IntegerShape w → (t : Tree) × (Rattle.asl_model.specs.Flow.number_wanted field w ≡ Ok t)
+number-there field (Integer n) m = (Integer n, refl)
+number-there field w m = absurd (false≢true m)
+
+text-there : (field : List ℕ) (w : Tree) → Has StringShape w → (t : Tree) × (Rattle.asl_model.specs.Flow.text_wanted field w ≡ Ok t)
+text-there field (Text s) m = (Text s, refl)
+text-there field w m = absurd (false≢true m)
+
+-- Lists of outputs
+
+branches-have : (all : List Shape) (outputs : Trees) → count outputs ≡ length all → EachHas (λ i. or_never (branch_shape i all)) outputs → IsTrue (elements_have (as_first_elements all) (has Never) outputs)
+branches-have [] NoTrees same each = refl
+branches-have [] (AndTree t ts) same each = absurd (omega arith)
+branches-have (s ∷ further) NoTrees same each = absurd (omega arith)
+branches-have (s ∷ further) (AndTree t ts) same each = and_from (has s t) (elements_have (as_first_elements further) (has Never) ts) each.0 (branches-have further ts (omega arith) each.1)
+
+each-item : (item : Shape) (outputs : Trees) → EachHas (λ i. item) outputs → IsTrue (each_element (has item) outputs)
+each-item item NoTrees each = refl
+each-item item (AndTree t ts) each = and_from (has item t) (each_element (has item) ts) each.0 (each-item item ts each.1)
+
+map-has : (item : Shape) (first : Shapes) (rest : Shape) (ts outputs : Trees) → IsTrue (elements_have first (has rest) ts) → count outputs ≡ count ts → EachHas (λ i. item) outputs → IsTrue (elements_have (at_each_place item first) (has (if inhabited rest then item else Never)) outputs)
+map-has item NoShapes rest NoTrees NoTrees h same each = refl
+map-has item NoShapes rest NoTrees (AndTree u us) h same each = absurd (omega arith)
+map-has item NoShapes rest (AndTree t ts) outputs h same each = rw (has-inhabited rest t (and_parts (has rest t) (each_element (has rest) ts) h).0) (each-item item outputs each)
+map-has item (AndShape s others) rest NoTrees outputs h same each = absurd (false≢true h)
+map-has item (AndShape s others) rest (AndTree t ts) NoTrees h same each = absurd (omega arith)
+map-has item (AndShape s others) rest (AndTree t ts) (AndTree u us) h same each = and_from (has item u) (elements_have (at_each_place item others) (has (if inhabited rest then item else Never)) us) each.0 (map-has item others rest ts us (and_parts (has s t) (elements_have others (has rest) ts) h).1 (omega arith) each.1)
+
+-- Items of a Map
+
+-- a tree of an array's shape is an array
+array-tree : (field : List ℕ) (first : Shapes) (rest : Shape) (w : Tree) → Has (ArrayShape first rest) w → (ts : Trees) × (Rattle.asl_model.specs.Flow.list_wanted field w ≡ Ok ts) × IsTrue (elements_have first (has rest) ts)
+array-tree field first rest (Array ts) m = (ts, refl, m)
+array-tree field first rest w m = absurd (false≢true m)
+
+items-there : (items : List Segment) (s : Shape) (first : Shapes) (rest : Shape) (u : Tree) → look items s ≡ Ok (ArrayShape first rest) → Has s u → (ts : Trees) × (map_items items u ≡ Ok ts) × IsTrue (elements_have first (has rest) ts)
+items-there items s first rest u e m =
+    let given = look-gives items s (ArrayShape first rest) u e m in
+    let list = array-tree (codes "ItemsPath") first rest given.0 given.2 in
+    (list.0, rw (given.1) (list.1), list.2)
+
+-- each item has the element's shape
+items-have : (first : Shapes) (rest : Shape) (ts : Trees) → IsTrue (elements_have first (has rest) ts) → IsTrue (each_element (has (element_shape first rest)) ts)
+items-have first rest ts h =
+    let inner : Shape = joined_with_each join Never first in
+    elements_above join join_above first rest (join inner rest) ts (all_inside-more first inner (join inner rest) (λ t m. join_above.left inner rest t m) (join_each-above Never first).1) (λ t m. join_above.right inner rest t m) h
+
+item-told : (selector : Option Template) (s element : Shape) → IsTold (item_flow selector s element)
+item-told None s element = tt
+item-told (Some selector) s element = go (inhabited element)
+  where
+    go : (live : Bool) → IsTold (if live then template_flow (codes "ItemSelector") (template_shape selector s (Some element)) else Ok Never)
+    go true = template-told (codes "ItemSelector") selector s (Some element)
+    go false = tt
+
+item-gives : (selector : Option Template) (s element r : Shape) (u : Tree) (i : ℕ) (t : Tree) → item_flow selector s element ≡ Ok r → Has s u → Has element t → Gives r (item_input selector u i t)
+item-gives None s element r u i t e h m =
+    let is : element ≡ r = cc in
+    (t, refl, subst (λ (z : Shape). Has z t) is m)
+item-gives (Some selector) s element r u i t e h m =
+    let live : template_flow (codes "ItemSelector") (template_shape selector s (Some element)) ≡ Ok r = rw (has-inhabited element t m) at e in
+    let given = template-gives selector s (Some element) r u (Some (record { number = pos i; value = t })) (template-parts (codes "ItemSelector") (template_shape selector s (Some element)) r live) h m in
+    (given.0, rw (given.1) refl, given.2)
+
+inputs-give : (selector : Option Template) (s element r : Shape) (u : Tree) (i : ℕ) (ts : Trees) → item_flow selector s element ≡ Ok r → Has s u → IsTrue (each_element (has element) ts) → (us : Trees) × (item_inputs selector u i ts ≡ Ok us) × (count us ≡ count ts) × IsTrue (each_element (has r) us)
+inputs-give selector s element r u i NoTrees e h m = (NoTrees, refl, refl, refl)
+inputs-give selector s element r u i (AndTree t ts) e h m =
+    let both = and_parts (has element t) (each_element (has element) ts) m in
+    let first = item-gives selector s element r u i t e h both.0 in
+    let further = inputs-give selector s element r u (suc i) ts e h both.1 in
+    (AndTree first.0 further.0, rw (first.1, further.1) refl, ap suc further.2, and_from (has r first.0) (each_element (has r) further.0) first.2 further.3)
+
+-- the inputs have the shape of the processor's start
+each-fits : (r p : Shape) (us : Trees) → ((v : Tree) → Has r v → Has p v) → IsTrue (each_element (has r) us) → EachHas (λ i. p) us
+each-fits r p NoTrees inside h = tt
+each-fits r p (AndTree u us) inside h =
+    let both = and_parts (has r u) (each_element (has r) us) h in
+    (inside u both.0, each-fits r p us inside both.1)
+
+-- Catchers
+
+error-has : (error cause : List ℕ) → Has error_output_shape (error_output error cause)
+error-has error cause = refl
+
+-- ---- steps that fit
+
+module _ (declared : Declared) (certificate : Certificate) (end : Shape) (n : List ℕ) where
+  -- all of the steps fit
+  abbrev Fit : List Walked → Type 0
+  Fit = AllFit declared certificate end n
+
+  both-fit : (xs ys : List Walked) → Fit (xs ++ ys) → Fit xs × Fit ys
+  both-fit [] ys f = (tt, f)
+  both-fit (x ∷ xs) ys f =
+      let parts = both-fit xs ys f.1 in
+      ((f.0, parts.0), parts.1)
+
+  then-fit : (go_on : Shape → List Walked) (flow : Flow) → IsTold flow → Fit (walk_then go_on flow) → (s : Shape) × (flow ≡ Ok s) × Fit (go_on s)
+  then-fit go_on (Ok s) told f = (s, refl, f)
+  then-fit go_on (Err []) told f = absurd told
+  then-fit go_on (Err (fault ∷ further)) told f = absurd f.0
+
+  unless-fit : (b : Bool) (field : List ℕ) (fault : FindingFault) → Fit (breaks_unless b field fault) → IsTrue b
+  unless-fit true field fault f = refl
+  unless-fit false field fault f = absurd f.0
+
+  kind-fit : (field : List ℕ) (test : Shape → Bool) (result : Result Shape ℕ) → Fit (walk_named field test result) → (t : Shape) × (result ≡ Ok t) × IsTrue (test t)
+  kind-fit field test (Ok t) f = (t, refl, unless-fit (test t) field Rattle.asl_model.specs.Finding.WrongKind f)
+  kind-fit field test (Err at) f = absurd f.0
+
+  delay-fits : (delay : Delay) (s : Shape) (u : Tree) → Fit (walk_delay delay s) → Has s u → (t : Tree) × (delay_in delay u ≡ Ok t)
+  delay-fits (Seconds k) s u f m = (u, refl)
+  delay-fits (SecondsPath path) s u f m =
+      let kind = kind-fit (codes "SecondsPath") is_integer_shape (look path s) f in
+      let given = look-gives path s kind.0 u kind.1 m in
+      let number = number-there (codes "SecondsPath") given.0 (subst (λ (z : Shape). Has z given.0) (only_integer kind.0 kind.2) given.2) in
+      (number.0, rw (given.1) (number.1))
+  delay-fits (Timestamp t) s u f m = (u, refl)
+  delay-fits (TimestampPath path) s u f m =
+      let kind = kind-fit (codes "TimestampPath") is_string_shape (look path s) f in
+      let given = look-gives path s kind.0 u kind.1 m in
+      let text = text-there (codes "TimestampPath") given.0 (subst (λ (z : Shape). Has z given.0) (only_string kind.0 kind.2) given.2) in
+      (text.0, rw (given.1) (text.1))
+
+  items-parts : (go_on : Shapes × Shape → List Walked) (result : Result Shape ℕ) → Fit (walk_items go_on result) → (first : Shapes) × (rest : Shape) × (result ≡ Ok (ArrayShape first rest)) × Fit (go_on (first, rest))
+  items-parts go_on (Err at) f = absurd f.0
+  items-parts go_on (Ok Any) f = absurd f.0
+  items-parts go_on (Ok Never) f = absurd f.0
+  items-parts go_on (Ok NullShape) f = absurd f.0
+  items-parts go_on (Ok BooleanShape) f = absurd f.0
+  items-parts go_on (Ok IntegerShape) f = absurd f.0
+  items-parts go_on (Ok StringShape) f = absurd f.0
+  items-parts go_on (Ok (ArrayShape first rest)) f = (first, rest, refl, f)
+  items-parts go_on (Ok (ObjectShape fields extra)) f = absurd f.0
+
+  -- Catchers
+
+  caught-fits : (path : Option (List Segment)) (next : List ℕ) (input : Shape) (v : Tree) (error cause : List ℕ) → Fit (walk_caught next (error_placed_shape path input)) → Has input v → CaughtFits certificate next (error_placed path v error cause)
+  caught-fits None next input v error cause f h = f.0 v h
+  caught-fits (Some path) next input v error cause f h = go (put path error_output_shape input) refl f
+    where
+      go : (result : Result Shape ℕ) → put path error_output_shape input ≡ result → Fit (walk_caught next result) → CaughtFits certificate next (placed path (error_output error cause) v)
+      go (Err k) at f' = absurd f'.0
+      go (Ok r) at f' =
+          let given = put-gives path error_output_shape input r (error_output error cause) v at (error-has error cause) h in
+          rw (given.1) (f'.0 given.0 given.2)
+
+  catchers-fit : (catchers : List Catcher) (input : Shape) (v : Tree) → Fit (walk_catchers input catchers) → Has input v → CatchersFit certificate v catchers
+  catchers-fit [] input v f h = tt
+  catchers-fit (catcher ∷ others) input v f h =
+      let parts = both-fit (walk_caught catcher.next (error_placed_shape catcher.result_path input)) (walk_catchers input others) f in
+      (λ error cause. caught-fits catcher.result_path catcher.next input v error cause parts.0 h, catchers-fit others input v parts.1 h)
+
+  -- a branch's inputs
+  each-branch : (branches : Scopes) (s : Shape) (u : Tree) → Fit (to_branches branches s) → Has s u → EachHas (λ i. certified_input certificate (start_of (scope_at i branches))) (branch_inputs branches u)
+  each-branch NoScopes s u f m = tt
+  each-branch (AndScope scope others) s u f m = (f.0 u m, each-branch others s u f.1 m)
+
+  -- Outputs
+
+  next-fits : (field next : List ℕ) (output : Shape) (u : Tree) → Fit (to_next field next output) → Has output u → OutputFits certificate end n (Some next) (Ok u)
+  next-fits field next output u f m = (f.0 u m, f.1.0 u m)
+
+  end-fits : (field : List ℕ) (output : Shape) (u : Tree) → Fit (to_end field output) → Has output u → OutputFits certificate end n None (Ok u)
+  end-fits field output u f m = (f.0 u m, f.1.0 u m)
+
+  output-fits : (next : Option (List ℕ)) (output : Shape) (u : Tree) → Fit (onward next output) → Has output u → OutputFits certificate end n next (Ok u)
+  output-fits None output u f m = end-fits (codes "End") output u f m
+  output-fits (Some next) output u f m = next-fits (codes "Next") next output u f m
+
+  module _ (entry : StateShapes) (at : certified certificate n ≡ Some entry) where
+    -- an output by `ResultSelector`, `ResultPath` and `OutputPath`
+    result-fits : (settings : Settings) (result : Shape) (v x : Tree) → Fit (walk_then (onward settings.next) (result_leaves settings entry.input result)) → Has entry.input v → Has result x → OutputFits certificate end n settings.next (output_of settings v x)
+    result-fits settings result v x f h m =
+        let parts = then-fit (onward settings.next) (result_leaves settings entry.input result) (leaves-told settings entry.input result) f in
+        let given = leaves-gives settings entry.input result parts.0 v x parts.1 h m in
+        rw (given.1) (output-fits settings.next parts.0 given.0 parts.2 given.2)
+
+    -- an output by `OutputPath` alone
+    passed-fits : (settings : Settings) (next : Option (List ℕ)) (onto : Shape → List Walked) (s : Shape) (v u : Tree) → ((output : Shape) (w : Tree) → Fit (onto output) → Has output w → OutputFits certificate end n next (Ok w)) → Fit (walk_then onto (if inhabited entry.input then output_flow settings s else Ok Never)) → Has entry.input v → Has s u → OutputFits certificate end n next (at_output_path settings u)
+    passed-fits settings next onto s v u fits f h m =
+        let live : Fit (walk_then onto (output_flow settings s)) = rw (has-inhabited entry.input v h) at f in
+        let parts = then-fit onto (output_flow settings s) (output-told settings s) live in
+        let given = output-gives settings s parts.0 u parts.1 m in
+        rw (given.1) (fits parts.0 given.0 parts.2 given.2)
+
+    -- the next state of a Choice
+    module _ (settings : Settings) (all : List Rule) (fallback : Option (List ℕ)) where
+      abbrev kind : Kind
+      kind = Choice all fallback
+
+      one-chosen : (field next : List ℕ) (s : Shape) (v u : Tree) → Fit (walk_chosen settings kind entry.input field next s) → Has entry.input v → Has s u → OutputFits certificate end n (Some next) (at_output_path settings u)
+      one-chosen field next s v u f h m = passed-fits settings (Some next) (to_next field next) s v u (λ output w. next-fits field next output w) f h m
+
+      -- the state that is chosen, and what flows there
+      abbrev ChosenFits : List Rule → Option (List ℕ) → Tree → Type 0
+      ChosenFits rules default u = (next : List ℕ) × (chosen rules default u ≡ Ok next) × OutputFits certificate end n (Some next) (at_output_path settings u)
+
+      by-rules : (rules : List Rule) (default : Option (List ℕ)) (s : Shape) (v u : Tree) → Fit (walk_rules settings kind entry.input rules s) → Fit (walk_default settings kind entry.input default s) → IsTrue (is_some default) → Has entry.input v → Has s u → ChosenFits rules default u
+      by-rules [] None s v u f g there h m = absurd (false≢true there)
+      by-rules [] (Some next) s v u f g there h m = (next, refl, one-chosen (codes "Default") next s v u g h m)
+      by-rules (rule ∷ rules) default s v u f g there h m = go (rule_shape rule.test s) refl parts.0 (by-rules rules default s v u parts.1 g there h m)
+        where
+          parts : Fit (walk_rule settings kind entry.input rule.next (rule_shape rule.test s)) × Fit (walk_rules settings kind entry.input rules s)
+          parts = both-fit (walk_rule settings kind entry.input rule.next (rule_shape rule.test s)) (walk_rules settings kind entry.input rules s) f
+
+          by-truth : (r : Shape) (b : Bool) → truth rule.test u ≡ Some b → (IsTrue b → Has r u) → Fit (walk_rule settings kind entry.input rule.next (Some r)) → ChosenFits rules default u → ChosenFits (rule ∷ rules) default u
+          by-truth r true is holds f' below = (rule.next, rw is refl, one-chosen (codes "Choices") rule.next r v u f' h (holds refl))
+          by-truth r false is holds f' below = (below.0, rw is (below.1), below.2)
+
+          go : (shape : Option Shape) → rule_shape rule.test s ≡ shape → Fit (walk_rule settings kind entry.input rule.next shape) → ChosenFits rules default u → ChosenFits (rule ∷ rules) default u
+          go None is f' below = absurd f'.0
+          go (Some r) is f' below =
+              let truth_known = rule-decided rule.test s r u is m in
+              by-truth r truth_known.0 truth_known.1 truth_known.2 f' below
+
+    -- what the first move comes to, for an effective input
+    work-fits : (kind : Kind) (settings : Settings) (s : Shape) (v u : Tree) → length entry.branches ≡ branches_in kind → is_some entry.item ≡ is_map kind → Fit (walk_work settings kind entry s) → Fit (walk_settled (gives_of declared n) settings kind entry) → effective_input settings v ≡ Ok u → Has s u → Has entry.input v → WorkFits declared certificate end n (StateOf settings kind) v (work_of kind settings v)
+    work-fits (Pass None) settings s v u long item f g eff m h = rw eff (result-fits settings s v u f h m)
+    work-fits (Pass (Some t)) settings s v u long item f g eff m h = rw eff (result-fits settings (literal t) v t g h (literal-has_itself t))
+    work-fits (Task resource) settings s v u long item f g eff m h = rw eff (f.0 u m, λ answer given. result-fits settings (gives_of declared n) v answer g h given)
+    work-fits (Choice rules default) settings s v u long item f g eff m h =
+        let parts = both-fit (walk_rules settings (Choice rules default) entry.input rules s) (walk_default settings (Choice rules default) entry.input default s) f in
+        let next = by-rules settings rules default rules default s v u parts.0 parts.1 (has_default default g) h m in
+        rw (eff, next.1) (next.2)
+      where
+        has_default : (fallback : Option (List ℕ)) → Fit (walk_settled (gives_of declared n) settings (Choice rules fallback) entry) → IsTrue (is_some fallback)
+        has_default None f' = absurd f'.0
+        has_default (Some next) f' = refl
+    work-fits (Wait delay) settings s v u long item f g eff m h =
+        let parts = both-fit (walk_delay delay s) (walk_result settings (Wait delay) entry.input s) f in
+        let waits = delay-fits delay s u parts.0 m in
+        rw (eff, waits.1) (passed-fits settings settings.next (onward settings.next) s v u (λ output w. output-fits settings.next output w) parts.1 h m)
+    work-fits Succeed settings s v u long item f g eff m h = rw eff (passed-fits settings None (to_end (codes "Type")) s v u (λ output w. end-fits (codes "Type") output w) f h m)
+    work-fits (Fail error cause) settings s v u long item f g eff m h = tt
+    work-fits (Parallel branches) settings s v u long item f g eff m h =
+        rw eff (each-branch branches s u f m, λ outputs same each. result-fits settings (ArrayShape (as_first_elements entry.branches) Never) v (Array outputs) g h (branches-have entry.branches outputs (as_many outputs same) (subst (λ (o : Option StateShapes). EachHas (λ i. or_never (branch_end i o)) outputs) at each)))
+      where
+        inputs-count : (branches' : Scopes) (u' : Tree) → count (branch_inputs branches' u') ≡ how_many branches'
+        inputs-count NoScopes u' = refl
+        inputs-count (AndScope scope others) u' = ap suc (inputs-count others u')
+
+        as_many : (outputs : Trees) → count outputs ≡ count (branch_inputs branches u) → count outputs ≡ length entry.branches
+        as_many outputs same =
+            let of_branches : count (branch_inputs branches u) ≡ how_many branches = inputs-count branches u in
+            omega arith
+    work-fits (Map items selector processor) settings s v u long item f g eff m h =
+        let parts = items-parts (walk_elements settings (Map items selector processor) entry selector processor s) (look items s) f in
+        let element = element_shape parts.0 parts.1 in
+        let both = both-fit (walk_then (to_child (codes "ItemProcessor") processor) (item_flow selector s element)) (walk_items_result settings (Map items selector processor) entry.input entry.item (parts.0, parts.1)) parts.3 in
+        let list = items-there items s parts.0 parts.1 u parts.2 m in
+        let flow = then-fit (to_child (codes "ItemProcessor") processor) (item_flow selector s element) (item-told selector s element) both.0 in
+        let given = inputs-give selector s element flow.0 u 0 list.0 flow.1 m (items-have parts.0 parts.1 list.0 list.2) in
+        rw (eff, list.1, given.1) (each-fits flow.0 (certified_input certificate (start_of processor)) given.0 (λ w held. flow.2.0 w held) given.3, λ outputs same each. outputs-fit entry.item refl outputs parts.0 parts.1 list.0 given.0 list.2 given.2 same (subst (λ (o : Option StateShapes). EachHas (λ i. or_never (item_end o)) outputs) at each) both.1)
+      where
+        outputs-fit : (shape : Option Shape) → entry.item ≡ shape → (outputs : Trees) (first : Shapes) (rest : Shape) (ts us : Trees) → IsTrue (elements_have first (has rest) ts) → count us ≡ count ts → count outputs ≡ count us → EachHas (λ i. or_never shape) outputs → Fit (walk_items_result settings (Map items selector processor) entry.input shape (first, rest)) → OutputFits certificate end n settings.next (output_of settings v (Array outputs))
+        outputs-fit None is outputs first rest ts us held many same each fits =
+            let gone : is_some {T = Shape} None ≡ true = subst (λ (o : Option Shape). is_some o ≡ true) is item in
+            absurd (false≢true gone)
+        outputs-fit (Some one) is outputs first rest ts us held many same each fits =
+            let alike : count outputs ≡ count ts = omega arith in
+            result-fits settings (map_result one first rest) v (Array outputs) fits h (map-has one first rest ts outputs held alike each)
+
+  -- the certificate is closed at the state
+  pub walked-closed : (settings : Settings) (kind : Kind) (there : HasEntry certificate n kind) → Fit (walk (gives_of declared n) settings kind there.shapes) → IsClosedAt declared certificate end n (StateOf settings kind)
+  walked-closed settings kind there f = record { entry = there; work = λ v h. works v (member v h); catchers = λ v h. catchers-fit settings.catchers there.shapes.input v (parts v (member v h)).2 (member v h) }
+    where
+      member : (v : Tree) → Has (certified_input certificate n) v → Has there.shapes.input v
+      member v h = subst (λ (o : Option StateShapes). Has (input_among o) v) there.stands h
+
+      -- what comes of the effective input, what needs none, and the catchers
+      worked : List Walked
+      worked = walk_then (walk_work settings kind there.shapes) (effective_flow settings there.shapes.input)
+
+      settled : List Walked
+      settled = walk_settled (gives_of declared n) settings kind there.shapes
+
+      caught : List Walked
+      caught = walk_catchers there.shapes.input settings.catchers
+
+      parts : (v : Tree) → Has there.shapes.input v → Fit worked × Fit settled × Fit caught
+      parts v h =
+          let first = both-fit worked (settled ++ caught) (rw (has-inhabited there.shapes.input v h) at f) in
+          let further = both-fit settled caught first.1 in
+          (first.0, further.0, further.1)
+
+      works : (v : Tree) → Has there.shapes.input v → WorkFits declared certificate end n (StateOf settings kind) v (first_move (StateOf settings kind) v)
+      works v h =
+          let all = parts v h in
+          let effective = then-fit (walk_work settings kind there.shapes) (effective_flow settings there.shapes.input) (effective-told settings there.shapes.input) all.0 in
+          let given = effective-gives settings there.shapes.input effective.0 v effective.1 h in
+          work-fits there.shapes there.stands kind settings effective.0 v given.0 there.branches there.item effective.2 all.1 given.1 given.2 h

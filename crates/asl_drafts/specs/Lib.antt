@@ -1,0 +1,4 @@
+pub mod Cutting
+pub mod Drafts
+pub mod Fits
+pub mod Resting
