@@ -1,8 +1,7 @@
 -- What is told of the edges of a state, one after another, and of what is broken behind them.
-use Rattle.std.proofs.Common.{◌≡◌, ◌<◌, ◌≤◌, ◌+◌, ℕ, zero, suc, List, [], ◌∷◌, ◌++◌, length, get_or, drop, Option, Some, None, refl, sym, ap, ◌∙◌, subst, append_assoc, arith, ◌⊎◌, inl, inr}
-use Rattle.std.specs.List.{Contains}
+use Rattle.std.proofs.Common.{◌≡◌, ◌<◌, ◌≤◌, ◌+◌, ℕ, zero, suc, List, [], ◌∷◌, ◌++◌, length, get_or, drop, Option, Some, None, refl, sym, ap, ◌∙◌, subst, append_assoc, arith}
+use Rattle.std.specs.Prelude.{slice_get, Contains}
 use Rattle.std.proofs.lemmas.List.{get_or_default}
-use Rattle.std.proofs.lemmas.List.Elements.{Contains-append_right}
 use Rattle.asl_model.specs.Edges.{DestinationShapes, Walked, Breaks, breaches_along, breaches_at}
 use Rattle.asl_model.specs.Finding.{Breach}
 use Rattle.asl_model.specs.Shape.{Shape}
@@ -13,7 +12,7 @@ use Rattle.asl_edges.specs.View.{edge_view, flowing_in, steps_of}
 use Rattle.asl_edges.specs.declared.found.Edge.{Edge}
 use Rattle.asl_edges.specs.declared.found.Edges.{Edges}
 use Rattle.asl_check.specs.Checking.{Told}
-use Rattle.asl_check.proofs.Members.{first, first_or_later, no_member}
+use Rattle.asl_check.proofs.Members.{first}
 use Rattle.asl_check.proofs.OneAfterAnother.{all_passed, one_broken, one_passed, one_told, told_before, told_behind}
 
 -- the number of what flows at an edge is one of all
@@ -52,14 +51,12 @@ module _ (standing : DestinationShapes) where
   along_both (step ∷ steps) further =
       ap (λ rest. breaches_at standing step ++ rest) (along_both steps further) ∙ sym (append_assoc (breaches_at standing step) (breaches_along standing steps) (breaches_along standing further))
 
-  -- a rule that is broken on the way is among them
-  on_the_way : (steps : List Walked) (b : Breach) → Contains steps (Breaks b) → Contains (breaches_along standing steps) b
-  on_the_way [] b h = absurd (no_member (Breaks b) h)
-  on_the_way (step ∷ steps) b h = by (first_or_later step steps (Breaks b) h) (on_the_way steps b)
-    where
-      by : (step ≡ Breaks b) ⊎ Contains steps (Breaks b) → (Contains steps (Breaks b) → Contains (breaches_along standing steps) b) → Contains (breaches_at standing step ++ breaches_along standing steps) b
-      by (inl is) below = rw is (first b (breaches_along standing steps))
-      by (inr there) below = Contains-append_right (breaches_at standing step) (breaches_along standing steps) b (below there)
+  -- a rule that is broken at the first step is among them
+  on_the_way : (steps : List Walked) (b : Breach) → slice_get steps 0 ≡ Some (Breaks b) → Contains (breaches_along standing steps) b
+  on_the_way [] b h = absurd (cc)
+  on_the_way (step ∷ steps) b h =
+      let is : step ≡ Breaks b = cc in
+      rw is (first b (breaches_along standing steps))
 
   -- what ends a walk is told of the steps that are left
   ended_told : (further : List Walked) (told : Option Breach) → EndsWith further told → Told (breaches_along standing further) told

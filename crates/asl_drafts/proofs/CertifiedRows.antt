@@ -60,7 +60,7 @@ ordered-there [] r h = h
 ordered-there (x ∷ xs) r (inl e) = subst (Among (with_row x (in_name_order xs))) e (with-here x (in_name_order xs))
 ordered-there (x ∷ xs) r (inr h) = with-there x r (in_name_order xs) (ordered-there xs r h)
 
-ordered-only : (rows : List Row) (r : Row) → Among (in_name_order rows) r → Among rows r
+pub ordered-only : (rows : List Row) (r : Row) → Among (in_name_order rows) r → Among rows r
 ordered-only [] r h = h
 ordered-only (x ∷ xs) r h = by (with-only x r (in_name_order xs) h) (ordered-only xs r)
   where
@@ -86,7 +86,7 @@ pub record IsRowFrom (i : ℕ) (names : List (List ℕ)) (states : List State) (
   pub named : slice_get names place ≡ Some r.name
   pub at : slice_get states place ≡ Some r.state
 
-from-only : (i : ℕ) (names : List (List ℕ)) (states : List State) (r : Row) → Among (rows_from i names states) r → IsRowFrom i names states r
+pub from-only : (i : ℕ) (names : List (List ℕ)) (states : List State) (r : Row) → Among (rows_from i names states) r → IsRowFrom i names states r
 from-only i [] states r h = absurd h
 from-only i (m ∷ names) [] r h = absurd h
 from-only i (m ∷ names) (st ∷ states) r (inl e) = record { place = 0; number = ap (λ (x : Row). x.number) (sym e) ∙ omega arith; named = ap (λ (x : Row). Some x.name) e; at = ap (λ (x : Row). Some x.state) e }

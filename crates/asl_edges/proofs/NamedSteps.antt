@@ -18,7 +18,7 @@ use Rattle.asl_edges.specs.Walks.{Halts, Walks}
 use Rattle.asl_edges.specs.declared.faults.Stopped.{Stopped}
 use Rattle.asl_edges.specs.declared.found.Edge.{Edge}
 use Rattle.asl_edges.proofs.Adding.{adds_none}
-use Rattle.asl_edges.proofs.WalkSteps.{first, walks_broken, walks_later}
+use Rattle.asl_edges.proofs.WalkSteps.{walks_broken, walks_later}
 
 -- ---- what is answered
 
@@ -39,7 +39,7 @@ module _ (b : List Shape) (edges : List Edge) where
   halts_unnamed field found all None h is = tt
   halts_unnamed field found all (Some breach) h is =
       let alone : all ≡ Breaks breach ∷ [] = is h.at h.missing ∙ ap (λ x. Breaks x ∷ []) (sym h.told) in
-      rw alone (record { further = Breaks breach ∷ []; adds = adds_none b edges (Breaks breach ∷ []); told = first (Breaks breach) [] })
+      rw alone (record { further = Breaks breach ∷ []; adds = adds_none b edges (Breaks breach ∷ []); told = refl })
 
   pub walks_unnamed : (a : List Shape) (field : List ℕ) (found : Result Shape ℕ) (all : List Walked) (s : Stopped) → Named field found a b (Err s) → ((at : ℕ) → found ≡ Err at → all ≡ Breaks (record { field = field; fault = PathMayBeMissing }) ∷ []) → Walks a b edges edges all (Err s)
   walks_unnamed a field found all s named is = record { keeps = named.keeps; goes = halts_unnamed field found all (stopped_view s) named.comes is }

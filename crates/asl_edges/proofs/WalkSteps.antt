@@ -1,8 +1,8 @@
 -- Walks, one after another.
-use Rattle.std.proofs.Common.{◌≡◌, ◌<◌, ℕ, zero, suc, List, [], ◌∷◌, ◌++◌, length, get_or, map, Option, Some, None, option_map, Result, Ok, Err, refl, sym, ap, subst, arith}
-use Rattle.std.specs.List.{Contains}
+use Rattle.std.proofs.Common.{◌≡◌, ◌<◌, ◌∙◌, ℕ, List, [], ◌∷◌, ◌++◌, length, map, Option, Some, None, option_map, Result, Ok, Err, refl, sym, ap, subst}
+use Rattle.std.specs.Prelude.{slice_get}
 use Rattle.std.proofs.lemmas.List.{append-nil}
-use Rattle.std.proofs.lemmas.List.Elements.{Contains-append_left}
+use Rattle.std.proofs.lemmas.Option.{slice_get-map}
 use Rattle.asl_model.specs.Edges.{Walked, Breaks, walk_then}
 use Rattle.asl_model.specs.Finding.{Breach, breach_of}
 use Rattle.asl_model.specs.Shape.{Shape}
@@ -17,21 +17,12 @@ use Rattle.asl_edges.specs.declared.faults.Stopped.{Stopped}
 use Rattle.asl_edges.specs.declared.found.Edge.{Edge}
 use Rattle.asl_edges.proofs.Adding.{adds_none, adds_before, adds_then, pushes_add}
 
--- ---- members of lists
+-- ---- what is first in a list
 
-pub first : {A : Type 0} (x : A) (xs : List A) → Contains (x ∷ xs) x
-first x xs = (0, omega arith, refl)
-
-mapped_at : {A B : Type 0} (f : A → B) (xs : List A) (x : A) (k : ℕ) → k < length xs → get_or xs k x ≡ x → (k < length (map f xs)) × (get_or (map f xs) k (f x) ≡ f x)
-mapped_at f [] x k h e = absurd (omega arith)
-mapped_at f (y ∷ ys) x zero h e = (omega arith, ap f e)
-mapped_at f (y ∷ ys) x (suc k) h e = let below = mapped_at f ys x k (omega arith) e in (later below.0, below.1)
-  where
-    later : k < length (map f ys) → suc k < length (map f (y ∷ ys))
-    later g = omega arith
-
-given_of : {A B : Type 0} (f : A → B) (xs : List A) (x : A) → Contains xs x → Contains (map f xs) (f x)
-given_of f xs x h = let m = mapped_at f xs x h.0 h.1 h.2 in (h.0, m.0, m.1)
+-- it is first where others stand behind
+first_append : {A : Type 0} (xs ys : List A) (x : A) → slice_get xs 0 ≡ Some x → slice_get (xs ++ ys) 0 ≡ Some x
+first_append [] ys x h = absurd (cc)
+first_append (y ∷ xs) ys x h = h
 
 -- ---- steps that are left
 
@@ -49,7 +40,7 @@ module _ (a b c : List Shape) (e0 e1 e2 : List Edge) where
   halts_then all steps left (Some x) keeps adds h = record {
     further = h.further ++ left;
     adds = adds_then b c e0 e1 e2 all (steps ++ left) (h.further ++ left) keeps adds (adds_before c e1 e2 steps h.further left h.adds);
-    told = Contains-append_left h.further left (Breaks x) h.told;
+    told = first_append h.further left (Breaks x) h.told;
   }
 
   -- or one that stops at one of these
@@ -98,7 +89,7 @@ module _ (a b : List Shape) (edges : List Edge) where
   -- a rule is broken
   pub walks_broken : (all : List Walked) (s : Stopped) (breach : Breach) → Keeps a b → stopped_view s ≡ Some breach → all ≡ Breaks breach ∷ [] → Walks a b edges edges all (Err s)
   walks_broken all s breach keeps is same =
-      let stops : StopsAt b edges edges (Breaks breach ∷ []) breach = record { further = Breaks breach ∷ []; adds = adds_none b edges (Breaks breach ∷ []); told = first (Breaks breach) [] } in
+      let stops : StopsAt b edges edges (Breaks breach ∷ []) breach = record { further = Breaks breach ∷ []; adds = adds_none b edges (Breaks breach ∷ []); told = refl } in
       record { keeps = keeps; goes = rw (is, same) stops }
 
   halts_flow : (go_on : Shape → List Walked) (flow : Flow) (fault : Option FlowFault) → stops fault flow → Halts b edges edges (walk_then go_on flow) (option_map breach_of fault)
@@ -107,7 +98,7 @@ module _ (a b : List Shape) (edges : List Edge) where
   halts_flow go_on (Err faults) (Some f) h = record {
     further = map (λ fault. Breaks (breach_of fault)) faults;
     adds = adds_none b edges (map (λ fault. Breaks (breach_of fault)) faults);
-    told = given_of (λ fault. Breaks (breach_of fault)) faults f h;
+    told = slice_get-map (λ fault. Breaks (breach_of fault)) faults 0 ∙ ap (option_map (λ fault. Breaks (breach_of fault))) h;
   }
 
   -- a shape is stopped on its way

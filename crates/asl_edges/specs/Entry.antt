@@ -1,5 +1,5 @@
 -- The shapes of a state by number, and what is found of its edges.
-use Rattle.std.specs.Prelude.{◌≡◌, ◌<◌, ◌++◌, ℕ, List, [], length, map, option_map, Option, Some, None, Contains, IfSome}
+use Rattle.std.specs.Prelude.{◌≡◌, ◌<◌, ◌++◌, ℕ, List, [], length, map, option_map, slice_get, Option, Some, None, IfSome}
 use Rattle.asl_model.specs.Certificate.{StateShapes}
 use Rattle.asl_model.specs.Edges.{Walked, Breaks}
 use Rattle.asl_model.specs.Finding.{Breach}
@@ -25,10 +25,10 @@ pub record IsEntryBelow (bound : ℕ) (e : Entry) : Type 0 where
   pub branches : AreBelow bound e.branches.now
   pub item : IfSome e.item (λ n. n < bound)
 
--- no step is left where no rule is broken, and else that rule is broken at one of those that are left
+-- no step is left where no rule is broken, and else that rule is broken at the first of those that are left
 abbrev pub EndsWith : List Walked → Option Breach → Type 0
 EndsWith further None = further ≡ []
-EndsWith further (Some b) = Contains further (Breaks b)
+EndsWith further (Some b) = slice_get further 0 ≡ Some (Breaks b)
 
 -- The edges are those of the walk, in order: all of them, or those up to the rule that is broken on the way.
 pub record AreEdgesOf (table : List Shape) (steps : List Walked) (found : Edges) : Type 0 where

@@ -1,5 +1,5 @@
 -- What is added to the edges along a walk.
-use Rattle.std.specs.Prelude.{◌≡◌, ◌<◌, ◌∷◌, ◌++◌, ℕ, List, [], codes, length, Option, Some, None, Result, Ok, Err, Contains}
+use Rattle.std.specs.Prelude.{◌≡◌, ◌<◌, ◌∷◌, ◌++◌, ℕ, List, [], codes, length, Option, Some, None, Result, Ok, Err, slice_get}
 use Rattle.asl_model.specs.Edges.{Walked, Breaks, ToInput, ToOutput, ToTask, flows_to}
 use Rattle.asl_model.specs.Finding.{Breach, CatchInput, OutputNotCertified, PayloadNotTaken}
 use Rattle.asl_model.specs.Shape.{Shape}
@@ -42,11 +42,11 @@ pub record GoesOn (old new : List Shape) (before after : List Edge) (steps furth
   pub keeps : Keeps old new
   pub adds : Adds new before after steps further
 
--- the walk stops at that rule, which is broken at one of the steps that are left
+-- the walk stops at that rule, which is broken at the first of the steps that are left
 pub record StopsAt (table : List Shape) (before after : List Edge) (steps : List Walked) (b : Breach) : Type 0 where
   pub further : List Walked
   pub adds : Adds table before after steps further
-  pub told : Contains further (Breaks b)
+  pub told : slice_get further 0 ≡ Some (Breaks b)
 
 -- the walk stops: at a rule, or where memory is out
 abbrev pub Halts : List Shape → List Edge → List Edge → List Walked → Option Breach → Type 0

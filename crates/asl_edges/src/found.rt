@@ -54,7 +54,7 @@ pub struct Edges<'m> {
 }
 
 /// The edges of a state with these shapes, for the number of what its task gives: none where no tree has its input. Where
-/// several rules are broken on the way to an edge, one of them is told. Refuses only where an allocation was refused.
+/// several rules are broken on the way to an edge, the first of them is told. Refuses only where an allocation was refused.
 pub fn edges_of<'m>(
     alloc: Global,
     shapes: &mut Shapes,

@@ -53,6 +53,13 @@ use Rattle.asl_infer.specs.declared.settling.Judged.TheVariants.{Closed, Unfit}
 use Rattle.asl_infer.proofs.Levels.{written_shallow}
 use Rattle.asl_infer.proofs.BrokenRules.{AreOfMachine, along, step_of_machine, walk_of_machine}
 
+-- what is first in a list is in it
+first_contained : {A : Type 0} (xs : List A) (x : A) → slice_get xs 0 ≡ Some x → Contains xs x
+first_contained [] x h = absurd (cc)
+first_contained (y ∷ xs) x h =
+    let is : y ≡ x = cc in
+    rw is (first_in x xs)
+
 -- ---- refusals
 
 -- a round that doesn't end is a refusal
@@ -130,7 +137,7 @@ module _ (table : List Shape) (declared : model.Declared) (n : List ℕ) (settin
 
   -- it is broken on the way
   on_the_way : edges.broken ≡ Some rule → Contains steps (Breaks (broken_view rule))
-  on_the_way is = subst (λ all. Contains all (Breaks (broken_view rule))) (sym walked.seen) (Contains-append_right (steps_of table edges.edges.items) walked.further (Breaks (broken_view rule)) (subst (λ (o : Option Broken). EndsWith walked.further (option_map broken_view o)) is walked.ended))
+  on_the_way is = subst (λ all. Contains all (Breaks (broken_view rule))) (sym walked.seen) (Contains-append_right (steps_of table edges.edges.items) walked.further (Breaks (broken_view rule)) (first_contained walked.further (Breaks (broken_view rule)) (subst (λ (o : Option Broken). EndsWith walked.further (option_map broken_view o)) is walked.ended)))
 
   -- the rule is of the machine or of what is declared
   rule_of_machine : IsBrokenAlong table edges takes rule → IsTrue (is_of_machine (broken_view rule).fault)
