@@ -1,5 +1,5 @@
 -- States that are added one after another.
-use Rattle.std.proofs.Common.{◌≡◌, List, [], ◌∷◌, ◌++◌, map, sym, ap, ◌∙◌, append-nil, append_assoc}
+use Rattle.std.proofs.Common.{◌≡◌, List, [], ◌∷◌, ◌++◌, map, sym, ap, ◌∙◌, append-nil, append_assoc, Result, Ok, Err, OnOk}
 use Rattle.std.proofs.lemmas.List.{map-append}
 use Rattle.asl_model.specs.Numbering.{Standing, outlined}
 use Rattle.asl_machine.specs.Built.{built_view, Adds}
@@ -29,3 +29,8 @@ some_more a b c all left xs more so_far parted next = record {
 
 pub adds_none : (rows : List Standing) → Adds rows rows []
 adds_none rows = record { holds = sym (append-nil rows) }
+
+-- some states, and others behind them where a reading finds nothing wrong
+pub added_behind : {E : Type 0} (a b c xs ys : List Standing) (result : Result (Unit {0}) E) → Adds a b xs → OnOk result (Adds b c ys) → OnOk result (Adds a c (xs ++ ys))
+added_behind a b c xs ys (Ok nothing) first second = adds_then a b c xs ys first second
+added_behind a b c xs ys (Err e) first second = tt

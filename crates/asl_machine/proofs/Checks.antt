@@ -1,5 +1,5 @@
 -- What checks answer one after another.
-use Rattle.std.proofs.Common.{◌≡◌, List, ◌++◌, Option, Some, None, Result, Ok, Err, sym, ap, ◌∙◌, subst}
+use Rattle.std.proofs.Common.{◌≡◌, List, [], ◌∷◌, ◌++◌, map, Option, Some, None, Result, Ok, Err, refl, sym, ap, ◌∙◌, subst}
 use Rattle.std.proofs.lemmas.List.Elements.{Contains-append_left, Contains-append_right}
 use Rattle.asl_machine.specs.Definition.{IsAmong, IsAnswer}
 
@@ -26,3 +26,20 @@ left_after wrong head rest all none = all ∙ ap (λ xs. xs ++ rest) none.holds
 
 pub told_of_left : {E F : Type 0} {shown : E → Option F} (wrong head rest : List F) (e : E) → wrong ≡ head ++ rest → IsAnswer shown head (Err e) → IsAnswer shown wrong (Err e)
 told_of_left {shown = shown} wrong head rest e all h = subst (λ xs. IsAnswer shown xs (Err e)) (sym all) (told_first head rest e h)
+
+-- where both together are empty each of them is
+pub first_none : {A : Type 0} (xs ys : List A) → xs ++ ys ≡ [] → xs ≡ []
+first_none [] ys e = refl
+first_none (x ∷ xs) ys e = absurd (cc)
+
+pub second_none : {A : Type 0} (xs ys : List A) → xs ++ ys ≡ [] → ys ≡ []
+second_none [] ys e = e
+second_none (x ∷ xs) ys e = absurd (cc)
+
+pub unmapped_none : {A B : Type 0} (f : A → B) (xs : List A) → map f xs ≡ [] → xs ≡ []
+unmapped_none f [] e = refl
+unmapped_none f (x ∷ xs) e = absurd (cc)
+
+-- want of memory is told of anything
+pub told_without_memory : {E F : Type 0} {shown : E → Option F} (wrong : List F) (e : E) → shown e ≡ None → IsAnswer shown wrong (Err e)
+told_without_memory {shown = shown} wrong e none = record { holds = subst (λ o. IsAmong wrong o) (sym none) tt }

@@ -1,5 +1,5 @@
 -- What stands in lists of complaints.
-use Rattle.std.proofs.Common.{ℕ, suc, List, ◌∷◌, refl, arith}
+use Rattle.std.proofs.Common.{suc, List, ◌∷◌, refl, arith}
 use Rattle.std.specs.List.{Contains}
 use Rattle.asl_model.specs.StandsFor.{Complaint}
 

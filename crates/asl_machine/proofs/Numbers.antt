@@ -1,5 +1,5 @@
 -- A table in the making holds one state more.
-use Rattle.std.proofs.Common.{◌≡◌, refl, sym, ap, ◌∙◌, subst, ℕ, List, [], ◌∷◌, ◌++◌, map, Bool, true, false, ◌||◌, if◌then◌else◌, bytes_eq, string_bytes, string_eq, String, Option, Some, None, IfSome, not, codes, length, ◌<◌, lt-ltb, ◌⊎◌}
+use Rattle.std.proofs.Common.{◌≡◌, refl, sym, ap, ◌∙◌, subst, ℕ, List, [], ◌∷◌, ◌++◌, map, Bool, true, false, ◌||◌, if◌then◌else◌, bytes_eq, string_bytes, string_eq, String, Option, Some, None, IfSome, not, codes, length, ◌<◌, lt-ltb}
 use Rattle.std.specs.declared.alloc.Global.{Global}
 use Rattle.std.specs.List.{list_any, Contains}
 use Rattle.std.proofs.lemmas.List.{map-append, length-map}
@@ -12,9 +12,8 @@ use Rattle.asl_model.specs.StandsFor.{Complaint, duplicate_complaints, number_co
 use Rattle.asl_model.proofs.RunOptions.{some_inj}
 use Rattle.asl_model.proofs.ShapeWitness.{bytes_eq-comm}
 use Rattle.asl_machine.specs.declared.building.BuiltState.{BuiltState}
-use Rattle.asl_machine.specs.declared.numbering.Home.{Home}
+use Rattle.asl_machine.specs.declared.building.Home.{Home}
 use Rattle.asl_machine.specs.declared.numbering.Numbered.{Numbered}
-use Rattle.asl_states.specs.declared.states.State.{State}
 use Rattle.asl_machine.specs.Definition.{IsAmong}
 use Rattle.asl_states.specs.Machine.{state_view}
 use Rattle.asl_machine.specs.Numbered.{Holds, home_view, home_of, names_of_all, placed_in}

@@ -13,24 +13,11 @@ use Rattle.asl_model.specs.Json.{tree_of, elements_of, members_of}
 use Rattle.asl_model.specs.Tree.{Tree, Null, Boolean, Integer, Text, Array, Object, Fields, NoFields, AndField, Trees, field_named}
 use Rattle.asl_model.specs.Test.{Rule, as_text}
 use Rattle.asl_model.specs.RuleSpelling as rule
-use Rattle.asl_model.specs.StandsFor.{Complaint, Place, members_in, items_in, text_at, items_at, listed, row_faults, target_complaints, rules_complaints, rules_of, rows_complaints, fields_complaints, type_complaints, nested_complaints, state_complaints_by, place_of_state, complaint_at}
+use Rattle.asl_model.specs.StandsFor.{Place, members_in, items_in, text_at, items_at, listed, row_faults, target_complaints, rules_complaints, rules_of, rows_complaints, fields_complaints, type_complaints, place_of_state, complaint_at}
 use Rattle.asl_machine.specs.declared.places.Complaint.{Complaint as Objection}
 use Rattle.asl_machine.specs.Definition.{IsVerdict, rule_targets, rules_of_type}
-use Rattle.asl_machine.proofs.Checks.{told_next}
+use Rattle.asl_machine.proofs.Checks.{told_next, first_none, second_none, unmapped_none}
 use Rattle.asl_machine.proofs.Lookups.{bytes_eq-swap}
-
--- where both together are empty each of them is
-first_none : {A : Type 0} (xs ys : List A) → xs ++ ys ≡ [] → xs ≡ []
-first_none [] ys e = refl
-first_none (x ∷ xs) ys e = absurd (cc)
-
-second_none : {A : Type 0} (xs ys : List A) → xs ++ ys ≡ [] → ys ≡ []
-second_none [] ys e = e
-second_none (x ∷ xs) ys e = absurd (cc)
-
-unmapped_none : {A B : Type 0} (f : A → B) (xs : List A) → map f xs ≡ [] → xs ≡ []
-unmapped_none f [] e = refl
-unmapped_none f (x ∷ xs) e = absurd (cc)
 
 -- ---- the text in a field of an object, and of the tree that it is
 
@@ -181,9 +168,8 @@ rules_same model.FailState state names ms e = refl
 rules_same model.ParallelState state names ms e = refl
 rules_same model.MapState state names ms e = refl
 
--- where the fields of a state are in order, what is told of the rest is told of the state
-pub typed_told : (t : model.StateType) (state : List ℕ) (names : List (List ℕ)) (ms : Members) (branches processor : List Complaint) (result : Result (Unit {0}) Objection) → IsVerdict (fields_complaints (place_of_state state) (model.rows_of t) ms) (Ok tt)
-    → IsVerdict (rules_of_type t state names ms ++ nested_complaints t branches processor) result → IsVerdict (state_complaints_by (Some t) state names ms branches processor) result
-typed_told t state names ms branches processor result none told =
-    told_next (fields_complaints (place_of_state state) (model.rows_of t) ms) (type_complaints t state names ms ++ nested_complaints t branches processor) result none
-    (subst (λ xs. IsVerdict (xs ++ nested_complaints t branches processor) result) (rules_same t state names ms none.holds) told)
+-- where the fields of a state are in order, what is told of the rest is told of the state's own
+pub own_told : (t : model.StateType) (state : List ℕ) (names : List (List ℕ)) (ms : Members) (result : Result (Unit {0}) Objection) → IsVerdict (fields_complaints (place_of_state state) (model.rows_of t) ms) (Ok tt)
+    → IsVerdict (rules_of_type t state names ms) result → IsVerdict (fields_complaints (place_of_state state) (model.rows_of t) ms ++ type_complaints t state names ms) result
+own_told t state names ms result none told =
+    told_next (fields_complaints (place_of_state state) (model.rows_of t) ms) (type_complaints t state names ms) result none (subst (λ xs. IsVerdict xs result) (rules_same t state names ms none.holds) told)

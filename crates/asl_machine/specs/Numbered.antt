@@ -1,10 +1,9 @@
 -- What a table in the making holds, and where its states stand by the names in it.
-use Rattle.std.specs.Prelude.{◌≡◌, ℕ, List, [], map, length, Option, option_map, string_bytes, position, bytes_eq, String}
+use Rattle.std.specs.Prelude.{◌≡◌, ℕ, List, [], map, Option, option_map, string_bytes, position, bytes_eq}
 use Rattle.std.specs.Option.{unwrap_or}
-use Rattle.std.specs.declared.alloc.Global.{Global}
-use Rattle.asl_model.specs.Numbering.{Standing, Placement, Table}
+use Rattle.asl_model.specs.Numbering.{Standing, Placement}
 use Rattle.asl_model.specs.StandsFor.{duplicate_complaints}
-use Rattle.asl_machine.specs.declared.numbering.Home.{Home}
+use Rattle.asl_machine.specs.declared.building.Home.{Home}
 use Rattle.asl_machine.specs.declared.numbering.Numbered.{Numbered}
 use Rattle.asl_states.specs.Machine.{state_view}
 

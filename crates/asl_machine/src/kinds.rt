@@ -3,11 +3,12 @@
 ghost use Rattle.std.specs.Prelude.{◌≡◌, IfOk, [], codes, option_map};
 ghost use Rattle.std.specs.Option.{unwrap_or};
 ghost use Rattle.serde_json.specs.View.{view};
-ghost use Rattle.asl_model.specs.Machine.{NoScopes, Choice, Fail, Map, empty_scope, settings_of, kind_of};
+ghost use Rattle.asl_model.specs.Machine.{Choice, Fail, Map, settings_of, kind_of};
 ghost use Rattle.asl_model.specs.Numbering.{kind_outline};
-ghost use Rattle.asl_model.specs.StandsFor.{members_in, type_of as model_type_of, text_at, path_at, rules_of, delay_of, selector_of, state_by, branches_under, processor_under};
+ghost use Rattle.asl_model.specs.StandsFor.{members_in, type_of as model_type_of, text_at, path_at, rules_of, delay_of, selector_of, processor_under};
 ghost use Rattle.asl_template.specs.View as templates;
 ghost use Rattle.asl_states.specs.Machine.{delay_view, kind_view};
+ghost use Rattle.asl_machine.specs.Built.{state_typed};
 ghost use Rattle.asl_machine.specs.Rows.{type_view};
 
 use crate::choices::build_rules;
@@ -36,51 +37,48 @@ pub(crate) fn type_of(state: &Value) -> Option<StateType>
 /// The parameters of a state of that type, where it has any; those of a Map are its `ItemSelector`.
 pub(crate) fn build_parameters(
     alloc: Global,
-    state_type: Option<StateType>,
+    state_type: StateType,
     state: &Value,
 ) -> Result<Option<Template>, OutOfMemory>
-    ensures { IfOk result (λ p. option_map templates.view p ≡ (settings_of (state_by (option_map type_view state_type) (members_in (view state.now)) NoScopes empty_scope)).parameters) }
+    ensures { IfOk result (λ p. option_map templates.view p ≡ (settings_of (state_typed (type_view state_type) (members_in (view state.now)))).parameters) }
 {
     match state_type {
-        Some(StateType::Pass | StateType::Task | StateType::Parallel) => {
+        StateType::Pass | StateType::Task | StateType::Parallel => {
             build_template(alloc, state, "Parameters", false)
         }
-        Some(
-            StateType::Choice
-            | StateType::Wait
-            | StateType::Succeed
-            | StateType::Fail
-            | StateType::Map,
-        )
-        | None => Ok(None),
+        StateType::Choice
+        | StateType::Wait
+        | StateType::Succeed
+        | StateType::Fail
+        | StateType::Map => Ok(None),
     }
 }
 
-/// What that type of state adds; a state without a type succeeds.
+/// What that type of state adds.
 pub(crate) fn build_kind(
     alloc: Global,
-    state_type: Option<StateType>,
+    state_type: StateType,
     state: &Value,
 ) -> Result<Kind, OutOfMemory>
-    ensures { IfOk result (λ k. kind_view k ≡ kind_outline (kind_of (state_by (option_map type_view state_type) (members_in (view state.now)) (branches_under (members_in (view state.now))) (processor_under (members_in (view state.now)))))) }
+    ensures { IfOk result (λ k. kind_view k ≡ kind_outline (kind_of (state_typed (type_view state_type) (members_in (view state.now))))) }
 {
     match state_type {
-        Some(StateType::Pass) => Ok(Kind::Pass {
+        StateType::Pass => Ok(Kind::Pass {
             result: build_tree(alloc, state, "Result")?,
         }),
-        Some(StateType::Task) => Ok(Kind::Task {
+        StateType::Task => Ok(Kind::Task {
             resource: build_text_or_empty(alloc, state, "Resource")?,
         }),
-        Some(StateType::Choice) => build_choice(alloc, state),
-        Some(StateType::Wait) => Ok(Kind::Wait {
+        StateType::Choice => build_choice(alloc, state),
+        StateType::Wait => Ok(Kind::Wait {
             delay: build_delay(alloc, state)?,
         }),
-        Some(StateType::Succeed) | None => Ok(Kind::Succeed),
-        Some(StateType::Fail) => build_fail(alloc, state),
-        Some(StateType::Parallel) => Ok(Kind::Parallel {
+        StateType::Succeed => Ok(Kind::Succeed),
+        StateType::Fail => build_fail(alloc, state),
+        StateType::Parallel => Ok(Kind::Parallel {
             branches: build_branch_starts(alloc, state)?,
         }),
-        Some(StateType::Map) => build_map(alloc, state),
+        StateType::Map => build_map(alloc, state),
     }
 }
 

@@ -1,7 +1,8 @@
 //! State machines: a definition, as a JSON value, read as a machine (States Language, "Structure of a State Machine",
 //! "State Types").
 //!
-//! First every rule is checked, then the machine is built: building looks fields up and can only run out of memory.
+//! One recursion over the scopes checks each rule and adds each state whose own rules are in order; then the states get
+//! their numbers.
 #![tactic(auto)]
 
 mod building;
@@ -14,7 +15,7 @@ mod places;
 mod reading;
 mod refusals;
 mod rows;
-mod scope_checking;
+mod scope_reading;
 mod scopes;
 mod settings;
 mod state_checking;

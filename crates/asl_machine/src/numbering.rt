@@ -11,7 +11,7 @@ ghost use Rattle.asl_machine.specs.Built.{built_view};
 ghost use Rattle.asl_states.specs.Table.{table_view};
 ghost use Rattle.asl_machine.specs.View.{refusal_view};
 
-use crate::building::BuiltState;
+use crate::building::{BuiltState, Home};
 use crate::refusals::{DefFault, DefRefusal};
 use asl_states::{Machine, Scope, State};
 use asl_tree::OutOfMemory;
@@ -20,15 +20,6 @@ use std::alloc::Global;
 
 /// How many states a machine may have.
 const MOST_STATES: usize = 10000;
-
-/// Where a state stands, by names.
-#[derive(Clone, Copy)]
-pub(crate) struct Home<'a> {
-    /// The name of its scope's start state.
-    start: &'a str,
-    /// The name of the state that its scope belongs to and the number of the branch.
-    owner: Option<(&'a str, usize)>,
-}
 
 /// The states numbered so far: the names and the states by number, and where each stands.
 #[derive(Drop)]
@@ -100,10 +91,7 @@ impl<'a> Numbered<'a> {
     {
         self.states.push(row.state)?;
         self.names.insert(row.name)?;
-        self.homes.push(Home {
-            start: row.start,
-            owner: row.owner,
-        })?;
+        self.homes.push(row.home)?;
         Ok(())
     }
 }

@@ -8,10 +8,9 @@ ghost use Rattle.asl_machine.specs.Refusal.{IsRefused};
 ghost use Rattle.asl_states.specs.Table.{table_view, Shows};
 ghost use Rattle.asl_machine.specs.View.{refusal_view};
 
-use crate::building::build_scope;
 use crate::numbering::number;
 use crate::refusals::DefRefusal;
-use crate::scope_checking::check_rules;
+use crate::scope_reading::read_states;
 use asl_states::Machine;
 use serde_json::Value;
 use std::alloc::Global;
@@ -26,15 +25,12 @@ pub fn read(alloc: Global, value: &Value) -> Result<Machine, DefRefusal>
     ensures shown { IfOk result (λ machine. Shows machine (scope_of (view value.now))) }
     ensures refused { IfErr result (λ refusal. IsRefused (view value.now) (refusal_view refusal)) }
 {
-    match check_rules(alloc, value) {
-        Ok(()) => {}
+    let mut built = Vec::new(alloc);
+    match read_states(alloc, value, &mut built) {
+        Ok(()) => number(alloc, built),
         Err(complaint) => {
-            return Err(DefRefusal::new(alloc, complaint.fault, complaint.state, complaint.field));
+            let refusal = DefRefusal::new(alloc, complaint.fault, complaint.state, complaint.field);
+            Err(refusal)
         }
-    }
-    let mut states = Vec::new(alloc);
-    match build_scope(alloc, value, None, &mut states) {
-        Ok(()) => number(alloc, states),
-        Err(_) => Err(DefRefusal::out_of_memory(alloc)),
     }
 }

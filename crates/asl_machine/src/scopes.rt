@@ -1,9 +1,7 @@
 // Finding the scopes of a state, and building the names of their start states (States Language, "Parallel State", "Map
 // State").
 
-ghost use Rattle.std.specs.Prelude.{◌≡◌, IfOk, IfSome, string_bytes, option_map, []};
-ghost use Rattle.std.specs.BTreeMap.{values};
-ghost use Rattle.std.specs.List.{IsAmong};
+ghost use Rattle.std.specs.Prelude.{◌≡◌, IfOk, string_bytes, option_map, []};
 ghost use Rattle.std.specs.Option.{unwrap_or};
 ghost use Rattle.serde_json.specs.View.{view, items_view, members_view};
 ghost use Rattle.asl_model.specs.Machine.{empty_scope, start_of};
@@ -66,8 +64,7 @@ fn build_start_of_processor(
 
 /// The processor among the fields of a Map: `ItemProcessor`, or `Iterator` as its older name.
 pub(crate) fn processor_of(members: &Map<String, Value>) -> Option<&Value>
-    ensures scope { unwrap_or (option_map (λ v. scope_of (view v.now)) result) empty_scope ≡ processor_under (members_view members.now.entries) }
-    ensures member { IfSome result (λ v. IsAmong (values members.now) v.now) }
+    ensures { unwrap_or (option_map (λ v. scope_of (view v.now)) result) empty_scope ≡ processor_under (members_view members.now.entries) }
 {
     for (name, value) in members.iter() {
         if is_processor(name) {

@@ -1,9 +1,9 @@
-use Rattle.std.proofs.Common.{[], ◌∷◌, ◌++◌, map, take, get_or, string_bytes, sym, ap, ◌∙◌, None, add-one}
+use Rattle.std.proofs.Common.{[], ◌∷◌, map, take, get_or, string_bytes, sym, ap, ◌∙◌, None, add-one}
 use Rattle.std.proofs.Math.Seq.{take-suc}
 use Rattle.std.proofs.lemmas.List.{map-append}
 use Rattle.asl_states.specs.Machine.{scope_view}
 use Rattle.asl_machine.specs.Numbered.{home_view, placed_in}
-use Rattle.asl_machine.specs.declared.numbering.Home.{Home}
+use Rattle.asl_machine.specs.declared.building.Home.{Home}
 use Rattle.asl_machine.proofs.Numbers.{one_more}
 use Rattle.asl_machine.proofs.numbering.place_all.Goals as goal
 

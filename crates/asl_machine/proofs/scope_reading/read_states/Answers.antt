@@ -3,9 +3,9 @@ use Rattle.asl_model.specs.DefinitionTable.{NotObject}
 use Rattle.asl_model.specs.StandsFor.{place_of_state}
 use Rattle.asl_machine.specs.Definition.{IsVerdict, told_unless}
 use Rattle.asl_machine.proofs.Checks.{told_next}
-use Rattle.asl_machine.proofs.scope_checking.check_rules.Goals as goal
+use Rattle.asl_machine.proofs.scope_reading.read_states.Goals as goal
 
-pub returns-in-Ok : goal.returns-in-Ok
-returns-in-Ok c =
+pub returns-in-Ok-clause-rules : goal.returns-in-Ok-clause-rules
+returns-in-Ok-clause-rules c =
     let none = subst (λ b. IsVerdict (told_unless b (place_of_state []) [] (Some NotObject)) (Ok c.in-Ok.field-0)) c.is_object.ensures c.in-Ok.ensures in
-    told_next _ _ c.check_scope.result none c.check_scope.ensures
+    told_next _ _ c.read_scope.result none c.read_scope.ensures.rules

@@ -1,7 +1,7 @@
 use Rattle.std.proofs.Common.{◌≡◌, ◌/◌, ◌==◌, not, sym, ◌∙◌, rules}
 use Rattle.std.specs.List.{count_by}
 use Rattle.asl_machine.proofs.Lookups.{characters_counted}
-use Rattle.asl_machine.proofs.scope_checking.characters.Goals as goal
+use Rattle.asl_machine.proofs.scope_reading.characters.Goals as goal
 
 pub returns : goal.returns
 returns c =
