@@ -1,6 +1,7 @@
--- What checks answer one after another.
-use Rattle.std.proofs.Common.{◌≡◌, List, [], ◌∷◌, ◌++◌, map, Option, Some, None, Result, Ok, Err, refl, sym, ap, ◌∙◌, subst}
-use Rattle.std.proofs.lemmas.List.Elements.{Contains-append_left, Contains-append_right}
+-- What checks and readings answer one after another.
+use Rattle.std.proofs.Common.{◌≡◌, zero, suc, List, [], ◌∷◌, ◌++◌, map, Option, Some, None, option_map, Result, Ok, Err, refl, sym, ap, ◌∙◌, subst, arith, ◌⊎◌, inl, inr}
+use Rattle.std.specs.List.{Contains}
+use Rattle.std.proofs.lemmas.List.Elements.{Contains-append_left, Contains-append_right, Contains-append_cases}
 use Rattle.asl_machine.specs.Definition.{IsAmong, IsAnswer}
 
 pub among_first : {F : Type 0} (xs ys : List F) (o : Option F) → IsAmong xs o → IsAmong (xs ++ ys) o
@@ -11,21 +12,40 @@ pub among_second : {F : Type 0} (xs ys : List F) (o : Option F) → IsAmong ys o
 among_second xs ys None h = tt
 among_second xs ys (Some f) h = Contains-append_right xs ys f h
 
+-- what stands in two lists stands in one of them
+pub among_either : {F : Type 0} (xs ys zs : List F) (o : Option F) → IsAmong (xs ++ ys) o → (IsAmong xs o → IsAmong zs o) → (IsAmong ys o → IsAmong zs o) → IsAmong zs o
+among_either xs ys zs None h first second = tt
+among_either xs ys zs (Some f) h first second = by (Contains-append_cases xs ys f h)
+  where
+    by : Contains xs f ⊎ Contains ys f → Contains zs f
+    by (inl g) = first g
+    by (inr g) = second g
+
+mapped : {F G : Type 0} (f : F → G) (a : F) (xs : List F) → Contains xs a → Contains (map f xs) (f a)
+mapped f a [] (i, within, is) = absurd (omega (arith, within))
+mapped f a (x ∷ xs) (zero, within, is) = (0, omega arith, ap f is)
+mapped f a (x ∷ xs) (suc i, within, is) = let there = mapped f a xs (i, omega (arith, within), is) in (suc there.0, omega (arith, there.1), there.2)
+
+-- what stands in a list stands in the list as it is mapped
+pub among_mapped : {F G : Type 0} (f : F → G) (xs : List F) (o : Option F) (told : Option G) → IsAmong xs o → told ≡ option_map f o → IsAmong (map f xs) told
+among_mapped f xs None told h e = subst (λ t. IsAmong (map f xs) t) (sym e) tt
+among_mapped f xs (Some a) told h e = subst (λ t. IsAmong (map f xs) t) (sym e) (mapped f a xs h)
+
 -- what is told of the first of two lists is told of both
-pub told_first : {E F : Type 0} {shown : E → Option F} (xs ys : List F) (e : E) → IsAnswer shown xs (Err e) → IsAnswer shown (xs ++ ys) (Err e)
+pub told_first : {A B E F : Type 0} {shown : E → Option F} (xs ys : List F) (e : E) → IsAnswer {A = A} shown xs (Err e) → IsAnswer {A = B} shown (xs ++ ys) (Err e)
 told_first {shown = shown} xs ys e h = record { holds = among_first xs ys (shown e) h.holds }
 
--- after a check that finds nothing the next answers for both
-pub told_next : {E F : Type 0} {shown : E → Option F} (xs ys : List F) (result : Result (Unit {0}) E) → IsAnswer shown xs (Ok tt) → IsAnswer shown ys result → IsAnswer shown (xs ++ ys) result
-told_next xs ys (Ok nothing) g h = record { holds = ap (λ zs. zs ++ ys) g.holds ∙ h.holds }
+-- after an answer that finds nothing the next answers for both
+pub told_next : {A B E F : Type 0} {shown : E → Option F} (xs ys : List F) (result : Result B E) {read : A} → IsAnswer shown xs (Ok read) → IsAnswer shown ys result → IsAnswer shown (xs ++ ys) result
+told_next xs ys (Ok last) g h = record { holds = ap (λ zs. zs ++ ys) g.holds ∙ h.holds }
 told_next {shown = shown} xs ys (Err e) g h = record { holds = among_second xs ys (shown e) h.holds }
 
--- a check of the first part of what is left to check
-pub left_after : {E F : Type 0} {shown : E → Option F} (wrong head rest : List F) → wrong ≡ head ++ rest → IsAnswer shown head (Ok tt) → wrong ≡ rest
+-- an answer for the first part of what is left
+pub left_after : {A E F : Type 0} {shown : E → Option F} (wrong head rest : List F) {read : A} → wrong ≡ head ++ rest → IsAnswer shown head (Ok read) → wrong ≡ rest
 left_after wrong head rest all none = all ∙ ap (λ xs. xs ++ rest) none.holds
 
-pub told_of_left : {E F : Type 0} {shown : E → Option F} (wrong head rest : List F) (e : E) → wrong ≡ head ++ rest → IsAnswer shown head (Err e) → IsAnswer shown wrong (Err e)
-told_of_left {shown = shown} wrong head rest e all h = subst (λ xs. IsAnswer shown xs (Err e)) (sym all) (told_first head rest e h)
+pub told_of_left : {A B E F : Type 0} {shown : E → Option F} (wrong head rest : List F) (e : E) → wrong ≡ head ++ rest → IsAnswer {A = A} shown head (Err e) → IsAnswer {A = B} shown wrong (Err e)
+told_of_left {B = B} {shown = shown} wrong head rest e all h = subst (λ xs. IsAnswer {A = B} shown xs (Err e)) (sym all) (told_first head rest e h)
 
 -- where both together are empty each of them is
 pub first_none : {A : Type 0} (xs ys : List A) → xs ++ ys ≡ [] → xs ≡ []
@@ -41,5 +61,5 @@ unmapped_none f [] e = refl
 unmapped_none f (x ∷ xs) e = absurd (cc)
 
 -- want of memory is told of anything
-pub told_without_memory : {E F : Type 0} {shown : E → Option F} (wrong : List F) (e : E) → shown e ≡ None → IsAnswer shown wrong (Err e)
+pub told_without_memory : {A E F : Type 0} {shown : E → Option F} (wrong : List F) (e : E) → shown e ≡ None → IsAnswer {A = A} shown wrong (Err e)
 told_without_memory {shown = shown} wrong e none = record { holds = subst (λ o. IsAmong wrong o) (sym none) tt }

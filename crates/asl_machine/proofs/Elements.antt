@@ -1,7 +1,7 @@
 -- Reading the elements of a list of a definition, one after another.
 use Rattle.std.proofs.Common.{◌≡◌, ℕ, ◌+◌, ◌<◌, ◌≤◌, List, [], ◌∷◌, ◌++◌, length, get_or, take, map, Option, Some, None, refl, sym, ap, ◌∙◌, append-nil}
 use Rattle.std.specs.List.{filter_map, cons_option}
-use Rattle.std.proofs.lemmas.List.{take_all, take_more}
+use Rattle.std.proofs.lemmas.List.{map-append, take_all, take_more}
 use Rattle.std.proofs.lemmas.List.Elements.{filter_map-append}
 use Rattle.serde_json.specs.Data.{Data}
 use Rattle.serde_json.specs.View.{view, items_view}
@@ -38,3 +38,11 @@ filtered_more f done vs i v b within is gives e = sym (further f vs i v within i
 pub filtered_past : {B : Type 0} (f : Data → Option B) (done : List B) (vs : List Value) (i : ℕ) (v : Value) → i < length vs → v ≡ get_or vs i v → f (view v) ≡ None → done ≡ filter_map (λ x. f (view x)) (take i vs)
     → done ≡ filter_map (λ x. f (view x)) (take (i + 1) vs)
 filtered_past f done vs i v within is gives e = sym (further f vs i v within is ∙ rw gives (append-nil (filter_map (λ x. f (view x)) (take i vs))) ∙ sym e)
+
+-- one more element of a list that is read
+pub mapped_more : {B C : Type 0} (f : Data → B) (shown : C → B) (before after : List C) (c : C) (vs : List Value) (i : ℕ) (v : Value) → after ≡ before ++ c ∷ [] → i < length vs → v ≡ get_or vs i v → shown c ≡ f (view v) → map shown before ≡ map (λ x. f (view x)) (take i vs)
+    → map shown after ≡ map (λ x. f (view x)) (take (i + 1) vs)
+mapped_more f shown before after c vs i v pushed within is reads e =
+    let parted : take (i + 1) vs ≡ take i vs ++ v ∷ [] = take_more vs i v within ∙ ap (λ x. take i vs ++ x ∷ []) (sym is) in
+    ap (map shown) pushed ∙ (map-append shown before (c ∷ []) ∙ (ap (λ bs. bs ++ shown c ∷ []) e ∙ (ap (λ b. map (λ x. f (view x)) (take i vs) ++ b ∷ []) reads
+    ∙ sym (ap (map (λ x. f (view x))) parted ∙ map-append (λ x. f (view x)) (take i vs) (v ∷ [])))))

@@ -9,8 +9,9 @@ pub mod Nesting
 pub mod Numbers
 pub mod Objects
 pub mod Outlines
+pub mod OwnFields
+pub mod OwnRules
 pub mod Refused
-pub mod RuleTargets
 pub mod Starts
 pub mod Troubles
 pub mod Values

@@ -34,6 +34,15 @@ scope_object place rows (json.string s) h = absurd (cc)
 scope_object place rows (json.array vs) h = absurd (cc)
 scope_object place rows (json.object ms) h = refl
 
+-- of what is no object nothing is told
+pub scope_none : (place : Place) (rows : List model.Row) (v : Data) → is_some (as_object v) ≡ false → scope_complaints place rows v ≡ []
+scope_none place rows json.null h = refl
+scope_none place rows (json.boolean b) h = refl
+scope_none place rows (json.number n) h = refl
+scope_none place rows (json.string s) h = refl
+scope_none place rows (json.array vs) h = refl
+scope_none place rows (json.object ms) h = absurd (cc)
+
 -- of a state that is an object and has no type
 pub state_object : (names : List (List ℕ)) (state : List ℕ) (v : Data) (o : Option model.StateType) → is_some (as_object v) ≡ true → o ≡ type_of (members_in v)
     → state_complaints_by o state names (members_in v) (branches_complaints_under state (members_in v)) (processor_complaints_under state (members_in v)) ≡ state_complaints names state v

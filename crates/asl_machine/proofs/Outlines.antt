@@ -1,12 +1,11 @@
 -- A state without the states of its scopes, by its parts.
-use Rattle.std.proofs.Common.{◌≡◌, Option, Some, refl, sym, ap, ◌∙◌}
+use Rattle.std.proofs.Common.{◌≡◌, Some, refl, sym, ap, ◌∙◌}
 use Rattle.serde_json.specs.Data as json
 use Rattle.serde_json.specs.Data.{Data, Members}
 use Rattle.asl_model.specs.DefinitionTable.{StateType, PassState, TaskState, ChoiceState, WaitState, SucceedState, FailState, ParallelState, MapState}
 use Rattle.asl_model.specs.Machine.{Settings, Kind, StateOf, settings_of, kind_of}
 use Rattle.asl_model.specs.Numbering.{outline, kind_outline}
 use Rattle.asl_model.specs.StandsFor.{members_in, type_of, settings_in, state_by, state_of, branches_under, processor_under}
-use Rattle.asl_model.specs.Template.{Template}
 use Rattle.asl_machine.specs.Built.{state_typed}
 
 -- a state by its fields
@@ -36,5 +35,5 @@ by_parts ParallelState ms = refl
 by_parts MapState ms = refl
 
 -- a state that is built of these parts
-pub state_built : (t : StateType) (ms : Members) (p : Option Template) (s : Settings) (k : Kind) → p ≡ (settings_of (state_typed t ms)).parameters → s ≡ settings_in p ms → k ≡ kind_outline (kind_of (state_typed t ms)) → StateOf s k ≡ outline (state_typed t ms)
-state_built t ms p s k parameters settings kind = rw (settings, kind, parameters) (sym (by_parts t ms))
+pub state_built : (t : StateType) (ms : Members) (s : Settings) (k : Kind) → s ≡ settings_in (settings_of (state_typed t ms)).parameters ms → k ≡ kind_outline (kind_of (state_typed t ms)) → StateOf s k ≡ outline (state_typed t ms)
+state_built t ms s k settings kind = rw (settings, kind) (sym (by_parts t ms))

@@ -1,13 +1,18 @@
 -- What is told of retriers and catchers, one after another.
-use Rattle.std.proofs.Common.{◌≡◌, ◌≢◌, ℕ, ◌+◌, ◌<◌, eqb, List, ◌++◌, length, drop, drop-cons, get_or, append_assoc, Bool, true, false, codes, sym, ap, ◌∙◌, arith, ◌⊎◌, inl, inr}
+use Rattle.std.proofs.Common.{◌≡◌, ◌≢◌, ℕ, ◌+◌, ◌<◌, eqb, List, [], ◌++◌, append-nil, Result, Ok, Err, length, drop, drop-cons, get_or, append_assoc, Bool, true, false, codes, sym, ap, ◌∙◌, arith, ◌⊎◌, inl, inr}
 use Rattle.std.proofs.Math.ListN.{drop_of_length-le}
 use Rattle.std.proofs.lemmas.Bool.Decides.{eqb_tells}
 use Rattle.serde_json.specs.Data as json
 use Rattle.serde_json.specs.Data.{Data}
 use Rattle.serde_json.specs.View.{view, items_view}
 use Rattle.serde_json.specs.declared.value.Value.{Value}
-use Rattle.asl_model.specs.DefinitionTable.{retrier_rows, catcher_rows, BadErrorEquals}
-use Rattle.asl_model.specs.StandsFor.{Complaint, Place, members_in, text_at, is_last_before, has_proper_names, complain_unless, target_complaints, element_complaints, retriers_complaints, catchers_complaints}
+use Rattle.asl_model.specs.DefinitionTable.{retrier_rows, catcher_rows, BadErrorEquals, PathOrNullValue}
+use Rattle.asl_model.specs.StandsFor.{Complaint, Place, members_in, text_at, is_last_before, has_proper_names, complain_unless, target_complaints, element_complaints, fields_complaints, rows_complaints, foreign_complaints, retriers_complaints, catchers_complaints}
+use Rattle.asl_machine.specs.declared.places.Complaint.{Complaint as Objection}
+use Rattle.asl_machine.specs.Definition.{IsVerdict, complaint_view}
+use Rattle.asl_machine.specs.Reading.{checked_complaints, element_checked, told_at}
+use Rattle.asl_machine.proofs.Checks.{among_first, among_second, among_either, first_none, second_none}
+use Rattle.asl_machine.proofs.OwnFields.{fields_told, read_told, rows_in_order}
 use Rattle.asl_machine.proofs.Values.{items_parts}
 
 -- what is told of an element of `Retry`
@@ -54,3 +59,36 @@ pub catchers_parts : (place : Place) (names : List (List ℕ)) (wrong : List Com
     → wrong ≡ catcher_complaints place names (view x) (eqb (i + 1) (length vs)) ++ catchers_complaints place names (items_view (drop (i + 1) vs))
 catchers_parts place names wrong vs i x h e all =
     items_parts (catchers_complaints place names) wrong vs i x h e all ∙ catchers_step place names (view x) (items_view (drop (i + 1) vs)) (eqb (i + 1) (length vs)) (last_here vs i x h)
+
+-- ---- the path of a catcher
+
+-- what is told of an element of `Catch` but for its path is told of it
+pub catcher_checked : {A B : Type 0} (place : Place) (v : Data) (rest : List Complaint) (c : Objection) → IsVerdict {A = A} (element_checked place (codes "Catch") catcher_rows v ++ rest) (Err c) → IsVerdict {A = B} (element_complaints place (codes "Catch") catcher_rows v ++ rest) (Err c)
+catcher_checked place json.null rest c h = record { holds = h.holds }
+catcher_checked place (json.boolean b) rest c h = record { holds = h.holds }
+catcher_checked place (json.number n) rest c h = record { holds = h.holds }
+catcher_checked place (json.string s) rest c h = record { holds = h.holds }
+catcher_checked place (json.array vs) rest c h = record { holds = h.holds }
+catcher_checked place (json.object ms) rest c h =
+    let checked = checked_complaints place catcher_rows ms ++ foreign_complaints place catcher_rows ms in
+    let fields = fields_complaints place catcher_rows ms in
+    record { holds = among_either checked rest (fields ++ rest) (complaint_view c) h.holds (λ g. among_first fields rest (complaint_view c) (fields_told place catcher_rows ms (complaint_view c) g)) (λ g. among_second fields rest (complaint_view c) g) }
+
+-- after that, what is told of its path
+pub catcher_read : {A : Type 0} (place : Place) (v : Data) (rest : List Complaint) (result : Result A Objection) → element_checked place (codes "Catch") catcher_rows v ++ rest ≡ [] → IsVerdict (told_at place (codes "ResultPath") PathOrNullValue (members_in v)) result
+    → IsVerdict (element_complaints place (codes "Catch") catcher_rows v ++ rest) result
+catcher_read place json.null rest result none h = absurd (cc)
+catcher_read place (json.boolean b) rest result none h = absurd (cc)
+catcher_read place (json.number n) rest result none h = absurd (cc)
+catcher_read place (json.string s) rest result none h = absurd (cc)
+catcher_read place (json.array vs) rest result none h = absurd (cc)
+catcher_read place (json.object ms) rest (Ok read) none h =
+    let fields = first_none (checked_complaints place catcher_rows ms ++ foreign_complaints place catcher_rows ms) rest none in
+    let checked = first_none (checked_complaints place catcher_rows ms) (foreign_complaints place catcher_rows ms) fields in
+    let foreign = second_none (checked_complaints place catcher_rows ms) (foreign_complaints place catcher_rows ms) fields in
+    let others = second_none (checked_complaints place catcher_rows ms ++ foreign_complaints place catcher_rows ms) rest none in
+    let rows = rows_in_order place catcher_rows ms checked (append-nil (told_at place (codes "ResultPath") PathOrNullValue ms) ∙ h.holds) in
+    record { holds = ap (λ xs. (xs ++ foreign_complaints place catcher_rows ms) ++ rest) rows ∙ (ap (λ xs. xs ++ rest) foreign ∙ others) }
+catcher_read place (json.object ms) rest (Err c) none h =
+    let told = read_told place catcher_rows ms (complaint_view c) (among_first (told_at place (codes "ResultPath") PathOrNullValue ms) [] (complaint_view c) h.holds) in
+    record { holds = among_first (fields_complaints place catcher_rows ms) rest (complaint_view c) (among_first (rows_complaints place catcher_rows ms) (foreign_complaints place catcher_rows ms) (complaint_view c) told) }

@@ -1,5 +1,5 @@
 -- What is told of values one after another.
-use Rattle.std.proofs.Common.{◌≡◌, ℕ, cond, ◌+◌, ◌<◌, List, [], ◌∷◌, length, drop, drop-cons, get_or, add-one, Option, Some, None, is_some, Ok, Err, refl, arith, sym, ap, ◌∙◌}
+use Rattle.std.proofs.Common.{◌≡◌, ℕ, cond, ◌+◌, ◌<◌, List, [], ◌∷◌, length, drop, drop-cons, get_or, add-one, map, ◌++◌, codes, string_bytes, Option, Some, None, is_some, Ok, Err, refl, arith, sym, ap, ◌∙◌}
 use Rattle.std.specs.List.{count_by, filter_map, cons_option}
 use Rattle.std.proofs.lemmas.List.Recursion.{is_count_by}
 use Rattle.serde_json.specs.Data as json
@@ -8,13 +8,15 @@ use Rattle.serde_json.specs.Find.{as_str}
 use Rattle.serde_json.specs.View.{view, items_view}
 use Rattle.serde_json.specs.declared.value.Value.{Value}
 use Rattle.asl_model.specs.DefinitionTable as model
-use Rattle.asl_model.specs.StandsFor.{listed}
+use Rattle.asl_model.specs.StandsFor.{Complaint, Place, listed, target_complaints, rules_complaints}
+use Rattle.asl_choice.specs.View.{rule_view}
+use Rattle.asl_choice.specs.declared.rule.Rule.{Rule}
 use Rattle.asl_machine.specs.declared.refusals.DefFault.{DefFault}
 use Rattle.asl_machine.specs.Definition.{IsMisfit}
 use Rattle.asl_machine.proofs.Checks.{told_of_left}
 
 -- a list with an element isn't told as empty
-pub some_there : (vs : List Value) → 0 < length vs → IsMisfit (model.some_elements (items_view vs)) (Ok tt)
+pub some_there : (vs : List Value) → 0 < length vs → IsMisfit {A = Unit {0}} (model.some_elements (items_view vs)) (Ok tt)
 some_there [] h = absurd (omega arith)
 some_there (v ∷ vs) h = record { holds = refl }
 
@@ -24,9 +26,9 @@ pub items_parts : {F : Type 0} (of : Items → List F) (wrong : List F) (vs : Li
 items_parts of wrong vs i x h e all = all ∙ ap (λ rest. of (items_view rest)) (drop-cons vs i x h) ∙ (rw (add-one, sym e) refl)
 
 -- what is told of one of them is told of all
-pub each_told : (of : Data → List model.DefFault) (vs : List Value) (i : ℕ) (x : Value) (fault : DefFault) → i < length vs → x ≡ get_or vs i x
-    → model.wrong_with_each of (items_view vs) ≡ model.wrong_with_each of (items_view (drop i vs)) → IsMisfit (of (view x)) (Err fault)
-    → IsMisfit (model.wrong_with_each of (items_view vs)) (Err fault)
+pub each_told : {A B : Type 0} (of : Data → List model.DefFault) (vs : List Value) (i : ℕ) (x : Value) (fault : DefFault) → i < length vs → x ≡ get_or vs i x
+    → model.wrong_with_each of (items_view vs) ≡ model.wrong_with_each of (items_view (drop i vs)) → IsMisfit {A = A} (of (view x)) (Err fault)
+    → IsMisfit {A = B} (model.wrong_with_each of (items_view vs)) (Err fault)
 each_told of vs i x fault h e all told =
     told_of_left (model.wrong_with_each of (items_view vs)) (of (view x)) (model.wrong_with_each of (items_view (drop (i + 1) vs))) fault (items_parts (model.wrong_with_each of) (model.wrong_with_each of (items_view vs)) vs i x h e all) told
 
@@ -37,3 +39,8 @@ one_counted (Some a) rest = omega arith
 -- those that are texts are as many as the texts
 pub texts_counted : (vs : List Value) → count_by (λ v. is_some (as_str (view v))) vs ≡ length (filter_map as_str (listed (items_view vs)))
 texts_counted vs = sym (is_count_by (λ vs. length (filter_map as_str (listed (items_view vs)))) (λ v. is_some (as_str (view v))) refl (λ v vs. one_counted (as_str (view v)) (filter_map as_str (listed (items_view vs)))) vs)
+
+-- what is left of the rules of a Choice is the first and those behind it
+pub rules_parts : (place : Place) (names : List (List ℕ)) (wrong : List Complaint) (rules : List Rule) (i : ℕ) (x : Rule) → i < length rules → x ≡ get_or rules i x → wrong ≡ rules_complaints place names (map rule_view (drop i rules))
+    → wrong ≡ target_complaints place names (codes "Choices") (Some (string_bytes x.next)) ++ rules_complaints place names (map rule_view (drop (i + 1) rules))
+rules_parts place names wrong rules i x h e all = all ∙ ap (λ left. rules_complaints place names (map rule_view left)) (drop-cons rules i x h) ∙ (rw (add-one, sym e) refl)

@@ -1,10 +1,8 @@
 -- What a check of a definition answers. No public clause cites this module.
-use Rattle.std.specs.Prelude.{◌≡◌, ℕ, if◌then◌else◌, List, [], ◌∷◌, ◌++◌, Bool, true, false, Option, Some, None, option_map, Result, Ok, Err, codes, ⊤}
+use Rattle.std.specs.Prelude.{◌≡◌, ℕ, if◌then◌else◌, List, [], ◌∷◌, Bool, true, false, Option, Some, None, option_map, Result, Ok, Err, ⊤}
 use Rattle.std.specs.List.{Contains}
-use Rattle.serde_json.specs.Data as json
-use Rattle.serde_json.specs.Data.{Members, Items}
 use Rattle.asl_model.specs.DefinitionTable as model
-use Rattle.asl_model.specs.StandsFor.{Complaint, Place, one_of_complaints, last_of, place_of_state, items_at, complaint_at, text_at, members_in, type_complaints, target_complaints}
+use Rattle.asl_model.specs.StandsFor.{Complaint, Place, one_of_complaints, last_of, complaint_at}
 use Rattle.asl_machine.specs.View.{def_fault_view}
 use Rattle.asl_machine.specs.declared.places.Complaint.{Complaint as Objection}
 use Rattle.asl_machine.specs.declared.places.Place.{Place as Standing}
@@ -19,20 +17,20 @@ abbrev pub IsAmong : {F : Type 0} → List F → Option F → Type 0
 IsAmong wrong None = ⊤
 IsAmong wrong (Some f) = Contains wrong f
 
-abbrev pub Judges : {E F : Type 0} → (E → Option F) → List F → Result (Unit {0}) E → Type 0
-Judges shown wrong (Ok nothing) = wrong ≡ []
+abbrev pub Judges : {A E F : Type 0} → (E → Option F) → List F → Result A E → Type 0
+Judges shown wrong (Ok read) = wrong ≡ []
 Judges shown wrong (Err e) = IsAmong wrong (shown e)
 
--- the answer of a check for what can be wrong: nothing is, or what is told is among it
-pub record IsAnswer {E F : Type 0} (shown : E → Option F) (wrong : List F) (result : Result (Unit {0}) E) : Type 0 where
+-- the answer of a check or a reading for what can be wrong: nothing is, or what is told is among it
+pub record IsAnswer {A E F : Type 0} (shown : E → Option F) (wrong : List F) (result : Result A E) : Type 0 where
   pub holds : Judges shown wrong result
 
--- the answer of a check of a definition
-abbrev pub IsVerdict : List Complaint → Result (Unit {0}) Objection → Type 0
+-- the answer for a definition
+abbrev pub IsVerdict : {A : Type 0} → List Complaint → Result A Objection → Type 0
 IsVerdict wrong result = IsAnswer complaint_view wrong result
 
--- the answer of a check of a value
-abbrev pub IsMisfit : List model.DefFault → Result (Unit {0}) DefFault → Type 0
+-- the answer for a value
+abbrev pub IsMisfit : {A : Type 0} → List model.DefFault → Result A DefFault → Type 0
 IsMisfit wrong result = IsAnswer def_fault_view wrong result
 
 -- where an object stands
@@ -46,25 +44,9 @@ told_unless right place field (Some fault) = if right then [] else complaint_at 
 
 -- ---- the rules on several fields
 
--- each of these goes on to a state of the scope
-abbrev pub rule_targets : Place → List (List ℕ) → Items → List Complaint
-rule_targets place names json.no_items = []
-rule_targets place names (json.item v vs) = target_complaints place names (codes "Choices") (text_at (codes "Next") (members_in v)) ++ rule_targets place names vs
-
 -- exactly one of some fields, of which the last that was found is given, and whether it wasn't the first; the others
 -- are left
 abbrev pub one_of_left : Place → List ℕ → Option (List ℕ) → Bool → List (List ℕ) → List Complaint
 one_of_left place first None several ns = one_of_complaints place first ns
 one_of_left place first (Some n) true ns = complaint_at place (last_of n ns) model.WrongKind ∷ []
 one_of_left place first (Some n) false ns = one_of_complaints place first (n ∷ ns)
-
--- the rules on several fields of a type, where the fields are in order one by one
-abbrev pub rules_of_type : model.StateType → List ℕ → List (List ℕ) → Members → List Complaint
-rules_of_type model.PassState state names ms = type_complaints model.PassState state names ms
-rules_of_type model.TaskState state names ms = type_complaints model.TaskState state names ms
-rules_of_type model.ChoiceState state names ms = target_complaints (place_of_state state) names (codes "Default") (text_at (codes "Default") ms) ++ rule_targets (place_of_state state) names (items_at (codes "Choices") ms)
-rules_of_type model.WaitState state names ms = type_complaints model.WaitState state names ms
-rules_of_type model.SucceedState state names ms = []
-rules_of_type model.FailState state names ms = []
-rules_of_type model.ParallelState state names ms = type_complaints model.ParallelState state names ms
-rules_of_type model.MapState state names ms = type_complaints model.MapState state names ms

@@ -1,6 +1,7 @@
 pub mod Built
 pub mod Definition
 pub mod Numbered
+pub mod Reading
 pub mod Refusal
 pub mod Rows
 pub mod View

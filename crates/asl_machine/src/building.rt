@@ -1,19 +1,13 @@
-// Building the states of a definition, in the order of their numbers.
+// The states of a definition as they are built, in the order of their numbers.
 
-ghost use Rattle.std.specs.Prelude.{◌≡◌, ◌∷◌, [], IfOk, OnOk, map, string_bytes};
-ghost use Rattle.serde_json.specs.View.{view};
+ghost use Rattle.std.specs.Prelude.{◌≡◌, ◌∷◌, [], OnOk, map};
+ghost use Rattle.asl_model.specs.Machine as model;
 ghost use Rattle.asl_model.specs.Numbering.{outline};
-ghost use Rattle.asl_model.specs.StandsFor.{members_in};
-ghost use Rattle.asl_machine.specs.Built.{built_view, state_typed, stands_at, Adds};
-ghost use Rattle.asl_machine.specs.Rows.{type_view};
+ghost use Rattle.asl_machine.specs.Built.{built_view, stands_at, Adds};
 ghost use Rattle.asl_states.specs.Machine.{state_view};
 
-use crate::kinds::{build_kind, build_parameters};
-use crate::rows::StateType;
-use crate::settings::build_settings;
 use asl_states::State;
 use asl_tree::OutOfMemory;
-use serde_json::Value;
 use std::alloc::Global;
 
 /// Where a state stands, by names.
@@ -33,32 +27,20 @@ pub(crate) struct BuiltState<'a> {
     pub(crate) home: Home<'a>,
 }
 
-/// Adds the state of that name and type that an object stands for.
+/// Adds a state of that name.
 pub(crate) fn add_state<'a>(
     alloc: Global,
     name: &str,
-    state: &Value,
-    state_type: StateType,
+    state: State,
     home: Home<'a>,
     built: &mut Vec<BuiltState<'a>>,
 ) -> Result<(), OutOfMemory>
-    ensures { OnOk result (Adds (map built_view built.old.items) (map built_view built.new.items) (stands_at home.entry name.now (state_typed (type_view state_type) (members_in (view state.now))) ∷ [])) }
+    ensures { OnOk result ((s : model.State) → state_view state ≡ outline s → Adds (map built_view built.old.items) (map built_view built.new.items) (stands_at home.entry name.now s ∷ [])) }
 {
     built.push(BuiltState {
         name: String::from_str(alloc, name)?,
-        state: build_state(alloc, state, state_type)?,
+        state,
         home,
     })?;
     Ok(())
-}
-
-/// The state of that type that an object stands for, without those of its scopes.
-fn build_state(alloc: Global, state: &Value, state_type: StateType) -> Result<State, OutOfMemory>
-    ensures { IfOk result (λ s. state_view s ≡ outline (state_typed (type_view state_type) (members_in (view state.now)))) }
-{
-    let parameters = build_parameters(alloc, state_type, state)?;
-    Ok(State {
-        settings: build_settings(alloc, parameters, state)?,
-        kind: build_kind(alloc, state_type, state)?,
-    })
 }

@@ -1,45 +1,110 @@
-// Building the rules of a Choice (States Language, "Choice State").
+// Reading the rules of a Choice (States Language, "Choice State").
 
-ghost use Rattle.std.specs.Prelude.{◌≡◌, IfOk, map, option_map, option_and_then};
+ghost use Rattle.std.specs.Prelude.{◌≡◌, ◌++◌, Some, IfOk, is_some, map, option_map, option_and_then};
 ghost use Rattle.std.specs.List.{filter_map};
 ghost use Rattle.serde_json.specs.View.{view, items_view};
+ghost use Rattle.asl_model.specs.DefinitionTable as model;
 ghost use Rattle.asl_model.specs.Json.{tree_of};
 ghost use Rattle.asl_model.specs.RuleSpelling.{rule_of};
-ghost use Rattle.asl_model.specs.StandsFor.{listed};
+ghost use Rattle.asl_model.specs.StandsFor.{members_in, items_in, listed, rules_of};
 ghost use Rattle.asl_choice.specs.View.{rule_view};
 ghost use Rattle.asl_tree.specs.View as trees;
+ghost use Rattle.asl_machine.specs.Definition.{IsMisfit, IsVerdict, place_view};
+ghost use Rattle.asl_machine.specs.Reading.{rules_told};
 
 use crate::fields::read_tree;
+use crate::places::{Complaint, Place};
+use crate::refusals::DefFault;
+use crate::value_checking::{check_some, wrong_kind};
 use asl_choice::{Rule, RuleRefusal};
 use asl_tree::{OutOfMemory, Tree};
 use serde_json::Value;
 use std::alloc::Global;
 
-/// The rules that the elements of `Choices` spell.
-pub(crate) fn build_rules(alloc: Global, elements: &[Value]) -> Result<Vec<Rule>, OutOfMemory>
-    ensures { IfOk result (λ rules. map rule_view rules.items ≡ filter_map (λ v. option_and_then rule_of (tree_of v)) (listed (items_view elements.now))) }
+/// The rules in `Choices`.
+pub(crate) fn read_choices<'a>(
+    alloc: Global,
+    place: &Place<'a>,
+    state: &Value,
+) -> Result<Vec<Rule>, Complaint<'a>>
+    ensures rules { IfOk result (λ rules. map rule_view rules.items ≡ rules_of (members_in (view state.now))) }
+    ensures told { IsVerdict (rules_told (place_view place.now) (members_in (view state.now))) result }
 {
-    let mut rules = Vec::with_capacity(alloc, elements.len())?;
+    match state.get("Choices") {
+        Some(value) => match read_rules(alloc, value) {
+            Ok(rules) => Ok(rules),
+            Err(fault) => Err(place.found("Choices", fault)),
+        },
+        None => Err(place.complaint("Choices", DefFault::MissingField)),
+    }
+}
+
+/// The rules that a value spells: a list of them, not empty.
+fn read_rules(alloc: Global, value: &Value) -> Result<Vec<Rule>, DefFault>
+    ensures rules { IfOk result (λ rules. map rule_view rules.items ≡ filter_map (λ v. option_and_then rule_of (tree_of v)) (listed (items_in (view value.now)))) }
+    ensures faults { IsMisfit (model.misfits model.RulesValue (view value.now)) result }
+{
+    match value.as_array() {
+        Some(elements) => read_some(alloc, elements),
+        None => Err(wrong_kind(value)),
+    }
+}
+
+/// The rules that the elements spell, of which there have to be some.
+fn read_some(alloc: Global, elements: &[Value]) -> Result<Vec<Rule>, DefFault>
+    ensures rules { IfOk result (λ rules. map rule_view rules.items ≡ filter_map (λ v. option_and_then rule_of (tree_of v)) (listed (items_view elements.now))) }
+    ensures faults { IsMisfit (model.some_elements (items_view elements.now) ++ model.wrong_with_each (λ r. model.rule_misfits (tree_of r)) (items_view elements.now)) result }
+{
+    match check_some(elements) {
+        Ok(()) => read_each(alloc, elements),
+        Err(fault) => Err(fault),
+    }
+}
+
+/// The rules that the elements spell.
+fn read_each(alloc: Global, elements: &[Value]) -> Result<Vec<Rule>, DefFault>
+    ensures rules { IfOk result (λ rules. map rule_view rules.items ≡ filter_map (λ v. option_and_then rule_of (tree_of v)) (listed (items_view elements.now))) }
+    ensures faults { IsMisfit (model.wrong_with_each (λ r. model.rule_misfits (tree_of r)) (items_view elements.now)) result }
+{
+    let mut rules = Vec::new(alloc);
     for element in elements {
-        if let Some(rule) = build_rule(alloc, element)? {
-            rules.push(rule)?;
+        match read_rule(alloc, element) {
+            Ok(rule) => match rules.push(rule) {
+                Ok(()) => {}
+                Err(_) => return Err(DefFault::OutOfMemory),
+            },
+            Err(fault) => return Err(fault),
         }
     }
     Ok(rules)
 }
 
-/// The rule that an element spells, where it spells one.
-fn build_rule(alloc: Global, element: &Value) -> Result<Option<Rule>, OutOfMemory>
-    ensures { IfOk result (λ rule. option_map rule_view rule ≡ option_and_then rule_of (tree_of (view element.now))) }
+/// The rule that a value spells.
+fn read_rule(alloc: Global, value: &Value) -> Result<Rule, DefFault>
+    ensures rule { IfOk result (λ rule. option_and_then rule_of (tree_of (view value.now)) ≡ Some (rule_view rule)) }
+    ensures faults { IsMisfit (model.rule_misfits (tree_of (view value.now))) result }
 {
-    match read_tree(alloc, element)? {
-        Some(tree) => read_rule(alloc, &tree),
-        None => Ok(None),
+    match read_tree(alloc, value) {
+        Ok(Some(tree)) => rule_from(alloc, &tree),
+        Ok(None) => Err(DefFault::NotWhole),
+        Err(_) => Err(DefFault::OutOfMemory),
+    }
+}
+
+/// The rule that a tree spells.
+fn rule_from(alloc: Global, tree: &Tree) -> Result<Rule, DefFault>
+    ensures rule { IfOk result (λ rule. rule_of (trees.view tree.now) ≡ Some (rule_view rule)) }
+    ensures faults { IsMisfit (model.unless (is_some (rule_of (trees.view tree.now))) model.BadRule) result }
+{
+    match rule_spelled(alloc, tree) {
+        Ok(Some(rule)) => Ok(rule),
+        Ok(None) => Err(DefFault::BadRule),
+        Err(_) => Err(DefFault::OutOfMemory),
     }
 }
 
 /// The rule that a tree spells, where it spells one.
-pub(crate) fn read_rule(alloc: Global, tree: &Tree) -> Result<Option<Rule>, OutOfMemory>
+fn rule_spelled(alloc: Global, tree: &Tree) -> Result<Option<Rule>, OutOfMemory>
     ensures { IfOk result (λ rule. option_map rule_view rule ≡ rule_of (trees.view tree.now)) }
 {
     match asl_choice::from_tree(alloc, tree) {

@@ -1,8 +1,10 @@
 // Checking the fields of an object.
 
+ghost use Rattle.std.specs.Prelude.{◌++◌};
 ghost use Rattle.serde_json.specs.Find.{get};
 ghost use Rattle.serde_json.specs.View.{view};
-ghost use Rattle.asl_model.specs.StandsFor.{members_in, fields_complaints, rows_complaints, foreign_complaints, row_faults};
+ghost use Rattle.asl_model.specs.StandsFor.{members_in, foreign_complaints};
+ghost use Rattle.asl_machine.specs.Reading.{checked_faults, checked_complaints};
 ghost use Rattle.asl_machine.specs.Rows.{row_view, rows_view};
 ghost use Rattle.asl_machine.specs.Definition.{IsMisfit, IsVerdict, place_view};
 
@@ -11,34 +13,31 @@ use crate::refusals::DefFault;
 use crate::rows::{self, Row};
 use crate::value_checking::check_value;
 use serde_json::Value;
-use std::alloc::Global;
 
-/// Checks the fields of an object: the value of each, and that there is no other.
+/// Checks the fields of an object: the value of each that isn't read, and that there is no field without a row.
 pub(crate) fn check_fields<'a>(
-    alloc: Global,
     place: &Place<'a>,
     object: &'a Value,
     rows: &'static [Row],
 ) -> Result<(), Complaint<'a>>
-    ensures { IsVerdict (fields_complaints (place_view place.now) (rows_view rows.now) (members_in (view object.now))) result }
+    ensures { IsVerdict (checked_complaints (place_view place.now) (rows_view rows.now) (members_in (view object.now)) ++ foreign_complaints (place_view place.now) (rows_view rows.now) (members_in (view object.now))) result }
 {
-    match check_rows(alloc, place, object, rows) {
+    match check_rows(place, object, rows) {
         Ok(()) => check_names(place, object, rows),
         Err(complaint) => Err(complaint),
     }
 }
 
-/// Checks the values of all fields that have a row.
+/// Checks the values of all fields that have a row and aren't read.
 pub(crate) fn check_rows<'a>(
-    alloc: Global,
     place: &Place<'a>,
     object: &Value,
     rows: &'static [Row],
 ) -> Result<(), Complaint<'a>>
-    ensures { IsVerdict (rows_complaints (place_view place.now) (rows_view rows.now) (members_in (view object.now))) result }
+    ensures { IsVerdict (checked_complaints (place_view place.now) (rows_view rows.now) (members_in (view object.now))) result }
 {
     for row in rows {
-        match place.told(row.name, check_field(alloc, object, row)) {
+        match place.told(row.name, check_field(object, row)) {
             Ok(()) => {}
             Err(complaint) => return Err(complaint),
         }
@@ -46,12 +45,15 @@ pub(crate) fn check_rows<'a>(
     Ok(())
 }
 
-/// Checks the value of one field, or its absence.
-fn check_field(alloc: Global, object: &Value, row: &'static Row) -> Result<(), DefFault>
-    ensures { IsMisfit (row_faults (row_view row.now) (get row.now.name.now (view object.now))) result }
+/// Checks the value of one field, or its absence, unless it is read.
+fn check_field(object: &Value, row: &'static Row) -> Result<(), DefFault>
+    ensures { IsMisfit (checked_faults (row_view row.now) (get row.now.name.now (view object.now))) result }
 {
+    if row.wanted.is_read() {
+        return Ok(());
+    }
     match object.get(row.name) {
-        Some(value) => check_value(alloc, row.wanted, value),
+        Some(value) => check_value(row.wanted, value),
         None => {
             if row.required {
                 Err(DefFault::MissingField)

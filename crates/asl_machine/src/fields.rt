@@ -1,16 +1,22 @@
-// Looking up the fields of an object of a definition, with what stands in place of one that is absent or has no meaning.
+// Looking up the fields of an object of a definition, and reading the paths and templates among them.
 
-ghost use Rattle.std.specs.Prelude.{◌≡◌, IfOk, [], map, string_bytes, option_map, option_and_then};
+ghost use Rattle.std.specs.Prelude.{◌≡◌, IfOk, [], is_some, Some, map, string_bytes, option_map, option_and_then};
 ghost use Rattle.std.specs.Option.{unwrap_or};
-ghost use Rattle.serde_json.specs.Find.{get_member};
+ghost use Rattle.serde_json.specs.Find.{get_member, as_str};
 ghost use Rattle.serde_json.specs.View.{view, items_view};
+ghost use Rattle.asl_model.specs.DefinitionTable as model;
 ghost use Rattle.asl_model.specs.Json.{tree_of};
-ghost use Rattle.asl_model.specs.PathSpelling.{path_of};
-ghost use Rattle.asl_model.specs.StandsFor.{members_in, items_at, text_at, path_at, path_or_null_at, natural_at, template_at, is_given as model_is_given};
-ghost use Rattle.asl_model.specs.TemplateSpelling.{template_of};
+ghost use Rattle.asl_model.specs.PathSpelling.{path_of as model_path_of};
+ghost use Rattle.asl_model.specs.StandsFor.{members_in, items_at, text_at, path_at, path_in, path_or_null_at, natural_at, template_at, is_given as model_is_given};
+ghost use Rattle.asl_model.specs.TemplateSpelling.{template_of as model_template_of};
 ghost use Rattle.asl_template.specs.View as templates;
 ghost use Rattle.asl_tree.specs.View as trees;
+ghost use Rattle.asl_machine.specs.Definition.{IsMisfit, IsVerdict, place_view};
+ghost use Rattle.asl_machine.specs.Reading.{told_at, template_wanted};
 
+use crate::places::{Complaint, Place};
+use crate::refusals::DefFault;
+use crate::value_checking::wrong_kind;
 use asl_path::{PathRefusal, RefPath};
 use asl_template::{SpellingRefusal, Template};
 use asl_tree::{OutOfMemory, Tree, TreeRefusal};
@@ -69,43 +75,87 @@ pub(crate) fn build_text_or_empty(
     Ok(String::from_str(alloc, text_or_empty(object, field))?)
 }
 
-/// The path of a field: `$` where the field isn't there or is no path, none where it is null.
-pub(crate) fn build_path_or_null(
+/// The path of a field: `$` where the field isn't there, none where it is null.
+pub(crate) fn path_or_null_of<'a>(
     alloc: Global,
+    place: &Place<'a>,
     object: &Value,
     field: &'static str,
-) -> Result<Option<RefPath>, OutOfMemory>
-    ensures { IfOk result (λ path. path ≡ path_or_null_at field.now (members_in (view object.now))) }
+) -> Result<Option<RefPath>, Complaint<'a>>
+    ensures path { IfOk result (λ path. path ≡ path_or_null_at field.now (members_in (view object.now))) }
+    ensures told { IsVerdict (told_at (place_view place.now) field.now model.PathOrNullValue (members_in (view object.now))) result }
 {
-    let value = match object.get(field) {
-        Some(value) => value,
-        None => return read_path(alloc, "$"),
-    };
+    match object.get(field) {
+        Some(value) => match read_path_or_null(alloc, value) {
+            Ok(path) => Ok(path),
+            Err(fault) => Err(place.found(field, fault)),
+        },
+        None => match whole_input(alloc) {
+            Ok(path) => Ok(Some(path)),
+            Err(_) => Err(place.complaint(field, DefFault::OutOfMemory)),
+        },
+    }
+}
+
+/// The path of a field: `$` where the field isn't there.
+pub(crate) fn path_of<'a>(
+    alloc: Global,
+    place: &Place<'a>,
+    object: &Value,
+    field: &'static str,
+) -> Result<RefPath, Complaint<'a>>
+    ensures path { IfOk result (λ path. path ≡ path_at field.now (members_in (view object.now))) }
+    ensures told { IsVerdict (told_at (place_view place.now) field.now model.PathValue (members_in (view object.now))) result }
+{
+    match object.get(field) {
+        Some(value) => match read_path(alloc, value) {
+            Ok(path) => Ok(path),
+            Err(fault) => Err(place.found(field, fault)),
+        },
+        None => match whole_input(alloc) {
+            Ok(path) => Ok(path),
+            Err(_) => Err(place.complaint(field, DefFault::OutOfMemory)),
+        },
+    }
+}
+
+/// The path that a value is, none where it is null.
+fn read_path_or_null(alloc: Global, value: &Value) -> Result<Option<RefPath>, DefFault>
+    ensures path { IfOk result (λ path. path ≡ path_in (view value.now)) }
+    ensures faults { IsMisfit (model.misfits model.PathOrNullValue (view value.now)) result }
+{
     if value.is_null() {
         return Ok(None);
     }
-    if let Some(text) = value.as_str() {
-        if let Some(path) = read_path(alloc, text)? {
-            return Ok(Some(path));
-        }
+    match read_path(alloc, value) {
+        Ok(path) => Ok(Some(path)),
+        Err(fault) => Err(fault),
     }
-    read_path(alloc, "$")
 }
 
-/// The path of a field: `$` where the field isn't there or is no path.
-pub(crate) fn build_path(
-    alloc: Global,
-    object: &Value,
-    field: &'static str,
-) -> Result<RefPath, OutOfMemory>
-    ensures { IfOk result (λ path. path ≡ path_at field.now (members_in (view object.now))) }
+/// The path that a value is.
+fn read_path(alloc: Global, value: &Value) -> Result<RefPath, DefFault>
+    ensures path { IfOk result (λ path. option_and_then model_path_of (as_str (view value.now)) ≡ Some path) }
+    ensures faults { IsMisfit (model.misfits model.PathValue (view value.now)) result }
 {
-    if let Some(text) = text_of(object, field) {
-        if let Some(path) = read_path(alloc, text)? {
-            return Ok(path);
-        }
+    match value.as_str() {
+        Some(text) => parse_path(alloc, text),
+        None => Err(wrong_kind(value)),
     }
-    whole_input(alloc)
+}
+
+/// The path that a text spells.
+fn parse_path(alloc: Global, text: &str) -> Result<RefPath, DefFault>
+    ensures path { IfOk result (λ path. model_path_of text.now ≡ Some path) }
+    ensures faults { IsMisfit (model.unless (is_some (model_path_of text.now)) model.BadPath) result }
+{
+    match asl_path::parse(alloc, text) {
+        Ok(path) => Ok(path),
+        Err(refusal) => match refusal {
+            PathRefusal::OutOfMemory => Err(DefFault::OutOfMemory),
+            _ => Err(DefFault::BadPath),
+        },
+    }
 }
 
 /// The path `$`.
@@ -115,19 +165,6 @@ fn whole_input(alloc: Global) -> Result<RefPath, OutOfMemory>
     match asl_path::parse(alloc, "$") {
         Ok(path) => Ok(path),
         Err(_) => Err(OutOfMemory),
-    }
-}
-
-/// The path that a text spells, where it spells one.
-pub(crate) fn read_path(alloc: Global, text: &str) -> Result<Option<RefPath>, OutOfMemory>
-    ensures { IfOk result (λ path. path ≡ path_of text.now) }
-{
-    match asl_path::parse(alloc, text) {
-        Ok(path) => Ok(Some(path)),
-        Err(refusal) => match refusal {
-            PathRefusal::OutOfMemory => Err(OutOfMemory),
-            _ => Ok(None),
-        },
     }
 }
 
@@ -158,39 +195,53 @@ pub(crate) fn read_tree(alloc: Global, value: &Value) -> Result<Option<Tree>, Ou
     }
 }
 
-/// The template of a field, where it has one. `item` says whether paths to a Map's item are allowed.
-pub(crate) fn build_template(
+/// The template of a field, where the field is there. `item` says whether paths to a Map's item are allowed.
+pub(crate) fn template_of<'a>(
     alloc: Global,
+    place: &Place<'a>,
     object: &Value,
     field: &'static str,
     item: bool,
-) -> Result<Option<Template>, OutOfMemory>
-    ensures { IfOk result (λ template. option_map templates.view template ≡ template_at item field.now (members_in (view object.now))) }
+) -> Result<Option<Template>, Complaint<'a>>
+    ensures template { IfOk result (λ template. option_map templates.view template ≡ template_at item field.now (members_in (view object.now))) }
+    ensures told { IsVerdict (told_at (place_view place.now) field.now (template_wanted item) (members_in (view object.now))) result }
 {
-    match build_tree(alloc, object, field)? {
-        Some(tree) => read_template(alloc, &tree, item),
+    match object.get(field) {
+        Some(value) => match read_template(alloc, value, item) {
+            Ok(template) => Ok(Some(template)),
+            Err(fault) => Err(place.found(field, fault)),
+        },
         None => Ok(None),
     }
 }
 
-/// The template that a tree spells, where it spells one.
-pub(crate) fn read_template(
-    alloc: Global,
-    tree: &Tree,
-    item: bool,
-) -> Result<Option<Template>, OutOfMemory>
-    ensures { IfOk result (λ template. option_map templates.view template ≡ template_of item (trees.view tree.now)) }
+/// The template that a value spells.
+fn read_template(alloc: Global, value: &Value, item: bool) -> Result<Template, DefFault>
+    ensures template { IfOk result (λ template. option_and_then (model_template_of item) (tree_of (view value.now)) ≡ Some (templates.view template)) }
+    ensures faults { IsMisfit (model.template_misfits item (tree_of (view value.now))) result }
+{
+    match read_tree(alloc, value) {
+        Ok(Some(tree)) => template_from(alloc, &tree, item),
+        Ok(None) => Err(DefFault::NotWhole),
+        Err(_) => Err(DefFault::OutOfMemory),
+    }
+}
+
+/// The template that a tree spells.
+fn template_from(alloc: Global, tree: &Tree, item: bool) -> Result<Template, DefFault>
+    ensures template { IfOk result (λ template. model_template_of item (trees.view tree.now) ≡ Some (templates.view template)) }
+    ensures faults { IsMisfit (model.unless (is_some (model_template_of item (trees.view tree.now))) model.BadTemplate) result }
 {
     match asl_template::from_tree(alloc, tree, item) {
-        Ok(template) => Ok(Some(template)),
+        Ok(template) => Ok(template),
         Err(refusal) => match refusal {
-            SpellingRefusal::OutOfMemory => Err(OutOfMemory),
+            SpellingRefusal::OutOfMemory => Err(DefFault::OutOfMemory),
             SpellingRefusal::NotObject
             | SpellingRefusal::NotText
             | SpellingRefusal::BadPath
             | SpellingRefusal::BadIntrinsic
             | SpellingRefusal::DuplicateAfterStrip
-            | SpellingRefusal::LeftOutContext => Ok(None),
+            | SpellingRefusal::LeftOutContext => Err(DefFault::BadTemplate),
         },
     }
 }

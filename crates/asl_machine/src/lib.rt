@@ -1,8 +1,8 @@
 //! State machines: a definition, as a JSON value, read as a machine (States Language, "Structure of a State Machine",
 //! "State Types").
 //!
-//! One recursion over the scopes checks each rule and adds each state whose own rules are in order; then the states get
-//! their numbers.
+//! One recursion over the scopes checks each rule, reads each path, template and list of rules where it stands, and adds
+//! each state that is in order; then the states get their numbers.
 #![tactic(auto)]
 
 mod building;
@@ -19,7 +19,7 @@ mod scope_reading;
 mod scopes;
 mod settings;
 mod state_checking;
-mod trouble_checking;
+mod trouble_reading;
 mod value_checking;
 
 pub use asl_states::{Catcher, Delay, Kind, Machine, Retrier, Scope, Settings, State};

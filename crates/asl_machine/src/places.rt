@@ -4,7 +4,7 @@ ghost use Rattle.std.specs.Prelude.{◌≡◌, List, Some, IfSome, map, option_m
 ghost use Rattle.asl_model.specs.DefinitionTable as model;
 ghost use Rattle.asl_model.specs.StandsFor.{is_told_by_name, told_field as model_told_field, complaint_at};
 ghost use Rattle.asl_machine.specs.View.{def_fault_view};
-ghost use Rattle.asl_machine.specs.Definition.{IsMisfit, IsVerdict, complaint_view, place_view, told_unless};
+ghost use Rattle.asl_machine.specs.Definition.{IsAmong, IsMisfit, IsVerdict, complaint_view, place_view, told_unless};
 
 use crate::refusals::DefFault;
 
@@ -46,6 +46,13 @@ impl<'a> Place<'a> {
             Some(own) if !is_told_by_its_name(fault) => own,
             _ => field,
         }
+    }
+
+    /// The fault that was found with the value of a field, or with its absence.
+    pub(crate) fn found(&self, field: &'a str, fault: DefFault) -> Complaint<'a>
+        ensures { (faults : List model.DefFault) → IsAmong faults (def_fault_view fault) → IsAmong (map (complaint_at (place_view self.now) field.now) faults) (complaint_view result) }
+    {
+        self.complaint(field, fault)
     }
 
     /// What was found wrong with the value of a field, told as such a fault.

@@ -52,6 +52,25 @@ pub(crate) enum Wanted {
     Catchers,
 }
 
+impl Wanted {
+    ghost use Rattle.asl_machine.specs.Reading.{is_read as model_is_read};
+    ghost use Rattle.asl_machine.specs.Rows.{wanted_view};
+
+    /// Whether such a value is read where it is wanted, which finds what is wrong with it.
+    pub(crate) fn is_read(self) -> bool
+        ensures { result ≡ model_is_read (wanted_view self) }
+    {
+        matches!(
+            self,
+            Wanted::Path
+                | Wanted::PathOrNull
+                | Wanted::Template
+                | Wanted::ItemTemplate
+                | Wanted::Rules
+        )
+    }
+}
+
 /// A field of an object.
 #[derive(Clone, Copy)]
 pub(crate) struct Row {

@@ -2,29 +2,33 @@
 // (States Language, "Structure of a State Machine", "Parallel State", "Map State"). Each rule is checked, and the states
 // are added in the order of their numbers: each is followed by those of its own scopes.
 
-ghost use Rattle.std.specs.Prelude.{◌≡◌, ◌∷◌, ◌++◌, [], Some, Err, None, OnOk, is_some, codes, map};
+ghost use Rattle.std.specs.Prelude.{◌≡◌, ◌∷◌, ◌++◌, [], Some, Err, None, IfOk, OnOk, is_some, codes, map};
 ghost use Rattle.serde_json.specs.Data.{object};
 ghost use Rattle.serde_json.specs.Find.{as_object};
 ghost use Rattle.serde_json.specs.View.{view, items_view, members_view};
 ghost use Rattle.asl_model.specs.DefinitionTable.{wrong_kind as model_wrong_kind, machine_rows, branch_rows, every_state_rows, rows_of};
-ghost use Rattle.asl_model.specs.Numbering.{standing_in, standing_among, standing_inside, standing_each};
+ghost use Rattle.asl_model.specs.Numbering.{outline, standing_in, standing_among, standing_inside, standing_each};
 ghost use Rattle.asl_model.specs.StandsFor as model;
 ghost use Rattle.asl_model.specs.StandsFor.{members_in, state_names, place_of_state, place_within, branches_complaints_under, processor_complaints_under};
 ghost use Rattle.asl_model.specs.StandsFor.{scope_of, states_in, states_under, each_state, state_of, scopes_in, each_scope, branches_under, processor_under};
 ghost use Rattle.asl_machine.specs.Built.{built_view, owner_view, state_typed, stands_at, standing_with, Adds};
+ghost use Rattle.asl_machine.specs.Reading.{AreChecked, state_told};
+ghost use Rattle.asl_states.specs.Machine.{state_view};
 ghost use Rattle.asl_machine.specs.Rows.{rows_view, type_view};
 ghost use Rattle.asl_machine.specs.Definition.{IsVerdict, place_view};
 
 use crate::building::{BuiltState, Home, add_state};
 use crate::field_checking::{check_fields, check_rows};
 use crate::fields::text_or_empty;
-use crate::kinds::type_of;
+use crate::kinds::{read_kind, type_of};
 use crate::places::{Complaint, Place};
 use crate::refusals::DefFault;
 use crate::rows::{self, Row, StateType};
 use crate::scopes::is_processor;
+use crate::settings::read_settings;
 use crate::state_checking::{check_target, check_type_rules};
 use crate::value_checking::wrong_kind;
+use asl_states::State;
 use serde_json::{Map, Value};
 use std::alloc::Global;
 
@@ -61,13 +65,13 @@ fn read_scope<'a>(
     owner: Option<(&'a str, usize)>,
     built: &mut Vec<BuiltState<'a>>,
 ) -> Result<(), Complaint<'a>>
-    ensures rules { IsVerdict (model.scope_complaints (place_view place.now) (rows_view rows.now) (view scope.now)) result }
+    ensures rules { AreChecked (rows_view rows.now) → IsVerdict (model.scope_complaints (place_view place.now) (rows_view rows.now) (view scope.now)) result }
     ensures added { OnOk result (Adds (map built_view built.old.items) (map built_view built.new.items) (standing_in (owner_view owner.entry) (scope_of (view scope.now)))) }
 {
     if !scope.is_object() {
         return Ok(());
     }
-    match check_fields(alloc, place, scope, rows) {
+    match check_fields(place, scope, rows) {
         Ok(()) => {}
         Err(complaint) => return Err(complaint),
     }
@@ -212,7 +216,7 @@ fn read_state<'a>(
     }
     match type_of(state) {
         Some(state_type) => read_typed(alloc, state, name, scope, state_type, home, built),
-        None => Err(told_without_type(alloc, state, name)),
+        None => Err(told_without_type(state, name)),
     }
 }
 
@@ -236,7 +240,7 @@ fn read_typed<'a>(
     }
 }
 
-/// Reads a state of that type without its scopes.
+/// Reads a state of that type without its scopes, and adds it.
 fn read_own<'a>(
     alloc: Global,
     state: &'a Value,
@@ -253,30 +257,55 @@ fn read_own<'a>(
         state: name,
         within: None,
     };
-    match check_fields(alloc, &place, state, state_type.rows()) {
+    match check_fields(&place, state, state_type.rows()) {
         Ok(()) => {}
         Err(complaint) => return Err(complaint),
     }
-    match check_type_rules(alloc, name, state, scope, state_type) {
-        Ok(()) => {}
+    let read = match read_outline(alloc, state, name, scope, state_type) {
+        Ok(read) => read,
         Err(complaint) => return Err(complaint),
-    }
-    match add_state(alloc, name, state, state_type, home, built) {
+    };
+    match add_state(alloc, name, read, home, built) {
         Ok(()) => Ok(()),
         Err(_) => Err(place.complaint("", DefFault::OutOfMemory)),
     }
 }
 
+/// Reads a state of that type without its scopes: its rules, and the fields that are read.
+fn read_outline<'a>(
+    alloc: Global,
+    state: &'a Value,
+    name: &'a str,
+    scope: &Value,
+    state_type: StateType,
+) -> Result<State, Complaint<'a>>
+    ensures state { IfOk result (λ read. state_view read ≡ outline (state_typed (type_view state_type) (members_in (view state.now)))) }
+    ensures told { IsVerdict (state_told (type_view state_type) name.now (state_names (members_in (view scope.now))) (members_in (view state.now))) result }
+{
+    match check_type_rules(name, state, scope, state_type) {
+        Ok(()) => {}
+        Err(complaint) => return Err(complaint),
+    }
+    let settings = match read_settings(alloc, name, state_type, state, scope) {
+        Ok(settings) => settings,
+        Err(complaint) => return Err(complaint),
+    };
+    match read_kind(alloc, name, state_type, state, scope) {
+        Ok(kind) => Ok(State { settings, kind }),
+        Err(complaint) => Err(complaint),
+    }
+}
+
 /// What is told of an object without a type as a state: only the fields of every state are looked at.
-fn told_without_type<'a>(alloc: Global, state: &Value, name: &'a str) -> Complaint<'a>
+fn told_without_type<'a>(state: &Value, name: &'a str) -> Complaint<'a>
     requires { model.type_of (members_in (view state.now)) ≡ None }
-    ensures { IsVerdict (model.rows_complaints (place_of_state name.now) every_state_rows (members_in (view state.now)) ++ model.unknown_type (place_of_state name.now) (model.text_at (codes "Type") (members_in (view state.now)))) (Err result) }
+    ensures { IsVerdict {A = Unit {0}} (model.rows_complaints (place_of_state name.now) every_state_rows (members_in (view state.now)) ++ model.unknown_type (place_of_state name.now) (model.text_at (codes "Type") (members_in (view state.now)))) (Err result) }
 {
     let place = Place {
         state: name,
         within: None,
     };
-    match check_rows(alloc, &place, state, &rows::EVERY_STATE) {
+    match check_rows(&place, state, &rows::EVERY_STATE) {
         Ok(()) => place.complaint("Type", DefFault::UnknownType),
         Err(complaint) => complaint,
     }

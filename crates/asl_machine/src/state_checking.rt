@@ -1,22 +1,23 @@
 // Checking the rules on several fields of a state (States Language, "State Types").
 
-ghost use Rattle.std.specs.Prelude.{◌≡◌, ◌++◌, ◌&&◌, not, [], map, codes, option_map, option_and_then};
+ghost use Rattle.std.specs.Prelude.{◌≡◌, ◌++◌, ◌&&◌, Some, not, [], map, codes, string_bytes, option_map, option_and_then};
 ghost use Rattle.serde_json.specs.Find.{as_bool, get_member};
-ghost use Rattle.serde_json.specs.View.{view, items_view};
+ghost use Rattle.serde_json.specs.View.{view};
 ghost use Rattle.asl_model.specs.DefinitionTable.{as_whole};
 ghost use Rattle.asl_model.specs.ShapeSpelling.{is_among};
 ghost use Rattle.asl_model.specs.StandsFor as model;
 ghost use Rattle.asl_model.specs.StandsFor.{members_in, state_names};
 ghost use Rattle.asl_machine.specs.Rows.{type_view};
-ghost use Rattle.asl_machine.specs.Definition.{IsVerdict, place_view, rules_of_type, rule_targets};
+ghost use Rattle.asl_machine.specs.Definition.{IsVerdict, place_view};
+ghost use Rattle.asl_machine.specs.Reading.{rules_of_type};
+ghost use Rattle.asl_choice.specs.View.{rule_view};
 
-use crate::fields::{elements_of, is_given, text_of};
+use crate::fields::{is_given, text_of};
 use crate::places::{Complaint, Place};
 use crate::refusals::DefFault;
 use crate::rows::StateType;
-use crate::trouble_checking::check_trouble;
+use asl_choice::Rule;
 use serde_json::Value;
-use std::alloc::Global;
 
 /// What a Wait may wait for.
 const DELAYS: [&str; 4] = ["Seconds", "SecondsPath", "Timestamp", "TimestampPath"];
@@ -24,12 +25,11 @@ const DELAYS: [&str; 4] = ["Seconds", "SecondsPath", "Timestamp", "TimestampPath
 /// A Map's processor and its older name.
 const PROCESSORS: [&str; 2] = ["ItemProcessor", "Iterator"];
 
-/// Checks the rules on several fields of a state of that type, whose fields are in order one by one. The states that it
-/// may go on to are those of `scope`.
+/// Checks the rules on several fields of a state of that type, but for its retriers and catchers. The states that it may
+/// go on to are those of `scope`.
 pub(crate) fn check_type_rules<'a>(
-    alloc: Global,
     name: &'a str,
-    state: &'a Value,
+    state: &Value,
     scope: &Value,
     state_type: StateType,
 ) -> Result<(), Complaint<'a>>
@@ -40,60 +40,51 @@ pub(crate) fn check_type_rules<'a>(
         within: None,
     };
     match state_type {
-        StateType::Pass => check_next(&place, state, scope),
-        StateType::Task => check_task(alloc, &place, state, scope),
-        StateType::Choice => check_choice(&place, state, scope),
+        StateType::Pass | StateType::Parallel => check_next(&place, state, scope),
+        StateType::Task => check_task(&place, state, scope),
+        StateType::Choice => check_target(&place, "Default", state, "Default", scope),
         StateType::Wait => check_wait(&place, state, scope),
         StateType::Succeed | StateType::Fail => Ok(()),
-        StateType::Parallel => check_parallel(alloc, &place, state, scope),
-        StateType::Map => check_map(alloc, &place, state, scope),
+        StateType::Map => check_map(&place, state, scope),
     }
 }
 
 /// Checks the rules on several fields of a Task.
-fn check_task<'a>(
-    alloc: Global,
-    place: &Place<'a>,
-    state: &'a Value,
-    scope: &Value,
-) -> Result<(), Complaint<'a>>
-    ensures { IsVerdict (model.next_complaints (place_view place.now) (state_names (members_in (view scope.now))) (members_in (view state.now)) ++ (model.heartbeat_complaints (place_view place.now) (members_in (view state.now)) ++ model.trouble_complaints place.now.state.now (state_names (members_in (view scope.now))) (members_in (view state.now)))) result }
+fn check_task<'a>(place: &Place<'a>, state: &Value, scope: &Value) -> Result<(), Complaint<'a>>
+    ensures { IsVerdict (model.next_complaints (place_view place.now) (state_names (members_in (view scope.now))) (members_in (view state.now)) ++ model.heartbeat_complaints (place_view place.now) (members_in (view state.now))) result }
 {
     match check_next(place, state, scope) {
-        Ok(()) => {}
-        Err(complaint) => return Err(complaint),
-    }
-    match check_heartbeat(place, state) {
-        Ok(()) => check_trouble(alloc, place.state, state, scope),
+        Ok(()) => check_heartbeat(place, state),
         Err(complaint) => Err(complaint),
     }
 }
 
-/// Checks where a Choice goes on to, by its rules and without one.
-fn check_choice<'a>(place: &Place<'a>, state: &Value, scope: &Value) -> Result<(), Complaint<'a>>
-    ensures { IsVerdict (model.target_complaints (place_view place.now) (state_names (members_in (view scope.now))) (codes "Default") (model.text_at (codes "Default") (members_in (view state.now))) ++ rule_targets (place_view place.now) (state_names (members_in (view scope.now))) (model.items_at (codes "Choices") (members_in (view state.now)))) result }
-{
-    match check_target(place, "Default", state, "Default", scope) {
-        Ok(()) => check_rule_targets(place, elements_of(state, "Choices"), scope),
-        Err(complaint) => Err(complaint),
-    }
-}
-
-/// Checks that each rule goes on to a state of the scope.
-fn check_rule_targets<'a>(
+/// Checks that each rule of a Choice goes on to a state of the scope.
+pub(crate) fn check_rule_targets<'a>(
     place: &Place<'a>,
-    rules: &[Value],
+    rules: &[Rule],
     scope: &Value,
 ) -> Result<(), Complaint<'a>>
-    ensures { IsVerdict (rule_targets (place_view place.now) (state_names (members_in (view scope.now))) (items_view rules.now)) result }
+    ensures { IsVerdict (model.rules_complaints (place_view place.now) (state_names (members_in (view scope.now))) (map rule_view rules.now)) result }
 {
     for rule in rules {
-        match check_target(place, "Choices", rule, "Next", scope) {
+        match check_rule_target(place, rule, scope) {
             Ok(()) => {}
             Err(complaint) => return Err(complaint),
         }
     }
     Ok(())
+}
+
+/// Checks that a rule of a Choice goes on to a state of the scope.
+fn check_rule_target<'a>(place: &Place<'a>, rule: &Rule, scope: &Value) -> Result<(), Complaint<'a>>
+    ensures { IsVerdict (model.target_complaints (place_view place.now) (state_names (members_in (view scope.now))) (codes "Choices") (Some (string_bytes rule.now.next))) result }
+{
+    place.complain_unless(
+        has_state(scope, &rule.next),
+        "Choices",
+        DefFault::NoSuchState,
+    )
 }
 
 /// Checks the rules on several fields of a Wait.
@@ -106,40 +97,16 @@ fn check_wait<'a>(place: &Place<'a>, state: &Value, scope: &Value) -> Result<(),
     }
 }
 
-/// Checks the rules on several fields of a Parallel.
-fn check_parallel<'a>(
-    alloc: Global,
-    place: &Place<'a>,
-    state: &'a Value,
-    scope: &Value,
-) -> Result<(), Complaint<'a>>
-    ensures { IsVerdict (model.next_complaints (place_view place.now) (state_names (members_in (view scope.now))) (members_in (view state.now)) ++ model.trouble_complaints place.now.state.now (state_names (members_in (view scope.now))) (members_in (view state.now))) result }
-{
-    match check_next(place, state, scope) {
-        Ok(()) => check_trouble(alloc, place.state, state, scope),
-        Err(complaint) => Err(complaint),
-    }
-}
-
 /// Checks the rules on several fields of a Map.
-fn check_map<'a>(
-    alloc: Global,
-    place: &Place<'a>,
-    state: &'a Value,
-    scope: &Value,
-) -> Result<(), Complaint<'a>>
-    ensures { IsVerdict (model.next_complaints (place_view place.now) (state_names (members_in (view scope.now))) (members_in (view state.now)) ++ (model.processor_complaints (place_view place.now) (members_in (view state.now)) ++ (model.selector_complaints (place_view place.now) (members_in (view state.now)) ++ model.trouble_complaints place.now.state.now (state_names (members_in (view scope.now))) (members_in (view state.now))))) result }
+fn check_map<'a>(place: &Place<'a>, state: &Value, scope: &Value) -> Result<(), Complaint<'a>>
+    ensures { IsVerdict (model.next_complaints (place_view place.now) (state_names (members_in (view scope.now))) (members_in (view state.now)) ++ (model.processor_complaints (place_view place.now) (members_in (view state.now)) ++ model.selector_complaints (place_view place.now) (members_in (view state.now)))) result }
 {
     match check_next(place, state, scope) {
         Ok(()) => {}
         Err(complaint) => return Err(complaint),
     }
     match check_one_of(place, state, "ItemProcessor", &PROCESSORS) {
-        Ok(()) => {}
-        Err(complaint) => return Err(complaint),
-    }
-    match check_selector(place, state) {
-        Ok(()) => check_trouble(alloc, place.state, state, scope),
+        Ok(()) => check_selector(place, state),
         Err(complaint) => Err(complaint),
     }
 }

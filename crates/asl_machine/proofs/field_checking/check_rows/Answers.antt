@@ -1,9 +1,9 @@
 use Rattle.std.proofs.Common.{[], false, get_or}
 use Rattle.serde_json.specs.Find.{get}
 use Rattle.serde_json.specs.View.{view}
-use Rattle.asl_model.specs.StandsFor.{row_faults}
 use Rattle.asl_machine.specs.declared.rows.Wanted.TheVariants.{Text}
 use Rattle.asl_machine.specs.declared.rows.Row.{Row}
+use Rattle.asl_machine.specs.Reading.{checked_faults}
 use Rattle.asl_machine.specs.Rows.{row_view}
 use Rattle.asl_machine.specs.Definition.{place_view}
 use Rattle.asl_machine.proofs.Checks.{left_after, told_of_left}
@@ -22,7 +22,7 @@ returns-in-Err c =
     let i = c.loop-row.row-index in
     let row = get_or rows i no_row in
     let v = view c.args.object.now in
-    let faults = row_faults (row_view row) (get row.name.now v) in
+    let faults = checked_faults (row_view row) (get row.name.now v) in
     told_of_left _ (row_complaints place row v) (rows_behind place rows i v) c.in-Err.complaint (rows_parts place rows i no_row v _ c.loop-row-test.true c.loop-row.invariant) (c.in-Err.ensures faults c.check_field.ensures)
 
 pub loop-row-preserved : goal.loop-row-preserved
@@ -33,5 +33,5 @@ loop-row-preserved c =
     let i = c.loop-row.row-index in
     let row = get_or rows i no_row in
     let v = view c.args.object.now in
-    let faults = row_faults (row_view row) (get row.name.now v) in
+    let faults = checked_faults (row_view row) (get row.name.now v) in
     left_after _ (row_complaints place row v) (rows_behind place rows i v) (rows_parts place rows i no_row v _ c.loop-row-test.true c.loop-row.invariant) (c.in-Ok.ensures faults c.check_field.ensures)

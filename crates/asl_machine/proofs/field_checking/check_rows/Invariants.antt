@@ -1,10 +1,11 @@
 use Rattle.std.proofs.Common.{◌≡◌, drop}
 use Rattle.serde_json.specs.View.{view}
-use Rattle.asl_model.specs.StandsFor.{members_in, rows_complaints}
+use Rattle.asl_model.specs.StandsFor.{members_in}
+use Rattle.asl_machine.specs.Reading.{checked_complaints}
 use Rattle.asl_machine.specs.Rows.{rows_view}
 use Rattle.asl_machine.specs.Definition.{place_view}
 use Rattle.asl_machine.proofs.field_checking.check_rows.Given as goal
 
 abbrev pub invariant-loop-row : goal.invariant-loop-row
 invariant-loop-row l =
-    rows_complaints (place_view l.place) (rows_view l.rows) (members_in (view l.object)) ≡ rows_complaints (place_view l.place) (rows_view (drop l.row-index l.rows)) (members_in (view l.object))
+    checked_complaints (place_view l.place) (rows_view l.rows) (members_in (view l.object)) ≡ checked_complaints (place_view l.place) (rows_view (drop l.row-index l.rows)) (members_in (view l.object))

@@ -1,10 +1,10 @@
-use Rattle.std.proofs.Common.{◌≡◌, ℕ, List, Option, ◌∷◌, ◌+◌, true, false, is_some, Some, None, OnOk, Ok, Err, codes, map, drop, arith, subst, refl, sym, ap, ◌∙◌, append_assoc, rules}
+use Rattle.std.proofs.Common.{◌≡◌, ◌++◌, ℕ, List, Option, ◌∷◌, ◌+◌, true, false, is_some, Some, None, OnOk, Ok, Err, codes, map, drop, arith, subst, refl, sym, ap, ◌∙◌, append_assoc, rules}
 use Rattle.std.proofs.lemmas.Grind.{common_steps}
 use Rattle.serde_json.proofs.Views.{view-Array, view-Object}
 use Rattle.serde_json.specs.Find.{as_object}
 use Rattle.serde_json.specs.View.{view, items_view, members_view}
 use Rattle.asl_model.specs.Numbering.{standing_among, standing_in}
-use Rattle.asl_model.specs.StandsFor.{members_in, state_names, states_under, processor_under, place_of_state, fields_complaints, type_complaints, nested_complaints, states_complaints, branches_complaints, each_branch_complaints, branches_complaints_under, processor_complaints_under}
+use Rattle.asl_model.specs.StandsFor.{members_in, state_names, states_under, processor_under, place_of_state, fields_complaints, foreign_complaints, type_complaints, nested_complaints, states_complaints, branches_complaints, each_branch_complaints, branches_complaints_under, processor_complaints_under}
 use Rattle.asl_model.specs.DefinitionTable.{rows_of}
 use Rattle.asl_machine.specs.Built.{built_view, owner_view, standing_with, Adds}
 use Rattle.asl_machine.specs.Rows.{rows_view, type_view}
@@ -13,7 +13,7 @@ use Rattle.asl_machine.proofs.Added.{adds_none, added_behind}
 use Rattle.asl_machine.proofs.Checks.{told_first, told_next, told_of_left, left_after}
 use Rattle.asl_machine.proofs.Nested.{Member, standing_of, standing_of_none, standing_found, standing_each_found, standing_processor, each_more, members_more}
 use Rattle.asl_machine.proofs.Nested as nested
-use Rattle.asl_machine.proofs.Nesting.{scope_object, state_object, states_found, branches_found, processor_found, processor_left, states_parts, branches_parts}
+use Rattle.asl_machine.proofs.Nesting.{scope_none, scope_object, state_object, states_found, branches_found, processor_found, processor_left, states_parts, branches_parts}
 use Rattle.asl_machine.proofs.Outlines.{state_with_type}
 use Rattle.asl_machine.proofs.scope_reading.+read.Goals as goal
 
@@ -23,18 +23,40 @@ read_scope-returns-then-not-is_object-clause-added t c =
     let none : is_some (as_object v) ≡ false = search rules in
     subst (λ ss. Adds (map built_view c.args.built.now.items) (map built_view c.args.built.now.items) ss) (sym (standing_of_none (owner_view c.args.owner) v none)) (adds_none (map built_view c.args.built.now.items))
 
-pub read_scope-returns-in-Err-clause-rules : goal.read_scope-returns-in-Err-clause-rules
-read_scope-returns-in-Err-clause-rules t c =
+pub read_scope-returns-then-not-is_object-clause-rules : goal.read_scope-returns-then-not-is_object-clause-rules
+read_scope-returns-then-not-is_object-clause-rules t c checked =
     let v = view c.args.scope.now in
+    let none : is_some (as_object v) ≡ false = search rules in
+    record { holds = scope_none (place_view c.args.place.now) (rows_view c.args.rows.now) v none }
+
+pub read_scope-returns-in-Err-clause-rules : goal.read_scope-returns-in-Err-clause-rules
+read_scope-returns-in-Err-clause-rules t c checked =
+    let v = view c.args.scope.now in
+    let place = place_view c.args.place.now in
+    let rows = rows_view c.args.rows.now in
     let there : is_some (as_object v) ≡ true = search rules in
-    subst (λ xs. IsVerdict xs (Err c.in-Err.complaint)) (scope_object (place_view c.args.place.now) (rows_view c.args.rows.now) v there) (told_first _ _ c.in-Err.complaint c.in-Err.ensures)
+    let fields = subst (λ xs. IsVerdict {A = Unit {0}} (xs ++ foreign_complaints place rows (members_in v)) (Err c.in-Err.complaint)) (checked.same place (members_in v)) c.in-Err.ensures in
+    subst (λ xs. IsVerdict {A = Unit {0}} xs (Err c.in-Err.complaint)) (scope_object place rows v there) (told_first _ _ c.in-Err.complaint fields)
 
 pub read_scope-returns-in-Ok-check_target-clause-rules : goal.read_scope-returns-in-Ok-check_target-clause-rules
-read_scope-returns-in-Ok-check_target-clause-rules t c =
+read_scope-returns-in-Ok-check_target-clause-rules t c checked =
     let v = view c.args.scope.now in
+    let place = place_view c.args.place.now in
+    let rows = rows_view c.args.rows.now in
     let there : is_some (as_object v) ≡ true = search rules in
     let last = c.read_states_in.result in
-    subst (λ xs. IsVerdict xs last) (scope_object (place_view c.args.place.now) (rows_view c.args.rows.now) v there) (told_next _ _ last c.in-Ok.ensures (told_next _ _ last c.in-Ok-check_target.ensures c.read_states_in.ensures.rules))
+    let fields = subst (λ xs. IsVerdict (xs ++ foreign_complaints place rows (members_in v)) (Ok c.in-Ok.field-0)) (checked.same place (members_in v)) c.in-Ok.ensures in
+    subst (λ xs. IsVerdict xs last) (scope_object place rows v there) (told_next _ _ last fields (told_next _ _ last c.in-Ok-check_target.ensures c.read_states_in.ensures.rules))
+
+pub read_scope-returns-in-Err-check_target-clause-rules : goal.read_scope-returns-in-Err-check_target-clause-rules
+read_scope-returns-in-Err-check_target-clause-rules t c checked =
+    let v = view c.args.scope.now in
+    let place = place_view c.args.place.now in
+    let rows = rows_view c.args.rows.now in
+    let there : is_some (as_object v) ≡ true = search rules in
+    let complaint = c.in-Err-check_target.complaint in
+    let fields = subst (λ xs. IsVerdict (xs ++ foreign_complaints place rows (members_in v)) (Ok c.in-Ok.field-0)) (checked.same place (members_in v)) c.in-Ok.ensures in
+    subst (λ xs. IsVerdict {A = Unit {0}} xs (Err complaint)) (scope_object place rows v there) (told_next _ _ _ fields (told_first _ _ complaint c.in-Err-check_target.ensures))
 
 pub read_scope-returns-in-Ok-check_target-clause-added : goal.read_scope-returns-in-Ok-check_target-clause-added
 read_scope-returns-in-Ok-check_target-clause-added t c =
@@ -42,13 +64,6 @@ read_scope-returns-in-Ok-check_target-clause-added t c =
     let owner = owner_view c.args.owner in
     let same = ap (λ start. standing_among start owner (states_under (codes "States") (members_in v))) c.text_or_empty.ensures ∙ sym (standing_of owner v) in
     subst (λ ss. OnOk c.read_states_in.result (Adds (map built_view c.args.built.now.items) (map built_view c.read_states_in.new.built.items) ss)) same c.read_states_in.ensures.added
-
-pub read_scope-returns-in-Err-check_target-clause-rules : goal.read_scope-returns-in-Err-check_target-clause-rules
-read_scope-returns-in-Err-check_target-clause-rules t c =
-    let v = view c.args.scope.now in
-    let there : is_some (as_object v) ≡ true = search rules in
-    let complaint = c.in-Err-check_target.complaint in
-    subst (λ xs. IsVerdict xs (Err complaint)) (scope_object (place_view c.args.place.now) (rows_view c.args.rows.now) v there) (told_next _ _ _ c.in-Ok.ensures (told_first _ _ complaint c.in-Err-check_target.ensures))
 
 pub read_states_in-returns-in-Some-clause-rules : goal.read_states_in-returns-in-Some-clause-rules
 read_states_in-returns-in-Some-clause-rules t c =
@@ -63,7 +78,7 @@ read_states_in-returns-in-Some-clause-added t c =
 pub read_states_in-returns-in-None-clause-rules : goal.read_states_in-returns-in-None-clause-rules
 read_states_in-returns-in-None-clause-rules t c =
     let names = state_names (members_in (view c.args.scope.now)) in
-    subst (λ xs. IsVerdict xs (Ok tt)) (states_found names c.args.scope.now c.in-Object.members None c.in-Object.is c.in-None.ensures.value) (record { holds = refl })
+    subst (λ xs. IsVerdict {A = Unit {0}} xs (Ok tt)) (states_found names c.args.scope.now c.in-Object.members None c.in-Object.is c.in-None.ensures.value) (record { holds = refl })
 
 pub read_states_in-returns-in-None-clause-added : goal.read_states_in-returns-in-None-clause-added
 read_states_in-returns-in-None-clause-added t c =
@@ -81,7 +96,7 @@ read_branches_in-returns-in-Some-clause-added t c =
 
 pub read_branches_in-returns-in-None-clause-rules : goal.read_branches_in-returns-in-None-clause-rules
 read_branches_in-returns-in-None-clause-rules t c =
-    subst (λ xs. IsVerdict xs (Ok tt)) (branches_found c.args.name.now c.args.state.now c.in-Object.members None c.in-Object.is c.in-None.ensures.value) (record { holds = refl })
+    subst (λ xs. IsVerdict {A = Unit {0}} xs (Ok tt)) (branches_found c.args.name.now c.args.state.now c.in-Object.members None c.in-Object.is c.in-None.ensures.value) (record { holds = refl })
 
 pub read_branches_in-returns-in-None-clause-added : goal.read_branches_in-returns-in-None-clause-added
 read_branches_in-returns-in-None-clause-added t c =
@@ -116,7 +131,7 @@ pub read_state-returns-in-None-clause-rules : goal.read_state-returns-in-None-cl
 read_state-returns-in-None-clause-rules t c =
     let v = view c.args.state.now in
     let there : is_some (as_object v) ≡ true = search rules in
-    subst (λ xs. IsVerdict xs (Err c.told_without_type.result)) (state_object (state_names (members_in (view c.args.scope.now))) c.args.name.now v None there c.in-None.ensures) c.told_without_type.ensures
+    subst (λ xs. IsVerdict {A = Unit {0}} xs (Err c.told_without_type.result)) (state_object (state_names (members_in (view c.args.scope.now))) c.args.name.now v None there c.in-None.ensures) c.told_without_type.ensures
 
 pub read_each_branch-returns-in-Err-clause-rules : goal.read_each_branch-returns-in-Err-clause-rules
 read_each_branch-returns-in-Err-clause-rules t c =
@@ -140,13 +155,13 @@ pub read_branch-returns-clause-rules : goal.read_branch-returns-clause-rules
 read_branch-returns-clause-rules t c =
     let v = view c.args.branch.now in
     let there : is_some (as_object v) ≡ true = search rules in
-    told_next _ _ c.read_scope.result (record { holds = rw there refl }) c.read_scope.ensures.rules
+    told_next {A = Unit {0}} _ _ c.read_scope.result {read = tt} (record { holds = rw there refl }) (c.read_scope.ensures.rules (record { same = λ place ms. refl }))
 
 pub read_first_processor-returns-then-is_processor-clause-rules : goal.read_first_processor-returns-then-is_processor-clause-rules
 read_first_processor-returns-then-is_processor-clause-rules t c =
     let e : Member = (c.in-Some.field.now, c.in-Some.value.now) in
     let wrong = processor_complaints_under c.args.name.now (members_view c.args.members.now.entries) in
-    subst (λ xs. IsVerdict xs c.read_scope.result) (processor_found c.args.name.now c.deref-then-is_processor.result.now wrong e _ c.next.new.self c.loop-field.invariant.rules c.in-Some.ensures.steps (search rules) (search rules)) c.read_scope.ensures.rules
+    subst (λ xs. IsVerdict xs c.read_scope.result) (processor_found c.args.name.now c.deref-then-is_processor.result.now wrong e _ c.next.new.self c.loop-field.invariant.rules c.in-Some.ensures.steps (search rules) (search rules)) (c.read_scope.ensures.rules (record { same = λ place ms. refl }))
 
 pub read_first_processor-loop-field-preserved : goal.read_first_processor-loop-field-preserved
 read_first_processor-loop-field-preserved t c =
@@ -177,7 +192,7 @@ read_typed-returns-in-Err-clause-rules t c =
     let nested = nested_complaints type (branches_complaints_under c.args.name.now ms) (processor_complaints_under c.args.name.now ms) in
     let fields = fields_complaints (place_of_state c.args.name.now) (rows_of type) ms in
     let several = type_complaints type c.args.name.now (state_names (members_in (view c.args.scope.now))) ms in
-    subst (λ xs. IsVerdict xs (Err c.in-Err.complaint)) (append_assoc fields several nested) (told_first _ _ c.in-Err.complaint c.in-Err.ensures.rules)
+    subst (λ xs. IsVerdict {A = Unit {0}} xs (Err c.in-Err.complaint)) (append_assoc fields several nested) (told_first _ _ c.in-Err.complaint c.in-Err.ensures.rules)
 
 pub read_named_state-returns-in-Ok-clause-rules : goal.read_named_state-returns-in-Ok-clause-rules
 read_named_state-returns-in-Ok-clause-rules t c = told_next _ _ c.read_state.result c.in-Ok.ensures c.read_state.ensures.rules

@@ -1,4 +1,4 @@
-use Rattle.std.proofs.Common.{[], Some, Ok, subst}
+use Rattle.std.proofs.Common.{[], refl, Some, Ok, subst}
 use Rattle.asl_model.specs.DefinitionTable.{NotObject}
 use Rattle.asl_model.specs.StandsFor.{place_of_state}
 use Rattle.asl_machine.specs.Definition.{IsVerdict, told_unless}
@@ -8,4 +8,4 @@ use Rattle.asl_machine.proofs.scope_reading.read_states.Goals as goal
 pub returns-in-Ok-clause-rules : goal.returns-in-Ok-clause-rules
 returns-in-Ok-clause-rules c =
     let none = subst (λ b. IsVerdict (told_unless b (place_of_state []) [] (Some NotObject)) (Ok c.in-Ok.field-0)) c.is_object.ensures c.in-Ok.ensures in
-    told_next _ _ c.read_scope.result none c.read_scope.ensures.rules
+    told_next _ _ c.read_scope.result none (c.read_scope.ensures.rules (record { same = λ place ms. refl }))
