@@ -1,14 +1,11 @@
 -- What is told of values one after another.
-use Rattle.std.proofs.Common.{◌≡◌, ℕ, cond, ◌+◌, ◌<◌, List, [], ◌∷◌, length, drop, drop-cons, get_or, add-one, map, ◌++◌, codes, string_bytes, Option, Some, None, is_some, Ok, Err, refl, arith, sym, ap, ◌∙◌}
-use Rattle.std.specs.List.{count_by, filter_map, cons_option}
-use Rattle.std.proofs.lemmas.List.Recursion.{is_count_by}
+use Rattle.std.proofs.Common.{◌≡◌, ℕ, ◌+◌, ◌<◌, List, [], ◌∷◌, length, drop, drop-cons, get_or, add-one, map, ◌++◌, codes, string_bytes, Some, Ok, Err, refl, arith, sym, ap, ◌∙◌}
 use Rattle.serde_json.specs.Data as json
 use Rattle.serde_json.specs.Data.{Data, Items}
-use Rattle.serde_json.specs.Find.{as_str}
 use Rattle.serde_json.specs.View.{view, items_view}
 use Rattle.serde_json.specs.declared.value.Value.{Value}
 use Rattle.asl_model.specs.DefinitionTable as model
-use Rattle.asl_model.specs.StandsFor.{Complaint, Place, listed, target_complaints, rules_complaints}
+use Rattle.asl_model.specs.StandsFor.{Complaint, Place, target_complaints, rules_complaints}
 use Rattle.asl_choice.specs.View.{rule_view}
 use Rattle.asl_choice.specs.declared.rule.Rule.{Rule}
 use Rattle.asl_machine.specs.declared.refusals.DefFault.{DefFault}
@@ -31,14 +28,6 @@ pub each_told : {A B : Type 0} (of : Data → List model.DefFault) (vs : List Va
     → IsMisfit {A = B} (model.wrong_with_each of (items_view vs)) (Err fault)
 each_told of vs i x fault h e all told =
     told_of_left (model.wrong_with_each of (items_view vs)) (of (view x)) (model.wrong_with_each of (items_view (drop (i + 1) vs))) fault (items_parts (model.wrong_with_each of) (model.wrong_with_each of (items_view vs)) vs i x h e all) told
-
-one_counted : {A : Type 0} (o : Option A) (rest : List A) → length (cons_option o rest) ≡ cond (is_some o) (1 + length rest) (length rest)
-one_counted None rest = refl
-one_counted (Some a) rest = omega arith
-
--- those that are texts are as many as the texts
-pub texts_counted : (vs : List Value) → count_by (λ v. is_some (as_str (view v))) vs ≡ length (filter_map as_str (listed (items_view vs)))
-texts_counted vs = sym (is_count_by (λ vs. length (filter_map as_str (listed (items_view vs)))) (λ v. is_some (as_str (view v))) refl (λ v vs. one_counted (as_str (view v)) (filter_map as_str (listed (items_view vs)))) vs)
 
 -- what is left of the rules of a Choice is the first and those behind it
 pub rules_parts : (place : Place) (names : List (List ℕ)) (wrong : List Complaint) (rules : List Rule) (i : ℕ) (x : Rule) → i < length rules → x ≡ get_or rules i x → wrong ≡ rules_complaints place names (map rule_view (drop i rules))

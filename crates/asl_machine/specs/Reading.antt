@@ -1,11 +1,16 @@
 -- What is wrong with the fields of an object that are read, with the others, which are only checked, and with a state
 -- apart from these. No public clause cites this module.
-use Rattle.std.specs.Prelude.{◌≡◌, ℕ, List, [], ◌∷◌, ◌++◌, map, Bool, true, false, if◌then◌else◌, Option, Some, None, option_map, codes}
+use Rattle.std.specs.Prelude.{◌≡◌, ℕ, List, [], ◌∷◌, ◌++◌, map, length, Bool, true, false, not, ◌&&◌, ◌||◌, ◌==◌, if◌then◌else◌, Option, Some, None, option_map, codes}
 use Rattle.std.specs.Option.{unwrap_or}
 use Rattle.serde_json.specs.Data.{Data, Members}
 use Rattle.serde_json.specs.Find.{get_member, as_object}
 use Rattle.asl_model.specs.DefinitionTable as model
-use Rattle.asl_model.specs.StandsFor.{Complaint, Place, place_of_state, complaint_at, row_faults, rows_complaints, foreign_complaints, text_at, rules_of, next_complaints, target_complaints, heartbeat_complaints, wait_complaints, processor_complaints, selector_complaints, rules_complaints, trouble_complaints}
+use Rattle.asl_model.specs.ShapeSpelling.{is_among}
+use Rattle.asl_model.specs.StandsFor.{Complaint, Place, place_of_state, complaint_at, row_faults}
+use Rattle.asl_model.specs.StandsFor.{rows_complaints, foreign_complaints, text_at, rules_of}
+use Rattle.asl_model.specs.StandsFor.{next_complaints, target_complaints, heartbeat_complaints}
+use Rattle.asl_model.specs.StandsFor.{wait_complaints, processor_complaints, selector_complaints}
+use Rattle.asl_model.specs.StandsFor.{rules_complaints, trouble_complaints}
 
 -- a value of that kind is read where it stands: a path, a template, a list of rules
 abbrev pub is_read : model.Wanted → Bool
@@ -63,6 +68,10 @@ abbrev pub element_checked : Place → List ℕ → List model.Row → Data → 
 element_checked place field rows v =
     unwrap_or (option_map (λ ms. checked_complaints place rows ms ++ foreign_complaints place rows ms) (as_object v))
     (complaint_at place field (model.wrong_kind v) ∷ [])
+
+-- among error names `States.ALL` stands alone, and in the last element
+abbrev pub are_proper : List (List ℕ) → Bool → Bool
+are_proper names is_last = not (is_among (codes "States.ALL") names) || (is_last && length names == 1)
 
 -- each of the rows is checked
 pub record AreChecked (rows : List model.Row) : Type 0 where
@@ -149,12 +158,15 @@ rule_targets model.FailState state names ms = []
 rule_targets model.ParallelState state names ms = []
 rule_targets model.MapState state names ms = []
 
--- all that is told of a state whose other fields are in order
+-- ---- a state whose other fields are in order
+
+-- what is told of what states of several types have
 abbrev pub settings_told : model.StateType → List ℕ → List (List ℕ) → Members → List Complaint
 settings_told t state names ms =
     trouble_complaints state names ms
     ++ (processing_told (place_of_state state) ms ++ parameters_told t (place_of_state state) ms)
 
+-- all that is told of the state
 abbrev pub state_told : model.StateType → List ℕ → List (List ℕ) → Members → List Complaint
 state_told t state names ms =
     rules_of_type t state names ms

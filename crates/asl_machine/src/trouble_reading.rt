@@ -1,17 +1,17 @@
 // Reading retriers and catchers (States Language, "Errors").
 
-ghost use Rattle.std.specs.Prelude.{◌≡◌, ◌++◌, IfOk, codes, length, map, string_bytes};
+ghost use Rattle.std.specs.Prelude.{◌≡◌, ◌++◌, IfOk, codes, map, string_bytes};
 ghost use Rattle.std.specs.List.{filter_map};
 ghost use Rattle.serde_json.specs.Find.{as_str};
 ghost use Rattle.serde_json.specs.View.{view, items_view};
 ghost use Rattle.asl_model.specs.DefinitionTable.{retrier_rows, catcher_rows, BadErrorEquals};
 ghost use Rattle.asl_model.specs.ShapeSpelling.{is_among};
 ghost use Rattle.asl_model.specs.StandsFor as model;
-ghost use Rattle.asl_model.specs.StandsFor.{members_in, state_names, place_within, listed, items_at, error_names, retrier_of, catcher_of, path_or_null_at};
+ghost use Rattle.asl_model.specs.StandsFor.{members_in, state_names, place_within, listed, items_at, error_names, retrier_of, catcher_of};
 ghost use Rattle.asl_states.specs.Machine.{retrier_view, catcher_view};
 ghost use Rattle.asl_machine.specs.Rows.{rows_view};
 ghost use Rattle.asl_machine.specs.Definition.{IsVerdict, place_view};
-ghost use Rattle.asl_machine.specs.Reading.{element_checked};
+ghost use Rattle.asl_machine.specs.Reading.{are_proper as model_are_proper, element_checked};
 
 use crate::field_checking::check_fields;
 use crate::fields::{build_text_or_empty, elements_of, natural_of, path_or_null_of};
@@ -20,7 +20,6 @@ use crate::refusals::DefFault;
 use crate::rows::{self, Row};
 use crate::state_checking::check_target;
 use crate::value_checking::wrong_kind;
-use asl_path::RefPath;
 use asl_states::{Catcher, Retrier};
 use asl_tree::OutOfMemory;
 use serde_json::Value;
@@ -126,24 +125,13 @@ fn read_retrier<'a>(
         Ok(()) => {}
         Err(complaint) => return Err(complaint),
     }
-    match check_error_names(place, "Retry", element, is_last) {
-        Ok(()) => {}
-        Err(complaint) => return Err(complaint),
+    match read_error_names(alloc, place, "Retry", element, is_last) {
+        Ok(error_equals) => Ok(Retrier {
+            error_equals,
+            max_attempts: natural_of(element, "MaxAttempts", DEFAULT_ATTEMPTS),
+        }),
+        Err(complaint) => Err(complaint),
     }
-    match build_retrier(alloc, element) {
-        Ok(retrier) => Ok(retrier),
-        Err(_) => Err(place.complaint("Retry", DefFault::OutOfMemory)),
-    }
-}
-
-/// The retrier that an element of `Retry` stands for.
-fn build_retrier(alloc: Global, element: &Value) -> Result<Retrier, OutOfMemory>
-    ensures { IfOk result (λ r. retrier_view r ≡ retrier_of (view element.now)) }
-{
-    Ok(Retrier {
-        error_equals: build_error_names(alloc, element)?,
-        max_attempts: natural_of(element, "MaxAttempts", DEFAULT_ATTEMPTS),
-    })
 }
 
 /// The catchers that the elements of `Catch` stand for.
@@ -180,53 +168,47 @@ fn read_catcher<'a>(
     ensures catcher { IfOk result (λ c. catcher_view c ≡ catcher_of (view element.now)) }
     ensures told { IsVerdict (model.element_complaints (place_view place.now) (codes "Catch") catcher_rows (view element.now) ++ (model.complain_unless (model.has_proper_names (members_in (view element.now)) is_last) (place_view place.now) (codes "Catch") BadErrorEquals ++ model.target_complaints (place_view place.now) (state_names (members_in (view scope.now))) (codes "Catch") (model.text_at (codes "Next") (members_in (view element.now))))) result }
 {
-    match check_catcher(place, element, is_last, scope) {
-        Ok(()) => {}
+    let error_equals = match read_caught(alloc, place, element, is_last, scope) {
+        Ok(names) => names,
         Err(complaint) => return Err(complaint),
-    }
+    };
     let result_path = match path_or_null_of(alloc, place, element, "ResultPath") {
         Ok(path) => path,
         Err(complaint) => return Err(complaint),
     };
-    match build_catcher(alloc, element, result_path) {
-        Ok(catcher) => Ok(catcher),
+    match build_text_or_empty(alloc, element, "Next") {
+        Ok(next) => Ok(Catcher {
+            error_equals,
+            result_path,
+            next,
+        }),
         Err(_) => Err(place.complaint("Catch", DefFault::OutOfMemory)),
     }
 }
 
-/// Checks an element of `Catch`, but for its path.
-fn check_catcher<'a>(
+/// The error names of an element of `Catch`, which is in order but for its path.
+fn read_caught<'a>(
+    alloc: Global,
     place: &Place<'a>,
     element: &'a Value,
     is_last: bool,
     scope: &Value,
-) -> Result<(), Complaint<'a>>
-    ensures { IsVerdict (element_checked (place_view place.now) (codes "Catch") catcher_rows (view element.now) ++ (model.complain_unless (model.has_proper_names (members_in (view element.now)) is_last) (place_view place.now) (codes "Catch") BadErrorEquals ++ model.target_complaints (place_view place.now) (state_names (members_in (view scope.now))) (codes "Catch") (model.text_at (codes "Next") (members_in (view element.now))))) result }
+) -> Result<Vec<String>, Complaint<'a>>
+    ensures names { IfOk result (λ names. map string_bytes names.items ≡ error_names (members_in (view element.now))) }
+    ensures told { IsVerdict (element_checked (place_view place.now) (codes "Catch") catcher_rows (view element.now) ++ (model.complain_unless (model.has_proper_names (members_in (view element.now)) is_last) (place_view place.now) (codes "Catch") BadErrorEquals ++ model.target_complaints (place_view place.now) (state_names (members_in (view scope.now))) (codes "Catch") (model.text_at (codes "Next") (members_in (view element.now))))) result }
 {
     match check_element(place, "Catch", element, &rows::CATCHER) {
         Ok(()) => {}
         Err(complaint) => return Err(complaint),
     }
-    match check_error_names(place, "Catch", element, is_last) {
-        Ok(()) => check_target(place, "Catch", element, "Next", scope),
+    let names = match read_error_names(alloc, place, "Catch", element, is_last) {
+        Ok(names) => names,
+        Err(complaint) => return Err(complaint),
+    };
+    match check_target(place, "Catch", element, "Next", scope) {
+        Ok(()) => Ok(names),
         Err(complaint) => Err(complaint),
     }
-}
-
-/// The catcher that an element of `Catch` stands for, with its path.
-fn build_catcher(
-    alloc: Global,
-    element: &Value,
-    result_path: Option<RefPath>,
-) -> Result<Catcher, OutOfMemory>
-    requires { result_path ≡ path_or_null_at (codes "ResultPath") (members_in (view element.now)) }
-    ensures { IfOk result (λ c. catcher_view c ≡ catcher_of (view element.now)) }
-{
-    Ok(Catcher {
-        error_equals: build_error_names(alloc, element)?,
-        next: build_text_or_empty(alloc, element, "Next")?,
-        result_path,
-    })
 }
 
 /// Checks that an element is an object of those fields, but for what is read.
@@ -245,47 +227,44 @@ fn check_element<'a>(
     }
 }
 
-/// Checks that among the error names of an element `States.ALL` stands alone, and in the last element.
-fn check_error_names<'a>(
+/// The error names of an element, among which `States.ALL` stands alone, and in the last element.
+fn read_error_names<'a>(
+    alloc: Global,
     place: &Place<'a>,
     field: &'static str,
     element: &Value,
     is_last: bool,
-) -> Result<(), Complaint<'a>>
-    ensures { IsVerdict (model.complain_unless (model.has_proper_names (members_in (view element.now)) is_last) (place_view place.now) field.now BadErrorEquals) result }
+) -> Result<Vec<String>, Complaint<'a>>
+    ensures names { IfOk result (λ names. map string_bytes names.items ≡ error_names (members_in (view element.now))) }
+    ensures told { IsVerdict (model.complain_unless (model.has_proper_names (members_in (view element.now)) is_last) (place_view place.now) field.now BadErrorEquals) result }
 {
-    place.complain_unless(
-        has_proper_names(element, is_last),
-        field,
-        DefFault::BadErrorEquals,
-    )
+    let names = match build_error_names(alloc, element) {
+        Ok(names) => names,
+        Err(_) => return Err(place.complaint(field, DefFault::OutOfMemory)),
+    };
+    match place.complain_unless(are_proper(&names, is_last), field, DefFault::BadErrorEquals) {
+        Ok(()) => Ok(names),
+        Err(complaint) => Err(complaint),
+    }
 }
 
 /// Whether `States.ALL`, where it is among the error names of an element, is the only one, and the element the last.
-fn has_proper_names(element: &Value, is_last: bool) -> bool
-    ensures { result ≡ model.has_proper_names (members_in (view element.now)) is_last }
+fn are_proper(names: &[String], is_last: bool) -> bool
+    ensures { result ≡ model_are_proper (map string_bytes names.now) is_last }
 {
-    let names = elements_of(element, "ErrorEquals");
-    !has_all_errors(names) || (is_last && text_count(names) == 1)
+    !has_all_errors(names) || (is_last && names.len() == 1)
 }
 
-/// Whether `States.ALL` is one of the texts.
-fn has_all_errors(names: &[Value]) -> bool
-    ensures { result ≡ is_among (codes "States.ALL") (filter_map as_str (listed (items_view names.now))) }
+/// Whether `States.ALL` is one of the names.
+fn has_all_errors(names: &[String]) -> bool
+    ensures { result ≡ is_among (codes "States.ALL") (map string_bytes names.now) }
 {
     for name in names {
-        if let Some("States.ALL") = name.as_str() {
+        if name.as_str() == "States.ALL" {
             return true;
         }
     }
     false
-}
-
-/// How many of the values are texts.
-fn text_count(values: &[Value]) -> usize
-    ensures { result ≡ length (filter_map as_str (listed (items_view values.now))) }
-{
-    values.iter().filter(|value| value.is_string()).count()
 }
 
 /// The error names of a retrier or catcher.
