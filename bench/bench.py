@@ -289,19 +289,21 @@ CUSTOMER = {"active": True, "city": "Bern", "id": 170032, "name": "Aline Favre",
 
 
 def long_definition(megabytes):
-    """A definition of so many megabytes: Tasks with templates and retriers, and Choices with rules, which is only read."""
+    """A definition of so many megabytes: Tasks with templates and retriers, and Choices with rules, which is only read. A
+    definition has at most 10,000 states, so each of them is long."""
     retry = {"ErrorEquals": ["Busy", "States.Timeout"], "IntervalSeconds": 3, "MaxAttempts": 2, "BackoffRate": 1.5}
-    template = {"order.$": "$.order.id", "lines": [{"n.$": "$.lines[0].n"}], "told.$": "States.Format('order {}', $.order.id)"}
-    task = {"Type": "Task", "Resource": "arn:book", "Parameters": template, "ResultPath": "$.booked", "Retry": [retry] * 2}
+    template = {"order.$": "$.order.id", "lines": [{"n.$": "$.lines[0].n"}] * 6,
+                **{f"told{it}.$": "States.Format('order {}', $.order.id)" for it in range(4)}}
+    task = {"Type": "Task", "Resource": "arn:book", "Parameters": template, "ResultPath": "$.booked", "Retry": [retry] * 6}
     both = {"And": [{"Variable": "$.order.id", "IsNumeric": True}, {"Variable": "$.order.id", "NumericGreaterThan": 7}]}
-    pair = len(json.dumps([task, both], separators=(",", ":"))) + 120
+    pair = len(json.dumps([task, [both] * 6], separators=(",", ":"))) + 240
     machine = chain(megabytes * 1000000 // pair * 2)
     each = list(machine["States"].values())
     for state, choice in zip(each[::2], each[1::2]):
         state.update(task)
         after = choice.pop("Next", state["Next"])
         choice.pop("End", None)
-        choice.update({"Type": "Choice", "Choices": [{**both, "Next": after}], "Default": after})
+        choice.update({"Type": "Choice", "Choices": [{**both, "Next": after}] * 6, "Default": after})
     return {"definition": machine, "input": 1, "answers": []}
 
 
