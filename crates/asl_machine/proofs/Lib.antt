@@ -13,6 +13,7 @@ pub mod OwnFields
 pub mod OwnRules
 pub mod Refused
 pub mod Starts
+pub mod Templates
 pub mod Troubles
 pub mod Values
 pub mod Walks

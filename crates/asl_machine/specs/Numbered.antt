@@ -3,6 +3,8 @@ use Rattle.std.specs.Prelude.{◌≡◌, ℕ, List, [], map, Option, option_map,
 use Rattle.std.specs.Option.{unwrap_or}
 use Rattle.asl_model.specs.Numbering.{Standing, Placement}
 use Rattle.asl_model.specs.StandsFor.{duplicate_complaints}
+use Rattle.asl_machine.specs.Built.{built_view}
+use Rattle.asl_machine.specs.declared.building.BuiltState.{BuiltState}
 use Rattle.asl_machine.specs.declared.building.Home.{Home}
 use Rattle.asl_machine.specs.declared.numbering.Numbered.{Numbered}
 use Rattle.asl_states.specs.Machine.{state_view}
@@ -26,6 +28,10 @@ placed_in names home = record { start = number_in names home.0; owner = option_m
 -- the names of states
 abbrev pub names_of_all : List Standing → List (List ℕ)
 names_of_all states = map (λ s. s.name) states
+
+-- of states as they are built
+abbrev pub names_of_rows : List BuiltState → List (List ℕ)
+names_of_rows rows = names_of_all (map built_view rows)
 
 -- a table in the making holds those states, and no name stands twice
 pub record Holds (states : List Standing) (n : Numbered) : Type 0 where

@@ -1,16 +1,52 @@
 -- What is wrong with the fields of an object that are read, with the others, which are only checked, and with a state
 -- apart from these. No public clause cites this module.
-use Rattle.std.specs.Prelude.{◌≡◌, ℕ, List, [], ◌∷◌, ◌++◌, map, length, Bool, true, false, not, ◌&&◌, ◌||◌, ◌==◌, if◌then◌else◌, Option, Some, None, option_map, codes}
+use Rattle.std.specs.Prelude.{◌≡◌, ℕ, List, [], ◌∷◌, ◌++◌, map, length, Bool, true, false, is_some, not}
+use Rattle.std.specs.Prelude.{◌&&◌, ◌||◌, ◌==◌, if◌then◌else◌, Option, Some, None, option_map, option_and_then, codes}
+use Rattle.std.specs.List.{filter_map}
 use Rattle.std.specs.Option.{unwrap_or}
-use Rattle.serde_json.specs.Data.{Data, Members}
-use Rattle.serde_json.specs.Find.{get_member, as_object}
+use Rattle.serde_json.specs.Data.{Data, Items, Members}
+use Rattle.serde_json.specs.Find.{get_member, as_object, as_bool}
+use Rattle.serde_json.specs.View.{view}
+use Rattle.serde_json.specs.declared.value.Value.{Value}
 use Rattle.asl_model.specs.DefinitionTable as model
+use Rattle.asl_model.specs.DefinitionTable.{machine_rows, branch_rows, every_state_rows, retrier_rows, catcher_rows, rows_of}
+use Rattle.asl_model.specs.Json.{tree_of}
+use Rattle.asl_model.specs.RuleSpelling.{rule_of}
 use Rattle.asl_model.specs.ShapeSpelling.{is_among}
-use Rattle.asl_model.specs.StandsFor.{Complaint, Place, place_of_state, complaint_at, row_faults}
+use Rattle.asl_model.specs.Test.{Rule}
+use Rattle.asl_model.specs.StandsFor as complaints
+use Rattle.asl_model.specs.StandsFor.{Complaint, Place, place_of_state, place_within, complaint_at, row_faults}
+use Rattle.asl_model.specs.StandsFor.{members_in, state_names, listed}
 use Rattle.asl_model.specs.StandsFor.{rows_complaints, foreign_complaints, text_at, rules_of}
 use Rattle.asl_model.specs.StandsFor.{next_complaints, target_complaints, heartbeat_complaints}
 use Rattle.asl_model.specs.StandsFor.{wait_complaints, processor_complaints, selector_complaints}
 use Rattle.asl_model.specs.StandsFor.{rules_complaints, trouble_complaints}
+
+-- ---- what the values of a definition are
+
+-- the fields of a value, none where it is no object
+abbrev pub fields_of : Value → Members
+fields_of v = members_in (view v)
+
+-- the names of the states of a scope
+abbrev pub names_in : Value → List (List ℕ)
+names_in scope = state_names (fields_of scope)
+
+-- the text of a field, the empty one where there is none
+abbrev pub text_or_none : List ℕ → Value → List ℕ
+text_or_none field v = unwrap_or (text_at field (fields_of v)) []
+
+-- the rules that elements spell
+abbrev pub rules_among : Items → List Rule
+rules_among vs = filter_map (λ v. option_and_then rule_of (tree_of v)) (listed vs)
+
+-- what is wrong with elements as rules
+abbrev pub wrong_rules : Items → List model.DefFault
+wrong_rules vs = model.wrong_with_each (λ v. model.rule_misfits (tree_of v)) vs
+
+-- `End` is true
+abbrev pub ends_at : Members → Bool
+ends_at ms = complaints.ends (option_and_then as_bool (get_member (codes "End") ms))
 
 -- a value of that kind is read where it stands: a path, a template, a list of rules
 abbrev pub is_read : model.Wanted → Bool
@@ -34,6 +70,10 @@ is_read model.NamesValue = false
 is_read model.RetriersValue = false
 is_read model.CatchersValue = false
 
+-- what is wrong with a value, where it isn't read
+abbrev pub misfits_unread : model.Wanted → Data → List model.DefFault
+misfits_unread wanted v = if is_read wanted then [] else model.misfits wanted v
+
 -- ---- the fields of an object
 
 -- what is wrong with the field of a row that isn't read
@@ -45,6 +85,10 @@ abbrev pub checked_complaints : Place → List model.Row → Members → List Co
 checked_complaints place [] ms = []
 checked_complaints place (row ∷ rows) ms =
     map (complaint_at place row.field) (checked_faults row (get_member row.field ms)) ++ checked_complaints place rows ms
+
+-- what is wrong with the fields of an object, but for what is read
+abbrev pub fields_told : Place → List model.Row → Members → List Complaint
+fields_told place rows ms = checked_complaints place rows ms ++ foreign_complaints place rows ms
 
 -- what is wrong with the value of a field, or with its absence where it is required
 abbrev pub given_faults : Bool → model.Wanted → Option Data → List model.DefFault
@@ -72,6 +116,33 @@ element_checked place field rows v =
 -- among error names `States.ALL` stands alone, and in the last element
 abbrev pub are_proper : List (List ℕ) → Bool → Bool
 are_proper names is_last = not (is_among (codes "States.ALL") names) || (is_last && length names == 1)
+
+-- the error names of an element
+abbrev pub names_told : Place → List ℕ → Bool → Members → List Complaint
+names_told place field is_last ms =
+    complaints.complain_unless (complaints.has_proper_names ms is_last) place field model.BadErrorEquals
+
+-- those of a catcher, and where it goes on to
+abbrev pub caught_told : Place → List (List ℕ) → Bool → Members → List Complaint
+caught_told place names is_last ms =
+    names_told place (codes "Catch") is_last ms
+    ++ target_complaints place names (codes "Catch") (text_at (codes "Next") ms)
+
+-- a retrier
+abbrev pub retrier_told : Place → Bool → Data → List Complaint
+retrier_told place is_last v =
+    complaints.element_complaints place (codes "Retry") retrier_rows v
+    ++ names_told place (codes "Retry") is_last (members_in v)
+
+-- a catcher
+abbrev pub catcher_told : Place → List (List ℕ) → Bool → Data → List Complaint
+catcher_told place names is_last v =
+    complaints.element_complaints place (codes "Catch") catcher_rows v ++ caught_told place names is_last (members_in v)
+
+-- a catcher but for its path
+abbrev pub caught_checked : Place → List (List ℕ) → Bool → Data → List Complaint
+caught_checked place names is_last v =
+    element_checked place (codes "Catch") catcher_rows v ++ caught_told place names is_last (members_in v)
 
 -- each of the rows is checked
 pub record AreChecked (rows : List model.Row) : Type 0 where
@@ -107,6 +178,10 @@ abbrev pub rules_told : Place → Members → List Complaint
 rules_told place ms =
     map (complaint_at place (codes "Choices")) (given_faults true model.RulesValue (get_member (codes "Choices") ms))
 
+-- with where they go on to
+abbrev pub choices_told : Place → List (List ℕ) → Members → List Complaint
+choices_told place names ms = rules_told place ms ++ rules_complaints place names (rules_of ms)
+
 -- the paths that a Wait may have
 abbrev pub delay_told : Place → Members → List Complaint
 delay_told place ms =
@@ -118,6 +193,10 @@ selector_told place ms =
     told_at place (codes "ItemSelector") model.ItemTemplateValue ms
     ++ told_at place (codes "Parameters") model.ItemTemplateValue ms
 
+-- what a Map alone has
+abbrev pub map_told : Place → Members → List Complaint
+map_told place ms = told_at place (codes "ItemsPath") model.PathValue ms ++ selector_told place ms
+
 -- what a type alone has
 abbrev pub kind_told : model.StateType → Place → Members → List Complaint
 kind_told model.PassState place ms = []
@@ -127,25 +206,34 @@ kind_told model.WaitState place ms = delay_told place ms
 kind_told model.SucceedState place ms = []
 kind_told model.FailState place ms = []
 kind_told model.ParallelState place ms = []
-kind_told model.MapState place ms = told_at place (codes "ItemsPath") model.PathValue ms ++ selector_told place ms
+kind_told model.MapState place ms = map_told place ms
 
 -- ---- the rules on several fields
+
+-- those of a Task
+abbrev pub task_told : Place → List (List ℕ) → Members → List Complaint
+task_told place names ms = next_complaints place names ms ++ heartbeat_complaints place ms
+
+-- those of a Wait
+abbrev pub wait_told : Place → List (List ℕ) → Members → List Complaint
+wait_told place names ms = next_complaints place names ms ++ wait_complaints place ms
+
+-- those of a Map
+abbrev pub map_rules_told : Place → List (List ℕ) → Members → List Complaint
+map_rules_told place names ms =
+    next_complaints place names ms ++ (processor_complaints place ms ++ selector_complaints place ms)
 
 -- those that are checked before the fields are read
 abbrev pub rules_of_type : model.StateType → List ℕ → List (List ℕ) → Members → List Complaint
 rules_of_type model.PassState state names ms = next_complaints (place_of_state state) names ms
-rules_of_type model.TaskState state names ms =
-    next_complaints (place_of_state state) names ms ++ heartbeat_complaints (place_of_state state) ms
+rules_of_type model.TaskState state names ms = task_told (place_of_state state) names ms
 rules_of_type model.ChoiceState state names ms =
     target_complaints (place_of_state state) names (codes "Default") (text_at (codes "Default") ms)
-rules_of_type model.WaitState state names ms =
-    next_complaints (place_of_state state) names ms ++ wait_complaints (place_of_state state) ms
+rules_of_type model.WaitState state names ms = wait_told (place_of_state state) names ms
 rules_of_type model.SucceedState state names ms = []
 rules_of_type model.FailState state names ms = []
 rules_of_type model.ParallelState state names ms = next_complaints (place_of_state state) names ms
-rules_of_type model.MapState state names ms =
-    next_complaints (place_of_state state) names ms
-    ++ (processor_complaints (place_of_state state) ms ++ selector_complaints (place_of_state state) ms)
+rules_of_type model.MapState state names ms = map_rules_told (place_of_state state) names ms
 
 -- where the rules of a Choice go on to
 abbrev pub rule_targets : model.StateType → List ℕ → List (List ℕ) → Members → List Complaint
@@ -157,6 +245,10 @@ rule_targets model.SucceedState state names ms = []
 rule_targets model.FailState state names ms = []
 rule_targets model.ParallelState state names ms = []
 rule_targets model.MapState state names ms = []
+
+-- what a type alone has, with where the rules of a Choice go on to
+abbrev pub kind_told_with_targets : model.StateType → List ℕ → List (List ℕ) → Members → List Complaint
+kind_told_with_targets t state names ms = kind_told t (place_of_state state) ms ++ rule_targets t state names ms
 
 -- ---- a state whose other fields are in order
 
@@ -172,3 +264,44 @@ state_told t state names ms =
     rules_of_type t state names ms
     ++ (settings_told t state names ms
     ++ (kind_told t (place_of_state state) ms ++ rule_targets t state names ms))
+
+-- ---- states and scopes
+
+-- what is told of a state apart from its scopes
+abbrev pub own_told : model.StateType → List (List ℕ) → List ℕ → Members → List Complaint
+own_told t names state ms =
+    complaints.fields_complaints (place_of_state state) (rows_of t) ms ++ complaints.type_complaints t state names ms
+
+-- of its scopes
+abbrev pub nested_told : model.StateType → List ℕ → Members → List Complaint
+nested_told t state ms =
+    complaints.nested_complaints t
+    (complaints.branches_complaints_under state ms) (complaints.processor_complaints_under state ms)
+
+-- of the state, where that is its type
+abbrev pub typed_told : model.StateType → List (List ℕ) → List ℕ → Members → List Complaint
+typed_told t names state ms =
+    complaints.state_complaints_by (Some t) state names ms
+    (complaints.branches_complaints_under state ms) (complaints.processor_complaints_under state ms)
+
+-- of an object without a type as a state
+abbrev pub untyped_told : List ℕ → Members → List Complaint
+untyped_told state ms =
+    rows_complaints (place_of_state state) every_state_rows ms
+    ++ complaints.unknown_type (place_of_state state) (text_at (codes "Type") ms)
+
+-- of a state with its name
+abbrev pub named_told : List (List ℕ) → List ℕ → Data → List Complaint
+named_told names state v = complaints.name_complaints state ++ complaints.state_complaints names state v
+
+-- of a branch of a state
+abbrev pub branch_told : List ℕ → Data → List Complaint
+branch_told state v =
+    complaints.complain_unless (is_some (as_object v))
+    (place_within state (codes "Branches")) (codes "Branches") (model.wrong_kind v)
+    ++ complaints.scope_complaints (place_within state (codes "Branches")) branch_rows v
+
+-- of a definition, but for the names of all its states
+abbrev pub definition_told : Data → List Complaint
+definition_told v =
+    complaints.no_object_complaints v ++ complaints.scope_complaints (place_of_state []) machine_rows v

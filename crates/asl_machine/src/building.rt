@@ -1,9 +1,9 @@
 // The states of a definition as they are built, in the order of their numbers.
 
-ghost use Rattle.std.specs.Prelude.{◌≡◌, ◌∷◌, [], OnOk, map};
+ghost use Rattle.std.specs.Prelude.{◌≡◌, ◌∷◌, [], OnOk};
 ghost use Rattle.asl_model.specs.Machine as model;
 ghost use Rattle.asl_model.specs.Numbering.{outline};
-ghost use Rattle.asl_machine.specs.Built.{built_view, stands_at, Adds};
+ghost use Rattle.asl_machine.specs.Built.{stands_at, Added};
 ghost use Rattle.asl_states.specs.Machine.{state_view};
 
 use asl_states::State;
@@ -35,7 +35,8 @@ pub(crate) fn add_state<'a>(
     home: Home<'a>,
     built: &mut Vec<BuiltState<'a>>,
 ) -> Result<(), OutOfMemory>
-    ensures { OnOk result ((s : model.State) → state_view state ≡ outline s → Adds (map built_view built.old.items) (map built_view built.new.items) (stands_at home.entry name.now s ∷ [])) }
+    ensures { OnOk result ((s : model.State) → state_view state ≡ outline s
+        → Added built.old.items built.new.items (stands_at home.entry name.now s ∷ [])) }
 {
     built.push(BuiltState {
         name: String::from_str(alloc, name)?,

@@ -1,16 +1,15 @@
 // Reading the rules of a Choice (States Language, "Choice State").
 
 ghost use Rattle.std.specs.Prelude.{◌≡◌, ◌++◌, Some, IfOk, is_some, map, option_map, option_and_then};
-ghost use Rattle.std.specs.List.{filter_map};
 ghost use Rattle.serde_json.specs.View.{view, items_view};
 ghost use Rattle.asl_model.specs.DefinitionTable as model;
 ghost use Rattle.asl_model.specs.Json.{tree_of};
 ghost use Rattle.asl_model.specs.RuleSpelling.{rule_of};
-ghost use Rattle.asl_model.specs.StandsFor.{members_in, items_in, listed, rules_of};
+ghost use Rattle.asl_model.specs.StandsFor.{items_in, rules_of};
 ghost use Rattle.asl_choice.specs.View.{rule_view};
 ghost use Rattle.asl_tree.specs.View as trees;
 ghost use Rattle.asl_machine.specs.Definition.{IsMisfit, IsVerdict, place_view};
-ghost use Rattle.asl_machine.specs.Reading.{rules_told};
+ghost use Rattle.asl_machine.specs.Reading.{rules_told, fields_of, rules_among, wrong_rules};
 
 use crate::fields::read_tree;
 use crate::places::{Complaint, Place};
@@ -27,8 +26,9 @@ pub(crate) fn read_choices<'a>(
     place: &Place<'a>,
     state: &Value,
 ) -> Result<Vec<Rule>, Complaint<'a>>
-    ensures rules { IfOk result (λ rules. map rule_view rules.items ≡ rules_of (members_in (view state.now))) }
-    ensures told { IsVerdict (rules_told (place_view place.now) (members_in (view state.now))) result }
+    ensures rules { IfOk result
+        (λ rules. map rule_view rules.items ≡ rules_of (fields_of state.now)) }
+    ensures told { IsVerdict (rules_told (place_view place.now) (fields_of state.now)) result }
 {
     match state.get("Choices") {
         Some(value) => match read_rules(alloc, value) {
@@ -41,7 +41,8 @@ pub(crate) fn read_choices<'a>(
 
 /// The rules that a value spells: a list of them, not empty.
 fn read_rules(alloc: Global, value: &Value) -> Result<Vec<Rule>, DefFault>
-    ensures rules { IfOk result (λ rules. map rule_view rules.items ≡ filter_map (λ v. option_and_then rule_of (tree_of v)) (listed (items_in (view value.now)))) }
+    ensures rules { IfOk result
+        (λ rules. map rule_view rules.items ≡ rules_among (items_in (view value.now))) }
     ensures faults { IsMisfit (model.misfits model.RulesValue (view value.now)) result }
 {
     match value.as_array() {
@@ -52,54 +53,50 @@ fn read_rules(alloc: Global, value: &Value) -> Result<Vec<Rule>, DefFault>
 
 /// The rules that the elements spell, of which there have to be some.
 fn read_some(alloc: Global, elements: &[Value]) -> Result<Vec<Rule>, DefFault>
-    ensures rules { IfOk result (λ rules. map rule_view rules.items ≡ filter_map (λ v. option_and_then rule_of (tree_of v)) (listed (items_view elements.now))) }
-    ensures faults { IsMisfit (model.some_elements (items_view elements.now) ++ model.wrong_with_each (λ r. model.rule_misfits (tree_of r)) (items_view elements.now)) result }
+    ensures rules { IfOk result
+        (λ rules. map rule_view rules.items ≡ rules_among (items_view elements.now)) }
+    ensures faults { IsMisfit
+        (model.some_elements (items_view elements.now)
+        ++ wrong_rules (items_view elements.now)) result }
 {
-    match check_some(elements) {
-        Ok(()) => read_each(alloc, elements),
-        Err(fault) => Err(fault),
-    }
+    check_some(elements)?;
+    read_each(alloc, elements)
 }
 
 /// The rules that the elements spell.
 fn read_each(alloc: Global, elements: &[Value]) -> Result<Vec<Rule>, DefFault>
-    ensures rules { IfOk result (λ rules. map rule_view rules.items ≡ filter_map (λ v. option_and_then rule_of (tree_of v)) (listed (items_view elements.now))) }
-    ensures faults { IsMisfit (model.wrong_with_each (λ r. model.rule_misfits (tree_of r)) (items_view elements.now)) result }
+    ensures rules { IfOk result
+        (λ rules. map rule_view rules.items ≡ rules_among (items_view elements.now)) }
+    ensures faults { IsMisfit (wrong_rules (items_view elements.now)) result }
 {
     let mut rules = Vec::new(alloc);
     for element in elements {
-        match read_rule(alloc, element) {
-            Ok(rule) => match rules.push(rule) {
-                Ok(()) => {}
-                Err(_) => return Err(DefFault::OutOfMemory),
-            },
-            Err(fault) => return Err(fault),
-        }
+        rules.push(read_rule(alloc, element)?)?;
     }
     Ok(rules)
 }
 
 /// The rule that a value spells.
 fn read_rule(alloc: Global, value: &Value) -> Result<Rule, DefFault>
-    ensures rule { IfOk result (λ rule. option_and_then rule_of (tree_of (view value.now)) ≡ Some (rule_view rule)) }
+    ensures rule { IfOk result (λ rule. option_and_then rule_of (tree_of (view value.now))
+        ≡ Some (rule_view rule)) }
     ensures faults { IsMisfit (model.rule_misfits (tree_of (view value.now))) result }
 {
-    match read_tree(alloc, value) {
-        Ok(Some(tree)) => rule_from(alloc, &tree),
-        Ok(None) => Err(DefFault::NotWhole),
-        Err(_) => Err(DefFault::OutOfMemory),
+    match read_tree(alloc, value)? {
+        Some(tree) => rule_from(alloc, &tree),
+        None => Err(DefFault::NotWhole),
     }
 }
 
 /// The rule that a tree spells.
 fn rule_from(alloc: Global, tree: &Tree) -> Result<Rule, DefFault>
     ensures rule { IfOk result (λ rule. rule_of (trees.view tree.now) ≡ Some (rule_view rule)) }
-    ensures faults { IsMisfit (model.unless (is_some (rule_of (trees.view tree.now))) model.BadRule) result }
+    ensures faults { IsMisfit
+        (model.unless (is_some (rule_of (trees.view tree.now))) model.BadRule) result }
 {
-    match rule_spelled(alloc, tree) {
-        Ok(Some(rule)) => Ok(rule),
-        Ok(None) => Err(DefFault::BadRule),
-        Err(_) => Err(DefFault::OutOfMemory),
+    match rule_spelled(alloc, tree)? {
+        Some(rule) => Ok(rule),
+        None => Err(DefFault::BadRule),
     }
 }
 

@@ -1,10 +1,9 @@
 // Checking the fields of an object.
 
-ghost use Rattle.std.specs.Prelude.{◌++◌};
 ghost use Rattle.serde_json.specs.Find.{get};
 ghost use Rattle.serde_json.specs.View.{view};
-ghost use Rattle.asl_model.specs.StandsFor.{members_in, foreign_complaints};
-ghost use Rattle.asl_machine.specs.Reading.{checked_faults, checked_complaints};
+ghost use Rattle.asl_model.specs.StandsFor.{foreign_complaints};
+ghost use Rattle.asl_machine.specs.Reading.{checked_faults, checked_complaints, fields_of, fields_told};
 ghost use Rattle.asl_machine.specs.Rows.{row_view, rows_view};
 ghost use Rattle.asl_machine.specs.Definition.{IsMisfit, IsVerdict, place_view};
 
@@ -20,12 +19,11 @@ pub(crate) fn check_fields<'a>(
     object: &'a Value,
     rows: &'static [Row],
 ) -> Result<(), Complaint<'a>>
-    ensures { IsVerdict (checked_complaints (place_view place.now) (rows_view rows.now) (members_in (view object.now)) ++ foreign_complaints (place_view place.now) (rows_view rows.now) (members_in (view object.now))) result }
+    ensures { IsVerdict
+        (fields_told (place_view place.now) (rows_view rows.now) (fields_of object.now)) result }
 {
-    match check_rows(place, object, rows) {
-        Ok(()) => check_names(place, object, rows),
-        Err(complaint) => Err(complaint),
-    }
+    check_rows(place, object, rows)?;
+    check_names(place, object, rows)
 }
 
 /// Checks the values of all fields that have a row and aren't read.
@@ -34,20 +32,19 @@ pub(crate) fn check_rows<'a>(
     object: &Value,
     rows: &'static [Row],
 ) -> Result<(), Complaint<'a>>
-    ensures { IsVerdict (checked_complaints (place_view place.now) (rows_view rows.now) (members_in (view object.now))) result }
+    ensures { IsVerdict (checked_complaints (place_view place.now)
+        (rows_view rows.now) (fields_of object.now)) result }
 {
     for row in rows {
-        match place.told(row.name, check_field(object, row)) {
-            Ok(()) => {}
-            Err(complaint) => return Err(complaint),
-        }
+        place.told(row.name, check_field(object, row))?;
     }
     Ok(())
 }
 
 /// Checks the value of one field, or its absence, unless it is read.
 fn check_field(object: &Value, row: &'static Row) -> Result<(), DefFault>
-    ensures { IsMisfit (checked_faults (row_view row.now) (get row.now.name.now (view object.now))) result }
+    ensures { IsMisfit
+        (checked_faults (row_view row.now) (get row.now.name.now (view object.now))) result }
 {
     if row.wanted.is_read() {
         return Ok(());
@@ -70,7 +67,8 @@ fn check_names<'a>(
     object: &'a Value,
     rows: &'static [Row],
 ) -> Result<(), Complaint<'a>>
-    ensures { IsVerdict (foreign_complaints (place_view place.now) (rows_view rows.now) (members_in (view object.now))) result }
+    ensures { IsVerdict (foreign_complaints (place_view place.now)
+        (rows_view rows.now) (fields_of object.now)) result }
 {
     let members = match object.as_object() {
         Some(members) => members,

@@ -1,18 +1,17 @@
 // Looking up the fields of an object of a definition, and reading the paths and templates among them.
 
-ghost use Rattle.std.specs.Prelude.{◌≡◌, IfOk, [], is_some, Some, map, string_bytes, option_map, option_and_then};
-ghost use Rattle.std.specs.Option.{unwrap_or};
+ghost use Rattle.std.specs.Prelude.{◌≡◌, IfOk, [], is_some, Some, string_bytes, option_map, option_and_then};
 ghost use Rattle.serde_json.specs.Find.{get_member, as_str};
 ghost use Rattle.serde_json.specs.View.{view, items_view};
 ghost use Rattle.asl_model.specs.DefinitionTable as model;
 ghost use Rattle.asl_model.specs.Json.{tree_of};
 ghost use Rattle.asl_model.specs.PathSpelling.{path_of as model_path_of};
-ghost use Rattle.asl_model.specs.StandsFor.{members_in, items_at, text_at, path_at, path_in, path_or_null_at, natural_at, template_at, is_given as model_is_given};
+ghost use Rattle.asl_model.specs.StandsFor.{items_at, text_at, path_at, path_in, path_or_null_at, natural_at, template_at, is_given as model_is_given};
 ghost use Rattle.asl_model.specs.TemplateSpelling.{template_of as model_template_of};
 ghost use Rattle.asl_template.specs.View as templates;
 ghost use Rattle.asl_tree.specs.View as trees;
 ghost use Rattle.asl_machine.specs.Definition.{IsMisfit, IsVerdict, place_view};
-ghost use Rattle.asl_machine.specs.Reading.{told_at, template_wanted};
+ghost use Rattle.asl_machine.specs.Reading.{told_at, template_wanted, fields_of, text_or_none};
 
 use crate::places::{Complaint, Place};
 use crate::refusals::DefFault;
@@ -25,7 +24,7 @@ use std::alloc::Global;
 
 /// The text of a field, where it has one.
 pub(crate) fn text_of<'a>(object: &'a Value, field: &'static str) -> Option<&'a str>
-    ensures { option_map (λ text. text.now) result ≡ text_at field.now (members_in (view object.now)) }
+    ensures { option_map (λ text. text.now) result ≡ text_at field.now (fields_of object.now) }
 {
     match object.get(field) {
         Some(value) => value.as_str(),
@@ -35,7 +34,7 @@ pub(crate) fn text_of<'a>(object: &'a Value, field: &'static str) -> Option<&'a 
 
 /// The text of a field, empty where it has none.
 pub(crate) fn text_or_empty<'a>(object: &'a Value, field: &'static str) -> &'a str
-    ensures { result.now ≡ unwrap_or (text_at field.now (members_in (view object.now))) [] }
+    ensures { result.now ≡ text_or_none field.now object.now }
 {
     match text_of(object, field) {
         Some(text) => text,
@@ -45,7 +44,7 @@ pub(crate) fn text_or_empty<'a>(object: &'a Value, field: &'static str) -> &'a s
 
 /// Whether an object has the field.
 pub(crate) fn is_given(object: &Value, field: &'static str) -> bool
-    ensures { result ≡ model_is_given field.now (members_in (view object.now)) }
+    ensures { result ≡ model_is_given field.now (fields_of object.now) }
 {
     object.get(field).is_some()
 }
@@ -56,7 +55,8 @@ pub(crate) fn build_text(
     object: &Value,
     field: &'static str,
 ) -> Result<Option<String>, OutOfMemory>
-    ensures { IfOk result (λ text. option_map string_bytes text ≡ text_at field.now (members_in (view object.now))) }
+    ensures { IfOk result
+        (λ text. option_map string_bytes text ≡ text_at field.now (fields_of object.now)) }
 {
     match text_of(object, field) {
         Some(text) => Ok(Some(String::from_str(alloc, text)?)),
@@ -70,7 +70,7 @@ pub(crate) fn build_text_or_empty(
     object: &Value,
     field: &'static str,
 ) -> Result<String, OutOfMemory>
-    ensures { IfOk result (λ text. string_bytes text ≡ unwrap_or (text_at field.now (members_in (view object.now))) []) }
+    ensures { IfOk result (λ text. string_bytes text ≡ text_or_none field.now object.now) }
 {
     Ok(String::from_str(alloc, text_or_empty(object, field))?)
 }
@@ -82,18 +82,20 @@ pub(crate) fn path_or_null_of<'a>(
     object: &Value,
     field: &'static str,
 ) -> Result<Option<RefPath>, Complaint<'a>>
-    ensures path { IfOk result (λ path. path ≡ path_or_null_at field.now (members_in (view object.now))) }
-    ensures told { IsVerdict (told_at (place_view place.now) field.now model.PathOrNullValue (members_in (view object.now))) result }
+    ensures path { IfOk result (λ path. path ≡ path_or_null_at field.now (fields_of object.now)) }
+    ensures told { IsVerdict
+        (told_at (place_view place.now) field.now model.PathOrNullValue
+        (fields_of object.now)) result }
 {
     match object.get(field) {
         Some(value) => match read_path_or_null(alloc, value) {
             Ok(path) => Ok(path),
             Err(fault) => Err(place.found(field, fault)),
         },
-        None => match whole_input(alloc) {
-            Ok(path) => Ok(Some(path)),
-            Err(_) => Err(place.complaint(field, DefFault::OutOfMemory)),
-        },
+        None => {
+            let path = place.or_out_of_memory(field, whole_input(alloc))?;
+            Ok(Some(path))
+        }
     }
 }
 
@@ -104,18 +106,16 @@ pub(crate) fn path_of<'a>(
     object: &Value,
     field: &'static str,
 ) -> Result<RefPath, Complaint<'a>>
-    ensures path { IfOk result (λ path. path ≡ path_at field.now (members_in (view object.now))) }
-    ensures told { IsVerdict (told_at (place_view place.now) field.now model.PathValue (members_in (view object.now))) result }
+    ensures path { IfOk result (λ path. path ≡ path_at field.now (fields_of object.now)) }
+    ensures told { IsVerdict
+        (told_at (place_view place.now) field.now model.PathValue (fields_of object.now)) result }
 {
     match object.get(field) {
         Some(value) => match read_path(alloc, value) {
             Ok(path) => Ok(path),
             Err(fault) => Err(place.found(field, fault)),
         },
-        None => match whole_input(alloc) {
-            Ok(path) => Ok(path),
-            Err(_) => Err(place.complaint(field, DefFault::OutOfMemory)),
-        },
+        None => place.or_out_of_memory(field, whole_input(alloc)),
     }
 }
 
@@ -127,15 +127,13 @@ fn read_path_or_null(alloc: Global, value: &Value) -> Result<Option<RefPath>, De
     if value.is_null() {
         return Ok(None);
     }
-    match read_path(alloc, value) {
-        Ok(path) => Ok(Some(path)),
-        Err(fault) => Err(fault),
-    }
+    Ok(Some(read_path(alloc, value)?))
 }
 
 /// The path that a value is.
 fn read_path(alloc: Global, value: &Value) -> Result<RefPath, DefFault>
-    ensures path { IfOk result (λ path. option_and_then model_path_of (as_str (view value.now)) ≡ Some path) }
+    ensures path { IfOk result
+        (λ path. option_and_then model_path_of (as_str (view value.now)) ≡ Some path) }
     ensures faults { IsMisfit (model.misfits model.PathValue (view value.now)) result }
 {
     match value.as_str() {
@@ -147,7 +145,8 @@ fn read_path(alloc: Global, value: &Value) -> Result<RefPath, DefFault>
 /// The path that a text spells.
 fn parse_path(alloc: Global, text: &str) -> Result<RefPath, DefFault>
     ensures path { IfOk result (λ path. model_path_of text.now ≡ Some path) }
-    ensures faults { IsMisfit (model.unless (is_some (model_path_of text.now)) model.BadPath) result }
+    ensures faults { IsMisfit
+        (model.unless (is_some (model_path_of text.now)) model.BadPath) result }
 {
     match asl_path::parse(alloc, text) {
         Ok(path) => Ok(path),
@@ -174,7 +173,8 @@ pub(crate) fn build_tree(
     object: &Value,
     field: &'static str,
 ) -> Result<Option<Tree>, OutOfMemory>
-    ensures { IfOk result (λ tree. option_map trees.view tree ≡ option_and_then tree_of (get_member field.now (members_in (view object.now)))) }
+    ensures { IfOk result (λ tree. option_map trees.view tree
+        ≡ option_and_then tree_of (get_member field.now (fields_of object.now))) }
 {
     match object.get(field) {
         Some(value) => read_tree(alloc, value),
@@ -203,8 +203,11 @@ pub(crate) fn template_of<'a>(
     field: &'static str,
     item: bool,
 ) -> Result<Option<Template>, Complaint<'a>>
-    ensures template { IfOk result (λ template. option_map templates.view template ≡ template_at item field.now (members_in (view object.now))) }
-    ensures told { IsVerdict (told_at (place_view place.now) field.now (template_wanted item) (members_in (view object.now))) result }
+    ensures template { IfOk result (λ template. option_map templates.view template
+        ≡ template_at item field.now (fields_of object.now)) }
+    ensures told { IsVerdict
+        (told_at (place_view place.now) field.now
+        (template_wanted item) (fields_of object.now)) result }
 {
     match object.get(field) {
         Some(value) => match read_template(alloc, value, item) {
@@ -216,26 +219,18 @@ pub(crate) fn template_of<'a>(
 }
 
 /// The template that a value spells.
+#[tactic(auto, using(crate::proofs::Templates::template_spelled, crate::proofs::Templates::template_right, crate::proofs::Templates::template_wrong))]
 fn read_template(alloc: Global, value: &Value, item: bool) -> Result<Template, DefFault>
-    ensures template { IfOk result (λ template. option_and_then (model_template_of item) (tree_of (view value.now)) ≡ Some (templates.view template)) }
+    ensures template { IfOk result
+        (λ template. option_and_then (model_template_of item) (tree_of (view value.now))
+        ≡ Some (templates.view template)) }
     ensures faults { IsMisfit (model.template_misfits item (tree_of (view value.now))) result }
 {
-    match read_tree(alloc, value) {
-        Ok(Some(tree)) => template_from(alloc, &tree, item),
-        Ok(None) => Err(DefFault::NotWhole),
-        Err(_) => Err(DefFault::OutOfMemory),
-    }
-}
-
-/// The template that a tree spells.
-fn template_from(alloc: Global, tree: &Tree, item: bool) -> Result<Template, DefFault>
-    ensures template { IfOk result (λ template. model_template_of item (trees.view tree.now) ≡ Some (templates.view template)) }
-    ensures faults { IsMisfit (model.unless (is_some (model_template_of item (trees.view tree.now))) model.BadTemplate) result }
-{
-    match asl_template::from_tree(alloc, tree, item) {
+    match asl_template::from_value(alloc, value, item) {
         Ok(template) => Ok(template),
         Err(refusal) => match refusal {
             SpellingRefusal::OutOfMemory => Err(DefFault::OutOfMemory),
+            SpellingRefusal::NotWhole => Err(DefFault::NotWhole),
             SpellingRefusal::NotObject
             | SpellingRefusal::NotText
             | SpellingRefusal::BadPath
@@ -248,7 +243,7 @@ fn template_from(alloc: Global, tree: &Tree, item: bool) -> Result<Template, Def
 
 /// The size of a field's whole number, and `default` where it has none.
 pub(crate) fn natural_of(object: &Value, field: &'static str, default: u64) -> u64
-    ensures { result ≡ natural_at field.now default (members_in (view object.now)) }
+    ensures { result ≡ natural_at field.now default (fields_of object.now) }
 {
     match object.get(field) {
         Some(value) => match value.as_i64() {
@@ -261,7 +256,7 @@ pub(crate) fn natural_of(object: &Value, field: &'static str, default: u64) -> u
 
 /// The elements of a field's list; none where it has no list.
 pub(crate) fn elements_of<'a>(object: &'a Value, field: &'static str) -> &'a [Value]
-    ensures { items_view result.now ≡ items_at field.now (members_in (view object.now)) }
+    ensures { items_view result.now ≡ items_at field.now (fields_of object.now) }
 {
     match object.get(field) {
         Some(value) => match value.as_array() {

@@ -1,21 +1,18 @@
 // Reading what the type of a state adds (States Language, "State Types").
 
-ghost use Rattle.std.specs.Prelude.{◌≡◌, ◌++◌, IfOk, [], codes, map, option_map, option_and_then};
-ghost use Rattle.std.specs.Option.{unwrap_or};
+ghost use Rattle.std.specs.Prelude.{◌≡◌, IfOk, [], codes, map, option_map, option_and_then};
 ghost use Rattle.serde_json.specs.Find.{get_member};
-ghost use Rattle.serde_json.specs.View.{view};
-ghost use Rattle.asl_model.specs.DefinitionTable as model;
 ghost use Rattle.asl_model.specs.Json.{tree_of};
 ghost use Rattle.asl_model.specs.Machine.{Pass, Task, Choice, Wait, Fail, Parallel, Map, settings_of, kind_of};
 ghost use Rattle.asl_model.specs.Numbering.{kind_outline, scopes_outline};
-ghost use Rattle.asl_model.specs.StandsFor.{members_in, state_names, place_of_state, type_of as model_type_of, text_at, path_at, rules_of, rules_complaints, delay_of, selector_of, branches_under, processor_under};
+ghost use Rattle.asl_model.specs.StandsFor.{type_of as model_type_of, text_at, path_at, rules_of, delay_of, selector_of, branches_under, processor_under};
 ghost use Rattle.asl_choice.specs.View.{rule_view};
 ghost use Rattle.asl_template.specs.View as templates;
 ghost use Rattle.asl_states.specs.Machine.{delay_view, kind_view};
-ghost use Rattle.asl_machine.specs.Built.{state_typed};
 ghost use Rattle.asl_machine.specs.Definition.{IsVerdict, place_view};
-ghost use Rattle.asl_machine.specs.Reading.{parameters_told, kind_told, rules_told, delay_told, selector_told, told_at, rule_targets};
+ghost use Rattle.asl_machine.specs.Reading.{parameters_told, delay_told, selector_told, fields_of, names_in, text_or_none, choices_told, map_told, kind_told_with_targets};
 ghost use Rattle.asl_machine.specs.Rows.{type_view};
+ghost use Rattle.asl_machine.specs.Built.{state_as};
 
 use crate::choices::read_choices;
 use crate::fields::{
@@ -23,7 +20,6 @@ use crate::fields::{
     text_of,
 };
 use crate::places::{Complaint, Place};
-use crate::refusals::DefFault;
 use crate::rows::StateType;
 use crate::scopes::{build_branch_starts, build_processor_start};
 use crate::state_checking::check_rule_targets;
@@ -37,7 +33,7 @@ use std::alloc::Global;
 
 /// The type of a state, where it is one.
 pub(crate) fn type_of(state: &Value) -> Option<StateType>
-    ensures { option_map type_view result ≡ model_type_of (members_in (view state.now)) }
+    ensures { option_map type_view result ≡ model_type_of (fields_of state.now) }
 {
     match text_of(state, "Type") {
         Some(name) => StateType::named(name),
@@ -52,8 +48,10 @@ pub(crate) fn read_parameters<'a>(
     state_type: StateType,
     state: &Value,
 ) -> Result<Option<Template>, Complaint<'a>>
-    ensures parameters { IfOk result (λ p. option_map templates.view p ≡ (settings_of (state_typed (type_view state_type) (members_in (view state.now)))).parameters) }
-    ensures told { IsVerdict (parameters_told (type_view state_type) (place_view place.now) (members_in (view state.now))) result }
+    ensures parameters { IfOk result (λ p. option_map templates.view p
+        ≡ (settings_of (state_as state_type state.now)).parameters) }
+    ensures told { IsVerdict (parameters_told (type_view state_type)
+        (place_view place.now) (fields_of state.now)) result }
 {
     match state_type {
         StateType::Pass => template_of(alloc, place, state, "Parameters", false),
@@ -75,8 +73,11 @@ pub(crate) fn read_kind<'a>(
     state: &Value,
     scope: &Value,
 ) -> Result<Kind, Complaint<'a>>
-    ensures kind { IfOk result (λ k. kind_view k ≡ kind_outline (kind_of (state_typed (type_view state_type) (members_in (view state.now))))) }
-    ensures told { IsVerdict (kind_told (type_view state_type) (place_of_state name.now) (members_in (view state.now)) ++ rule_targets (type_view state_type) name.now (state_names (members_in (view scope.now))) (members_in (view state.now))) result }
+    ensures kind { IfOk result
+        (λ k. kind_view k ≡ kind_outline (kind_of (state_as state_type state.now))) }
+    ensures told { IsVerdict
+        (kind_told_with_targets (type_view state_type) name.now
+        (names_in scope.now) (fields_of state.now)) result }
 {
     let place = Place {
         state: name,
@@ -96,24 +97,23 @@ pub(crate) fn read_kind<'a>(
 
 /// What a Pass adds.
 fn read_pass<'a>(alloc: Global, place: &Place<'a>, state: &Value) -> Result<Kind, Complaint<'a>>
-    ensures kind { IfOk result (λ k. kind_view k ≡ Pass (option_and_then tree_of (get_member (codes "Result") (members_in (view state.now))))) }
+    ensures kind { IfOk result (λ k. kind_view k
+        ≡ Pass (option_and_then tree_of (get_member (codes "Result") (fields_of state.now)))) }
     ensures told { IsVerdict [] result }
 {
-    match build_tree(alloc, state, "Result") {
-        Ok(result) => Ok(Kind::Pass { result }),
-        Err(_) => Err(place.complaint("Result", DefFault::OutOfMemory)),
-    }
+    let result = place.or_out_of_memory("Result", build_tree(alloc, state, "Result"))?;
+    Ok(Kind::Pass { result })
 }
 
 /// What a Task adds.
 fn read_task<'a>(alloc: Global, place: &Place<'a>, state: &Value) -> Result<Kind, Complaint<'a>>
-    ensures kind { IfOk result (λ k. kind_view k ≡ Task (unwrap_or (text_at (codes "Resource") (members_in (view state.now))) [])) }
+    ensures kind { IfOk result
+        (λ k. kind_view k ≡ Task (text_or_none (codes "Resource") state.now)) }
     ensures told { IsVerdict [] result }
 {
-    match build_text_or_empty(alloc, state, "Resource") {
-        Ok(resource) => Ok(Kind::Task { resource }),
-        Err(_) => Err(place.complaint("Resource", DefFault::OutOfMemory)),
-    }
+    let resource = build_text_or_empty(alloc, state, "Resource");
+    let resource = place.or_out_of_memory("Resource", resource)?;
+    Ok(Kind::Task { resource })
 }
 
 /// What a Choice adds.
@@ -123,17 +123,15 @@ fn read_choice<'a>(
     state: &Value,
     scope: &Value,
 ) -> Result<Kind, Complaint<'a>>
-    ensures kind { IfOk result (λ k. kind_view k ≡ Choice (rules_of (members_in (view state.now))) (text_at (codes "Default") (members_in (view state.now)))) }
-    ensures told { IsVerdict (rules_told (place_view place.now) (members_in (view state.now)) ++ rules_complaints (place_view place.now) (state_names (members_in (view scope.now))) (rules_of (members_in (view state.now)))) result }
+    ensures kind { IfOk result (λ k. kind_view k
+        ≡ Choice (rules_of (fields_of state.now))
+        (text_at (codes "Default") (fields_of state.now))) }
+    ensures told { IsVerdict
+        (choices_told (place_view place.now) (names_in scope.now) (fields_of state.now)) result }
 {
-    let default = match build_text(alloc, state, "Default") {
-        Ok(default) => default,
-        Err(_) => return Err(place.complaint("Default", DefFault::OutOfMemory)),
-    };
-    match read_rules_with_targets(alloc, place, state, scope) {
-        Ok(choices) => Ok(Kind::Choice { choices, default }),
-        Err(complaint) => Err(complaint),
-    }
+    let default = place.or_out_of_memory("Default", build_text(alloc, state, "Default"))?;
+    let choices = read_rules_with_targets(alloc, place, state, scope)?;
+    Ok(Kind::Choice { choices, default })
 }
 
 /// The rules of a Choice, each of which goes on to a state of `scope`.
@@ -143,84 +141,66 @@ fn read_rules_with_targets<'a>(
     state: &Value,
     scope: &Value,
 ) -> Result<Vec<Rule>, Complaint<'a>>
-    ensures rules { IfOk result (λ rules. map rule_view rules.items ≡ rules_of (members_in (view state.now))) }
-    ensures told { IsVerdict (rules_told (place_view place.now) (members_in (view state.now)) ++ rules_complaints (place_view place.now) (state_names (members_in (view scope.now))) (rules_of (members_in (view state.now)))) result }
+    ensures rules { IfOk result
+        (λ rules. map rule_view rules.items ≡ rules_of (fields_of state.now)) }
+    ensures told { IsVerdict
+        (choices_told (place_view place.now) (names_in scope.now) (fields_of state.now)) result }
 {
-    let rules = match read_choices(alloc, place, state) {
-        Ok(rules) => rules,
-        Err(complaint) => return Err(complaint),
-    };
-    match check_rule_targets(place, &rules, scope) {
-        Ok(()) => Ok(rules),
-        Err(complaint) => Err(complaint),
-    }
+    let rules = read_choices(alloc, place, state)?;
+    check_rule_targets(place, &rules, scope)?;
+    Ok(rules)
 }
 
 /// What a Wait adds.
 fn read_wait<'a>(alloc: Global, place: &Place<'a>, state: &Value) -> Result<Kind, Complaint<'a>>
-    ensures kind { IfOk result (λ k. kind_view k ≡ Wait (delay_of (members_in (view state.now)))) }
-    ensures told { IsVerdict (delay_told (place_view place.now) (members_in (view state.now))) result }
+    ensures kind { IfOk result (λ k. kind_view k ≡ Wait (delay_of (fields_of state.now))) }
+    ensures told { IsVerdict (delay_told (place_view place.now) (fields_of state.now)) result }
 {
-    let seconds_path = match path_of(alloc, place, state, "SecondsPath") {
-        Ok(path) => path,
-        Err(complaint) => return Err(complaint),
-    };
-    let timestamp_path = match path_of(alloc, place, state, "TimestampPath") {
-        Ok(path) => path,
-        Err(complaint) => return Err(complaint),
-    };
-    match build_delay(alloc, state, seconds_path, timestamp_path) {
-        Ok(delay) => Ok(Kind::Wait { delay }),
-        Err(_) => Err(place.complaint("Timestamp", DefFault::OutOfMemory)),
-    }
+    let seconds_path = path_of(alloc, place, state, "SecondsPath")?;
+    let timestamp_path = path_of(alloc, place, state, "TimestampPath")?;
+    let delay = build_delay(alloc, state, seconds_path, timestamp_path);
+    let delay = place.or_out_of_memory("Timestamp", delay)?;
+    Ok(Kind::Wait { delay })
 }
 
 /// What a Fail adds.
 fn read_fail<'a>(alloc: Global, place: &Place<'a>, state: &Value) -> Result<Kind, Complaint<'a>>
-    ensures kind { IfOk result (λ k. kind_view k ≡ Fail (unwrap_or (text_at (codes "Error") (members_in (view state.now))) []) (unwrap_or (text_at (codes "Cause") (members_in (view state.now))) [])) }
+    ensures kind { IfOk result (λ k. kind_view k
+        ≡ Fail (text_or_none (codes "Error") state.now) (text_or_none (codes "Cause") state.now)) }
     ensures told { IsVerdict [] result }
 {
-    match (
-        build_text_or_empty(alloc, state, "Error"),
-        build_text_or_empty(alloc, state, "Cause"),
-    ) {
-        (Ok(error), Ok(cause)) => Ok(Kind::Fail { error, cause }),
-        _ => Err(place.complaint("Error", DefFault::OutOfMemory)),
-    }
+    let error = build_text_or_empty(alloc, state, "Error");
+    let error = place.or_out_of_memory("Error", error)?;
+    let cause = build_text_or_empty(alloc, state, "Cause");
+    let cause = place.or_out_of_memory("Cause", cause)?;
+    Ok(Kind::Fail { error, cause })
 }
 
 /// What a Parallel adds.
 fn read_parallel<'a>(alloc: Global, place: &Place<'a>, state: &Value) -> Result<Kind, Complaint<'a>>
-    ensures kind { IfOk result (λ k. kind_view k ≡ Parallel (scopes_outline (branches_under (members_in (view state.now))))) }
+    ensures kind { IfOk result
+        (λ k. kind_view k ≡ Parallel (scopes_outline (branches_under (fields_of state.now)))) }
     ensures told { IsVerdict [] result }
 {
-    match build_branch_starts(alloc, state) {
-        Ok(branches) => Ok(Kind::Parallel { branches }),
-        Err(_) => Err(place.complaint("Branches", DefFault::OutOfMemory)),
-    }
+    let branches = place.or_out_of_memory("Branches", build_branch_starts(alloc, state))?;
+    Ok(Kind::Parallel { branches })
 }
 
 /// What a Map adds.
 fn read_map<'a>(alloc: Global, place: &Place<'a>, state: &Value) -> Result<Kind, Complaint<'a>>
-    ensures kind { IfOk result (λ k. kind_view k ≡ kind_outline (Map (path_at (codes "ItemsPath") (members_in (view state.now))) (selector_of (members_in (view state.now))) (processor_under (members_in (view state.now))))) }
-    ensures told { IsVerdict (told_at (place_view place.now) (codes "ItemsPath") model.PathValue (members_in (view state.now)) ++ selector_told (place_view place.now) (members_in (view state.now))) result }
+    ensures kind { IfOk result (λ k. kind_view k ≡ kind_outline
+        (Map (path_at (codes "ItemsPath") (fields_of state.now))
+        (selector_of (fields_of state.now)) (processor_under (fields_of state.now)))) }
+    ensures told { IsVerdict (map_told (place_view place.now) (fields_of state.now)) result }
 {
-    let processor = match build_processor_start(alloc, state) {
-        Ok(processor) => processor,
-        Err(_) => return Err(place.complaint("StartAt", DefFault::OutOfMemory)),
-    };
-    let items_path = match path_of(alloc, place, state, "ItemsPath") {
-        Ok(path) => path,
-        Err(complaint) => return Err(complaint),
-    };
-    match read_selector(alloc, place, state) {
-        Ok(item_selector) => Ok(Kind::Map {
-            items_path,
-            processor,
-            item_selector,
-        }),
-        Err(complaint) => Err(complaint),
-    }
+    let processor = place.or_out_of_memory("StartAt", build_processor_start(alloc, state))?;
+    let items_path = path_of(alloc, place, state, "ItemsPath")?;
+    let item_selector = read_selector(alloc, place, state)?;
+    Ok(Kind::Map {
+        items_path,
+        processor,
+        item_selector,
+    })
 }
 
 /// What a Wait waits for: the first of its four fields that is there. Its paths are given.
@@ -230,9 +210,9 @@ fn build_delay(
     seconds_path: RefPath,
     timestamp_path: RefPath,
 ) -> Result<Delay, OutOfMemory>
-    requires seconds { seconds_path ≡ path_at (codes "SecondsPath") (members_in (view state.now)) }
-    requires timestamp { timestamp_path ≡ path_at (codes "TimestampPath") (members_in (view state.now)) }
-    ensures { IfOk result (λ d. delay_view d ≡ delay_of (members_in (view state.now))) }
+    requires seconds { seconds_path ≡ path_at (codes "SecondsPath") (fields_of state.now) }
+    requires timestamp { timestamp_path ≡ path_at (codes "TimestampPath") (fields_of state.now) }
+    ensures { IfOk result (λ d. delay_view d ≡ delay_of (fields_of state.now)) }
 {
     if is_given(state, "Seconds") {
         Ok(Delay::Seconds(natural_of(state, "Seconds", 0)))
@@ -251,21 +231,15 @@ fn read_selector<'a>(
     place: &Place<'a>,
     state: &Value,
 ) -> Result<Option<Template>, Complaint<'a>>
-    ensures selector { IfOk result (λ t. option_map templates.view t ≡ selector_of (members_in (view state.now))) }
-    ensures told { IsVerdict (selector_told (place_view place.now) (members_in (view state.now))) result }
+    ensures selector { IfOk result
+        (λ t. option_map templates.view t ≡ selector_of (fields_of state.now)) }
+    ensures told { IsVerdict (selector_told (place_view place.now) (fields_of state.now)) result }
 {
-    let selector = match template_of(alloc, place, state, "ItemSelector", true) {
-        Ok(selector) => selector,
-        Err(complaint) => return Err(complaint),
-    };
-    match template_of(alloc, place, state, "Parameters", true) {
-        Ok(parameters) => {
-            if is_given(state, "ItemSelector") {
-                Ok(selector)
-            } else {
-                Ok(parameters)
-            }
-        }
-        Err(complaint) => Err(complaint),
+    let selector = template_of(alloc, place, state, "ItemSelector", true)?;
+    let parameters = template_of(alloc, place, state, "Parameters", true)?;
+    if is_given(state, "ItemSelector") {
+        Ok(selector)
+    } else {
+        Ok(parameters)
     }
 }

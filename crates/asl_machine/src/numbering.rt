@@ -5,7 +5,7 @@ ghost use Rattle.std.specs.List.{list_any};
 ghost use Rattle.asl_model.specs.Numbering.{Standing, table_among};
 ghost use Rattle.asl_model.specs.StandsFor.{duplicate_complaints, number_complaints};
 ghost use Rattle.asl_machine.specs.Definition.{IsAmong};
-ghost use Rattle.asl_machine.specs.Numbered.{home_view, number_in, placed_in, names_of_all, Holds};
+ghost use Rattle.asl_machine.specs.Numbered.{home_view, number_in, placed_in, names_of_all, Holds, names_of_rows};
 ghost use Rattle.asl_states.specs.Machine.{scope_view};
 ghost use Rattle.asl_machine.specs.Built.{built_view};
 ghost use Rattle.asl_states.specs.Table.{table_view};
@@ -31,18 +31,20 @@ pub(crate) struct Numbered<'a> {
 
 /// The machine of those rows, in their order. Refuses where a name stands twice, and more states than the limit.
 pub(crate) fn number(alloc: Global, rows: Vec<BuiltState>) -> Result<Machine, DefRefusal>
-    ensures table { IfOk result (λ m. table_view m ≡ table_among (map built_view rows.entry.items)) }
-    ensures distinct { IfOk result (λ _. duplicate_complaints (names_of_all (map built_view rows.entry.items)) ≡ []) }
-    ensures few { IfOk result (λ _. number_complaints (names_of_all (map built_view rows.entry.items)) ≡ []) }
-    ensures refused { IfErr result (λ e. IsAmong (duplicate_complaints (names_of_all (map built_view rows.entry.items)) ++ number_complaints (names_of_all (map built_view rows.entry.items))) (refusal_view e)) }
+    ensures table { IfOk result
+        (λ m. table_view m ≡ table_among (map built_view rows.entry.items)) }
+    ensures distinct { IfOk result
+        (λ _. duplicate_complaints (names_of_rows rows.entry.items) ≡ []) }
+    ensures few { IfOk result (λ _. number_complaints (names_of_rows rows.entry.items) ≡ []) }
+    ensures refused { IfErr result (λ e. IsAmong
+        (duplicate_complaints (names_of_rows rows.entry.items)
+        ++ number_complaints (names_of_rows rows.entry.items))
+        (refusal_view e)) }
 {
     if rows.len() > MOST_STATES {
         return Err(DefRefusal::new(alloc, DefFault::TooLarge, "", "States"));
     }
-    let numbered = match number_all(alloc, rows) {
-        Ok(numbered) => numbered,
-        Err(refusal) => return Err(refusal),
-    };
+    let numbered = number_all(alloc, rows)?;
     match place_all(alloc, &numbered.names, &numbered.homes) {
         Ok(scopes) => Ok(Machine::new(numbered.names, numbered.states, scopes)),
         Err(_) => Err(DefRefusal::out_of_memory(alloc)),
@@ -52,7 +54,8 @@ pub(crate) fn number(alloc: Global, rows: Vec<BuiltState>) -> Result<Machine, De
 /// The states of those rows, in their order.
 fn number_all<'a>(alloc: Global, rows: Vec<BuiltState<'a>>) -> Result<Numbered<'a>, DefRefusal>
     ensures numbered { IfOk result (λ n. Holds (map built_view rows.entry.items) n) }
-    ensures refused { IfErr result (λ e. IsAmong (duplicate_complaints (names_of_all (map built_view rows.entry.items))) (refusal_view e)) }
+    ensures refused { IfErr result
+        (λ e. IsAmong (duplicate_complaints (names_of_rows rows.entry.items)) (refusal_view e)) }
 {
     let mut numbered = Numbered {
         names: IndexSet::new(alloc),
@@ -60,10 +63,7 @@ fn number_all<'a>(alloc: Global, rows: Vec<BuiltState<'a>>) -> Result<Numbered<'
         homes: Vec::new(alloc),
     };
     for row in rows {
-        match numbered.add(alloc, row) {
-            Ok(()) => {}
-            Err(refusal) => return Err(refusal),
-        }
+        numbered.add(alloc, row)?;
     }
     Ok(numbered)
 }
@@ -71,8 +71,11 @@ fn number_all<'a>(alloc: Global, rows: Vec<BuiltState<'a>>) -> Result<Numbered<'
 impl<'a> Numbered<'a> {
     /// Adds a state. Refuses where there is one of its name.
     fn add(&mut self, alloc: Global, row: BuiltState<'a>) -> Result<(), DefRefusal>
-        ensures added { OnOk result ((done : List Standing) → Holds done self.old → Holds (done ++ built_view row.entry ∷ []) self.new) }
-        ensures refused { IfErr result (λ e. (done further : List Standing) → Holds done self.old → IsAmong (duplicate_complaints (names_of_all (done ++ built_view row.entry ∷ further))) (refusal_view e)) }
+        ensures added { OnOk result ((done : List Standing)
+            → Holds done self.old → Holds (done ++ built_view row.entry ∷ []) self.new) }
+        ensures refused { IfErr result (λ e. (done further : List Standing) → Holds done self.old
+            → IsAmong (duplicate_complaints (names_of_all (done ++ built_view row.entry ∷ further)))
+            (refusal_view e)) }
     {
         if self.names.contains(&row.name) {
             let refusal = DefRefusal::new(alloc, DefFault::DuplicateName, &row.name, "States");
@@ -87,7 +90,9 @@ impl<'a> Numbered<'a> {
 
     /// Adds a state of a new name.
     fn push(&mut self, row: BuiltState<'a>) -> Result<(), OutOfMemory>
-        ensures { OnOk result (list_any (string_eq row.entry.name) self.old.names.keys ≡ false → (done : List Standing) → Holds done self.old → Holds (done ++ built_view row.entry ∷ []) self.new) }
+        ensures { OnOk result (list_any (string_eq row.entry.name) self.old.names.keys ≡ false
+            → (done : List Standing) → Holds done self.old
+            → Holds (done ++ built_view row.entry ∷ []) self.new) }
     {
         self.states.push(row.state)?;
         self.names.insert(row.name)?;
@@ -102,7 +107,8 @@ fn place_all(
     names: &IndexSet<String>,
     homes: &[Home],
 ) -> Result<Vec<Scope>, OutOfMemory>
-    ensures { IfOk result (λ scopes. map scope_view scopes.items ≡ map (λ h. placed_in (map string_bytes names.now.keys) (home_view h)) homes.now) }
+    ensures { IfOk result (λ scopes. map scope_view scopes.items
+        ≡ map (λ h. placed_in (map string_bytes names.now.keys) (home_view h)) homes.now) }
 {
     let mut scopes = Vec::new(alloc);
     for home in homes {

@@ -1,12 +1,13 @@
 // Where a rule of a definition is broken, and what is told of it.
 
-ghost use Rattle.std.specs.Prelude.{◌≡◌, List, Some, IfSome, map, option_map};
+ghost use Rattle.std.specs.Prelude.{◌≡◌, List, None, Ok, IfErr, IfOk, IfSome, map, option_map};
 ghost use Rattle.asl_model.specs.DefinitionTable as model;
 ghost use Rattle.asl_model.specs.StandsFor.{is_told_by_name, told_field as model_told_field, complaint_at};
 ghost use Rattle.asl_machine.specs.View.{def_fault_view};
 ghost use Rattle.asl_machine.specs.Definition.{IsAmong, IsMisfit, IsVerdict, complaint_view, place_view, told_unless};
 
 use crate::refusals::DefFault;
+use asl_tree::OutOfMemory;
 
 /// A broken rule, told at a state, whose name is empty for the machine's own fields, and at a field.
 #[derive(Clone, Copy)]
@@ -29,7 +30,8 @@ impl<'a> Place<'a> {
     /// A fault of a field of the object that stands there. It is told at the state's own field in which the object
     /// stands, but for those faults that are told by the field's own name.
     pub(crate) fn complaint(&self, field: &'a str, fault: DefFault) -> Complaint<'a>
-        ensures { complaint_view result ≡ option_map (complaint_at (place_view self.now) field.now) (def_fault_view fault) }
+        ensures { complaint_view result
+            ≡ option_map (complaint_at (place_view self.now) field.now) (def_fault_view fault) }
     {
         Complaint {
             fault,
@@ -40,7 +42,8 @@ impl<'a> Place<'a> {
 
     /// The field at which such a fault is told.
     fn told_field(&self, field: &'a str, fault: DefFault) -> &'a str
-        ensures { IfSome (def_fault_view fault) (λ f. result.now ≡ model_told_field (option_map (λ own. own.now) self.now.within) field.now f) }
+        ensures { IfSome (def_fault_view fault) (λ f. result.now
+            ≡ model_told_field (option_map (λ own. own.now) self.now.within) field.now f) }
     {
         match self.within {
             Some(own) if !is_told_by_its_name(fault) => own,
@@ -50,7 +53,9 @@ impl<'a> Place<'a> {
 
     /// The fault that was found with the value of a field, or with its absence.
     pub(crate) fn found(&self, field: &'a str, fault: DefFault) -> Complaint<'a>
-        ensures { (faults : List model.DefFault) → IsAmong faults (def_fault_view fault) → IsAmong (map (complaint_at (place_view self.now) field.now) faults) (complaint_view result) }
+        ensures { (faults : List model.DefFault) → IsAmong faults (def_fault_view fault)
+            → IsAmong (map (complaint_at (place_view self.now) field.now) faults)
+            (complaint_view result) }
     {
         self.complaint(field, fault)
     }
@@ -61,11 +66,27 @@ impl<'a> Place<'a> {
         field: &'a str,
         found: Result<(), DefFault>,
     ) -> Result<(), Complaint<'a>>
-        ensures { (faults : List model.DefFault) → IsMisfit faults found → IsVerdict (map (complaint_at (place_view self.now) field.now) faults) result }
+        ensures { (faults : List model.DefFault) → IsMisfit faults found
+            → IsVerdict (map (complaint_at (place_view self.now) field.now) faults) result }
     {
         match found {
             Ok(()) => Ok(()),
             Err(fault) => Err(self.complaint(field, fault)),
+        }
+    }
+
+    /// What was built for a field, or else that there was no memory for it.
+    pub(crate) fn or_out_of_memory<T>(
+        &self,
+        field: &'a str,
+        built: Result<T, OutOfMemory>,
+    ) -> Result<T, Complaint<'a>>
+        ensures built { IfOk result (λ value. built ≡ Ok value) }
+        ensures told { IfErr result (λ complaint. complaint_view complaint ≡ None) }
+    {
+        match built {
+            Ok(value) => Ok(value),
+            Err(_) => Err(self.complaint(field, DefFault::OutOfMemory)),
         }
     }
 
@@ -76,7 +97,8 @@ impl<'a> Place<'a> {
         field: &'a str,
         fault: DefFault,
     ) -> Result<(), Complaint<'a>>
-        ensures { IsVerdict (told_unless right (place_view self.now) field.now (def_fault_view fault)) result }
+        ensures { IsVerdict
+            (told_unless right (place_view self.now) field.now (def_fault_view fault)) result }
     {
         if right {
             Ok(())

@@ -3,7 +3,8 @@
 ghost use Rattle.std.specs.Prelude.{◌≡◌, IfSome, Some, None, option_map};
 ghost use Rattle.asl_machine.specs.View.{def_fault_view};
 
-use std::alloc::Global;
+use asl_tree::OutOfMemory;
+use std::alloc::{AllocFailed, Global};
 
 /// What is wrong with a definition (States Language, "Structure of a State Machine", "Top-level fields", "State Types").
 #[derive(Clone, Copy, Debug)]
@@ -79,6 +80,26 @@ impl DefFault {
     }
 }
 
+impl From<OutOfMemory> for DefFault {
+    ghost use Rattle.asl_machine.specs.declared.refusals.DefFault.{DefFault};
+
+    ghost from_gives = { λ _ fault. fault ≡ DefFault.OutOfMemory };
+
+    fn from(_error: OutOfMemory) -> DefFault {
+        DefFault::OutOfMemory
+    }
+}
+
+impl<T: Drop> From<AllocFailed<T>> for DefFault {
+    ghost use Rattle.asl_machine.specs.declared.refusals.DefFault.{DefFault};
+
+    ghost from_gives = { λ _ fault. fault ≡ DefFault.OutOfMemory };
+
+    fn from(_error: AllocFailed<T>) -> DefFault {
+        DefFault::OutOfMemory
+    }
+}
+
 /// Why a definition is refused: the fault, the name of its state, empty for the machine's own, and its field.
 #[derive(Debug, Drop)]
 pub struct DefRefusal {
@@ -92,7 +113,8 @@ impl DefRefusal {
 
     /// A fault at a state and a field. Where there is no memory for their names, that is what is told.
     pub(crate) fn new(alloc: Global, fault: DefFault, state: &str, field: &str) -> DefRefusal
-        ensures { IfSome (refusal_view result) (λ c. option_map (complaint_of state.now field.now) (def_fault_view fault) ≡ Some c) }
+        ensures { IfSome (refusal_view result)
+            (λ c. option_map (complaint_of state.now field.now) (def_fault_view fault) ≡ Some c) }
     {
         match (
             String::from_str(alloc, state),

@@ -354,7 +354,9 @@ pub(crate) fn has_row(rows: &[Row], name: &str) -> bool
 
 /// What is wrong with a field that has no row: it is left out, or unknown.
 pub(crate) fn foreign(name: &str) -> DefFault
-    ensures { def_fault_view result ≡ Some (if is_among name.now model.left_out_fields then model.LeftOut else model.UnknownField) }
+    ensures { def_fault_view result
+        ≡ Some
+        (if is_among name.now model.left_out_fields then model.LeftOut else model.UnknownField) }
 {
     if is_left_out(name) {
         DefFault::LeftOut

@@ -2,17 +2,14 @@
 // (States Language, "Structure of a State Machine", "Parallel State", "Map State"). Each rule is checked, and the states
 // are added in the order of their numbers: each is followed by those of its own scopes.
 
-ghost use Rattle.std.specs.Prelude.{◌≡◌, ◌∷◌, ◌++◌, [], Some, Err, None, IfOk, OnOk, is_some, codes, map};
-ghost use Rattle.serde_json.specs.Data.{object};
-ghost use Rattle.serde_json.specs.Find.{as_object};
+ghost use Rattle.std.specs.Prelude.{◌≡◌, ◌∷◌, [], Some, Err, None, IfOk, OnOk, codes};
 ghost use Rattle.serde_json.specs.View.{view, items_view, members_view};
-ghost use Rattle.asl_model.specs.DefinitionTable.{wrong_kind as model_wrong_kind, machine_rows, branch_rows, every_state_rows, rows_of};
-ghost use Rattle.asl_model.specs.Numbering.{outline, standing_in, standing_among, standing_inside, standing_each};
+ghost use Rattle.asl_model.specs.Numbering.{outline, standing_in, standing_inside, standing_each};
 ghost use Rattle.asl_model.specs.StandsFor as model;
-ghost use Rattle.asl_model.specs.StandsFor.{members_in, state_names, place_of_state, place_within, branches_complaints_under, processor_complaints_under};
+ghost use Rattle.asl_model.specs.StandsFor.{branches_complaints_under, processor_complaints_under};
 ghost use Rattle.asl_model.specs.StandsFor.{scope_of, states_in, states_under, each_state, state_of, scopes_in, each_scope, branches_under, processor_under};
-ghost use Rattle.asl_machine.specs.Built.{built_view, owner_view, state_typed, stands_at, standing_with, Adds};
-ghost use Rattle.asl_machine.specs.Reading.{AreChecked, state_told};
+ghost use Rattle.asl_machine.specs.Built.{owner_view, stands_at, standing_with, state_as, standing_at, Added};
+ghost use Rattle.asl_machine.specs.Reading.{AreChecked, state_told, fields_of, names_in, own_told, nested_told, typed_told, untyped_told, named_told, branch_told, definition_told};
 ghost use Rattle.asl_states.specs.Machine.{state_view};
 ghost use Rattle.asl_machine.specs.Rows.{rows_view, type_view};
 ghost use Rattle.asl_machine.specs.Definition.{IsVerdict, place_view};
@@ -42,17 +39,17 @@ pub(crate) fn read_states<'a>(
     definition: &'a Value,
     built: &mut Vec<BuiltState<'a>>,
 ) -> Result<(), Complaint<'a>>
-    ensures rules { IsVerdict (model.no_object_complaints (view definition.now) ++ model.scope_complaints (place_of_state []) machine_rows (view definition.now)) result }
-    ensures added { OnOk result (Adds (map built_view built.old.items) (map built_view built.new.items) (standing_in None (scope_of (view definition.now)))) }
+    ensures rules { IsVerdict (definition_told (view definition.now)) result }
+    ensures added { OnOk result
+        (Added built.old.items built.new.items
+        (standing_in None (scope_of (view definition.now)))) }
 {
     let place = Place {
         state: "",
         within: None,
     };
-    match place.complain_unless(definition.is_object(), "", DefFault::NotObject) {
-        Ok(()) => read_scope(alloc, &place, definition, &rows::MACHINE, None, built),
-        Err(complaint) => Err(complaint),
-    }
+    place.complain_unless(definition.is_object(), "", DefFault::NotObject)?;
+    read_scope(alloc, &place, definition, &rows::MACHINE, None, built)
 }
 
 /// Reads a scope, which may have the fields of those rows. Of one that is no object nothing is told.
@@ -65,26 +62,23 @@ fn read_scope<'a>(
     owner: Option<(&'a str, usize)>,
     built: &mut Vec<BuiltState<'a>>,
 ) -> Result<(), Complaint<'a>>
-    ensures rules { AreChecked (rows_view rows.now) → IsVerdict (model.scope_complaints (place_view place.now) (rows_view rows.now) (view scope.now)) result }
-    ensures added { OnOk result (Adds (map built_view built.old.items) (map built_view built.new.items) (standing_in (owner_view owner.entry) (scope_of (view scope.now)))) }
+    ensures rules { AreChecked (rows_view rows.now)
+        → IsVerdict (model.scope_complaints (place_view place.now)
+        (rows_view rows.now) (view scope.now)) result }
+    ensures added { OnOk result
+        (Added built.old.items built.new.items
+        (standing_in (owner_view owner.entry) (scope_of (view scope.now)))) }
 {
     if !scope.is_object() {
         return Ok(());
     }
-    match check_fields(place, scope, rows) {
-        Ok(()) => {}
-        Err(complaint) => return Err(complaint),
-    }
-    match check_target(place, "StartAt", scope, "StartAt", scope) {
-        Ok(()) => {
-            let home = Home {
-                start: text_or_empty(scope, "StartAt"),
-                owner,
-            };
-            read_states_in(alloc, scope, home, built)
-        }
-        Err(complaint) => Err(complaint),
-    }
+    check_fields(place, scope, rows)?;
+    check_target(place, "StartAt", scope, "StartAt", scope)?;
+    let home = Home {
+        start: text_or_empty(scope, "StartAt"),
+        owner,
+    };
+    read_states_in(alloc, scope, home, built)
 }
 
 /// Reads the states in the field `States` of a scope.
@@ -95,17 +89,18 @@ fn read_states_in<'a>(
     home: Home<'a>,
     built: &mut Vec<BuiltState<'a>>,
 ) -> Result<(), Complaint<'a>>
-    ensures rules { IsVerdict (model.states_complaints_under (state_names (members_in (view scope.now))) (members_in (view scope.now))) result }
-    ensures added { OnOk result (Adds (map built_view built.old.items) (map built_view built.new.items) (standing_among home.entry.start.now (owner_view home.entry.owner) (states_under (codes "States") (members_in (view scope.now))))) }
+    ensures rules { IsVerdict
+        (model.states_complaints_under (names_in scope.now) (fields_of scope.now)) result }
+    ensures added { OnOk result
+        (Added built.old.items built.new.items
+        (standing_at home.entry (states_under (codes "States") (fields_of scope.now)))) }
 {
-    match scope {
-        Value::Object(members) => match members.get("States") {
-            Some(states) => read_object_of_states(alloc, states, scope, home, built),
-            None => Ok(()),
-        },
-        Value::Null | Value::Bool(_) | Value::Number(_) | Value::String(_) | Value::Array(_) => {
-            Ok(())
-        }
+    let Value::Object(members) = scope else {
+        return Ok(());
+    };
+    match members.get("States") {
+        Some(states) => read_object_of_states(alloc, states, scope, home, built),
+        None => Ok(()),
     }
 }
 
@@ -118,15 +113,16 @@ fn read_object_of_states<'a>(
     home: Home<'a>,
     built: &mut Vec<BuiltState<'a>>,
 ) -> Result<(), Complaint<'a>>
-    ensures rules { IsVerdict (model.states_complaints (state_names (members_in (view scope.now))) (view states.now)) result }
-    ensures added { OnOk result (Adds (map built_view built.old.items) (map built_view built.new.items) (standing_among home.entry.start.now (owner_view home.entry.owner) (states_in (view states.now)))) }
+    ensures rules { IsVerdict
+        (model.states_complaints (names_in scope.now) (view states.now)) result }
+    ensures added { OnOk result
+        (Added built.old.items built.new.items
+        (standing_at home.entry (states_in (view states.now)))) }
 {
-    match states {
-        Value::Object(members) => read_each_state(alloc, members, scope, home, built),
-        Value::Null | Value::Bool(_) | Value::Number(_) | Value::String(_) | Value::Array(_) => {
-            Ok(())
-        }
-    }
+    let Value::Object(members) = states else {
+        return Ok(());
+    };
+    read_each_state(alloc, members, scope, home, built)
 }
 
 /// Reads each member as a state of its name.
@@ -138,14 +134,14 @@ fn read_each_state<'a>(
     home: Home<'a>,
     built: &mut Vec<BuiltState<'a>>,
 ) -> Result<(), Complaint<'a>>
-    ensures rules { IsVerdict (model.each_state_complaints (state_names (members_in (view scope.now))) (members_view members.now.entries)) result }
-    ensures added { OnOk result (Adds (map built_view built.old.items) (map built_view built.new.items) (standing_among home.entry.start.now (owner_view home.entry.owner) (each_state (members_view members.now.entries)))) }
+    ensures rules { IsVerdict (model.each_state_complaints
+        (names_in scope.now) (members_view members.now.entries)) result }
+    ensures added { OnOk result
+        (Added built.old.items built.new.items
+        (standing_at home.entry (each_state (members_view members.now.entries)))) }
 {
     for (name, state) in members.iter() {
-        match read_named_state(alloc, state, name, scope, home, built) {
-            Ok(()) => {}
-            Err(complaint) => return Err(complaint),
-        }
+        read_named_state(alloc, state, name, scope, home, built)?;
     }
     Ok(())
 }
@@ -160,13 +156,13 @@ fn read_named_state<'a>(
     home: Home<'a>,
     built: &mut Vec<BuiltState<'a>>,
 ) -> Result<(), Complaint<'a>>
-    ensures rules { IsVerdict (model.name_complaints name.now ++ model.state_complaints (state_names (members_in (view scope.now))) name.now (view state.now)) result }
-    ensures added { OnOk result (Adds (map built_view built.old.items) (map built_view built.new.items) (standing_with home.entry name.now (state_of (view state.now)))) }
+    ensures rules { IsVerdict (named_told (names_in scope.now) name.now (view state.now)) result }
+    ensures added { OnOk result
+        (Added built.old.items built.new.items
+        (standing_with home.entry name.now (state_of (view state.now)))) }
 {
-    match check_name(name) {
-        Ok(()) => read_state(alloc, state, name, scope, home, built),
-        Err(complaint) => Err(complaint),
-    }
+    check_name(name)?;
+    read_state(alloc, state, name, scope, home, built)
 }
 
 /// Checks that the name of a state isn't too long.
@@ -204,8 +200,11 @@ fn read_state<'a>(
     home: Home<'a>,
     built: &mut Vec<BuiltState<'a>>,
 ) -> Result<(), Complaint<'a>>
-    ensures rules { IsVerdict (model.state_complaints (state_names (members_in (view scope.now))) name.now (view state.now)) result }
-    ensures added { OnOk result (Adds (map built_view built.old.items) (map built_view built.new.items) (standing_with home.entry name.now (state_of (view state.now)))) }
+    ensures rules { IsVerdict
+        (model.state_complaints (names_in scope.now) name.now (view state.now)) result }
+    ensures added { OnOk result
+        (Added built.old.items built.new.items
+        (standing_with home.entry name.now (state_of (view state.now)))) }
 {
     if !state.is_object() {
         let place = Place {
@@ -231,13 +230,14 @@ fn read_typed<'a>(
     home: Home<'a>,
     built: &mut Vec<BuiltState<'a>>,
 ) -> Result<(), Complaint<'a>>
-    ensures rules { IsVerdict (model.state_complaints_by (Some (type_view state_type)) name.now (state_names (members_in (view scope.now))) (members_in (view state.now)) (branches_complaints_under name.now (members_in (view state.now))) (processor_complaints_under name.now (members_in (view state.now)))) result }
-    ensures added { OnOk result (Adds (map built_view built.old.items) (map built_view built.new.items) (standing_with home.entry name.now (state_typed (type_view state_type) (members_in (view state.now))))) }
+    ensures rules { IsVerdict (typed_told (type_view state_type)
+        (names_in scope.now) name.now (fields_of state.now)) result }
+    ensures added { OnOk result
+        (Added built.old.items built.new.items
+        (standing_with home.entry name.now (state_as state_type state.now))) }
 {
-    match read_own(alloc, state, name, scope, state_type, home, built) {
-        Ok(()) => read_nested(alloc, state, name, state_type, built),
-        Err(complaint) => Err(complaint),
-    }
+    read_own(alloc, state, name, scope, state_type, home, built)?;
+    read_nested(alloc, state, name, state_type, built)
 }
 
 /// Reads a state of that type without its scopes, and adds it.
@@ -250,25 +250,19 @@ fn read_own<'a>(
     home: Home<'a>,
     built: &mut Vec<BuiltState<'a>>,
 ) -> Result<(), Complaint<'a>>
-    ensures rules { IsVerdict (model.fields_complaints (place_of_state name.now) (rows_of (type_view state_type)) (members_in (view state.now)) ++ model.type_complaints (type_view state_type) name.now (state_names (members_in (view scope.now))) (members_in (view state.now))) result }
-    ensures added { OnOk result (Adds (map built_view built.old.items) (map built_view built.new.items) (stands_at home.entry name.now (state_typed (type_view state_type) (members_in (view state.now))) ∷ [])) }
+    ensures rules { IsVerdict (own_told (type_view state_type)
+        (names_in scope.now) name.now (fields_of state.now)) result }
+    ensures added { OnOk result
+        (Added built.old.items built.new.items
+        (stands_at home.entry name.now (state_as state_type state.now) ∷ [])) }
 {
     let place = Place {
         state: name,
         within: None,
     };
-    match check_fields(&place, state, state_type.rows()) {
-        Ok(()) => {}
-        Err(complaint) => return Err(complaint),
-    }
-    let read = match read_outline(alloc, state, name, scope, state_type) {
-        Ok(read) => read,
-        Err(complaint) => return Err(complaint),
-    };
-    match add_state(alloc, name, read, home, built) {
-        Ok(()) => Ok(()),
-        Err(_) => Err(place.complaint("", DefFault::OutOfMemory)),
-    }
+    check_fields(&place, state, state_type.rows())?;
+    let read = read_outline(alloc, state, name, scope, state_type)?;
+    place.or_out_of_memory("", add_state(alloc, name, read, home, built))
 }
 
 /// Reads a state of that type without its scopes: its rules, and the fields that are read.
@@ -279,27 +273,21 @@ fn read_outline<'a>(
     scope: &Value,
     state_type: StateType,
 ) -> Result<State, Complaint<'a>>
-    ensures state { IfOk result (λ read. state_view read ≡ outline (state_typed (type_view state_type) (members_in (view state.now)))) }
-    ensures told { IsVerdict (state_told (type_view state_type) name.now (state_names (members_in (view scope.now))) (members_in (view state.now))) result }
+    ensures state { IfOk result
+        (λ read. state_view read ≡ outline (state_as state_type state.now)) }
+    ensures told { IsVerdict (state_told (type_view state_type) name.now
+        (names_in scope.now) (fields_of state.now)) result }
 {
-    match check_type_rules(name, state, scope, state_type) {
-        Ok(()) => {}
-        Err(complaint) => return Err(complaint),
-    }
-    let settings = match read_settings(alloc, name, state_type, state, scope) {
-        Ok(settings) => settings,
-        Err(complaint) => return Err(complaint),
-    };
-    match read_kind(alloc, name, state_type, state, scope) {
-        Ok(kind) => Ok(State { settings, kind }),
-        Err(complaint) => Err(complaint),
-    }
+    check_type_rules(name, state, scope, state_type)?;
+    let settings = read_settings(alloc, name, state_type, state, scope)?;
+    let kind = read_kind(alloc, name, state_type, state, scope)?;
+    Ok(State { settings, kind })
 }
 
 /// What is told of an object without a type as a state: only the fields of every state are looked at.
 fn told_without_type<'a>(state: &Value, name: &'a str) -> Complaint<'a>
-    requires { model.type_of (members_in (view state.now)) ≡ None }
-    ensures { IsVerdict {A = Unit {0}} (model.rows_complaints (place_of_state name.now) every_state_rows (members_in (view state.now)) ++ model.unknown_type (place_of_state name.now) (model.text_at (codes "Type") (members_in (view state.now)))) (Err result) }
+    requires { model.type_of (fields_of state.now) ≡ None }
+    ensures { IsVerdict {A = Unit {0}} (untyped_told name.now (fields_of state.now)) (Err result) }
 {
     let place = Place {
         state: name,
@@ -320,8 +308,11 @@ fn read_nested<'a>(
     state_type: StateType,
     built: &mut Vec<BuiltState<'a>>,
 ) -> Result<(), Complaint<'a>>
-    ensures rules { IsVerdict (model.nested_complaints (type_view state_type) (branches_complaints_under name.now (members_in (view state.now))) (processor_complaints_under name.now (members_in (view state.now)))) result }
-    ensures added { OnOk result (Adds (map built_view built.old.items) (map built_view built.new.items) (standing_inside name.now (state_typed (type_view state_type) (members_in (view state.now))))) }
+    ensures rules { IsVerdict
+        (nested_told (type_view state_type) name.now (fields_of state.now)) result }
+    ensures added { OnOk result
+        (Added built.old.items built.new.items
+        (standing_inside name.now (state_as state_type state.now))) }
 {
     match state_type {
         StateType::Parallel => read_branches_in(alloc, state, name, built),
@@ -343,17 +334,17 @@ fn read_branches_in<'a>(
     name: &'a str,
     built: &mut Vec<BuiltState<'a>>,
 ) -> Result<(), Complaint<'a>>
-    ensures rules { IsVerdict (branches_complaints_under name.now (members_in (view state.now))) result }
-    ensures added { OnOk result (Adds (map built_view built.old.items) (map built_view built.new.items) (standing_each name.now 0 (branches_under (members_in (view state.now))))) }
+    ensures rules { IsVerdict (branches_complaints_under name.now (fields_of state.now)) result }
+    ensures added { OnOk result
+        (Added built.old.items built.new.items
+        (standing_each name.now 0 (branches_under (fields_of state.now)))) }
 {
-    match state {
-        Value::Object(members) => match members.get("Branches") {
-            Some(branches) => read_branches(alloc, branches, name, built),
-            None => Ok(()),
-        },
-        Value::Null | Value::Bool(_) | Value::Number(_) | Value::String(_) | Value::Array(_) => {
-            Ok(())
-        }
+    let Value::Object(members) = state else {
+        return Ok(());
+    };
+    match members.get("Branches") {
+        Some(branches) => read_branches(alloc, branches, name, built),
+        None => Ok(()),
     }
 }
 
@@ -366,14 +357,14 @@ fn read_branches<'a>(
     built: &mut Vec<BuiltState<'a>>,
 ) -> Result<(), Complaint<'a>>
     ensures rules { IsVerdict (model.branches_complaints name.now (view branches.now)) result }
-    ensures added { OnOk result (Adds (map built_view built.old.items) (map built_view built.new.items) (standing_each name.now 0 (scopes_in (view branches.now)))) }
+    ensures added { OnOk result
+        (Added built.old.items built.new.items
+        (standing_each name.now 0 (scopes_in (view branches.now)))) }
 {
-    match branches {
-        Value::Array(elements) => read_each_branch(alloc, elements, name, built),
-        Value::Null | Value::Bool(_) | Value::Number(_) | Value::String(_) | Value::Object(_) => {
-            Ok(())
-        }
-    }
+    let Value::Array(elements) = branches else {
+        return Ok(());
+    };
+    read_each_branch(alloc, elements, name, built)
 }
 
 /// Reads each element as a branch of a state, numbered from 0.
@@ -384,14 +375,14 @@ fn read_each_branch<'a>(
     name: &'a str,
     built: &mut Vec<BuiltState<'a>>,
 ) -> Result<(), Complaint<'a>>
-    ensures rules { IsVerdict (model.each_branch_complaints name.now (items_view elements.now)) result }
-    ensures added { OnOk result (Adds (map built_view built.old.items) (map built_view built.new.items) (standing_each name.now 0 (each_scope (items_view elements.now)))) }
+    ensures rules { IsVerdict
+        (model.each_branch_complaints name.now (items_view elements.now)) result }
+    ensures added { OnOk result
+        (Added built.old.items built.new.items
+        (standing_each name.now 0 (each_scope (items_view elements.now)))) }
 {
     for (number, element) in elements.iter().enumerate() {
-        match read_branch(alloc, element, name, number, built) {
-            Ok(()) => {}
-            Err(complaint) => return Err(complaint),
-        }
+        read_branch(alloc, element, name, number, built)?;
     }
     Ok(())
 }
@@ -405,8 +396,10 @@ fn read_branch<'a>(
     number: usize,
     built: &mut Vec<BuiltState<'a>>,
 ) -> Result<(), Complaint<'a>>
-    ensures rules { IsVerdict (model.complain_unless (is_some (as_object (view branch.now))) (place_within name.now (codes "Branches")) (codes "Branches") (model_wrong_kind (view branch.now)) ++ model.scope_complaints (place_within name.now (codes "Branches")) branch_rows (view branch.now)) result }
-    ensures added { OnOk result (Adds (map built_view built.old.items) (map built_view built.new.items) (standing_in (Some (name.now, number)) (scope_of (view branch.now)))) }
+    ensures rules { IsVerdict (branch_told name.now (view branch.now)) result }
+    ensures added { OnOk result
+        (Added built.old.items built.new.items
+        (standing_in (Some (name.now, number)) (scope_of (view branch.now)))) }
 {
     let place = Place {
         state: name,
@@ -427,15 +420,15 @@ fn read_processor_in<'a>(
     name: &'a str,
     built: &mut Vec<BuiltState<'a>>,
 ) -> Result<(), Complaint<'a>>
-    ensures rules { IsVerdict (processor_complaints_under name.now (members_in (view state.now))) result }
-    ensures added { OnOk result (Adds (map built_view built.old.items) (map built_view built.new.items) (standing_in (Some (name.now, 0)) (processor_under (members_in (view state.now))))) }
+    ensures rules { IsVerdict (processor_complaints_under name.now (fields_of state.now)) result }
+    ensures added { OnOk result
+        (Added built.old.items built.new.items
+        (standing_in (Some (name.now, 0)) (processor_under (fields_of state.now)))) }
 {
-    match state {
-        Value::Object(members) => read_first_processor(alloc, members, name, built),
-        Value::Null | Value::Bool(_) | Value::Number(_) | Value::String(_) | Value::Array(_) => {
-            Ok(())
-        }
-    }
+    let Value::Object(members) = state else {
+        return Ok(());
+    };
+    read_first_processor(alloc, members, name, built)
 }
 
 /// Reads the first of the members that is a processor.
@@ -446,8 +439,11 @@ fn read_first_processor<'a>(
     name: &'a str,
     built: &mut Vec<BuiltState<'a>>,
 ) -> Result<(), Complaint<'a>>
-    ensures rules { IsVerdict (processor_complaints_under name.now (members_view members.now.entries)) result }
-    ensures added { OnOk result (Adds (map built_view built.old.items) (map built_view built.new.items) (standing_in (Some (name.now, 0)) (processor_under (members_view members.now.entries)))) }
+    ensures rules { IsVerdict
+        (processor_complaints_under name.now (members_view members.now.entries)) result }
+    ensures added { OnOk result
+        (Added built.old.items built.new.items
+        (standing_in (Some (name.now, 0)) (processor_under (members_view members.now.entries)))) }
 {
     for (field, value) in members.iter() {
         if is_processor(field) {

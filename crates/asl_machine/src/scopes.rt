@@ -1,13 +1,14 @@
 // Finding the scopes of a state, and building the names of their start states (States Language, "Parallel State", "Map
 // State").
 
-ghost use Rattle.std.specs.Prelude.{◌≡◌, IfOk, string_bytes, option_map, []};
+ghost use Rattle.std.specs.Prelude.{◌≡◌, IfOk, string_bytes, option_map};
 ghost use Rattle.std.specs.Option.{unwrap_or};
 ghost use Rattle.serde_json.specs.View.{view, items_view, members_view};
 ghost use Rattle.asl_model.specs.Machine.{empty_scope, start_of};
 ghost use Rattle.asl_model.specs.Numbering.{scopes_outline};
-ghost use Rattle.asl_model.specs.StandsFor.{members_in, scope_of, each_scope, branches_under, processor_under, is_processor as model_is_processor};
+ghost use Rattle.asl_model.specs.StandsFor.{scope_of, each_scope, branches_under, processor_under, is_processor as model_is_processor};
 ghost use Rattle.asl_states.specs.Machine.{branches_view};
+ghost use Rattle.asl_machine.specs.Reading.{fields_of};
 
 use crate::fields::{build_text_or_empty, elements_of};
 use asl_tree::OutOfMemory;
@@ -16,14 +17,16 @@ use std::alloc::Global;
 
 /// The names of the start states of a Parallel's branches.
 pub(crate) fn build_branch_starts(alloc: Global, state: &Value) -> Result<Vec<String>, OutOfMemory>
-    ensures { IfOk result (λ starts. branches_view starts.items ≡ scopes_outline (branches_under (members_in (view state.now)))) }
+    ensures { IfOk result (λ starts. branches_view starts.items
+        ≡ scopes_outline (branches_under (fields_of state.now))) }
 {
     build_starts(alloc, elements_of(state, "Branches"))
 }
 
 /// The names of the start states of scopes.
 fn build_starts(alloc: Global, scopes: &[Value]) -> Result<Vec<String>, OutOfMemory>
-    ensures { IfOk result (λ starts. branches_view starts.items ≡ scopes_outline (each_scope (items_view scopes.now))) }
+    ensures { IfOk result (λ starts. branches_view starts.items
+        ≡ scopes_outline (each_scope (items_view scopes.now))) }
 {
     let mut starts = Vec::with_capacity(alloc, scopes.len())?;
     for scope in scopes {
@@ -41,7 +44,8 @@ fn build_start(alloc: Global, scope: &Value) -> Result<String, OutOfMemory>
 
 /// The name of the start state of a Map's processor.
 pub(crate) fn build_processor_start(alloc: Global, state: &Value) -> Result<String, OutOfMemory>
-    ensures { IfOk result (λ start. string_bytes start ≡ start_of (processor_under (members_in (view state.now)))) }
+    ensures { IfOk result
+        (λ start. string_bytes start ≡ start_of (processor_under (fields_of state.now))) }
 {
     match state.as_object() {
         Some(members) => build_start_of_processor(alloc, members),
@@ -54,7 +58,8 @@ fn build_start_of_processor(
     alloc: Global,
     members: &Map<String, Value>,
 ) -> Result<String, OutOfMemory>
-    ensures { IfOk result (λ start. string_bytes start ≡ start_of (processor_under (members_view members.now.entries))) }
+    ensures { IfOk result (λ start. string_bytes start
+        ≡ start_of (processor_under (members_view members.now.entries))) }
 {
     match processor_of(members) {
         Some(processor) => build_start(alloc, processor),
@@ -64,7 +69,8 @@ fn build_start_of_processor(
 
 /// The processor among the fields of a Map: `ItemProcessor`, or `Iterator` as its older name.
 pub(crate) fn processor_of(members: &Map<String, Value>) -> Option<&Value>
-    ensures { unwrap_or (option_map (λ v. scope_of (view v.now)) result) empty_scope ≡ processor_under (members_view members.now.entries) }
+    ensures { unwrap_or (option_map (λ v. scope_of (view v.now)) result) empty_scope
+        ≡ processor_under (members_view members.now.entries) }
 {
     for (name, value) in members.iter() {
         if is_processor(name) {

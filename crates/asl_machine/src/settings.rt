@@ -1,20 +1,18 @@
 // Reading what states of several types have (States Language, "State Types", "Input and Output Processing").
 
-ghost use Rattle.std.specs.Prelude.{◌≡◌, ◌++◌, IfOk, codes, false, map, option_map};
-ghost use Rattle.serde_json.specs.View.{view};
+ghost use Rattle.std.specs.Prelude.{◌≡◌, IfOk, codes, false, option_map};
 ghost use Rattle.asl_model.specs.Machine.{settings_of};
-ghost use Rattle.asl_model.specs.StandsFor.{members_in, state_names, path_or_null_at, template_at, settings_in};
+ghost use Rattle.asl_model.specs.StandsFor.{path_or_null_at, template_at, settings_in};
 ghost use Rattle.asl_template.specs.View as templates;
 ghost use Rattle.asl_states.specs.Machine.{settings_view};
-ghost use Rattle.asl_machine.specs.Built.{state_typed};
 ghost use Rattle.asl_machine.specs.Definition.{IsVerdict, place_view};
-ghost use Rattle.asl_machine.specs.Reading.{processing_told, settings_told};
+ghost use Rattle.asl_machine.specs.Reading.{processing_told, settings_told, fields_of, names_in};
 ghost use Rattle.asl_machine.specs.Rows.{type_view};
+ghost use Rattle.asl_machine.specs.Built.{state_as};
 
 use crate::fields::{build_text, path_or_null_of, template_of};
 use crate::kinds::read_parameters;
 use crate::places::{Complaint, Place};
-use crate::refusals::DefFault;
 use crate::rows::StateType;
 use crate::trouble_reading::read_trouble;
 use asl_path::RefPath;
@@ -40,38 +38,30 @@ pub(crate) fn read_settings<'a>(
     state: &'a Value,
     scope: &Value,
 ) -> Result<Settings, Complaint<'a>>
-    ensures settings { IfOk result (λ s. settings_view s ≡ settings_in (settings_of (state_typed (type_view state_type) (members_in (view state.now)))).parameters (members_in (view state.now))) }
-    ensures told { IsVerdict (settings_told (type_view state_type) name.now (state_names (members_in (view scope.now))) (members_in (view state.now))) result }
+    ensures settings { IfOk result (λ s. settings_view s
+        ≡ settings_in (settings_of (state_as state_type state.now)).parameters
+        (fields_of state.now)) }
+    ensures told { IsVerdict (settings_told (type_view state_type) name.now
+        (names_in scope.now) (fields_of state.now)) result }
 {
     let place = Place {
         state: name,
         within: None,
     };
-    let next = match build_text(alloc, state, "Next") {
-        Ok(next) => next,
-        Err(_) => return Err(place.complaint("Next", DefFault::OutOfMemory)),
-    };
-    let trouble = match read_trouble(alloc, name, state, scope) {
-        Ok(trouble) => trouble,
-        Err(complaint) => return Err(complaint),
-    };
-    let processing = match read_processing(alloc, &place, state) {
-        Ok(processing) => processing,
-        Err(complaint) => return Err(complaint),
-    };
-    match read_parameters(alloc, &place, state_type, state) {
-        Ok(parameters) => Ok(Settings {
-            input_path: processing.input_path,
-            parameters,
-            result_selector: processing.result_selector,
-            result_path: processing.result_path,
-            output_path: processing.output_path,
-            next,
-            retriers: trouble.retriers,
-            catchers: trouble.catchers,
-        }),
-        Err(complaint) => Err(complaint),
-    }
+    let next = place.or_out_of_memory("Next", build_text(alloc, state, "Next"))?;
+    let trouble = read_trouble(alloc, name, state, scope)?;
+    let processing = read_processing(alloc, &place, state)?;
+    let parameters = read_parameters(alloc, &place, state_type, state)?;
+    Ok(Settings {
+        input_path: processing.input_path,
+        parameters,
+        result_selector: processing.result_selector,
+        result_path: processing.result_path,
+        output_path: processing.output_path,
+        next,
+        retriers: trouble.retriers,
+        catchers: trouble.catchers,
+    })
 }
 
 /// What a state makes of its data, but for its parameters.
@@ -80,31 +70,24 @@ fn read_processing<'a>(
     place: &Place<'a>,
     state: &Value,
 ) -> Result<Processing, Complaint<'a>>
-    ensures input { IfOk result (λ p. p.input_path ≡ path_or_null_at (codes "InputPath") (members_in (view state.now))) }
-    ensures placed { IfOk result (λ p. p.result_path ≡ path_or_null_at (codes "ResultPath") (members_in (view state.now))) }
-    ensures output { IfOk result (λ p. p.output_path ≡ path_or_null_at (codes "OutputPath") (members_in (view state.now))) }
-    ensures selected { IfOk result (λ p. option_map templates.view p.result_selector ≡ template_at false (codes "ResultSelector") (members_in (view state.now))) }
-    ensures told { IsVerdict (processing_told (place_view place.now) (members_in (view state.now))) result }
+    ensures input { IfOk result
+        (λ p. p.input_path ≡ path_or_null_at (codes "InputPath") (fields_of state.now)) }
+    ensures placed { IfOk result
+        (λ p. p.result_path ≡ path_or_null_at (codes "ResultPath") (fields_of state.now)) }
+    ensures output { IfOk result
+        (λ p. p.output_path ≡ path_or_null_at (codes "OutputPath") (fields_of state.now)) }
+    ensures selected { IfOk result (λ p. option_map templates.view p.result_selector
+        ≡ template_at false (codes "ResultSelector") (fields_of state.now)) }
+    ensures told { IsVerdict (processing_told (place_view place.now) (fields_of state.now)) result }
 {
-    let result_selector = match template_of(alloc, place, state, "ResultSelector", false) {
-        Ok(template) => template,
-        Err(complaint) => return Err(complaint),
-    };
-    let result_path = match path_or_null_of(alloc, place, state, "ResultPath") {
-        Ok(path) => path,
-        Err(complaint) => return Err(complaint),
-    };
-    let input_path = match path_or_null_of(alloc, place, state, "InputPath") {
-        Ok(path) => path,
-        Err(complaint) => return Err(complaint),
-    };
-    match path_or_null_of(alloc, place, state, "OutputPath") {
-        Ok(output_path) => Ok(Processing {
-            input_path,
-            result_path,
-            output_path,
-            result_selector,
-        }),
-        Err(complaint) => Err(complaint),
-    }
+    let result_selector = template_of(alloc, place, state, "ResultSelector", false)?;
+    let result_path = path_or_null_of(alloc, place, state, "ResultPath")?;
+    let input_path = path_or_null_of(alloc, place, state, "InputPath")?;
+    let output_path = path_or_null_of(alloc, place, state, "OutputPath")?;
+    Ok(Processing {
+        input_path,
+        result_path,
+        output_path,
+        result_selector,
+    })
 }

@@ -1,15 +1,13 @@
 // Checking the rules on several fields of a state (States Language, "State Types").
 
-ghost use Rattle.std.specs.Prelude.{◌≡◌, ◌++◌, ◌&&◌, Some, not, [], map, codes, string_bytes, option_map, option_and_then};
-ghost use Rattle.serde_json.specs.Find.{as_bool, get_member};
-ghost use Rattle.serde_json.specs.View.{view};
+ghost use Rattle.std.specs.Prelude.{◌≡◌, ◌&&◌, Some, not, map, codes, string_bytes, option_and_then};
+ghost use Rattle.serde_json.specs.Find.{get_member};
 ghost use Rattle.asl_model.specs.DefinitionTable.{as_whole};
 ghost use Rattle.asl_model.specs.ShapeSpelling.{is_among};
 ghost use Rattle.asl_model.specs.StandsFor as model;
-ghost use Rattle.asl_model.specs.StandsFor.{members_in, state_names};
 ghost use Rattle.asl_machine.specs.Rows.{type_view};
 ghost use Rattle.asl_machine.specs.Definition.{IsVerdict, place_view};
-ghost use Rattle.asl_machine.specs.Reading.{rules_of_type};
+ghost use Rattle.asl_machine.specs.Reading.{rules_of_type, fields_of, names_in, ends_at, task_told, wait_told, map_rules_told};
 ghost use Rattle.asl_choice.specs.View.{rule_view};
 
 use crate::fields::{is_given, text_of};
@@ -33,7 +31,8 @@ pub(crate) fn check_type_rules<'a>(
     scope: &Value,
     state_type: StateType,
 ) -> Result<(), Complaint<'a>>
-    ensures { IsVerdict (rules_of_type (type_view state_type) name.now (state_names (members_in (view scope.now))) (members_in (view state.now))) result }
+    ensures { IsVerdict (rules_of_type (type_view state_type) name.now
+        (names_in scope.now) (fields_of state.now)) result }
 {
     let place = Place {
         state: name,
@@ -51,12 +50,11 @@ pub(crate) fn check_type_rules<'a>(
 
 /// Checks the rules on several fields of a Task.
 fn check_task<'a>(place: &Place<'a>, state: &Value, scope: &Value) -> Result<(), Complaint<'a>>
-    ensures { IsVerdict (model.next_complaints (place_view place.now) (state_names (members_in (view scope.now))) (members_in (view state.now)) ++ model.heartbeat_complaints (place_view place.now) (members_in (view state.now))) result }
+    ensures { IsVerdict
+        (task_told (place_view place.now) (names_in scope.now) (fields_of state.now)) result }
 {
-    match check_next(place, state, scope) {
-        Ok(()) => check_heartbeat(place, state),
-        Err(complaint) => Err(complaint),
-    }
+    check_next(place, state, scope)?;
+    check_heartbeat(place, state)
 }
 
 /// Checks that each rule of a Choice goes on to a state of the scope.
@@ -65,20 +63,20 @@ pub(crate) fn check_rule_targets<'a>(
     rules: &[Rule],
     scope: &Value,
 ) -> Result<(), Complaint<'a>>
-    ensures { IsVerdict (model.rules_complaints (place_view place.now) (state_names (members_in (view scope.now))) (map rule_view rules.now)) result }
+    ensures { IsVerdict (model.rules_complaints (place_view place.now)
+        (names_in scope.now) (map rule_view rules.now)) result }
 {
     for rule in rules {
-        match check_rule_target(place, rule, scope) {
-            Ok(()) => {}
-            Err(complaint) => return Err(complaint),
-        }
+        check_rule_target(place, rule, scope)?;
     }
     Ok(())
 }
 
 /// Checks that a rule of a Choice goes on to a state of the scope.
 fn check_rule_target<'a>(place: &Place<'a>, rule: &Rule, scope: &Value) -> Result<(), Complaint<'a>>
-    ensures { IsVerdict (model.target_complaints (place_view place.now) (state_names (members_in (view scope.now))) (codes "Choices") (Some (string_bytes rule.now.next))) result }
+    ensures { IsVerdict (model.target_complaints
+        (place_view place.now) (names_in scope.now)
+        (codes "Choices") (Some (string_bytes rule.now.next))) result }
 {
     place.complain_unless(
         has_state(scope, &rule.next),
@@ -89,42 +87,38 @@ fn check_rule_target<'a>(place: &Place<'a>, rule: &Rule, scope: &Value) -> Resul
 
 /// Checks the rules on several fields of a Wait.
 fn check_wait<'a>(place: &Place<'a>, state: &Value, scope: &Value) -> Result<(), Complaint<'a>>
-    ensures { IsVerdict (model.next_complaints (place_view place.now) (state_names (members_in (view scope.now))) (members_in (view state.now)) ++ model.wait_complaints (place_view place.now) (members_in (view state.now))) result }
+    ensures { IsVerdict
+        (wait_told (place_view place.now) (names_in scope.now) (fields_of state.now)) result }
 {
-    match check_next(place, state, scope) {
-        Ok(()) => check_one_of(place, state, "Seconds", &DELAYS),
-        Err(complaint) => Err(complaint),
-    }
+    check_next(place, state, scope)?;
+    check_one_of(place, state, "Seconds", &DELAYS)
 }
 
 /// Checks the rules on several fields of a Map.
 fn check_map<'a>(place: &Place<'a>, state: &Value, scope: &Value) -> Result<(), Complaint<'a>>
-    ensures { IsVerdict (model.next_complaints (place_view place.now) (state_names (members_in (view scope.now))) (members_in (view state.now)) ++ (model.processor_complaints (place_view place.now) (members_in (view state.now)) ++ model.selector_complaints (place_view place.now) (members_in (view state.now)))) result }
+    ensures { IsVerdict
+        (map_rules_told (place_view place.now) (names_in scope.now) (fields_of state.now)) result }
 {
-    match check_next(place, state, scope) {
-        Ok(()) => {}
-        Err(complaint) => return Err(complaint),
-    }
-    match check_one_of(place, state, "ItemProcessor", &PROCESSORS) {
-        Ok(()) => check_selector(place, state),
-        Err(complaint) => Err(complaint),
-    }
+    check_next(place, state, scope)?;
+    check_one_of(place, state, "ItemProcessor", &PROCESSORS)?;
+    check_selector(place, state)
 }
 
 /// Checks where a state goes on to.
 fn check_next<'a>(place: &Place<'a>, state: &Value, scope: &Value) -> Result<(), Complaint<'a>>
-    ensures { IsVerdict (model.next_complaints (place_view place.now) (state_names (members_in (view scope.now))) (members_in (view state.now))) result }
+    ensures { IsVerdict (model.next_complaints (place_view place.now)
+        (names_in scope.now) (fields_of state.now)) result }
 {
-    match place.complain_unless(goes_on_once(state), "Next", DefFault::NextOrEnd) {
-        Ok(()) => check_target(place, "Next", state, "Next", scope),
-        Err(complaint) => Err(complaint),
-    }
+    place.complain_unless(goes_on_once(state), "Next", DefFault::NextOrEnd)?;
+    check_target(place, "Next", state, "Next", scope)
 }
 
 /// Whether a state goes on in one way: it has exactly one of `Next` and `"End": true`. Of an `End` that is no truth value
 /// nothing is said.
 fn goes_on_once(state: &Value) -> bool
-    ensures { result ≡ not (model.has_proper_end (members_in (view state.now)) && model.same_truth (model.is_given (codes "Next") (members_in (view state.now))) (model.ends (option_and_then as_bool (get_member (codes "End") (members_in (view state.now)))))) }
+    ensures { result ≡ not (model.has_proper_end (fields_of state.now)
+        && model.same_truth (model.is_given (codes "Next") (fields_of state.now))
+        (ends_at (fields_of state.now))) }
 {
     let end = match state.get("End") {
         Some(end) => end.as_bool(),
@@ -145,7 +139,9 @@ pub(crate) fn check_target<'a>(
     field: &'static str,
     scope: &Value,
 ) -> Result<(), Complaint<'a>>
-    ensures { IsVerdict (model.target_complaints (place_view place.now) (state_names (members_in (view scope.now))) told.now (model.text_at field.now (members_in (view object.now)))) result }
+    ensures { IsVerdict (model.target_complaints
+        (place_view place.now) (names_in scope.now) told.now
+        (model.text_at field.now (fields_of object.now))) result }
 {
     match text_of(object, field) {
         Some(name) => place.complain_unless(has_state(scope, name), told, DefFault::NoSuchState),
@@ -155,7 +151,7 @@ pub(crate) fn check_target<'a>(
 
 /// Whether a scope has a state of that name.
 fn has_state(scope: &Value, name: &str) -> bool
-    ensures { result ≡ is_among name.now (state_names (members_in (view scope.now))) }
+    ensures { result ≡ is_among name.now (names_in scope.now) }
 {
     match scope.get("States") {
         Some(states) => states.get(name).is_some(),
@@ -165,7 +161,8 @@ fn has_state(scope: &Value, name: &str) -> bool
 
 /// Checks that a heartbeat is smaller than its timeout, where both are given.
 fn check_heartbeat<'a>(place: &Place<'a>, state: &Value) -> Result<(), Complaint<'a>>
-    ensures { IsVerdict (model.heartbeat_complaints (place_view place.now) (members_in (view state.now))) result }
+    ensures { IsVerdict
+        (model.heartbeat_complaints (place_view place.now) (fields_of state.now)) result }
 {
     let right = match (
         whole_of(state, "HeartbeatSeconds"),
@@ -179,7 +176,7 @@ fn check_heartbeat<'a>(place: &Place<'a>, state: &Value) -> Result<(), Complaint
 
 /// The whole number of a field, where it has one.
 fn whole_of(object: &Value, field: &str) -> Option<i64>
-    ensures { result ≡ option_and_then as_whole (get_member field.now (members_in (view object.now))) }
+    ensures { result ≡ option_and_then as_whole (get_member field.now (fields_of object.now)) }
 {
     match object.get(field) {
         Some(value) => value.as_i64(),
@@ -189,7 +186,8 @@ fn whole_of(object: &Value, field: &str) -> Option<i64>
 
 /// Checks that at most one of a Map's `ItemSelector` and its older name is there.
 fn check_selector<'a>(place: &Place<'a>, state: &Value) -> Result<(), Complaint<'a>>
-    ensures { IsVerdict (model.selector_complaints (place_view place.now) (members_in (view state.now))) result }
+    ensures { IsVerdict
+        (model.selector_complaints (place_view place.now) (fields_of state.now)) result }
 {
     let right = !(is_given(state, "ItemSelector") && is_given(state, "Parameters"));
     place.complain_unless(right, "Parameters", DefFault::WrongKind)
@@ -202,7 +200,9 @@ fn check_one_of<'a>(
     first: &'static str,
     fields: &'static [&'static str],
 ) -> Result<(), Complaint<'a>>
-    ensures { IsVerdict (model.one_of_complaints (place_view place.now) first.now (model.given_among (map (λ field. field.now) fields.now) (members_in (view state.now)))) result }
+    ensures { IsVerdict (model.one_of_complaints
+        (place_view place.now) first.now
+        (model.given_among (map (λ field. field.now) fields.now) (fields_of state.now))) result }
 {
     let mut last = None;
     let mut are_several = false;

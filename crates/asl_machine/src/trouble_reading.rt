@@ -1,17 +1,16 @@
 // Reading retriers and catchers (States Language, "Errors").
 
-ghost use Rattle.std.specs.Prelude.{◌≡◌, ◌++◌, IfOk, codes, map, string_bytes};
+ghost use Rattle.std.specs.Prelude.{◌≡◌, IfOk, codes, map, string_bytes};
 ghost use Rattle.std.specs.List.{filter_map};
 ghost use Rattle.serde_json.specs.Find.{as_str};
 ghost use Rattle.serde_json.specs.View.{view, items_view};
-ghost use Rattle.asl_model.specs.DefinitionTable.{retrier_rows, catcher_rows, BadErrorEquals};
 ghost use Rattle.asl_model.specs.ShapeSpelling.{is_among};
 ghost use Rattle.asl_model.specs.StandsFor as model;
-ghost use Rattle.asl_model.specs.StandsFor.{members_in, state_names, place_within, listed, items_at, error_names, retrier_of, catcher_of};
+ghost use Rattle.asl_model.specs.StandsFor.{place_within, listed, items_at, error_names, retrier_of, catcher_of};
 ghost use Rattle.asl_states.specs.Machine.{retrier_view, catcher_view};
 ghost use Rattle.asl_machine.specs.Rows.{rows_view};
 ghost use Rattle.asl_machine.specs.Definition.{IsVerdict, place_view};
-ghost use Rattle.asl_machine.specs.Reading.{are_proper as model_are_proper, element_checked};
+ghost use Rattle.asl_machine.specs.Reading.{are_proper as model_are_proper, element_checked, fields_of, names_in, names_told, retrier_told, catcher_told, caught_checked};
 
 use crate::field_checking::check_fields;
 use crate::fields::{build_text_or_empty, elements_of, natural_of, path_or_null_of};
@@ -42,18 +41,16 @@ pub(crate) fn read_trouble<'a>(
     state: &'a Value,
     scope: &Value,
 ) -> Result<Trouble, Complaint<'a>>
-    ensures retried { IfOk result (λ t. map retrier_view t.retriers.items ≡ map retrier_of (listed (items_at (codes "Retry") (members_in (view state.now))))) }
-    ensures caught { IfOk result (λ t. map catcher_view t.catchers.items ≡ map catcher_of (listed (items_at (codes "Catch") (members_in (view state.now))))) }
-    ensures told { IsVerdict (model.trouble_complaints name.now (state_names (members_in (view scope.now))) (members_in (view state.now))) result }
+    ensures retried { IfOk result (λ t. map retrier_view t.retriers.items
+        ≡ map retrier_of (listed (items_at (codes "Retry") (fields_of state.now)))) }
+    ensures caught { IfOk result (λ t. map catcher_view t.catchers.items
+        ≡ map catcher_of (listed (items_at (codes "Catch") (fields_of state.now)))) }
+    ensures told { IsVerdict
+        (model.trouble_complaints name.now (names_in scope.now) (fields_of state.now)) result }
 {
-    let retriers = match read_retry(alloc, name, state) {
-        Ok(retriers) => retriers,
-        Err(complaint) => return Err(complaint),
-    };
-    match read_catch(alloc, name, state, scope) {
-        Ok(catchers) => Ok(Trouble { retriers, catchers }),
-        Err(complaint) => Err(complaint),
-    }
+    let retriers = read_retry(alloc, name, state)?;
+    let catchers = read_catch(alloc, name, state, scope)?;
+    Ok(Trouble { retriers, catchers })
 }
 
 /// The retriers in `Retry`.
@@ -62,8 +59,11 @@ fn read_retry<'a>(
     name: &'a str,
     state: &'a Value,
 ) -> Result<Vec<Retrier>, Complaint<'a>>
-    ensures retriers { IfOk result (λ read. map retrier_view read.items ≡ map retrier_of (listed (items_at (codes "Retry") (members_in (view state.now))))) }
-    ensures told { IsVerdict (model.retriers_complaints (place_within name.now (codes "Retry")) (items_at (codes "Retry") (members_in (view state.now)))) result }
+    ensures retriers { IfOk result (λ read. map retrier_view read.items
+        ≡ map retrier_of (listed (items_at (codes "Retry") (fields_of state.now)))) }
+    ensures told { IsVerdict (model.retriers_complaints
+        (place_within name.now (codes "Retry"))
+        (items_at (codes "Retry") (fields_of state.now))) result }
 {
     let place = Place {
         state: name,
@@ -79,8 +79,11 @@ fn read_catch<'a>(
     state: &'a Value,
     scope: &Value,
 ) -> Result<Vec<Catcher>, Complaint<'a>>
-    ensures catchers { IfOk result (λ read. map catcher_view read.items ≡ map catcher_of (listed (items_at (codes "Catch") (members_in (view state.now))))) }
-    ensures told { IsVerdict (model.catchers_complaints (place_within name.now (codes "Catch")) (state_names (members_in (view scope.now))) (items_at (codes "Catch") (members_in (view state.now)))) result }
+    ensures catchers { IfOk result (λ read. map catcher_view read.items
+        ≡ map catcher_of (listed (items_at (codes "Catch") (fields_of state.now)))) }
+    ensures told { IsVerdict (model.catchers_complaints
+        (place_within name.now (codes "Catch")) (names_in scope.now)
+        (items_at (codes "Catch") (fields_of state.now))) result }
 {
     let place = Place {
         state: name,
@@ -95,17 +98,17 @@ fn read_retriers<'a>(
     place: &Place<'a>,
     elements: &'a [Value],
 ) -> Result<Vec<Retrier>, Complaint<'a>>
-    ensures retriers { IfOk result (λ read. map retrier_view read.items ≡ map retrier_of (listed (items_view elements.now))) }
-    ensures told { IsVerdict (model.retriers_complaints (place_view place.now) (items_view elements.now)) result }
+    ensures retriers { IfOk result (λ read. map retrier_view read.items
+        ≡ map retrier_of (listed (items_view elements.now))) }
+    ensures told { IsVerdict
+        (model.retriers_complaints (place_view place.now) (items_view elements.now)) result }
 {
     let mut retriers = Vec::new(alloc);
     for (index, element) in elements.iter().enumerate() {
-        match read_retrier(alloc, place, element, index + 1 == elements.len()) {
-            Ok(retrier) => match retriers.push(retrier) {
-                Ok(()) => {}
-                Err(_) => return Err(place.complaint("Retry", DefFault::OutOfMemory)),
-            },
-            Err(complaint) => return Err(complaint),
+        let retrier = read_retrier(alloc, place, element, index + 1 == elements.len())?;
+        match retriers.push(retrier) {
+            Ok(()) => {}
+            Err(_) => return Err(place.complaint("Retry", DefFault::OutOfMemory)),
         }
     }
     Ok(retriers)
@@ -119,19 +122,15 @@ fn read_retrier<'a>(
     is_last: bool,
 ) -> Result<Retrier, Complaint<'a>>
     ensures retrier { IfOk result (λ r. retrier_view r ≡ retrier_of (view element.now)) }
-    ensures told { IsVerdict (model.element_complaints (place_view place.now) (codes "Retry") retrier_rows (view element.now) ++ model.complain_unless (model.has_proper_names (members_in (view element.now)) is_last) (place_view place.now) (codes "Retry") BadErrorEquals) result }
+    ensures told { IsVerdict
+        (retrier_told (place_view place.now) is_last (view element.now)) result }
 {
-    match check_element(place, "Retry", element, &rows::RETRIER) {
-        Ok(()) => {}
-        Err(complaint) => return Err(complaint),
-    }
-    match read_error_names(alloc, place, "Retry", element, is_last) {
-        Ok(error_equals) => Ok(Retrier {
-            error_equals,
-            max_attempts: natural_of(element, "MaxAttempts", DEFAULT_ATTEMPTS),
-        }),
-        Err(complaint) => Err(complaint),
-    }
+    check_element(place, "Retry", element, &rows::RETRIER)?;
+    let error_equals = read_error_names(alloc, place, "Retry", element, is_last)?;
+    Ok(Retrier {
+        error_equals,
+        max_attempts: natural_of(element, "MaxAttempts", DEFAULT_ATTEMPTS),
+    })
 }
 
 /// The catchers that the elements of `Catch` stand for.
@@ -141,17 +140,17 @@ fn read_catchers<'a>(
     elements: &'a [Value],
     scope: &Value,
 ) -> Result<Vec<Catcher>, Complaint<'a>>
-    ensures catchers { IfOk result (λ read. map catcher_view read.items ≡ map catcher_of (listed (items_view elements.now))) }
-    ensures told { IsVerdict (model.catchers_complaints (place_view place.now) (state_names (members_in (view scope.now))) (items_view elements.now)) result }
+    ensures catchers { IfOk result (λ read. map catcher_view read.items
+        ≡ map catcher_of (listed (items_view elements.now))) }
+    ensures told { IsVerdict (model.catchers_complaints
+        (place_view place.now) (names_in scope.now) (items_view elements.now)) result }
 {
     let mut catchers = Vec::new(alloc);
     for (index, element) in elements.iter().enumerate() {
-        match read_catcher(alloc, place, element, index + 1 == elements.len(), scope) {
-            Ok(catcher) => match catchers.push(catcher) {
-                Ok(()) => {}
-                Err(_) => return Err(place.complaint("Catch", DefFault::OutOfMemory)),
-            },
-            Err(complaint) => return Err(complaint),
+        let catcher = read_catcher(alloc, place, element, index + 1 == elements.len(), scope)?;
+        match catchers.push(catcher) {
+            Ok(()) => {}
+            Err(_) => return Err(place.complaint("Catch", DefFault::OutOfMemory)),
         }
     }
     Ok(catchers)
@@ -166,24 +165,18 @@ fn read_catcher<'a>(
     scope: &Value,
 ) -> Result<Catcher, Complaint<'a>>
     ensures catcher { IfOk result (λ c. catcher_view c ≡ catcher_of (view element.now)) }
-    ensures told { IsVerdict (model.element_complaints (place_view place.now) (codes "Catch") catcher_rows (view element.now) ++ (model.complain_unless (model.has_proper_names (members_in (view element.now)) is_last) (place_view place.now) (codes "Catch") BadErrorEquals ++ model.target_complaints (place_view place.now) (state_names (members_in (view scope.now))) (codes "Catch") (model.text_at (codes "Next") (members_in (view element.now))))) result }
+    ensures told { IsVerdict
+        (catcher_told (place_view place.now)
+        (names_in scope.now) is_last (view element.now)) result }
 {
-    let error_equals = match read_caught(alloc, place, element, is_last, scope) {
-        Ok(names) => names,
-        Err(complaint) => return Err(complaint),
-    };
-    let result_path = match path_or_null_of(alloc, place, element, "ResultPath") {
-        Ok(path) => path,
-        Err(complaint) => return Err(complaint),
-    };
-    match build_text_or_empty(alloc, element, "Next") {
-        Ok(next) => Ok(Catcher {
-            error_equals,
-            result_path,
-            next,
-        }),
-        Err(_) => Err(place.complaint("Catch", DefFault::OutOfMemory)),
-    }
+    let error_equals = read_caught(alloc, place, element, is_last, scope)?;
+    let result_path = path_or_null_of(alloc, place, element, "ResultPath")?;
+    let next = place.or_out_of_memory("Catch", build_text_or_empty(alloc, element, "Next"))?;
+    Ok(Catcher {
+        error_equals,
+        result_path,
+        next,
+    })
 }
 
 /// The error names of an element of `Catch`, which is in order but for its path.
@@ -194,21 +187,16 @@ fn read_caught<'a>(
     is_last: bool,
     scope: &Value,
 ) -> Result<Vec<String>, Complaint<'a>>
-    ensures names { IfOk result (λ names. map string_bytes names.items ≡ error_names (members_in (view element.now))) }
-    ensures told { IsVerdict (element_checked (place_view place.now) (codes "Catch") catcher_rows (view element.now) ++ (model.complain_unless (model.has_proper_names (members_in (view element.now)) is_last) (place_view place.now) (codes "Catch") BadErrorEquals ++ model.target_complaints (place_view place.now) (state_names (members_in (view scope.now))) (codes "Catch") (model.text_at (codes "Next") (members_in (view element.now))))) result }
+    ensures names { IfOk result
+        (λ names. map string_bytes names.items ≡ error_names (fields_of element.now)) }
+    ensures told { IsVerdict
+        (caught_checked (place_view place.now)
+        (names_in scope.now) is_last (view element.now)) result }
 {
-    match check_element(place, "Catch", element, &rows::CATCHER) {
-        Ok(()) => {}
-        Err(complaint) => return Err(complaint),
-    }
-    let names = match read_error_names(alloc, place, "Catch", element, is_last) {
-        Ok(names) => names,
-        Err(complaint) => return Err(complaint),
-    };
-    match check_target(place, "Catch", element, "Next", scope) {
-        Ok(()) => Ok(names),
-        Err(complaint) => Err(complaint),
-    }
+    check_element(place, "Catch", element, &rows::CATCHER)?;
+    let names = read_error_names(alloc, place, "Catch", element, is_last)?;
+    check_target(place, "Catch", element, "Next", scope)?;
+    Ok(names)
 }
 
 /// Checks that an element is an object of those fields, but for what is read.
@@ -218,7 +206,8 @@ fn check_element<'a>(
     element: &'a Value,
     rows: &'static [Row],
 ) -> Result<(), Complaint<'a>>
-    ensures { IsVerdict (element_checked (place_view place.now) field.now (rows_view rows.now) (view element.now)) result }
+    ensures { IsVerdict (element_checked (place_view place.now) field.now
+        (rows_view rows.now) (view element.now)) result }
 {
     if element.is_object() {
         check_fields(place, element, rows)
@@ -235,17 +224,14 @@ fn read_error_names<'a>(
     element: &Value,
     is_last: bool,
 ) -> Result<Vec<String>, Complaint<'a>>
-    ensures names { IfOk result (λ names. map string_bytes names.items ≡ error_names (members_in (view element.now))) }
-    ensures told { IsVerdict (model.complain_unless (model.has_proper_names (members_in (view element.now)) is_last) (place_view place.now) field.now BadErrorEquals) result }
+    ensures names { IfOk result
+        (λ names. map string_bytes names.items ≡ error_names (fields_of element.now)) }
+    ensures told { IsVerdict
+        (names_told (place_view place.now) field.now is_last (fields_of element.now)) result }
 {
-    let names = match build_error_names(alloc, element) {
-        Ok(names) => names,
-        Err(_) => return Err(place.complaint(field, DefFault::OutOfMemory)),
-    };
-    match place.complain_unless(are_proper(&names, is_last), field, DefFault::BadErrorEquals) {
-        Ok(()) => Ok(names),
-        Err(complaint) => Err(complaint),
-    }
+    let names = place.or_out_of_memory(field, build_error_names(alloc, element))?;
+    place.complain_unless(are_proper(&names, is_last), field, DefFault::BadErrorEquals)?;
+    Ok(names)
 }
 
 /// Whether `States.ALL`, where it is among the error names of an element, is the only one, and the element the last.
@@ -269,14 +255,16 @@ fn has_all_errors(names: &[String]) -> bool
 
 /// The error names of a retrier or catcher.
 fn build_error_names(alloc: Global, object: &Value) -> Result<Vec<String>, OutOfMemory>
-    ensures { IfOk result (λ names. map string_bytes names.items ≡ error_names (members_in (view object.now))) }
+    ensures { IfOk result
+        (λ names. map string_bytes names.items ≡ error_names (fields_of object.now)) }
 {
     build_texts(alloc, elements_of(object, "ErrorEquals"))
 }
 
 /// The texts among the elements.
 fn build_texts(alloc: Global, elements: &[Value]) -> Result<Vec<String>, OutOfMemory>
-    ensures { IfOk result (λ texts. map string_bytes texts.items ≡ filter_map as_str (listed (items_view elements.now))) }
+    ensures { IfOk result (λ texts. map string_bytes texts.items
+        ≡ filter_map as_str (listed (items_view elements.now))) }
 {
     let mut texts = Vec::with_capacity(alloc, elements.len())?;
     for element in elements {

@@ -1,12 +1,12 @@
 // Checking the values of fields.
 
-ghost use Rattle.std.specs.Prelude.{◌≡◌, [], Some, if◌then◌else◌};
+ghost use Rattle.std.specs.Prelude.{◌≡◌, Some};
 ghost use Rattle.serde_json.specs.View.{view, items_view};
 ghost use Rattle.asl_model.specs.DefinitionTable as model;
 ghost use Rattle.asl_machine.specs.View.{def_fault_view};
-ghost use Rattle.asl_machine.specs.Reading.{is_read};
 ghost use Rattle.asl_machine.specs.Rows.{wanted_view};
 ghost use Rattle.asl_machine.specs.Definition.{IsMisfit};
+ghost use Rattle.asl_machine.specs.Reading.{misfits_unread};
 
 use crate::refusals::DefFault;
 use crate::rows::Wanted;
@@ -14,7 +14,7 @@ use serde_json::Value;
 
 /// Finds what is wrong with the value of a field, where something is. What is wrong with one that is read shows there.
 pub(crate) fn check_value(wanted: Wanted, value: &Value) -> Result<(), DefFault>
-    ensures { IsMisfit (if is_read (wanted_view wanted) then [] else model.misfits (wanted_view wanted) (view value.now)) result }
+    ensures { IsMisfit (misfits_unread (wanted_view wanted) (view value.now)) result }
 {
     match wanted {
         Wanted::Text => check_text(value),
@@ -97,10 +97,10 @@ fn check_names(value: &Value) -> Result<(), DefFault>
     ensures { IsMisfit (model.misfits model.NamesValue (view value.now)) result }
 {
     match value.as_array() {
-        Some(names) => match check_some(names) {
-            Ok(()) => check_each_text(names),
-            Err(fault) => Err(fault),
-        },
+        Some(names) => {
+            check_some(names)?;
+            check_each_text(names)
+        }
         None => Err(wrong_kind(value)),
     }
 }
@@ -110,10 +110,7 @@ fn check_each_text(values: &[Value]) -> Result<(), DefFault>
     ensures { IsMisfit (model.wrong_with_each model.text_misfits (items_view values.now)) result }
 {
     for value in values {
-        match check_text(value) {
-            Ok(()) => {}
-            Err(fault) => return Err(fault),
-        }
+        check_text(value)?;
     }
     Ok(())
 }

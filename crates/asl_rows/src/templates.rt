@@ -1,7 +1,7 @@
 //! Vectors for templates, and each call once with ample memory.
 use asl_intrinsic::Item;
-use asl_template::{eval, from_tree};
-use asl_tree::{read, to_text};
+use asl_template::{Template, eval, from_tree, from_value};
+use asl_tree::{Tree, read, read_value, to_text};
 use std::alloc::Global;
 use std::process::Abort;
 
@@ -14,16 +14,24 @@ fn answered(
     input: &[u8],
     item: Option<Item>,
 ) -> String {
-    let template = match from_tree(alloc, &read(alloc, spelling).expect(rt, "a tree"), allowed) {
+    let value = read_value(alloc, spelling).expect(rt, "a value");
+    let template = match from_value(alloc, &value, allowed) {
         Ok(template) => template,
         Err(refusal) => return format!(in alloc; "{refusal:?}").expect(rt, "memory"),
     };
-    match eval(
-        alloc,
-        &template,
-        &read(alloc, input).expect(rt, "a tree"),
-        item,
-    ) {
+    let input = read(alloc, input).expect(rt, "a tree");
+    evaluated(rt, alloc, &template, &input, item)
+}
+
+/// The text of the template's value, or the refusal.
+fn evaluated(
+    rt: &impl Abort,
+    alloc: Global,
+    template: &Template,
+    input: &Tree,
+    item: Option<Item>,
+) -> String {
+    match eval(alloc, template, input, item) {
         Ok(value) => to_text(alloc, &value).expect(rt, "a text"),
         Err(refusal) => format!(in alloc; "{refusal:?}").expect(rt, "memory"),
     }
@@ -32,7 +40,7 @@ fn answered(
 #[test]
 fn templates(rt: HostRuntime) {
     let alloc = rt.alloc();
-    let vectors: [(&[u8], &[u8], &str); 17] = [
+    let vectors: [(&[u8], &[u8], &str); 20] = [
         (
             br#"{"a":[{"b.$":"$.x"}],"c":"$.x"}"#,
             br#"{"x":1}"#,
@@ -82,6 +90,9 @@ fn templates(rt: HostRuntime) {
         (br#"{"a":[[{"x.$":1}]]}"#, b"{}", "NotText"),
         (b"[]", b"{}", "NotObject"),
         (b"\"$.x\"", b"{}", "NotObject"),
+        (br#"{"x":[1,{"y":1.5}]}"#, b"{}", "NotWhole"),
+        (br#"{"x.$":1,"y":9223372036854775808}"#, b"{}", "NotWhole"),
+        (b"1e2", b"{}", "NotWhole"),
     ];
     for (spelling, input, wanted) in vectors {
         let answer = answered(&rt, alloc, spelling, false, input, None);
@@ -136,4 +147,18 @@ fn templates(rt: HostRuntime) {
         let answer = answered(&rt, alloc, spelling, true, b"{}", None);
         assert_eq!(rt; answer.as_str(), without);
     }
+}
+
+#[test]
+fn templates_of_trees(rt: HostRuntime) {
+    let alloc = rt.alloc();
+    let tree = read(alloc, br#"{"a":[{"b.$":"$.x"}]}"#).expect(&rt, "a tree");
+    let template = from_tree(alloc, &tree, false).expect(&rt, "a template");
+    let input = read(alloc, br#"{"x":1}"#).expect(&rt, "a tree");
+    let value = evaluated(&rt, alloc, &template, &input, None);
+    assert_eq!(rt; value.as_str(), r#"{"a":[{"b":1}]}"#);
+    let refused = from_tree(alloc, &input, false).is_err();
+    assert!(rt; !refused);
+    let refused = from_tree(alloc, &Tree::Int(1), false).is_err();
+    assert!(rt; refused);
 }

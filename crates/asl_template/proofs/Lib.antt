@@ -4,3 +4,4 @@ pub mod Members
 pub mod Parts
 pub mod Telling
 pub mod Values
+pub mod Wholes

@@ -11,26 +11,25 @@ use Rattle.std.specs.Ordering.{is_eq, match_ordering, ordering_reverse}
 use Rattle.asl_model.specs.ShapeSpelling.{is_among, are_distinct}
 use Rattle.asl_model.specs.Template as template
 use Rattle.asl_model.specs.Template.{FieldTemplates, NoFieldTemplates, AndFieldTemplate}
-use Rattle.asl_model.specs.TemplateGrammar.{StandsForTemplate}
 use Rattle.asl_model.specs.TemplateSpelling as model
 use Rattle.asl_model.specs.TemplateSpelling.{renamed, renamed_names, with_field, field_templates_of, fields_faults, part_faults, duplicate_faults}
 use Rattle.asl_model.specs.Tree as json
 use Rattle.asl_model.specs.Tree.{comes_before}
 use Rattle.asl_model.proofs.ReadingTemplates.{Absent, other_way, neither, not_true, absent_as_read}
 use Rattle.asl_model.proofs.ShapeWitness.{comes_before-trans, bytes_eq-comm}
-use Rattle.asl_model.proofs.TemplateGrammar.{one_way, none_among_read, template_exactly}
-use Rattle.asl_tree.specs.View as trees
-use Rattle.asl_tree.specs.declared.Tree.{Tree}
+use Rattle.asl_model.proofs.TemplateGrammar.{one_way, none_among_read}
+use Rattle.serde_json.specs.declared.value.Value.{Value}
 use Rattle.asl_template.specs.Field.{field_template, field_faults}
 use Rattle.asl_template.specs.Refusal.{Tells}
 use Rattle.asl_template.specs.View.{view, entries_view}
+use Rattle.asl_template.specs.Whole.{tree_in, fields_in}
 use Rattle.asl_template.specs.declared.refusal.SpellingRefusal.{SpellingRefusal}
 use Rattle.asl_template.specs.declared.refusal.SpellingRefusal.TheVariants.{DuplicateAfterStrip}
 use Rattle.asl_template.specs.declared.template.Template.{Template}
 use Rattle.asl_template.proofs.Telling.{told_left, told_right, told_same}
 
 abbrev pub Member : Type 0
-Member = String Global × Tree
+Member = String Global × Value
 
 abbrev Entry : Type 0
 Entry = String Global × Template
@@ -109,29 +108,29 @@ inserted k p (e ∷ es) h = go (string_cmp k e.0) refl (inserted k p es h.1)
 -- ---- fields that are gone through
 
 -- one more field at the end, of a name that was none of the earlier ones'
-one_more : (item : Bool) (done : List Member) (e : Member) → is_among (renamed (string_bytes e.0)) (renamed_names (trees.entries_view done)) ≡ false
-    → field_templates_of item (trees.entries_view (done ++ (e ∷ []))) ≡ with_field (renamed (string_bytes e.0)) (field_template item (string_bytes e.0) (trees.view e.1)) (field_templates_of item (trees.entries_view done))
+one_more : (item : Bool) (done : List Member) (e : Member) → is_among (renamed (string_bytes e.0)) (renamed_names (fields_in done)) ≡ false
+    → field_templates_of item (fields_in (done ++ (e ∷ []))) ≡ with_field (renamed (string_bytes e.0)) (field_template item (string_bytes e.0) (tree_in e.1)) (field_templates_of item (fields_in done))
 one_more item [] e new = refl
 one_more item (d ∷ done) e new =
     let n = string_bytes d.0 in
-    let parts = neither (bytes_eq (renamed n) (renamed (string_bytes e.0))) (is_among (renamed (string_bytes e.0)) (renamed_names (trees.entries_view done))) new in
-    ap (with_field (renamed n) (field_template item n (trees.view d.1))) (one_more item done e parts.1)
-    ∙ either_order (renamed n) (renamed (string_bytes e.0)) (field_template item n (trees.view d.1)) (field_template item (string_bytes e.0) (trees.view e.1)) (field_templates_of item (trees.entries_view done)) parts.0
+    let parts = neither (bytes_eq (renamed n) (renamed (string_bytes e.0))) (is_among (renamed (string_bytes e.0)) (renamed_names (fields_in done))) new in
+    ap (with_field (renamed n) (field_template item n (tree_in d.1))) (one_more item done e parts.1)
+    ∙ either_order (renamed n) (renamed (string_bytes e.0)) (field_template item n (tree_in d.1)) (field_template item (string_bytes e.0) (tree_in e.1)) (field_templates_of item (fields_in done)) parts.0
 
 -- a name that isn't among those gone through, nor the next one's
-among_last : (k : List ℕ) (done : List Member) (e : Member) → is_among k (renamed_names (trees.entries_view done)) ≡ false → bytes_eq (renamed (string_bytes e.0)) k ≡ false → is_among k (renamed_names (trees.entries_view (done ++ (e ∷ [])))) ≡ false
+among_last : (k : List ℕ) (done : List Member) (e : Member) → is_among k (renamed_names (fields_in done)) ≡ false → bytes_eq (renamed (string_bytes e.0)) k ≡ false → is_among k (renamed_names (fields_in (done ++ (e ∷ [])))) ≡ false
 among_last k [] e new apart = or_from (bytes_eq (renamed (string_bytes e.0)) k) false apart refl
 among_last k (d ∷ done) e new apart =
-    let parts = neither (bytes_eq (renamed (string_bytes d.0)) k) (is_among k (renamed_names (trees.entries_view done))) new in
-    or_from (bytes_eq (renamed (string_bytes d.0)) k) (is_among k (renamed_names (trees.entries_view (done ++ (e ∷ []))))) parts.0 (among_last k done e parts.1 apart)
+    let parts = neither (bytes_eq (renamed (string_bytes d.0)) k) (is_among k (renamed_names (fields_in done))) new in
+    or_from (bytes_eq (renamed (string_bytes d.0)) k) (is_among k (renamed_names (fields_in (done ++ (e ∷ []))))) parts.0 (among_last k done e parts.1 apart)
 
 -- the names are still distinct then
-distinct_more : (done : List Member) (e : Member) → is_among (renamed (string_bytes e.0)) (renamed_names (trees.entries_view done)) ≡ false → are_distinct (renamed_names (trees.entries_view done)) ≡ true → are_distinct (renamed_names (trees.entries_view (done ++ (e ∷ [])))) ≡ true
+distinct_more : (done : List Member) (e : Member) → is_among (renamed (string_bytes e.0)) (renamed_names (fields_in done)) ≡ false → are_distinct (renamed_names (fields_in done)) ≡ true → are_distinct (renamed_names (fields_in (done ++ (e ∷ [])))) ≡ true
 distinct_more [] e new distinct = refl
 distinct_more (d ∷ done) e new distinct =
     let n = renamed (string_bytes d.0) in
-    let names = renamed_names (trees.entries_view done) in
-    let more = renamed_names (trees.entries_view (done ++ (e ∷ []))) in
+    let names = renamed_names (fields_in done) in
+    let more = renamed_names (fields_in (done ++ (e ∷ []))) in
     let parts = neither (bytes_eq n (renamed (string_bytes e.0))) (is_among (renamed (string_bytes e.0)) names) new in
     let both = and_parts (not (is_among n names)) (are_distinct names) distinct in
     let none : is_among n more ≡ false = among_last n done e (not_true (is_among n names) both.0) (bytes_eq-comm n (renamed (string_bytes e.0)) parts.0) in
@@ -142,7 +141,7 @@ either_true true = refl
 either_true false = refl
 
 -- a name that comes later
-among_all : (k : List ℕ) (done : List Member) (e : Member) (more : List Member) → bytes_eq (renamed (string_bytes e.0)) k ≡ true → is_among k (renamed_names (trees.entries_view (done ++ (e ∷ more)))) ≡ true
+among_all : (k : List ℕ) (done : List Member) (e : Member) (more : List Member) → bytes_eq (renamed (string_bytes e.0)) k ≡ true → is_among k (renamed_names (fields_in (done ++ (e ∷ more)))) ≡ true
 among_all k [] e more same = rw same refl
 among_all k (d ∷ done) e more same = rw (among_all k done e more same) (either_true (bytes_eq (renamed (string_bytes d.0)) k))
 
@@ -151,7 +150,7 @@ second_false true = refl
 second_false false = refl
 
 -- a name that was there before stands twice
-name_twice : (done : List Member) (e : Member) (more : List Member) → is_among (renamed (string_bytes e.0)) (renamed_names (trees.entries_view done)) ≡ true → are_distinct (renamed_names (trees.entries_view (done ++ (e ∷ more)))) ≡ false
+name_twice : (done : List Member) (e : Member) (more : List Member) → is_among (renamed (string_bytes e.0)) (renamed_names (fields_in done)) ≡ true → are_distinct (renamed_names (fields_in (done ++ (e ∷ more)))) ≡ false
 name_twice [] e more there = absurd (false≢true there)
 name_twice (d ∷ done) e more there = go (bytes_eq n (renamed (string_bytes e.0))) refl (name_twice done e more)
   where
@@ -159,9 +158,9 @@ name_twice (d ∷ done) e more there = go (bytes_eq n (renamed (string_bytes e.0
     n = renamed (string_bytes d.0)
 
     later : List (List ℕ)
-    later = renamed_names (trees.entries_view (done ++ (e ∷ more)))
+    later = renamed_names (fields_in (done ++ (e ∷ more)))
 
-    go : (same : Bool) → bytes_eq n (renamed (string_bytes e.0)) ≡ same → (is_among (renamed (string_bytes e.0)) (renamed_names (trees.entries_view done)) ≡ true → are_distinct later ≡ false) → are_distinct (renamed_names (trees.entries_view ((d ∷ done) ++ (e ∷ more)))) ≡ false
+    go : (same : Bool) → bytes_eq n (renamed (string_bytes e.0)) ≡ same → (is_among (renamed (string_bytes e.0)) (renamed_names (fields_in done)) ≡ true → are_distinct later ≡ false) → are_distinct (renamed_names (fields_in ((d ∷ done) ++ (e ∷ more)))) ≡ false
     go true is below =
         let turned : bytes_eq (renamed (string_bytes e.0)) n ≡ true = (bytes_eq-Decides (renamed (string_bytes e.0)) n).1 (sym ((bytes_eq-Decides n (renamed (string_bytes e.0))).0 is)) in
         rw (among_all n done e more turned) refl
@@ -190,36 +189,32 @@ not_there None h = refl
 not_there (Some a) h = absurd (true≢false h)
 
 -- the first field of a name: it is put among the templates
-pub field_read : (item : Bool) (done : List Member) (e : Member) (k : String Global) (p : Template) (es new : List Entry) (old : Option Template) (text : List ℕ) → text ≡ string_bytes e.0 → string_bytes k ≡ renamed text → view p ≡ field_template item text (trees.view e.1)
-    → old ≡ lookup (is_at (string_cmp k)) es → false ≡ is_some old → new ≡ insert_entry string_cmp es k p → entries_view es ≡ field_templates_of item (trees.entries_view done) → are_distinct (renamed_names (trees.entries_view done)) ≡ true
-    → (entries_view new ≡ field_templates_of item (trees.entries_view (done ++ (e ∷ [])))) × (are_distinct (renamed_names (trees.entries_view (done ++ (e ∷ [])))) ≡ true)
+pub field_read : (item : Bool) (done : List Member) (e : Member) (k : String Global) (p : Template) (es new : List Entry) (old : Option Template) (text : List ℕ) → text ≡ string_bytes e.0 → string_bytes k ≡ renamed text → view p ≡ field_template item text (tree_in e.1)
+    → old ≡ lookup (is_at (string_cmp k)) es → false ≡ is_some old → new ≡ insert_entry string_cmp es k p → entries_view es ≡ field_templates_of item (fields_in done) → are_distinct (renamed_names (fields_in done)) ≡ true
+    → (entries_view new ≡ field_templates_of item (fields_in (done ++ (e ∷ [])))) × (are_distinct (renamed_names (fields_in (done ++ (e ∷ [])))) ≡ true)
 field_read item done e k p es new old text same called shown found first is so_far distinct =
     let named : string_bytes k ≡ renamed (string_bytes e.0) = called ∙ ap renamed same in
-    let read : view p ≡ field_template item (string_bytes e.0) (trees.view e.1) = shown ∙ ap (λ n. field_template item n (trees.view e.1)) same in
+    let read : view p ≡ field_template item (string_bytes e.0) (tree_in e.1) = shown ∙ ap (λ n. field_template item n (tree_in e.1)) same in
     let none : is_some (lookup (is_at (string_cmp k)) es) ≡ false = ap is_some (sym found) ∙ sym first in
-    let among = sym (known_name item (trees.entries_view done) k (renamed (string_bytes e.0)) es named so_far) ∙ none in
+    let among = sym (known_name item (fields_in done) k (renamed (string_bytes e.0)) es named so_far) ∙ none in
     (ap entries_view is ∙ inserted k p es (absent_lookup k es (not_there (lookup (is_at (string_cmp k)) es) none)) ∙ rw (named, read, so_far) (sym (one_more item done e among)), distinct_more done e among distinct)
 
 -- the second field of a name
-pub twice_told : (item : Bool) (done : List Member) (e : Member) (more whole : List Member) (k : String Global) (es : List Entry) (old : Option Template) (text : List ℕ) → whole ≡ done ++ (e ∷ more) → text ≡ string_bytes e.0 → string_bytes k ≡ renamed text → old ≡ lookup (is_at (string_cmp k)) es → true ≡ is_some old → entries_view es ≡ field_templates_of item (trees.entries_view done)
-    → Tells DuplicateAfterStrip (part_faults item (json.Object (trees.entries_view whole)))
+pub twice_told : (item : Bool) (done : List Member) (e : Member) (more whole : List Member) (k : String Global) (es : List Entry) (old : Option Template) (text : List ℕ) → whole ≡ done ++ (e ∷ more) → text ≡ string_bytes e.0 → string_bytes k ≡ renamed text → old ≡ lookup (is_at (string_cmp k)) es → true ≡ is_some old → entries_view es ≡ field_templates_of item (fields_in done)
+    → Tells DuplicateAfterStrip (part_faults item (json.Object (fields_in whole)))
 twice_told item done e more whole k es old text all same called found second so_far =
     let named : string_bytes k ≡ renamed (string_bytes e.0) = called ∙ ap renamed same in
-    let there = sym (known_name item (trees.entries_view done) k (renamed (string_bytes e.0)) es named so_far) ∙ ap is_some (sym found) ∙ sym second in
-    let faults : duplicate_faults (trees.entries_view whole) ≡ model.DuplicateAfterStrip ∷ [] = ap (λ ms. duplicate_faults (trees.entries_view ms)) all ∙ ap (λ b. if b then [] else (model.DuplicateAfterStrip ∷ [])) (name_twice done e more there) in
-    told_left DuplicateAfterStrip (duplicate_faults (trees.entries_view whole)) (fields_faults item (trees.entries_view whole)) (rw faults (record { listed = search rules }))
+    let there = sym (known_name item (fields_in done) k (renamed (string_bytes e.0)) es named so_far) ∙ ap is_some (sym found) ∙ sym second in
+    let faults : duplicate_faults (fields_in whole) ≡ model.DuplicateAfterStrip ∷ [] = ap (λ ms. duplicate_faults (fields_in ms)) all ∙ ap (λ b. if b then [] else (model.DuplicateAfterStrip ∷ [])) (name_twice done e more there) in
+    told_left DuplicateAfterStrip (duplicate_faults (fields_in whole)) (fields_faults item (fields_in whole)) (rw faults (record { listed = search rules }))
 
 -- what is wrong with one field is wrong with the object
-pub field_told : (item : Bool) (e : SpellingRefusal) (whole left more : List Member) (m : Member) (text : List ℕ) → fields_faults item (trees.entries_view whole) ≡ fields_faults item (trees.entries_view left) → left ≡ m ∷ more → text ≡ string_bytes m.0 → Tells e (field_faults item text (trees.view m.1)) → Tells e (part_faults item (json.Object (trees.entries_view whole)))
+pub field_told : (item : Bool) (e : SpellingRefusal) (whole left more : List Member) (m : Member) (text : List ℕ) → fields_faults item (fields_in whole) ≡ fields_faults item (fields_in left) → left ≡ m ∷ more → text ≡ string_bytes m.0 → Tells e (field_faults item text (tree_in m.1)) → Tells e (part_faults item (json.Object (fields_in whole)))
 field_told item e whole left more m text so_far split same told =
-    told_right e (duplicate_faults (trees.entries_view whole)) (fields_faults item (trees.entries_view whole))
-    (told_same e _ _ (told_left e (field_faults item text (trees.view m.1)) (fields_faults item (trees.entries_view more)) told) (ap (λ n. field_faults item n (trees.view m.1) ++ fields_faults item (trees.entries_view more)) same ∙ sym (so_far ∙ ap (λ ms. fields_faults item (trees.entries_view ms)) split)))
+    told_right e (duplicate_faults (fields_in whole)) (fields_faults item (fields_in whole))
+    (told_same e _ _ (told_left e (field_faults item text (tree_in m.1)) (fields_faults item (fields_in more)) told) (ap (λ n. field_faults item n (tree_in m.1) ++ fields_faults item (fields_in more)) same ∙ sym (so_far ∙ ap (λ ms. fields_faults item (fields_in ms)) split)))
 
 -- a field with which nothing is wrong
-pub field_passed : (item : Bool) (whole left more : List Member) (m : Member) (text : List ℕ) → fields_faults item (trees.entries_view whole) ≡ fields_faults item (trees.entries_view left) → left ≡ m ∷ more → text ≡ string_bytes m.0 → field_faults item text (trees.view m.1) ≡ [] → fields_faults item (trees.entries_view whole) ≡ fields_faults item (trees.entries_view more)
+pub field_passed : (item : Bool) (whole left more : List Member) (m : Member) (text : List ℕ) → fields_faults item (fields_in whole) ≡ fields_faults item (fields_in left) → left ≡ m ∷ more → text ≡ string_bytes m.0 → field_faults item text (tree_in m.1) ≡ [] → fields_faults item (fields_in whole) ≡ fields_faults item (fields_in more)
 field_passed item whole left more m text so_far split same none =
-    so_far ∙ ap (λ ms. fields_faults item (trees.entries_view ms)) split ∙ ap (λ faults. faults ++ fields_faults item (trees.entries_view more)) (ap (λ n. field_faults item n (trees.view m.1)) (sym same) ∙ none)
-
--- the object stands for the template then
-pub object_stands : (item : Bool) (t : json.Tree) (p : template.Template) (fs : json.Fields) (fields : FieldTemplates) → t ≡ json.Object fs → p ≡ template.ObjectTemplate fields → part_faults item (json.Object fs) ≡ [] → fields ≡ field_templates_of item fs → StandsForTemplate item t p
-object_stands item t p fs fields is to none read = (template_exactly item t p).0 (rw (is, to) (record { none_wrong = none; same = ap template.ObjectTemplate (sym read) }))
+    so_far ∙ ap (λ ms. fields_faults item (fields_in ms)) split ∙ ap (λ faults. faults ++ fields_faults item (fields_in more)) (ap (λ n. field_faults item n (tree_in m.1)) (sym same) ∙ none)

@@ -1,11 +1,11 @@
--- What a refusal tells of the tree that was to be read as a template.
+-- What a refusal tells of the value that was to be read as a template.
 use Rattle.std.specs.Prelude.{List, [], ◌∷◌, Option, Some, None, IfSome}
 use Rattle.std.specs.List.{Contains}
 use Rattle.asl_model.specs.TemplateSpelling as model
 use Rattle.asl_template.specs.declared.refusal.SpellingRefusal.{SpellingRefusal}
-use Rattle.asl_template.specs.declared.refusal.SpellingRefusal.TheVariants.{NotObject, NotText, BadPath, BadIntrinsic, DuplicateAfterStrip, LeftOutContext, OutOfMemory}
+use Rattle.asl_template.specs.declared.refusal.SpellingRefusal.TheVariants.{NotObject, NotText, BadPath, BadIntrinsic, DuplicateAfterStrip, LeftOutContext, NotWhole, OutOfMemory}
 
--- the fault that the refusal names; want of memory names none
+-- the fault of a tree that the refusal names; a number that isn't whole and want of memory name none
 abbrev pub fault_named : SpellingRefusal → Option model.TemplateFault
 fault_named NotObject = Some model.NotObject
 fault_named NotText = Some model.NotText
@@ -13,9 +13,10 @@ fault_named BadPath = Some model.BadPath
 fault_named BadIntrinsic = Some model.BadIntrinsic
 fault_named DuplicateAfterStrip = Some model.DuplicateAfterStrip
 fault_named LeftOutContext = Some model.LeftOutContext
+fault_named NotWhole = None
 fault_named OutOfMemory = None
 
--- the refusal names one of the faults, or want of memory
+-- the refusal names one of the faults, or none
 pub record Tells (refusal : SpellingRefusal) (faults : List model.TemplateFault) : Type 0 where
   pub listed : IfSome (fault_named refusal) (Contains faults)
 

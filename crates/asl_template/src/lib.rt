@@ -1,7 +1,7 @@
-//! Payload templates (States Language, "Payload Template"): reading them from trees, and their values.
+//! Payload templates (States Language, "Payload Template"): reading them, and their values.
 //!
-//! [`from_tree`] reads the [`Template`] that a tree spells; [`eval`] gives its value for an input and the item that a
-//! Map takes at hand.
+//! [`from_value`] reads the [`Template`] that a JSON value spells, [`from_tree`] the one that a tree spells; [`eval`] gives
+//! its value for an input and the item that a Map takes at hand.
 #![tactic(auto)]
 
 mod evaluating;
@@ -11,6 +11,6 @@ mod refusal;
 mod template;
 
 pub use evaluating::eval;
-pub use reading::from_tree;
+pub use reading::{from_tree, from_value};
 pub use refusal::{SpellingRefusal, TemplateRefusal};
 pub use template::Template;

@@ -1,11 +1,12 @@
 //! Reading the paths in templates.
-ghost use Rattle.std.specs.Prelude.{◌≡◌, [], IfOk, IfErr, OnOk};
+ghost use Rattle.std.specs.Prelude.{◌≡◌, [], Err, IfOk, IfErr, OnOk};
 ghost use Rattle.asl_intrinsic.specs.View.{argument_view};
 ghost use Rattle.asl_model.specs.Intrinsic.{PathArgument, Reference};
 ghost use Rattle.asl_model.specs.Template.{FromPath};
 ghost use Rattle.asl_template.specs.Field.{path_template, path_faults};
 ghost use Rattle.asl_template.specs.Refusal.{Tells};
 ghost use Rattle.asl_template.specs.View.{view};
+ghost use Rattle.asl_template.specs.declared.refusal.SpellingRefusal.TheVariants.{NotWhole};
 
 use crate::{SpellingRefusal, Template};
 use asl_intrinsic::{Arg, parse_reference};
@@ -15,6 +16,7 @@ use std::alloc::Global;
 pub(crate) fn read_path(alloc: Global, text: &str, item: bool) -> Result<Template, SpellingRefusal>
     ensures right { OnOk result (path_faults item text.now ≡ []) }
     ensures template { IfOk result (λ t. view t ≡ path_template item text.now) }
+    ensures of_text { ¬ (result ≡ Err NotWhole) }
     ensures refused { IfErr result (λ e. Tells e (path_faults item text.now)) }
 {
     match parse_reference(alloc, text, item)? {

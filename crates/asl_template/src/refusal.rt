@@ -1,10 +1,10 @@
-//! Why a tree spells no template, and why a template has no value.
+//! Why a value spells no template, and why a template has no value.
 ghost use Rattle.std.specs.Prelude.{◌≡◌};
 
 use asl_tree::OutOfMemory;
 use std::alloc::{AllocError, AllocFailed};
 
-/// Why a tree spells no template.
+/// Why a value spells no template.
 #[derive(Clone, Copy, Debug, Drop)]
 pub enum SpellingRefusal {
     /// It is no object.
@@ -19,6 +19,8 @@ pub enum SpellingRefusal {
     DuplicateAfterStrip,
     /// Such a text begins with `$$`, and is no context path that is allowed.
     LeftOutContext,
+    /// Some number isn't whole, or is out of an `i64`'s range.
+    NotWhole,
     /// An allocation was refused.
     OutOfMemory,
 }

@@ -4,7 +4,7 @@ use Rattle.asl_model.specs.DefinitionTable as model
 use Rattle.asl_model.specs.Json.{tree_of}
 use Rattle.asl_model.specs.RuleSpelling.{rule_of}
 use Rattle.asl_choice.specs.View.{rule_view}
-use Rattle.asl_machine.proofs.Checks.{left_after}
+use Rattle.asl_machine.proofs.Checks.{handed_on, left_after}
 use Rattle.asl_machine.proofs.Elements.{filtered_all, filtered_more}
 use Rattle.asl_machine.proofs.Values.{each_told, items_parts}
 use Rattle.asl_machine.proofs.choices.read_each.Goals as goal
@@ -15,15 +15,15 @@ loop-element-preserved c =
     let done = map rule_view l.rules.items in
     let parts = items_parts (model.wrong_with_each (λ r. model.rule_misfits (tree_of r))) _ c.args.elements.now l.element-index c.element-item.result c.loop-element-test.true c.element-item.is l.invariant.faults in
     record {
-      rules = ap (map rule_view) c.in-Ok-push.ensures.items ∙ map-append rule_view l.rules.items (c.in-Ok.rule ∷ [])
-          ∙ filtered_more (λ v. option_and_then rule_of (tree_of v)) done c.args.elements.now l.element-index c.element-item.result (rule_view c.in-Ok.rule) (omega arith) c.element-item.is c.in-Ok.ensures.rule l.invariant.rules;
-      faults = left_after _ _ _ parts c.in-Ok.ensures.faults;
+      rules = ap (map rule_view) c.in_ok-push.ensures.items ∙ map-append rule_view l.rules.items (c.in_ok-read_rule.field-0 ∷ [])
+          ∙ filtered_more (λ v. option_and_then rule_of (tree_of v)) done c.args.elements.now l.element-index c.element-item.result (rule_view c.in_ok-read_rule.field-0) (omega arith) c.element-item.is c.in_ok-read_rule.ensures.rule l.invariant.rules;
+      faults = left_after _ _ _ parts c.in_ok-read_rule.ensures.faults;
     }
 
-pub returns-in-Err-clause-faults : goal.returns-in-Err-clause-faults
-returns-in-Err-clause-faults c =
+pub returns-in_err-read_rule-clause-faults : goal.returns-in_err-read_rule-clause-faults
+returns-in_err-read_rule-clause-faults c =
     let l = c.loop-element in
-    each_told (λ rule. model.rule_misfits (tree_of rule)) c.args.elements.now l.element-index c.element-item.result c.in-Err.fault c.loop-element-test.true c.element-item.is l.invariant.faults c.in-Err.ensures.faults
+    handed_on _ c.from_residual.result c.in_err-read_rule.field-0.0 c.from_residual.ensures.1 (each_told (λ rule. model.rule_misfits (tree_of rule)) c.args.elements.now l.element-index c.element-item.result c.in_err-read_rule.field-0.0 c.loop-element-test.true c.element-item.is l.invariant.faults c.in_err-read_rule.ensures.faults)
 
 pub returns-clause-rules : goal.returns-clause-rules
 returns-clause-rules c =

@@ -6,7 +6,7 @@ use Rattle.asl_machine.specs.declared.rows.Row.{Row}
 use Rattle.asl_machine.specs.Reading.{checked_faults}
 use Rattle.asl_machine.specs.Rows.{row_view}
 use Rattle.asl_machine.specs.Definition.{place_view}
-use Rattle.asl_machine.proofs.Checks.{left_after, told_of_left}
+use Rattle.asl_machine.proofs.Checks.{handed_on, left_after, told_of_left}
 use Rattle.asl_machine.proofs.Objects.{row_complaints, rows_behind, rows_parts}
 use Rattle.asl_machine.proofs.field_checking.check_rows.Goals as goal
 
@@ -14,16 +14,16 @@ use Rattle.asl_machine.proofs.field_checking.check_rows.Goals as goal
 no_row : Row
 no_row = record { name = record { ref_ptr = (0, 0); now = [] }; wanted = Text; required = false }
 
-pub returns-in-Err : goal.returns-in-Err
+pub returns-in_err-told : goal.returns-in_err-told
 unfolding no_row
-returns-in-Err c =
+returns-in_err-told c =
     let place = place_view c.args.place.now in
     let rows = c.args.rows.now in
     let i = c.loop-row.row-index in
     let row = get_or rows i no_row in
     let v = view c.args.object.now in
     let faults = checked_faults (row_view row) (get row.name.now v) in
-    told_of_left _ (row_complaints place row v) (rows_behind place rows i v) c.in-Err.complaint (rows_parts place rows i no_row v _ c.loop-row-test.true c.loop-row.invariant) (c.in-Err.ensures faults c.check_field.ensures)
+    handed_on _ c.from_residual.result c.in_err-told.field-0.0 c.from_residual.ensures.1 (told_of_left _ (row_complaints place row v) (rows_behind place rows i v) c.in_err-told.field-0.0 (rows_parts place rows i no_row v _ c.loop-row-test.true c.loop-row.invariant) (c.in_err-told.ensures faults c.check_field.ensures))
 
 pub loop-row-preserved : goal.loop-row-preserved
 unfolding no_row
@@ -34,4 +34,4 @@ loop-row-preserved c =
     let row = get_or rows i no_row in
     let v = view c.args.object.now in
     let faults = checked_faults (row_view row) (get row.name.now v) in
-    left_after _ (row_complaints place row v) (rows_behind place rows i v) (rows_parts place rows i no_row v _ c.loop-row-test.true c.loop-row.invariant) (c.in-Ok.ensures faults c.check_field.ensures)
+    left_after _ (row_complaints place row v) (rows_behind place rows i v) (rows_parts place rows i no_row v _ c.loop-row-test.true c.loop-row.invariant) (c.in_ok-told.ensures faults c.check_field.ensures)

@@ -1,8 +1,10 @@
-use Rattle.asl_machine.proofs.Checks.{told_first, told_next}
+use Rattle.asl_machine.proofs.Checks.{handed_on, told_first, told_next}
 use Rattle.asl_machine.proofs.kinds.read_map.Goals as goal
 
-pub returns-in-Err-path_of-clause-told : goal.returns-in-Err-path_of-clause-told
-returns-in-Err-path_of-clause-told c = told_first _ _ c.in-Err-path_of.complaint c.in-Err-path_of.ensures.told
+pub returns-in_err-items_path-clause-told : goal.returns-in_err-items_path-clause-told
+returns-in_err-items_path-clause-told c =
+    handed_on _ c.from_residual-in_err-items_path.result c.in_err-items_path.field-0.0 c.from_residual-in_err-items_path.ensures.1 (told_first _ _ c.in_err-items_path.field-0.0 c.in_err-items_path.ensures.told)
 
-pub returns-in-Err-read_selector-clause-told : goal.returns-in-Err-read_selector-clause-told
-returns-in-Err-read_selector-clause-told c = told_next _ _ _ c.in-Ok-path_of.ensures.told (record { holds = c.in-Err-read_selector.ensures.told.holds })
+pub returns-in_err-item_selector-clause-told : goal.returns-in_err-item_selector-clause-told
+returns-in_err-item_selector-clause-told c =
+    handed_on _ c.from_residual-in_err-item_selector.result c.in_err-item_selector.field-0.0 c.from_residual-in_err-item_selector.ensures.1 (told_next _ _ _ c.in_ok-items_path.ensures.told (record { holds = c.in_err-item_selector.ensures.told.holds }))

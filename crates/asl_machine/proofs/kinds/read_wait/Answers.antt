@@ -1,8 +1,10 @@
-use Rattle.asl_machine.proofs.Checks.{told_first, told_next}
+use Rattle.asl_machine.proofs.Checks.{handed_on, told_first, told_next}
 use Rattle.asl_machine.proofs.kinds.read_wait.Goals as goal
 
-pub returns-in-Err-clause-told : goal.returns-in-Err-clause-told
-returns-in-Err-clause-told c = told_first _ _ c.in-Err.complaint c.in-Err.ensures.told
+pub returns-in_err-seconds_path-clause-told : goal.returns-in_err-seconds_path-clause-told
+returns-in_err-seconds_path-clause-told c =
+    handed_on _ c.from_residual.result c.in_err-seconds_path.field-0.0 c.from_residual.ensures.1 (told_first _ _ c.in_err-seconds_path.field-0.0 c.in_err-seconds_path.ensures.told)
 
-pub returns-in-Err-path_of-clause-told : goal.returns-in-Err-path_of-clause-told
-returns-in-Err-path_of-clause-told c = told_next _ _ _ c.in-Ok.ensures.told (record { holds = c.in-Err-path_of.ensures.told.holds })
+pub returns-in_err-timestamp_path-clause-told : goal.returns-in_err-timestamp_path-clause-told
+returns-in_err-timestamp_path-clause-told c =
+    handed_on _ c.from_residual-in_err-timestamp_path.result c.in_err-timestamp_path.field-0.0 c.from_residual-in_err-timestamp_path.ensures.1 (told_next _ _ _ c.in_ok-seconds_path.ensures.told (record { holds = c.in_err-timestamp_path.ensures.told.holds }))

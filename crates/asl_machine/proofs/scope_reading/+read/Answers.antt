@@ -10,7 +10,7 @@ use Rattle.asl_machine.specs.Built.{built_view, owner_view, standing_with, Adds}
 use Rattle.asl_machine.specs.Rows.{rows_view, type_view}
 use Rattle.asl_machine.specs.Definition.{IsVerdict, place_view}
 use Rattle.asl_machine.proofs.Added.{adds_none, added_behind}
-use Rattle.asl_machine.proofs.Checks.{told_first, told_next, told_of_left, left_after}
+use Rattle.asl_machine.proofs.Checks.{handed_on, told_first, told_next, told_of_left, left_after}
 use Rattle.asl_machine.proofs.Nested.{Member, standing_of, standing_of_none, standing_found, standing_each_found, standing_processor, each_more, members_more}
 use Rattle.asl_machine.proofs.Nested as nested
 use Rattle.asl_machine.proofs.Nesting.{scope_none, scope_object, state_object, states_found, branches_found, processor_found, processor_left, states_parts, branches_parts}
@@ -29,37 +29,38 @@ read_scope-returns-then-not-is_object-clause-rules t c checked =
     let none : is_some (as_object v) ≡ false = search rules in
     record { holds = scope_none (place_view c.args.place.now) (rows_view c.args.rows.now) v none }
 
-pub read_scope-returns-in-Err-clause-rules : goal.read_scope-returns-in-Err-clause-rules
-read_scope-returns-in-Err-clause-rules t c checked =
+pub read_scope-returns-in_err-check_fields-clause-rules : goal.read_scope-returns-in_err-check_fields-clause-rules
+read_scope-returns-in_err-check_fields-clause-rules t c checked =
     let v = view c.args.scope.now in
     let place = place_view c.args.place.now in
     let rows = rows_view c.args.rows.now in
     let there : is_some (as_object v) ≡ true = search rules in
-    let fields = subst (λ xs. IsVerdict {A = Unit {0}} (xs ++ foreign_complaints place rows (members_in v)) (Err c.in-Err.complaint)) (checked.same place (members_in v)) c.in-Err.ensures in
-    subst (λ xs. IsVerdict {A = Unit {0}} xs (Err c.in-Err.complaint)) (scope_object place rows v there) (told_first _ _ c.in-Err.complaint fields)
+    let told = c.in_err-check_fields.field-0.0 in
+    let fields = subst (λ xs. IsVerdict {A = Unit {0}} (xs ++ foreign_complaints place rows (members_in v)) (Err told)) (checked.same place (members_in v)) c.in_err-check_fields.ensures in
+    handed_on _ c.from_residual.result c.in_err-check_fields.field-0.0 c.from_residual.ensures.1 (subst (λ xs. IsVerdict {A = Unit {0}} xs (Err told)) (scope_object place rows v there) (told_first _ _ told fields))
 
-pub read_scope-returns-in-Ok-check_target-clause-rules : goal.read_scope-returns-in-Ok-check_target-clause-rules
-read_scope-returns-in-Ok-check_target-clause-rules t c checked =
+pub read_scope-returns-clause-rules : goal.read_scope-returns-clause-rules
+read_scope-returns-clause-rules t c checked =
     let v = view c.args.scope.now in
     let place = place_view c.args.place.now in
     let rows = rows_view c.args.rows.now in
     let there : is_some (as_object v) ≡ true = search rules in
     let last = c.read_states_in.result in
-    let fields = subst (λ xs. IsVerdict (xs ++ foreign_complaints place rows (members_in v)) (Ok c.in-Ok.field-0)) (checked.same place (members_in v)) c.in-Ok.ensures in
-    subst (λ xs. IsVerdict xs last) (scope_object place rows v there) (told_next _ _ last fields (told_next _ _ last c.in-Ok-check_target.ensures c.read_states_in.ensures.rules))
+    let fields = subst (λ xs. IsVerdict (xs ++ foreign_complaints place rows (members_in v)) (Ok c.in_ok-check_fields.field-0)) (checked.same place (members_in v)) c.in_ok-check_fields.ensures in
+    subst (λ xs. IsVerdict xs last) (scope_object place rows v there) (told_next _ _ last fields (told_next _ _ last c.in_ok-check_target.ensures c.read_states_in.ensures.rules))
 
-pub read_scope-returns-in-Err-check_target-clause-rules : goal.read_scope-returns-in-Err-check_target-clause-rules
-read_scope-returns-in-Err-check_target-clause-rules t c checked =
+pub read_scope-returns-in_err-check_target-clause-rules : goal.read_scope-returns-in_err-check_target-clause-rules
+read_scope-returns-in_err-check_target-clause-rules t c checked =
     let v = view c.args.scope.now in
     let place = place_view c.args.place.now in
     let rows = rows_view c.args.rows.now in
     let there : is_some (as_object v) ≡ true = search rules in
-    let complaint = c.in-Err-check_target.complaint in
-    let fields = subst (λ xs. IsVerdict (xs ++ foreign_complaints place rows (members_in v)) (Ok c.in-Ok.field-0)) (checked.same place (members_in v)) c.in-Ok.ensures in
-    subst (λ xs. IsVerdict {A = Unit {0}} xs (Err complaint)) (scope_object place rows v there) (told_next _ _ _ fields (told_first _ _ complaint c.in-Err-check_target.ensures))
+    let complaint = c.in_err-check_target.field-0.0 in
+    let fields = subst (λ xs. IsVerdict (xs ++ foreign_complaints place rows (members_in v)) (Ok c.in_ok-check_fields.field-0)) (checked.same place (members_in v)) c.in_ok-check_fields.ensures in
+    handed_on _ c.from_residual-in_err-check_target.result c.in_err-check_target.field-0.0 c.from_residual-in_err-check_target.ensures.1 (subst (λ xs. IsVerdict {A = Unit {0}} xs (Err complaint)) (scope_object place rows v there) (told_next _ _ _ fields (told_first _ _ complaint c.in_err-check_target.ensures)))
 
-pub read_scope-returns-in-Ok-check_target-clause-added : goal.read_scope-returns-in-Ok-check_target-clause-added
-read_scope-returns-in-Ok-check_target-clause-added t c =
+pub read_scope-returns-clause-added : goal.read_scope-returns-clause-added
+read_scope-returns-clause-added t c =
     let v = view c.args.scope.now in
     let owner = owner_view c.args.owner in
     let same = ap (λ start. standing_among start owner (states_under (codes "States") (members_in v))) c.text_or_empty.ensures ∙ sym (standing_of owner v) in
@@ -103,12 +104,12 @@ read_branches_in-returns-in-None-clause-added t c =
     let before = map built_view c.args.built.now.items in
     subst (λ ss. Adds before before ss) (standing_each_found c.args.name.now c.args.state.now c.in-Object.members None c.in-Object.is c.in-None.ensures.value) (adds_none before)
 
-pub read_each_state-returns-in-Err-clause-rules : goal.read_each_state-returns-in-Err-clause-rules
-read_each_state-returns-in-Err-clause-rules t c =
+pub read_each_state-returns-in_err-read_named_state-clause-rules : goal.read_each_state-returns-in_err-read_named_state-clause-rules
+read_each_state-returns-in_err-read_named_state-clause-rules t c =
     let e : Member = (c.in-Some.name.now, c.in-Some.state.now) in
     let names = state_names (members_in (view c.args.scope.now)) in
     let parts = states_parts names c.deref.result.now _ e _ c.next.new.self c.loop-name.invariant.rules c.in-Some.ensures.steps (search rules) in
-    told_of_left _ _ _ c.in-Err.complaint parts c.in-Err.ensures.rules
+    handed_on _ c.from_residual.result c.in_err-read_named_state.field-0.0 c.from_residual.ensures.1 (told_of_left _ _ _ c.in_err-read_named_state.field-0.0 parts c.in_err-read_named_state.ensures.rules)
 
 pub read_each_state-loop-name-preserved : goal.read_each_state-loop-name-preserved
 read_each_state-loop-name-preserved t c =
@@ -118,8 +119,8 @@ read_each_state-loop-name-preserved t c =
     let left = c.next.new.self in
     let parts = states_parts names c.deref.result.now _ e _ left l.invariant.rules c.in-Some.ensures.steps (search rules) in
     record {
-      rules = left_after _ _ _ parts c.in-Ok.ensures.rules;
-      added = members_more c.args.home e l.name-iterator left c.deref.result.now _ _ _ _ c.in-Some.ensures.steps (search rules) l.invariant.added c.in-Ok.ensures.added;
+      rules = left_after _ _ _ parts c.in_ok-read_named_state.ensures.rules;
+      added = members_more c.args.home e l.name-iterator left c.deref.result.now _ _ _ _ c.in-Some.ensures.steps (search rules) l.invariant.added c.in_ok-read_named_state.ensures.added;
     }
 
 pub read_state-returns-in-Some-clause-added : goal.read_state-returns-in-Some-clause-added
@@ -133,11 +134,11 @@ read_state-returns-in-None-clause-rules t c =
     let there : is_some (as_object v) ≡ true = search rules in
     subst (λ xs. IsVerdict {A = Unit {0}} xs (Err c.told_without_type.result)) (state_object (state_names (members_in (view c.args.scope.now))) c.args.name.now v None there c.in-None.ensures) c.told_without_type.ensures
 
-pub read_each_branch-returns-in-Err-clause-rules : goal.read_each_branch-returns-in-Err-clause-rules
-read_each_branch-returns-in-Err-clause-rules t c =
+pub read_each_branch-returns-in_err-read_branch-clause-rules : goal.read_each_branch-returns-in_err-read_branch-clause-rules
+read_each_branch-returns-in_err-read_branch-clause-rules t c =
     let item = c.index-elements-number in
     let parts = branches_parts c.args.name.now _ c.args.elements.now c.loop-number.number item.result c.loop-number-test.true item.is c.loop-number.invariant.rules in
-    told_of_left _ _ _ c.in-Err.complaint parts c.in-Err.ensures.rules
+    handed_on _ c.from_residual.result c.in_err-read_branch.field-0.0 c.from_residual.ensures.1 (told_of_left _ _ _ c.in_err-read_branch.field-0.0 parts c.in_err-read_branch.ensures.rules)
 
 pub read_each_branch-loop-number-preserved : goal.read_each_branch-loop-number-preserved
 read_each_branch-loop-number-preserved t c =
@@ -147,8 +148,8 @@ read_each_branch-loop-number-preserved t c =
     let parts = branches_parts c.args.name.now _ elements l.number item.result c.loop-number-test.true item.is l.invariant.rules in
     let split : drop l.number elements ≡ item.result ∷ drop (l.number + 1) elements = grind (arith, common_steps) in
     record {
-      rules = left_after _ _ _ parts c.in-Ok.ensures.rules;
-      added = each_more c.args.name.now l.number (drop l.number elements) (drop (l.number + 1) elements) item.result _ _ _ _ split l.invariant.added c.in-Ok.ensures.added;
+      rules = left_after _ _ _ parts c.in_ok-read_branch.ensures.rules;
+      added = each_more c.args.name.now l.number (drop l.number elements) (drop (l.number + 1) elements) item.result _ _ _ _ split l.invariant.added c.in_ok-read_branch.ensures.added;
     }
 
 pub read_branch-returns-clause-rules : goal.read_branch-returns-clause-rules
@@ -173,37 +174,37 @@ read_first_processor-loop-field-preserved t c =
       same = c.loop-field.invariant.same;
     }
 
-pub read_typed-returns-in-Ok-clause-rules : goal.read_typed-returns-in-Ok-clause-rules
-read_typed-returns-in-Ok-clause-rules t c =
+pub read_typed-returns-clause-rules : goal.read_typed-returns-clause-rules
+read_typed-returns-clause-rules t c =
     let ms = members_in (view c.args.state.now) in
     let type = type_view c.args.state_type in
     let nested = nested_complaints type (branches_complaints_under c.args.name.now ms) (processor_complaints_under c.args.name.now ms) in
     let fields = fields_complaints (place_of_state c.args.name.now) (rows_of type) ms in
     let several = type_complaints type c.args.name.now (state_names (members_in (view c.args.scope.now))) ms in
-    subst (λ xs. IsVerdict xs c.read_nested.result) (append_assoc fields several nested) (told_next _ _ c.read_nested.result c.in-Ok.ensures.rules c.read_nested.ensures.rules)
+    subst (λ xs. IsVerdict xs c.read_nested.result) (append_assoc fields several nested) (told_next _ _ c.read_nested.result c.in_ok-read_own.ensures.rules c.read_nested.ensures.rules)
 
-pub read_typed-returns-in-Ok-clause-added : goal.read_typed-returns-in-Ok-clause-added
-read_typed-returns-in-Ok-clause-added t c = added_behind _ _ _ _ _ c.read_nested.result c.in-Ok.ensures.added c.read_nested.ensures.added
+pub read_typed-returns-clause-added : goal.read_typed-returns-clause-added
+read_typed-returns-clause-added t c = added_behind _ _ _ _ _ c.read_nested.result c.in_ok-read_own.ensures.added c.read_nested.ensures.added
 
-pub read_typed-returns-in-Err-clause-rules : goal.read_typed-returns-in-Err-clause-rules
-read_typed-returns-in-Err-clause-rules t c =
+pub read_typed-returns-in_err-read_own-clause-rules : goal.read_typed-returns-in_err-read_own-clause-rules
+read_typed-returns-in_err-read_own-clause-rules t c =
     let ms = members_in (view c.args.state.now) in
     let type = type_view c.args.state_type in
     let nested = nested_complaints type (branches_complaints_under c.args.name.now ms) (processor_complaints_under c.args.name.now ms) in
     let fields = fields_complaints (place_of_state c.args.name.now) (rows_of type) ms in
     let several = type_complaints type c.args.name.now (state_names (members_in (view c.args.scope.now))) ms in
-    subst (λ xs. IsVerdict {A = Unit {0}} xs (Err c.in-Err.complaint)) (append_assoc fields several nested) (told_first _ _ c.in-Err.complaint c.in-Err.ensures.rules)
+    handed_on _ c.from_residual.result c.in_err-read_own.field-0.0 c.from_residual.ensures.1 (subst (λ xs. IsVerdict {A = Unit {0}} xs (Err c.in_err-read_own.field-0.0)) (append_assoc fields several nested) (told_first _ _ c.in_err-read_own.field-0.0 c.in_err-read_own.ensures.rules))
 
-pub read_named_state-returns-in-Ok-clause-rules : goal.read_named_state-returns-in-Ok-clause-rules
-read_named_state-returns-in-Ok-clause-rules t c = told_next _ _ c.read_state.result c.in-Ok.ensures c.read_state.ensures.rules
+pub read_named_state-returns-clause-rules : goal.read_named_state-returns-clause-rules
+read_named_state-returns-clause-rules t c = told_next _ _ c.read_state.result c.in_ok-check_name.ensures c.read_state.ensures.rules
 
-pub read_object_of_states-returns-in-Object-clause-rules : goal.read_object_of_states-returns-in-Object-clause-rules
-read_object_of_states-returns-in-Object-clause-rules t c =
+pub read_object_of_states-returns-clause-rules : goal.read_object_of_states-returns-clause-rules
+read_object_of_states-returns-clause-rules t c =
     let names = state_names (members_in (view c.args.scope.now)) in
     subst (λ v. IsVerdict (states_complaints names v) c.read_each_state.result) (sym (ap view c.in-Object.is ∙ view-Object c.in-Object.members)) c.read_each_state.ensures.rules
 
-pub read_branches-returns-in-Array-clause-rules : goal.read_branches-returns-in-Array-clause-rules
-read_branches-returns-in-Array-clause-rules t c =
+pub read_branches-returns-clause-rules : goal.read_branches-returns-clause-rules
+read_branches-returns-clause-rules t c =
     let name = c.args.name.now in
     let result = c.read_each_branch.result in
     let same : c.deref.result.now ≡ c.in-Array.elements.items = search rules in

@@ -1,8 +1,10 @@
-use Rattle.asl_machine.proofs.Checks.{told_first, told_next}
+use Rattle.asl_machine.proofs.Checks.{handed_on, told_first, told_next}
 use Rattle.asl_machine.proofs.trouble_reading.read_trouble.Goals as goal
 
-pub returns-in-Err-clause-told : goal.returns-in-Err-clause-told
-returns-in-Err-clause-told c = told_first _ _ c.in-Err.complaint c.in-Err.ensures.told
+pub returns-in_err-retriers-clause-told : goal.returns-in_err-retriers-clause-told
+returns-in_err-retriers-clause-told c =
+    handed_on _ c.from_residual.result c.in_err-retriers.field-0.0 c.from_residual.ensures.1 (told_first _ _ c.in_err-retriers.field-0.0 c.in_err-retriers.ensures.told)
 
-pub returns-in-Err-read_catch-clause-told : goal.returns-in-Err-read_catch-clause-told
-returns-in-Err-read_catch-clause-told c = told_next _ _ _ c.in-Ok.ensures.told (record { holds = c.in-Err-read_catch.ensures.told.holds })
+pub returns-in_err-catchers-clause-told : goal.returns-in_err-catchers-clause-told
+returns-in_err-catchers-clause-told c =
+    handed_on _ c.from_residual-in_err-catchers.result c.in_err-catchers.field-0.0 c.from_residual-in_err-catchers.ensures.1 (told_next _ _ _ c.in_ok-retriers.ensures.told (record { holds = c.in_err-catchers.ensures.told.holds }))

@@ -24,6 +24,7 @@ returns-in-Malformed c =
     record {
       right = tt;
       template = tt;
+      of_text = λ h. absurd (cc);
       refused = ⊎_elim (λ a. told Malformed (subst (IsRefused c.args.item c.args.text.now) a refused))
           (λ b. ⊎_elim (λ a. told UnknownFunction (subst (IsRefused c.args.item c.args.text.now) a refused)) (λ a. told BadPath (subst (IsRefused c.args.item c.args.text.now) a refused)) b)
           c.in-Malformed.is;
