@@ -108,7 +108,7 @@ all-at P [] i x all at = none_some at
 all-at P (y ∷ ys) zero x all at = subst P (some_inj at) all.0
 all-at P (y ∷ ys) (suc i) x all at = all-at P ys i x all.1 at
 
-there-within : {A : Type 0} (xs : List A) (i : ℕ) → i < length xs → (x : A) × (slice_get xs i ≡ Some x)
+pub there-within : {A : Type 0} (xs : List A) (i : ℕ) → i < length xs → (x : A) × (slice_get xs i ≡ Some x)
 there-within [] i h = absurd (omega (arith, h))
 there-within (x ∷ xs) zero h = (x, refl)
 there-within (x ∷ xs) (suc i) h = there-within xs i (omega (arith, h))

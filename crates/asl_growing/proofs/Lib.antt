@@ -1,0 +1,10 @@
+pub mod Cuts
+pub mod DraftViews
+pub mod EntryViews
+pub mod Grown
+pub mod Kept
+pub mod Known
+pub mod Levels
+pub mod Measured
+pub mod Ordered
+pub mod Rebuilt

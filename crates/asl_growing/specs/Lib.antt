@@ -1,0 +1,9 @@
+pub mod Cuts
+pub mod Cutting
+pub mod Depths
+pub mod Drafted
+pub mod Entries
+pub mod Growing
+pub mod Order
+pub mod Parts
+pub mod Waiting

@@ -1,0 +1,164 @@
+// A certificate in the making: its shapes, which grow as the machine's states are walked.
+
+ghost use Rattle.asl_growing.specs.Growing.{AreGrown, IsGrown};
+
+use crate::entries::{entry_in, new_entries, numbers_of, take_in_entries};
+use crate::growing::Growing;
+use crate::store::Store;
+use asl_edges::Edges;
+use asl_numbered::Node;
+use asl_states::{Machine, State};
+use asl_tree::OutOfMemory;
+
+/// A shape of a draft.
+#[derive(Clone, Copy, PartialEq, Eq, Hash)]
+pub enum Target {
+    /// That of the machine's output.
+    MachineOutput,
+    /// One of those of a state, by their numbers: those of its input, of its output, and of the end of each of its
+    /// children.
+    Part { state: usize, place: usize },
+}
+
+/// The shapes of a certificate, so far.
+#[derive(Drop)]
+pub struct Draft {
+    store: Store,
+    /// The machine's output.
+    output: Growing,
+    /// Each state's shapes, by its number.
+    entries: Vec<Vec<Growing>>,
+    ghost output_grown: { IsGrown store output },
+    ghost entries_grown: { AreGrown store entries.items },
+}
+
+impl Draft {
+    ghost use Rattle.std.specs.Prelude.{◌≡◌, ◌<◌, false, length, IfOk, IfSome, Some};
+    ghost use Rattle.asl_model.specs.Edges.{walk};
+    ghost use Rattle.asl_model.specs.ShapeOrder as order;
+    ghost use Rattle.asl_drafts.specs.Drafts.{entry_of, first_draft, taken_at};
+    ghost use Rattle.asl_edges.specs.Entry.{AreEdgesOf};
+    ghost use Rattle.asl_states.specs.Machine.{kind_view, settings_view};
+    ghost use Rattle.asl_states.specs.Table.{table_view};
+    ghost use Rattle.asl_numbered.specs.Expansion.{expansions, shape_at, Keeps};
+    ghost use Rattle.asl_growing.specs.Drafted.{draft_view, growing_of, numbers_in, room, target_view};
+    ghost use Rattle.asl_growing.specs.Entries.{Makes};
+
+    /// The draft of a machine over that table: no tree has any of its shapes.
+    pub fn new(machine: &Machine, store: Store) -> Result<Draft, OutOfMemory>
+        ensures first { IfOk result
+            (λ draft. draft_view draft ≡ first_draft (table_view machine.now)) }
+        ensures keeps { IfOk result
+            (λ draft. Keeps (expansions store) (expansions draft.store)) }
+    {
+        let mut store = store;
+        let never = store.put(Node::Never)?;
+        let entries = new_entries(store.alloc, machine, Growing::new(never))?;
+        Ok(Draft {
+            store,
+            output: Growing::new(never),
+            entries,
+        })
+    }
+
+    /// The edges of the state of that number, for what its task gives.
+    pub fn edges<'m>(
+        &mut self,
+        number: usize,
+        state: &'m State,
+        gives: usize,
+    ) -> Result<Edges<'m>, OutOfMemory>
+        requires { gives < length self.old.store }
+        ensures edges { IfOk result
+            (AreEdgesOf (expansions self.new.store)
+            (walk (shape_at (expansions self.old.store) gives)
+            (settings_view state.now.settings) (kind_view state.now.kind)
+            (entry_of (draft_view self.old) number (kind_view state.now.kind)))) }
+        ensures same { draft_view self.new ≡ draft_view self.old }
+        ensures keeps { Keeps (expansions self.old.store)
+            (expansions self.new.store) }
+    {
+        let numbers = self.numbers(number)?;
+        let never = self.store.put(Node::Never)?;
+        let entry = entry_in(&state.kind, &numbers, never);
+        self.store.edges(state, entry, gives)
+    }
+
+    // The numbers of the shapes of the state of that number; none where it isn't there.
+    fn numbers(&self, number: usize) -> Result<Vec<usize>, OutOfMemory>
+        ensures numbers { IfOk result
+            (λ numbers. numbers.items ≡ numbers_in self.now number) }
+    {
+        let alloc = self.store.alloc;
+        match self.entries.get(number) {
+            Some(entry) => numbers_of(alloc, entry),
+            None => Ok(Vec::new(alloc)),
+        }
+    }
+
+    /// Whether the first number's shape is inside the second's.
+    pub fn is_inside(&mut self, inner: usize, outer: usize) -> Result<bool, OutOfMemory>
+        requires inner { inner < length self.old.store }
+        requires outer { outer < length self.old.store }
+        ensures inside { IfOk result
+            (λ b. b ≡ order.sub (shape_at (expansions self.old.store) inner)
+            (shape_at (expansions self.old.store) outer)) }
+        ensures same { draft_view self.new ≡ draft_view self.old }
+        ensures kept { self.new.store ≡ self.old.store }
+    {
+        self.store.is_inside(inner, outer)
+    }
+
+    /// Takes in what flows into one of the shapes, and says whether this changed it. A shape that isn't there stays so.
+    pub fn take(&mut self, target: Target, flowing: usize) -> Result<bool, OutOfMemory>
+        requires { flowing < length self.old.store }
+        ensures takes { IfOk result
+            (λ changed. Makes room
+            (taken_at (Some (target_view target)) (shape_at (expansions self.old.store) flowing))
+            (draft_view self.old) changed (draft_view self.new)) }
+        ensures keeps { Keeps (expansions self.old.store)
+            (expansions self.new.store) }
+    {
+        match target {
+            Target::MachineOutput => self.output.take(&mut self.store, flowing),
+            Target::Part { state, place } => {
+                take_in_entries(&mut self.store, &mut self.entries, state, place, flowing)
+            }
+        }
+    }
+
+    /// Whether one of the shapes would be changed by what flows into it. A shape that isn't there isn't changed, and
+    /// neither is one by a number that no shape has.
+    pub fn would_change(&mut self, target: Target, flowing: usize) -> Result<bool, OutOfMemory>
+        ensures stays { IfOk result
+            (λ changed. changed ≡ false → flowing < length self.old.store
+            → taken_at (Some (target_view target)) (shape_at (expansions self.old.store) flowing)
+            (draft_view self.old) ≡ draft_view self.old) }
+        ensures same { draft_view self.new ≡ draft_view self.old }
+        ensures keeps { Keeps (expansions self.old.store)
+            (expansions self.new.store) }
+    {
+        let Some(growing) = self.growing(target) else {
+            return Ok(false);
+        };
+        if !self.store.has(flowing) {
+            return Ok(false);
+        }
+        let mut changed = growing;
+        changed.take(&mut self.store, flowing)
+    }
+
+    // The shape, so far, where it is there.
+    fn growing(&self, target: Target) -> Option<Growing>
+        ensures grown { IfSome result (IsGrown self.now.store) }
+        ensures there { result ≡ growing_of self.now target }
+    {
+        match target {
+            Target::MachineOutput => Some(self.output),
+            Target::Part { state, place } => match self.entries.get(state) {
+                Some(entry) => entry.get(place).copied(),
+                None => None,
+            },
+        }
+    }
+}

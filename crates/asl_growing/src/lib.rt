@@ -1,0 +1,17 @@
+//! Drafts of certificates, with their shapes by number: they grow as more flows into them.
+#![tactic(auto)]
+
+mod cutting;
+mod depths;
+mod draft;
+mod entries;
+mod growing;
+mod order;
+mod rebuilding;
+mod store;
+mod waiting;
+
+pub use draft::{Draft, Target};
+pub use order::order_of;
+pub use store::Store;
+pub use waiting::Waiting;
