@@ -2,6 +2,7 @@ pub mod Cuts
 pub mod DraftViews
 pub mod EntryViews
 pub mod Grown
+pub mod Inflows
 pub mod Kept
 pub mod Known
 pub mod Levels

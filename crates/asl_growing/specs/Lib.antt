@@ -6,4 +6,5 @@ pub mod Entries
 pub mod Growing
 pub mod Order
 pub mod Parts
+pub mod Predecessors
 pub mod Waiting

@@ -7,11 +7,13 @@ mod draft;
 mod entries;
 mod growing;
 mod order;
+mod predecessors;
 mod rebuilding;
 mod store;
 mod waiting;
 
 pub use draft::{Draft, Target};
 pub use order::order_of;
+pub use predecessors::{Inflow, Origin, Predecessors};
 pub use store::Store;
 pub use waiting::Waiting;
