@@ -9,3 +9,4 @@ pub mod Levels
 pub mod Measured
 pub mod Ordered
 pub mod Rebuilt
+pub mod Walkers

@@ -8,3 +8,4 @@ pub mod Order
 pub mod Parts
 pub mod Predecessors
 pub mod Waiting
+pub mod Walker

@@ -11,9 +11,11 @@ mod predecessors;
 mod rebuilding;
 mod store;
 mod waiting;
+mod walker;
 
 pub use draft::{Draft, Target};
 pub use order::order_of;
 pub use predecessors::{Inflow, Origin, Predecessors};
 pub use store::Store;
 pub use waiting::Waiting;
+pub use walker::Walker;
