@@ -1,3 +1,4 @@
+pub mod Calm
 pub mod Cuts
 pub mod DraftViews
 pub mod EntryViews

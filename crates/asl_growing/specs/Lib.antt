@@ -1,3 +1,4 @@
+pub mod Calm
 pub mod Cuts
 pub mod Cutting
 pub mod Depths

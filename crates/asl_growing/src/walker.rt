@@ -17,7 +17,10 @@ pub struct Walker {
 
 impl Walker {
     ghost use Rattle.std.specs.Prelude.{◌≡◌, ◌<◌, length, true, IfOk, OnOk, Some};
-    ghost use Rattle.asl_drafts.specs.Drafts.{taken_at};
+    ghost use Rattle.asl_model.specs.Certificate.{Declared};
+    ghost use Rattle.asl_model.specs.Numbering.{Table};
+    ghost use Rattle.asl_drafts.specs.Drafts.{taken_at, Row};
+    ghost use Rattle.asl_growing.specs.Calm.{IsCalm};
     ghost use Rattle.asl_numbered.specs.Expansion.{expansions, shape_at, Keeps};
     ghost use Rattle.asl_growing.specs.Drafted.{draft_view, room, target_view};
     ghost use Rattle.asl_growing.specs.Entries.{Makes};
@@ -36,6 +39,10 @@ impl Walker {
             (λ changed. changed ≡ true
             → HaveWoken (length self.old.draft.store) self.new.draft self.new.predecessors target
             self.new.waiting.waits.items) }
+        ensures calm { IfOk result
+            (λ changed. (table : Table) (declared : Declared) (row : Row)
+            → row.number < length self.new.waiting.waits.items
+            → IsCalm table declared row self.old → IsCalm table declared row self.new) }
         ensures predecessors { self.new.predecessors ≡ self.old.predecessors }
         ensures keeps { Keeps (expansions self.old.draft.store)
             (expansions self.new.draft.store) }
