@@ -27,23 +27,23 @@ use Rattle.asl_growing.specs.declared.walker.Walker.{Walker}
 
 -- ---- what is remembered
 
-meant-same : (t : Target) → target_meant (target_view t) ≡ t
+pub meant-same : (t : Target) → target_meant (target_view t) ≡ t
 meant-same target.MachineOutput = refl
 meant-same (target.Part state place) = refl
 
-recalled : (table : List Shape) (o : Option ℕ) (s : Shape) → IsTrue (has_shape table o s) → (f : ℕ) × (o ≡ Some f) × (f < length table) × (shape_at table f ≡ s)
+pub recalled : (table : List Shape) (o : Option ℕ) (s : Shape) → IsTrue (has_shape table o s) → (f : ℕ) × (o ≡ Some f) × (f < length table) × (shape_at table f ≡ s)
 recalled table None s h = absurd (false≢true h)
 recalled table (Some f) s h =
     let both = and_parts (nat_lt f (length table)) (same_shape (shape_at table f) s) h in
     (f, refl, ltb-true f (length table) both.0, same_are (shape_at table f) s both.1)
 
-recalls : (table : List Shape) (o : Option ℕ) (f : ℕ) (s : Shape) → o ≡ Some f → f < length table → shape_at table f ≡ s → IsTrue (has_shape table o s)
+pub recalls : (table : List Shape) (o : Option ℕ) (f : ℕ) (s : Shape) → o ≡ Some f → f < length table → shape_at table f ≡ s → IsTrue (has_shape table o s)
 recalls table o f s is within same =
     let alike : same_shape (shape_at table f) s ≡ true = ap (same_shape (shape_at table f)) (sym same) ∙ same_itself (shape_at table f) in
     subst (λ p. IsTrue (has_shape table p s)) (sym is) (and_from (nat_lt f (length table)) (same_shape (shape_at table f) s) (lt-ltb f (length table) within) alike)
 
 -- in a table that has grown
-remembered : (a b : List Shape) (p : Predecessors) (into : model.Target) (n place : ℕ) (s : Shape) → Keeps a b → IsTrue (memory_of a p into n place s) → IsTrue (memory_of b p into n place s)
+pub remembered : (a b : List Shape) (p : Predecessors) (into : model.Target) (n place : ℕ) (s : Shape) → Keeps a b → IsTrue (memory_of a p into n place s) → IsTrue (memory_of b p into n place s)
 remembered a b p into n place s keeps h =
     let flow = flowed p (target_meant into) (record { state = n; place = place }) in
     let there = recalled a flow s h in
@@ -62,18 +62,22 @@ module _ (table : Table) (declared : Declared) (row : Row) (a b : List Node) (p 
   rests-same : (d e : model.Draft) → e ≡ d → Rests table declared row before d → Rests table declared row after e
   rests-same d e same rest = subst (Rests table declared row after) (sym same) (rests-known table declared row before after d (λ into place s h. remembered (expansions a) (expansions b) p into row.number place s keeps h) rest)
 
-  -- where the shape changes
-  rests-changed : (t : Target) (s : Shape) (d e : model.Draft) → e ≡ taken_at (Some (target_view t)) s d → IsPassedBy row.number (target_view t)
+  -- where the shape changes, and nothing that flowed there would change it again
+  pub taken-again : (t : Target) (s : Shape) (d e : model.Draft) → e ≡ taken_at (Some (target_view t)) s d
       → ((place f : ℕ) → flowed p t (record { state = row.number; place = place }) ≡ Some f → f < length a → taken_at (Some (target_view t)) (shape_at (expansions b) f) e ≡ e)
-      → Rests table declared row before d → Rests table declared row after e
-  rests-changed t s d e made passed again rest =
-      let again_here : IsTakenIn row.number before (target_view t) (taken_at (Some (target_view t)) s d) = λ place r h.
+      → IsTakenIn row.number before (target_view t) (taken_at (Some (target_view t)) s d)
+  taken-again t s d e made again = λ place r h.
       let there = recalled (expansions a) (flowed p (target_meant (target_view t)) (record { state = row.number; place = place })) r h in
       let is : flowed p t (record { state = row.number; place = place }) ≡ Some there.0 = ap (λ u. flowed p u (record { state = row.number; place = place })) (sym (meant-same t)) ∙ there.1 in
       let stays = again place there.0 is (omega (arith, there.2, as_many a)) in
       let shape : shape_at (expansions b) there.0 ≡ r = kept_shape (expansions a) (expansions b) there.0 keeps there.2 ∙ there.3 in
-      subst (λ x. taken_at (Some (target_view t)) r x ≡ x) made (ap (λ y. taken_at (Some (target_view t)) y e) (sym shape) ∙ stays) in
-      rests-same (taken_at (Some (target_view t)) s d) e made (rests-kept table declared row before (target_view t) s d passed again_here rest)
+      subst (λ x. taken_at (Some (target_view t)) r x ≡ x) made (ap (λ y. taken_at (Some (target_view t)) y e) (sym shape) ∙ stays)
+
+  rests-changed : (t : Target) (s : Shape) (d e : model.Draft) → e ≡ taken_at (Some (target_view t)) s d → IsPassedBy row.number (target_view t)
+      → ((place f : ℕ) → flowed p t (record { state = row.number; place = place }) ≡ Some f → f < length a → taken_at (Some (target_view t)) (shape_at (expansions b) f) e ≡ e)
+      → Rests table declared row before d → Rests table declared row after e
+  rests-changed t s d e made passed again rest =
+      rests-same (taken_at (Some (target_view t)) s d) e made (rests-kept table declared row before (target_view t) s d passed (taken-again t s d e made again) rest)
 
 -- ---- after something has flowed in
 

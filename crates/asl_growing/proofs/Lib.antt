@@ -6,8 +6,10 @@ pub mod Grown
 pub mod Inflows
 pub mod Kept
 pub mod Known
+pub mod Leading
 pub mod Levels
 pub mod Measured
 pub mod Ordered
 pub mod Rebuilt
+pub mod Underway
 pub mod Walkers

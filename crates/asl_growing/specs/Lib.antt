@@ -8,5 +8,6 @@ pub mod Growing
 pub mod Order
 pub mod Parts
 pub mod Predecessors
+pub mod Underway
 pub mod Waiting
 pub mod Walker

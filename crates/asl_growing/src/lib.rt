@@ -10,6 +10,7 @@ mod order;
 mod predecessors;
 mod rebuilding;
 mod store;
+mod targets;
 mod waiting;
 mod walker;
 

@@ -3,8 +3,11 @@
 ghost use Rattle.asl_growing.specs.Walker.{HaveWoken, PredecessorsWait, ReaderWaits, StaysWaiting};
 
 use crate::draft::{Draft, Target};
-use crate::predecessors::Predecessors;
+use crate::predecessors::{Origin, Predecessors};
+use crate::targets::target_of;
 use crate::waiting::Waiting;
+use asl_edges::Edge;
+use asl_states::Machine;
 use asl_tree::OutOfMemory;
 
 /// A draft, the states that are still to be walked, and what has flowed into its shapes.
@@ -19,11 +22,80 @@ impl Walker {
     ghost use Rattle.std.specs.Prelude.{◌≡◌, ◌<◌, length, true, IfOk, OnOk, Some};
     ghost use Rattle.asl_model.specs.Certificate.{Declared};
     ghost use Rattle.asl_model.specs.Numbering.{Table};
-    ghost use Rattle.asl_drafts.specs.Drafts.{taken_at, Row};
+    ghost use Rattle.asl_drafts.specs.Drafts.{step_taken, steps_taken, taken_at, Row};
+    ghost use Rattle.asl_edges.specs.View.{edge_view, flowing_in, steps_of};
+    ghost use Rattle.asl_states.specs.Table.{table_view};
     ghost use Rattle.asl_growing.specs.Calm.{IsCalm};
-    ghost use Rattle.asl_numbered.specs.Expansion.{expansions, shape_at, Keeps};
+    ghost use Rattle.asl_growing.specs.Underway.{IsCalmAfter, OthersStayCalm, StepsOn};
+    ghost use Rattle.asl_numbered.specs.Expansion.{expansions, shape_at, AreBelow, Keeps};
     ghost use Rattle.asl_growing.specs.Drafted.{draft_view, room, target_view};
     ghost use Rattle.asl_growing.specs.Entries.{Makes};
+
+    /// Takes in what flows along the edges of the state of that number, in their order, and says whether a shape was changed.
+    /// What flowed along each edge is remembered. Each other state that waited or was at rest does so or is so then, and
+    /// so is or does the state itself, if these are its edges and no rule of its own is broken.
+    pub fn take_edges(
+        &mut self,
+        machine: &Machine,
+        number: usize,
+        edges: &[Edge],
+    ) -> Result<bool, OutOfMemory>
+        requires { AreBelow (length self.old.draft.store) (flowing_in edges.now) }
+        ensures takes { IfOk result
+            (λ changed. Makes room
+            (steps_taken (table_view machine.now) number
+            (steps_of (expansions self.old.draft.store) edges.now))
+            (draft_view self.old.draft) changed (draft_view self.new.draft)) }
+        ensures waits { StaysWaiting self.old.waiting.waits.items self.new.waiting.waits.items }
+        ensures others { IfOk result (λ changed. OthersStayCalm number self.old self.new) }
+        ensures walked { IfOk result
+            (λ changed. IsCalmAfter (table_view machine.now) number
+            (steps_of (expansions self.old.draft.store) edges.now) self.old self.new) }
+        ensures keeps { Keeps (expansions self.old.draft.store)
+            (expansions self.new.draft.store) }
+    {
+        let mut changed = false;
+        for (place, edge) in edges.iter().enumerate() {
+            let origin = Origin {
+                state: number,
+                place,
+            };
+            if self.take_edge(machine, origin, edge)? {
+                changed = true;
+            }
+        }
+        Ok(changed)
+    }
+
+    // Takes in what flows along the edge of that origin, remembers it, and says whether a shape was changed.
+    fn take_edge(
+        &mut self,
+        machine: &Machine,
+        origin: Origin,
+        edge: &Edge,
+    ) -> Result<bool, OutOfMemory>
+        requires { edge.now.flowing < length self.old.draft.store }
+        ensures takes { IfOk result
+            (λ changed. Makes room
+            (step_taken (table_view machine.now) origin.state
+            (edge_view (expansions self.old.draft.store) edge.now))
+            (draft_view self.old.draft) changed (draft_view self.new.draft)) }
+        ensures waits { StaysWaiting self.old.waiting.waits.items self.new.waiting.waits.items }
+        ensures others { IfOk result (λ changed. OthersStayCalm origin.state self.old self.new) }
+        ensures walked { IfOk result
+            (λ changed. StepsOn (table_view machine.now) origin
+            (edge_view (expansions self.old.draft.store) edge.now) self.old self.new) }
+        ensures keeps { Keeps (expansions self.old.draft.store)
+            (expansions self.new.draft.store) }
+    {
+        match target_of(machine, origin.state, edge.destination)? {
+            Some(target) => {
+                self.predecessors.add(target, origin, edge.flowing)?;
+                self.take(target, edge.flowing)
+            }
+            None => Ok(false),
+        }
+    }
 
     /// Takes in what flows into one of the shapes, and says whether this changed it. Where it did, the state that looks at
     /// the shape waits, and so do the states whose edges lead to it and would change it again.
