@@ -1,4 +1,5 @@
 pub mod Calm
+pub mod Certified
 pub mod Cuts
 pub mod DraftViews
 pub mod EntryViews

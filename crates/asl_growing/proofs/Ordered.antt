@@ -19,49 +19,58 @@ use Rattle.asl_drafts.proofs.CertifiedRows.{Among, IsRowFrom, from-only, ordered
 use Rattle.asl_drafts.proofs.DraftShapes.{there-within}
 use Rattle.asl_growing.specs.Order.{AreOrdered, IsPlaced, entry_seen, row_seen}
 
-abbrev pub Entry : Type 0
-Entry = Bor (List ℕ) × ℕ
+module _ {K V W : Type 0} (cmp : K → K → Ordering) (key : K → List ℕ) (seen : V → W) (made : Row → W) where
+  -- an entry as it is seen, and what is made of a row
+  abbrev pub entry_as : K × V → List ℕ × W
+  entry_as e = (key e.0, seen e.1)
 
--- byte order of names
-abbrev pub by_name : Bor (List ℕ) → Bor (List ℕ) → Ordering
-by_name = λ x y. slice_cmp nat_cmp x.now y.now
+  abbrev pub row_as : Row → List ℕ × W
+  row_as row = (row.name, made row)
 
-module _ (cmp : Bor (List ℕ) → Bor (List ℕ) → Ordering) (same : (x y : Bor (List ℕ)) → cmp x y ≡ slice_cmp nat_cmp x.now y.now) where
-  -- one more row is put into the map
-  insert-row : (es : List Entry) (rows : List Row) (k : Bor (List ℕ)) (row : Row) → k.now ≡ row.name → map entry_seen es ≡ map row_seen rows → ((r : Row) → Among rows r → r.name ≢ row.name) → map entry_seen (insert_entry cmp es k row.number) ≡ map row_seen (with_row row rows)
-  insert-row [] [] k row key are others = ap (λ n. (n, row.number) ∷ []) key
-  insert-row [] (r ∷ rows) k row key are others = absurd (cc)
-  insert-row (e ∷ es) [] k row key are others = absurd (cc)
-  insert-row (e ∷ es) (r ∷ rows) k row key are others = by (cmp k e.0) refl (insert-row es rows k row key behind (λ s h. others s (inr h)))
-    where
-      front : entry_seen e ≡ row_seen r
-      front = cc
+  -- one entry more is that of the row
+  pub record IsPut (es new : List (K × V)) (row : Row) : Type 0 where
+    pub name : K
+    pub value : V
+    pub put : new ≡ insert_entry cmp es name value
+    pub named : key name ≡ row.name
+    pub same : seen value ≡ made row
 
-      behind : map entry_seen es ≡ map row_seen rows
-      behind = cc
+  module _ (ordered : (x y : K) → cmp x y ≡ slice_cmp nat_cmp (key x) (key y)) where
+    -- one more row is put into the map
+    insert-row : (es : List (K × V)) (rows : List Row) (k : K) (v : V) (row : Row) → key k ≡ row.name → seen v ≡ made row → map entry_as es ≡ map row_as rows → ((r : Row) → Among rows r → r.name ≢ row.name) → map entry_as (insert_entry cmp es k v) ≡ map row_as (with_row row rows)
+    insert-row [] [] k v row named same are others = ap₂ (λ n w. (n, w) ∷ []) named same
+    insert-row [] (r ∷ rows) k v row named same are others = absurd (cc)
+    insert-row (e ∷ es) [] k v row named same are others = absurd (cc)
+    insert-row (e ∷ es) (r ∷ rows) k v row named same are others = by (cmp k e.0) refl (insert-row es rows k v row named same behind (λ s h. others s (inr h)))
+      where
+        front : entry_as e ≡ row_as r
+        front = cc
 
-      name : e.0.now ≡ r.name
-      name = ap (λ p. p.0) front
+        behind : map entry_as es ≡ map row_as rows
+        behind = cc
 
-      -- the row's name against the other's
-      order : cmp k e.0 ≡ slice_cmp nat_cmp row.name r.name
-      order = same k e.0 ∙ ap₂ (slice_cmp nat_cmp) key name
+        name : key e.0 ≡ r.name
+        name = ap (λ p. p.0) front
 
-      back : slice_cmp nat_cmp r.name row.name ≡ ordering_reverse (cmp k e.0)
-      back = nat_list_cmp_total.antisymm r.name row.name ∙ ap ordering_reverse (sym order)
+        -- the row's name against the other's
+        order : cmp k e.0 ≡ slice_cmp nat_cmp row.name r.name
+        order = ordered k e.0 ∙ ap₂ (slice_cmp nat_cmp) named name
 
-      by : (o : Ordering) → cmp k e.0 ≡ o → map entry_seen (insert_entry cmp es k row.number) ≡ map row_seen (with_row row rows)
-          → map entry_seen (match_ordering o ((k, row.number) ∷ e ∷ es) ((e.0, row.number) ∷ es) (e ∷ insert_entry cmp es k row.number)) ≡ map row_seen (if comes_before r.name row.name then r ∷ with_row row rows else row ∷ (r ∷ rows))
-      by Less is further =
-          let greater : slice_cmp nat_cmp r.name row.name ≡ Greater = back ∙ ap ordering_reverse is in
-          rw greater (ap₂ (λ p ps. p ∷ ps) (ap (λ n. (n, row.number)) key) are)
-      by Equal is further = absurd (others r (inl refl) (sym (equal row.name r.name (sym order ∙ is))))
-        where
-          equal : (m n : List ℕ) → slice_cmp nat_cmp m n ≡ Equal → m ≡ n
-          equal m n h = (bytes_eq-Decides m n).0 (sym (is_eq-slice_cmp m n) ∙ ap is_eq h)
-      by Greater is further =
-          let less : slice_cmp nat_cmp r.name row.name ≡ Less = back ∙ ap ordering_reverse is in
-          rw less (ap₂ (λ p ps. p ∷ ps) front further)
+        back : slice_cmp nat_cmp r.name row.name ≡ ordering_reverse (cmp k e.0)
+        back = nat_list_cmp_total.antisymm r.name row.name ∙ ap ordering_reverse (sym order)
+
+        by : (o : Ordering) → cmp k e.0 ≡ o → map entry_as (insert_entry cmp es k v) ≡ map row_as (with_row row rows)
+            → map entry_as (match_ordering o ((k, v) ∷ e ∷ es) ((e.0, v) ∷ es) (e ∷ insert_entry cmp es k v)) ≡ map row_as (if comes_before r.name row.name then r ∷ with_row row rows else row ∷ (r ∷ rows))
+        by Less is further =
+            let greater : slice_cmp nat_cmp r.name row.name ≡ Greater = back ∙ ap ordering_reverse is in
+            rw greater (ap₂ (λ p ps. p ∷ ps) (ap₂ (λ n w. (n, w)) named same) are)
+        by Equal is further = absurd (others r (inl refl) (sym (equal row.name r.name (sym order ∙ is))))
+          where
+            equal : (m n : List ℕ) → slice_cmp nat_cmp m n ≡ Equal → m ≡ n
+            equal m n h = (bytes_eq-Decides m n).0 (sym (is_eq-slice_cmp m n) ∙ ap is_eq h)
+        by Greater is further =
+            let less : slice_cmp nat_cmp r.name row.name ≡ Less = back ∙ ap ordering_reverse is in
+            rw less (ap₂ (λ p ps. p ∷ ps) front further)
 
 -- what stands behind so many
 slice-behind : {A : Type 0} (xs : List A) (i p : ℕ) → slice_get (drop i xs) p ≡ slice_get xs (i + p)
@@ -87,18 +96,18 @@ no-rows i (n ∷ names) states none = rw none refl
 
 -- ---- the map, from the last row on
 
-module _ (table : Table) where
+module _ {E W : Type 0} (seen : E → W) (made : Row → W) (table : Table) where
   -- none so far
-  pub placed-none : (from : ℕ) → length table.states ≤ from → IsPlaced table from []
-  placed-none from past = record { placed = λ distinct. sym (ap (λ rows. map row_seen (in_name_order rows)) (no-rows from (drop from table.names) (drop from table.states) (drop_of_length-le table.states past))) }
+  pub placed-none : (from : ℕ) → length table.states ≤ from → IsPlaced seen made table from []
+  placed-none from past = record { placed = λ distinct. sym (ap (λ rows. map made (in_name_order rows)) (no-rows from (drop from table.names) (drop from table.states) (drop_of_length-le table.states past))) }
 
   -- a row whose name is missing
-  placed-nameless : (from : ℕ) (es : List Entry) → slice_get table.names from ≡ None → IsPlaced table (suc from) es → IsPlaced table from es
+  placed-nameless : (from : ℕ) (es : List E) → slice_get table.names from ≡ None → IsPlaced seen made table (suc from) es → IsPlaced seen made table from es
   placed-nameless from es missing is = record {
     placed = λ distinct.
         let none : drop from table.names ≡ [] = drop-past table.names from missing in
         let further : drop (suc from) table.names ≡ [] = past-more table.names from none in
-        is.placed distinct ∙ (ap (λ ns. map row_seen (in_name_order (rows_from (suc from) ns (drop (suc from) table.states)))) further ∙ sym (ap (λ ns. map row_seen (in_name_order (rows_from from ns (drop from table.states)))) none));
+        is.placed distinct ∙ (ap (λ ns. map made (in_name_order (rows_from (suc from) ns (drop (suc from) table.states)))) further ∙ sym (ap (λ ns. map made (in_name_order (rows_from from ns (drop from table.states)))) none));
   }
     where
       past-more : {A : Type 0} (xs : List A) (i : ℕ) → drop i xs ≡ [] → drop (suc i) xs ≡ []
@@ -106,38 +115,80 @@ module _ (table : Table) where
       past-more (x ∷ xs) zero e = absurd (cc)
       past-more (x ∷ xs) (suc i) e = past-more xs i e
 
-  module _ (cmp : Bor (List ℕ) → Bor (List ℕ) → Ordering) (same : (x y : Bor (List ℕ)) → cmp x y ≡ slice_cmp nat_cmp x.now y.now) where
-    -- one more
-    placed-row : (from : ℕ) (es : List Entry) (k : Bor (List ℕ)) (state : State) → slice_get table.names from ≡ Some k.now → slice_get table.states from ≡ Some state → IsPlaced table (suc from) es → IsPlaced table from (insert_entry cmp es k from)
-    placed-row from es k state named at is = record {
-      placed = λ distinct.
-          let row : Row = record { number = from; name = k.now; state = state } in
-          let further : List Row = rows_from (suc from) (drop (suc from) table.names) (drop (suc from) table.states) in
-          insert-row cmp same es (in_name_order further) k row refl (is.placed distinct) (λ r h e. twice distinct r (from-only (suc from) (drop (suc from) table.names) (drop (suc from) table.states) r (ordered-only further r h)) e)
-          ∙ sym (ap₂ (λ ns ss. map row_seen (in_name_order (rows_from from ns ss))) (drop-from table.names from k.now named) (drop-from table.states from state at));
-    }
-      where
-        twice : are_distinct table.names ≡ true → (r : Row) → IsRowFrom (suc from) (drop (suc from) table.names) (drop (suc from) table.states) r → r.name ≡ k.now → ⊥
-        twice distinct r known e =
-            let there : slice_get table.names (suc from + known.place) ≡ Some k.now = sym (slice-behind table.names (suc from) known.place) ∙ (known.named ∙ ap Some e) in
-            let one : suc from + known.place ≡ from = one_number table.names (suc from + known.place) from k.now distinct there named in
-            omega (arith, one)
+module _ {K V W : Type 0} (cmp : K → K → Ordering) (key : K → List ℕ) (seen : V → W) (made : Row → W) (ordered : (x y : K) → cmp x y ≡ slice_cmp nat_cmp (key x) (key y)) (table : Table) where
+  -- the entries are those of the rows from that number on
+  abbrev pub ArePlaced : ℕ → List (K × V) → Type 0
+  ArePlaced from es = IsPlaced (entry_as cmp key seen made) (row_as cmp key seen made) table from es
 
-    -- the row of a number, whose name may be there
-    pub placed-next : (count passed number : ℕ) (es new : List Entry) (name : Option (Bor (List ℕ))) → number ≡ count - passed - 1 → passed < count → count ≡ length table.states → option_map (λ (n : Bor (List ℕ)). n.now) name ≡ slice_get table.names number
-        → IsPlaced table (count - passed) es → (name ≡ None → new ≡ es) → ((k : Bor (List ℕ)) → name ≡ Some k → new ≡ insert_entry cmp es k number) → IsPlaced table (count - (passed + 1)) new
-    placed-next count passed number es new name is more all named placed missing there =
-        let before : IsPlaced table (suc number) es = subst (λ n. IsPlaced table n es) (omega (arith, is, more)) placed in
-        let within : number < length table.states = omega (arith, is, more, all) in
-        let at = there-within table.states number within in
-        subst (λ n. IsPlaced table n new) (omega (arith, is, more)) (by name refl before at.0 at.1)
-      where
-        by : (o : Option (Bor (List ℕ))) → name ≡ o → IsPlaced table (suc number) es → (state : State) → slice_get table.states number ≡ Some state → IsPlaced table number new
-        by None none before state at = subst (IsPlaced table number) (sym (missing none)) (placed-nameless number es (sym named ∙ ap (option_map (λ (n : Bor (List ℕ)). n.now)) none) before)
-        by (Some k) some before state at = subst (IsPlaced table number) (sym (there k some)) (placed-row number es k state (sym named ∙ ap (option_map (λ (n : Bor (List ℕ)). n.now)) some) at before)
+  -- one more
+  placed-row : (from : ℕ) (es new : List (K × V)) (n : List ℕ) (state : State) → slice_get table.names from ≡ Some n → slice_get table.states from ≡ Some state → IsPut cmp key seen made es new (record { number = from; name = n; state = state }) → ArePlaced (suc from) es → ArePlaced from new
+  placed-row from es new n state named at put is = record {
+    placed = λ distinct.
+        let row : Row = record { number = from; name = n; state = state } in
+        let further : List Row = rows_from (suc from) (drop (suc from) table.names) (drop (suc from) table.states) in
+        ap (map (entry_as cmp key seen made)) put.put
+        ∙ (insert-row cmp key seen made ordered es (in_name_order further) put.name put.value row put.named put.same (is.placed distinct) (λ r h e. twice distinct r (from-only (suc from) (drop (suc from) table.names) (drop (suc from) table.states) r (ordered-only further r h)) e)
+        ∙ sym (ap₂ (λ ns ss. map (row_as cmp key seen made) (in_name_order (rows_from from ns ss))) (drop-from table.names from n named) (drop-from table.states from state at)));
+  }
+    where
+      twice : are_distinct table.names ≡ true → (r : Row) → IsRowFrom (suc from) (drop (suc from) table.names) (drop (suc from) table.states) r → r.name ≡ n → ⊥
+      twice distinct r known e =
+          let there : slice_get table.names (suc from + known.place) ≡ Some n = sym (slice-behind table.names (suc from) known.place) ∙ (known.named ∙ ap Some e) in
+          let one : suc from + known.place ≡ from = one_number table.names (suc from + known.place) from n distinct there named in
+          omega (arith, one)
+
+  -- the row of a number, whose name may be missing
+  pub placed-at : (number : ℕ) (es new : List (K × V)) → number < length table.states → (slice_get table.names number ≡ None → new ≡ es)
+      → ((n : List ℕ) (state : State) → slice_get table.names number ≡ Some n → slice_get table.states number ≡ Some state → IsPut cmp key seen made es new (record { number = number; name = n; state = state }))
+      → ArePlaced (suc number) es → ArePlaced number new
+  placed-at number es new within missing there before =
+      let at = there-within table.states number within in
+      by (slice_get table.names number) refl at.0 at.1
+    where
+      by : (o : Option (List ℕ)) → slice_get table.names number ≡ o → (state : State) → slice_get table.states number ≡ Some state → ArePlaced number new
+      by None none state at = subst (ArePlaced number) (sym (missing none)) (placed-nameless (entry_as cmp key seen made) (row_as cmp key seen made) table number es none before)
+      by (Some n) some state at = placed-row number es new n state some at (there n state some at) before
+
+-- ---- the numbers alone, by borrowed names
+
+abbrev pub Entry : Type 0
+Entry = Bor (List ℕ) × ℕ
+
+-- byte order of names
+abbrev pub by_name : Bor (List ℕ) → Bor (List ℕ) → Ordering
+by_name = λ x y. slice_cmp nat_cmp x.now y.now
+
+module _ (table : Table) where
+  abbrev pub AreNumbered : ℕ → List Entry → Type 0
+  AreNumbered from es = IsPlaced entry_seen row_seen table from es
+
+  -- the row of a number, whose name may be there
+  pub placed-next : (count passed number : ℕ) (es new : List Entry) (name : Option (Bor (List ℕ))) → number ≡ count - passed - 1 → passed < count → count ≡ length table.states → option_map (λ (n : Bor (List ℕ)). n.now) name ≡ slice_get table.names number
+      → AreNumbered (count - passed) es → (name ≡ None → new ≡ es) → ((k : Bor (List ℕ)) → name ≡ Some k → new ≡ insert_entry by_name es k number) → AreNumbered (count - (passed + 1)) new
+  placed-next count passed number es new name is more all named placed missing there =
+      let before : AreNumbered (suc number) es = subst (λ n. AreNumbered n es) (omega (arith, is, more)) placed in
+      subst (λ n. AreNumbered n new) (omega (arith, is, more))
+      (placed-at by_name (λ k. k.now) (λ n. n) (λ row. row.number) (λ x y. refl) table number es new (omega (arith, is, more, all)) (λ none. missing (absent none)) (λ n state some at. put name refl n state some) before)
+    where
+      absent : slice_get table.names number ≡ None → name ≡ None
+      absent none = by name refl
+        where
+          by : (p : Option (Bor (List ℕ))) → name ≡ p → name ≡ None
+          by None e = e
+          by (Some k) e = none_some (sym none ∙ (sym named ∙ ap (option_map (λ (n : Bor (List ℕ)). n.now)) e))
+
+      put : (o : Option (Bor (List ℕ))) → name ≡ o → (n : List ℕ) (state : State) → slice_get table.names number ≡ Some n → IsPut by_name (λ k. k.now) (λ n. n) (λ row. row.number) es new (record { number = number; name = n; state = state })
+      put None none n state some = none_some (sym (ap (option_map (λ (m : Bor (List ℕ)). m.now)) none) ∙ (named ∙ some))
+      put (Some k) is_k n state some = record {
+        name = k;
+        value = number;
+        put = there k is_k;
+        named = some_inj (sym (ap (option_map (λ (m : Bor (List ℕ)). m.now)) is_k) ∙ (named ∙ some));
+        same = refl;
+      }
 
   -- the numbers of all entries
-  pub all-ordered : (entries : List Entry) (numbers : List ℕ) → IsPlaced table 0 entries → numbers ≡ map (λ (e : Entry). e.1) entries → AreOrdered table numbers
+  pub all-ordered : (entries : List Entry) (numbers : List ℕ) → AreNumbered 0 entries → numbers ≡ map (λ (e : Entry). e.1) entries → AreOrdered table numbers
   all-ordered entries numbers is these = record {
     ordered = λ distinct.
         these ∙ (firsts entries ∙ (ap (map (λ (p : List ℕ × ℕ). p.1)) (is.placed distinct) ∙ seconds (rows_of table)));

@@ -16,8 +16,9 @@ entry_seen e = (e.0.now, e.1)
 abbrev pub row_seen : Row → List ℕ × ℕ
 row_seen row = (row.name, row.number)
 
--- the entries of a map are the rows from that number on, in their order, where no name stands twice
-pub record IsPlaced (table : Table) (from : ℕ) (entries : List (Bor (List ℕ) × ℕ)) : Type 0 where
+-- the entries of a map are seen as what is made of the rows from that number on, in their order, where no name stands
+-- twice
+pub record IsPlaced {E W : Type 0} (seen : E → W) (made : Row → W) (table : Table) (from : ℕ) (entries : List E)
+    : Type 0 where
   pub placed : are_distinct table.names ≡ true
-      → map entry_seen entries
-      ≡ map row_seen (in_name_order (rows_from from (drop from table.names) (drop from table.states)))
+      → map seen entries ≡ map made (in_name_order (rows_from from (drop from table.names) (drop from table.states)))

@@ -2,13 +2,17 @@
 
 ghost use Rattle.asl_growing.specs.Growing.{AreGrown, IsGrown};
 
+use crate::certificate::certified_states;
 use crate::entries::{entry_in, new_entries, numbers_of, take_in_entries};
 use crate::growing::Growing;
 use crate::store::Store;
 use asl_edges::Edges;
 use asl_numbered::Node;
+use asl_records::{NumberedCertificate, StateNumbers};
 use asl_states::{Machine, State};
 use asl_tree::OutOfMemory;
+use std::alloc::Global;
+use std::collections::BTreeMap;
 
 /// A shape of a draft.
 #[derive(Clone, Copy, PartialEq, Eq, Hash)]
@@ -33,14 +37,20 @@ pub struct Draft {
 }
 
 impl Draft {
-    ghost use Rattle.std.specs.Prelude.{◌≡◌, ◌<◌, false, length, IfOk, IfSome, Some};
+    ghost use Rattle.std.specs.Prelude.{◌≡◌, ◌<◌, false, length, true, IfOk, IfSome, Some};
     ghost use Rattle.asl_model.specs.Edges.{walk};
+    ghost use Rattle.asl_model.specs.RecordShapes.{HoldsForCertificate};
+    ghost use Rattle.asl_model.specs.Shape.{Never};
     ghost use Rattle.asl_model.specs.ShapeOrder as order;
-    ghost use Rattle.asl_drafts.specs.Drafts.{entry_of, first_draft, taken_at};
+    ghost use Rattle.asl_model.specs.ShapeSpelling.{are_distinct};
+    ghost use Rattle.asl_drafts.specs.Drafts.{certificate_of, entry_of, first_draft, taken_at};
     ghost use Rattle.asl_edges.specs.Entry.{AreEdgesOf};
     ghost use Rattle.asl_states.specs.Machine.{kind_view, settings_view};
     ghost use Rattle.asl_states.specs.Table.{table_view};
     ghost use Rattle.asl_numbered.specs.Expansion.{expansions, shape_at, Keeps};
+    ghost use Rattle.asl_numbered.specs.Joins.{Shows};
+    ghost use Rattle.asl_records.specs.Numbered.{numbered_view, AreWithin};
+    ghost use Rattle.asl_growing.specs.Cutting.{IsShallow};
     ghost use Rattle.asl_growing.specs.Drafted.{draft_view, growing_of, numbers_in, room, target_view};
     ghost use Rattle.asl_growing.specs.Entries.{Makes};
 
@@ -84,8 +94,13 @@ impl Draft {
         self.store.edges(state, entry, gives)
     }
 
-    // The numbers of the shapes of the state of that number; none where it isn't there.
-    fn numbers(&self, number: usize) -> Result<Vec<usize>, OutOfMemory>
+    /// Where the draft takes memory.
+    pub(crate) fn alloc(&self) -> Global {
+        self.store.alloc
+    }
+
+    /// The numbers of the shapes of the state of that number; none where it isn't there.
+    pub(crate) fn numbers(&self, number: usize) -> Result<Vec<usize>, OutOfMemory>
         ensures numbers { IfOk result
             (λ numbers. numbers.items ≡ numbers_in self.now number) }
     {
@@ -146,6 +161,40 @@ impl Draft {
         }
         let mut changed = growing;
         changed.take(&mut self.store, flowing)
+    }
+
+    /// The certificate that the draft has come to.
+    pub fn certificate(self, machine: &Machine) -> Result<NumberedCertificate, OutOfMemory>
+        ensures same { IfOk result
+            (λ certificate. are_distinct (table_view machine.now).names ≡ true
+            → numbered_view certificate ≡ certificate_of (table_view machine.now) (draft_view self)) }
+        ensures within { IfOk result AreWithin }
+        ensures shallow { IfOk result
+            (λ certificate. HoldsForCertificate IsShallow (numbered_view certificate)) }
+    {
+        let mut draft = self;
+        let never = draft.never()?;
+        let states = certified_states(machine, &draft, never)?;
+        Ok(draft.with_states(states))
+    }
+
+    // The certificate with those entries.
+    fn with_states(self, states: BTreeMap<String, StateNumbers>) -> NumberedCertificate
+        ensures { result ≡ record { shapes = self.store; output = self.output.number; states = states } }
+    {
+        NumberedCertificate {
+            shapes: self.store.into_shapes(),
+            output: self.output.number,
+            states,
+        }
+    }
+
+    // The number of the shape that no tree has.
+    fn never(&mut self) -> Result<usize, OutOfMemory>
+        ensures number { IfOk result (Shows (expansions self.new.store) Never) }
+        ensures same { draft_view self.new ≡ draft_view self.old }
+    {
+        self.store.put(Node::Never)
     }
 
     // The shape, so far, where it is there.

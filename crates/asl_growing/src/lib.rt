@@ -1,6 +1,7 @@
 //! Drafts of certificates, with their shapes by number: they grow as more flows into them.
 #![tactic(auto)]
 
+mod certificate;
 mod cutting;
 mod depths;
 mod draft;

@@ -1,10 +1,10 @@
 use Rattle.std.proofs.Common.{◌≡◌, ◌-◌, ℕ, List, ◌++◌, map, Bor}
 use Rattle.asl_states.specs.Table.{table_view}
-use Rattle.asl_growing.specs.Order.{IsPlaced}
+use Rattle.asl_growing.specs.Order.{IsPlaced, entry_seen, row_seen}
 use Rattle.asl_growing.proofs.order.order_of.Given as goal
 
 abbrev pub invariant-loop-passed : goal.invariant-loop-passed
-invariant-loop-passed l = IsPlaced (table_view l.machine) (l.count - l.passed) l.named.entries
+invariant-loop-passed l = IsPlaced entry_seen row_seen (table_view l.machine) (l.count - l.passed) l.named.entries
 
 abbrev pub invariant-loop-number : goal.invariant-loop-number
 invariant-loop-number l = record {
