@@ -1,5 +1,5 @@
 -- The certificate that a draft comes to.
-use Rattle.std.proofs.Common.{◌≡◌, ◌<◌, ◌≤◌, ◌+◌, ℕ, zero, suc, List, [], ◌∷◌, length, drop, map, Bool, true, false, Vec, Option, Some, None, option_map, slice_get, String, Global, string_bytes, string_cmp, Bor, Result, Ok, Err, IfOk, if◌then◌else◌, Ordering, Less, Equal, Greater, refl, sym, ap, ap₂, ◌∙◌, subst, arith}
+use Rattle.std.proofs.Common.{◌≡◌, ◌<◌, ◌≤◌, ℕ, zero, suc, List, [], ◌∷◌, length, drop, map, Bool, true, false, Vec, Option, Some, None, option_map, slice_get, String, Global, string_bytes, string_cmp, Bor, Result, Ok, Err, IfOk, if◌then◌else◌, Ordering, Less, Equal, Greater, refl, sym, ap, ◌∙◌, subst, arith}
 use Rattle.std.specs.BTreeMap.{insert_entry}
 use Rattle.std.specs.List.{All, AllByRecursion}
 use Rattle.std.specs.Option.{unwrap_or}
@@ -13,14 +13,14 @@ use Rattle.asl_model.specs.RecordShapes.{HoldsForCertificate, HoldsForState}
 use Rattle.asl_model.specs.Shape.{Shape, Never}
 use Rattle.asl_model.specs.ShapeSpelling.{are_distinct}
 use Rattle.asl_model.proofs.RunOptions.{none_some, some_inj}
-use Rattle.asl_drafts.specs.Drafts.{Growth, Row, certificate_of, entry_of, entry_with}
+use Rattle.asl_drafts.specs.Drafts.{Growth, certificate_of, entry_of, entry_with}
 use Rattle.asl_numbered.specs.declared.node.Node.{Node}
 use Rattle.asl_numbered.specs.Expansion.{expansions, shape_at, AreBelow}
 use Rattle.asl_numbered.specs.Joins.{Shows}
 use Rattle.asl_numbered.proofs.Expansions.{keeps_same}
 use Rattle.asl_edges.specs.Entry.{entry_view as shapes_view, IsEntryBelow}
 use Rattle.asl_edges.specs.declared.found.Entry.{Entry}
-use Rattle.asl_records.specs.Numbered.{numbered_entries, numbered_view, numbers_view, AreEntriesBelow, AreNumbersBelow, AreWithin}
+use Rattle.asl_records.specs.Numbered.{numbered_entries, numbered_view, numbers_view, AreNumbersBelow, AreWithin}
 use Rattle.asl_records.specs.declared.records.NumberedCertificate.{NumberedCertificate}
 use Rattle.asl_records.specs.declared.records.StateNumbers.{StateNumbers}
 use Rattle.asl_growing.specs.Certified.{entry_certified, row_certified, AreCertified, AreNumbersOf, IsCertified, IsFit}
@@ -28,7 +28,6 @@ use Rattle.asl_growing.specs.Cutting.{IsShallow}
 use Rattle.asl_growing.specs.Drafted.{draft_view, numbers_in}
 use Rattle.asl_growing.specs.Entries.{entries_view}
 use Rattle.asl_growing.specs.Growing.{growth_view, IsEntryGrown, IsGrown}
-use Rattle.asl_growing.specs.Order.{IsPlaced}
 use Rattle.asl_growing.specs.declared.draft.Draft.{Draft}
 use Rattle.asl_growing.specs.declared.growing.Growing.{Growing}
 use Rattle.asl_growing.proofs.DraftViews.{numbers-below, numbers-shown}

@@ -3,7 +3,7 @@ use Rattle.std.proofs.Common.{◌≡◌, ℕ, List, [], ◌∷◌, ◌++◌, map
 use Rattle.std.specs.Option.{option_and_then}
 use Rattle.std.specs.Map.{lookup}
 use Rattle.std.proofs.lemmas.Bool.{and_parts, eqb-true}
-use Rattle.indexmap.specs.IndexMap.{IndexMap, get}
+use Rattle.indexmap.specs.IndexMap.{get}
 use Rattle.asl_model.proofs.Listed.{first_in, later_in}
 use Rattle.asl_model.proofs.ReadingSteps.{then_from}
 use Rattle.asl_model.proofs.RunOptions.{none_some, some_inj}

@@ -1,8 +1,8 @@
 -- States that are walked: what flows along their edges is remembered and taken in.
-use Rattle.std.proofs.Common.{◌≡◌, ◌≢◌, ◌<◌, ◌+◌, ◌++◌, ◌∷◌, ◌||◌, ℕ, zero, suc, List, [], length, get_or, take, map, Bool, true, false, IsTrue, Option, Some, None, option_map, Result, Ok, Err, IfOk, refl, sym, ap, ap₂, ◌∙◌, subst, ◌⊎◌, inl, inr, arith}
+use Rattle.std.proofs.Common.{◌≡◌, ◌≢◌, ◌<◌, ◌+◌, ◌++◌, ◌∷◌, ◌||◌, ℕ, List, [], length, Bool, true, false, IsTrue, Some, Result, Ok, Err, IfOk, refl, sym, ap, ap₂, ◌∙◌, subst, ◌⊎◌, inl, inr, arith}
 use Rattle.std.proofs.lemmas.Bool.{false≢true}
 use Rattle.asl_model.specs.Certificate.{Declared, takes_of}
-use Rattle.asl_model.specs.Edges.{Walked, Flows, Breaks}
+use Rattle.asl_model.specs.Edges.{Walked}
 use Rattle.asl_model.specs.Numbering.{Table}
 use Rattle.asl_model.specs.Shape.{Shape}
 use Rattle.asl_drafts.specs.Drafts as model
@@ -13,14 +13,13 @@ use Rattle.asl_numbered.specs.Expansion.{expansions, shape_at, Keeps}
 use Rattle.asl_numbered.proofs.Expansions.{keeps_same, keeps_trans}
 use Rattle.asl_growing.specs.Calm.{IsCalm, memory_of, has_shape, target_meant}
 use Rattle.asl_growing.specs.Drafted.{draft_view, room, target_view}
-use Rattle.asl_growing.specs.Entries.{IsToldOf, Makes}
+use Rattle.asl_growing.specs.Entries.{Makes}
 use Rattle.asl_growing.specs.Predecessors.{flowed}
 use Rattle.asl_growing.specs.Underway.{IsCalmAfter, IsUnderway, OthersStayCalm, StepsOn}
 use Rattle.asl_growing.specs.Waiting.{waits_in}
 use Rattle.asl_growing.specs.Walker.{HaveWoken, StaysWaiting}
 use Rattle.asl_growing.specs.declared.draft.Target.{Target}
 use Rattle.asl_growing.specs.declared.predecessors.Origin.{Origin}
-use Rattle.asl_growing.specs.declared.predecessors.Predecessors.{Predecessors}
 use Rattle.asl_growing.specs.declared.walker.Walker.{Walker}
 use Rattle.asl_growing.proofs.Calm.{meant-same, recalls, remembered, taken-again}
 use Rattle.asl_growing.proofs.Kept.{among_shapes, shown, within}

@@ -1,9 +1,9 @@
 -- The states that wait while a draft changes.
-use Rattle.std.proofs.Common.{◌≡◌, ◌<◌, ◌≤◌, ◌+◌, ℕ, zero, suc, List, [], ◌∷◌, length, get_or, slice_get, slice_set, Bool, true, false, Option, Some, None, refl, sym, ap, ap₂, ◌∙◌, subst, ◌⊎◌, inl, inr, arith}
-use Rattle.std.proofs.lemmas.Option.{slice_get-get_or, slice_get_within}
+use Rattle.std.proofs.Common.{◌≡◌, ◌<◌, ◌≤◌, ◌+◌, ℕ, zero, suc, List, [], ◌∷◌, length, get_or, slice_get, slice_set, Bool, true, false, Some, refl, sym, ap, ap₂, ◌∙◌, subst, ◌⊎◌, inl, inr, arith}
+use Rattle.std.proofs.lemmas.Option.{slice_get-get_or}
 use borrow.Author.Tests.{ltb-true, ltb-false}
 use lib.Dec.{ltb}
-use Rattle.asl_model.proofs.RunOptions.{none_some, some_inj}
+use Rattle.asl_model.proofs.RunOptions.{some_inj}
 use Rattle.asl_drafts.specs.Drafts.{taken_at}
 use Rattle.asl_numbered.specs.Expansion.{expansions, shape_at, Keeps}
 use Rattle.asl_growing.specs.Drafted.{draft_view, target_view}

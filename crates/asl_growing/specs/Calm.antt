@@ -1,5 +1,5 @@
 -- States that may be passed over: those that don't wait are at rest. No public clause cites this module.
-use Rattle.std.specs.Prelude.{◌≡◌, ◌<◌, ◌&&◌, ℕ, List, length, Bool, true, false, nat_lt, Option, Some, None}
+use Rattle.std.specs.Prelude.{◌≡◌, ◌&&◌, ℕ, List, length, Bool, true, false, nat_lt, Option, Some, None}
 use mathlib.Core.Logic.{◌⊎◌}
 use Rattle.asl_model.specs.Certificate.{Declared}
 use Rattle.asl_model.specs.Numbering.{Table}

@@ -10,7 +10,6 @@ use Rattle.asl_growing.specs.Predecessors.{flowed}
 use Rattle.asl_growing.specs.Waiting.{waits_in}
 use Rattle.asl_growing.specs.declared.draft.Draft.{Draft}
 use Rattle.asl_growing.specs.declared.draft.Target.{Target}
-use Rattle.asl_growing.specs.declared.predecessors.Inflow.{Inflow}
 use Rattle.asl_growing.specs.declared.predecessors.Origin.{Origin}
 use Rattle.asl_growing.specs.declared.predecessors.Predecessors.{Predecessors}
 

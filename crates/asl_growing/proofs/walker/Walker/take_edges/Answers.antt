@@ -1,4 +1,4 @@
-use Rattle.std.proofs.Common.{◌≡◌, ◌<◌, ◌+◌, ◌||◌, Bool, true, length, get_or, refl, sym, subst, arith}
+use Rattle.std.proofs.Common.{◌≡◌, ◌+◌, ◌||◌, Bool, true, length, get_or, refl, sym, subst, arith}
 use Rattle.asl_drafts.specs.Drafts.{step_taken}
 use Rattle.asl_edges.specs.View.{edge_view, steps_of}
 use Rattle.asl_edges.specs.declared.found.Edge.{Edge}
@@ -9,8 +9,8 @@ use Rattle.asl_growing.specs.Entries.{Makes}
 use Rattle.asl_growing.specs.Underway.{StepsOn}
 use Rattle.asl_growing.specs.declared.predecessors.Origin.{Origin}
 use Rattle.asl_growing.proofs.Kept.{within}
-use Rattle.asl_growing.proofs.Leading.{edge-kept, first_steps, flowing-below, no_edge, steps-all, steps-many, steps-more}
-use Rattle.asl_growing.proofs.Underway.{HasWalked, changed-now, unchanged-now, walked-all, walked-more}
+use Rattle.asl_growing.proofs.Leading.{edge-kept, first_steps, flowing-below, no_edge, steps-many, steps-more}
+use Rattle.asl_growing.proofs.Underway.{HasWalked, changed-now, unchanged-now, walked-more}
 use Rattle.asl_growing.proofs.walker.Walker.take_edges.Goals as goal
 use Rattle.asl_growing.proofs.walker.Walker.take_edges.Goals.{then-branch, else-branch}
 

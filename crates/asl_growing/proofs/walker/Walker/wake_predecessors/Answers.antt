@@ -1,4 +1,4 @@
-use Rattle.std.proofs.Common.{◌≡◌, Contains, get_or, length, sym, ap, ◌∙◌, subst}
+use Rattle.std.proofs.Common.{◌≡◌, Contains, get_or, sym, ◌∙◌, subst}
 use Rattle.std.proofs.lemmas.List.{get_or_default}
 use Rattle.asl_growing.specs.Walker.{StaysWaiting, WaitsOrStays}
 use Rattle.asl_growing.specs.declared.predecessors.Inflow.{Inflow}
