@@ -1,5 +1,5 @@
--- What is known of states while what flows along the edges of one of them is taken in. No public clause but those of that
--- walk cites this module.
+-- What is known of states while what flows along the edges of one of them is taken in. No public clause but those of
+-- that walk cites this module.
 use Rattle.std.specs.Prelude.{◌≡◌, ◌≢◌, ◌<◌, ◌++◌, ◌∷◌, ℕ, List, [], length, true}
 use mathlib.Core.Logic.{◌⊎◌}
 use Rattle.asl_model.specs.Certificate.{Declared, takes_of}
@@ -14,8 +14,8 @@ use Rattle.asl_growing.specs.Waiting.{waits_in}
 use Rattle.asl_growing.specs.declared.predecessors.Origin.{Origin}
 use Rattle.asl_growing.specs.declared.walker.Walker.{Walker}
 
--- The row's state is walked, and has those steps: it waits again, or it still has these steps, and what flowed along the
--- first ones would change nothing.
+-- The row's state is walked, and has those steps: it waits again, or it still has these steps, and what flowed along
+-- the first ones would change nothing.
 pub record IsUnderway (table : Table) (declared : Declared) (row : Row) (steps done : List Walked) (walker : Walker)
     : Type 0 where
   pub underway : (waits_in walker.waiting.waits.items row.number ≡ true)

@@ -79,8 +79,8 @@ pub(crate) fn is_map(kind: &Kind) -> bool
     matches!(kind, Kind::Map { .. })
 }
 
-/// Takes in what flows into one of the shapes of the state of that number, if it is there, and says whether this changed
-/// it.
+/// Takes in what flows into one of the shapes of the state of that number, if it is there, and says whether this
+/// changed it.
 pub(crate) fn take_in_entries(
     store: &mut Store,
     entries: &mut Vec<Vec<Growing>>,
@@ -128,7 +128,8 @@ fn take_in_entry(
     }
 }
 
-/// The entry of a state of that type with the shapes of those numbers, in their order. No tree has one that isn't there.
+/// The entry of a state of that type with the shapes of those numbers, in their order. No tree has one that isn't
+/// there.
 pub(crate) fn entry_in<'e>(kind: &Kind, numbers: &'e [usize], never: usize) -> Entry<'e>
     ensures shown { (table : List Shape) → shape_at table never ≡ Never
         → shapes_view table result

@@ -12,8 +12,8 @@ use asl_edges::Destination;
 use asl_states::Machine;
 use asl_tree::OutOfMemory;
 
-/// The shape that an edge of the state of that number leads to. None where the edge leads to a task, or to a state that the
-/// machine hasn't. A shape whose place is no `usize` is told as out of memory, since no draft has room for it.
+/// The shape that an edge of the state of that number leads to. None where the edge leads to a task, or to a state that
+/// the machine hasn't. A shape whose place is no `usize` is told as out of memory, since no draft has room for it.
 pub(crate) fn target_of(
     machine: &Machine,
     number: usize,

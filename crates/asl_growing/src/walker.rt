@@ -31,9 +31,9 @@ impl Walker {
     ghost use Rattle.asl_growing.specs.Drafted.{draft_view, room, target_view};
     ghost use Rattle.asl_growing.specs.Entries.{Makes};
 
-    /// Takes in what flows along the edges of the state of that number, in their order, and says whether a shape was changed.
-    /// What flowed along each edge is remembered. Each other state that waited or was at rest does so or is so then, and
-    /// so is or does the state itself, if these are its edges and no rule of its own is broken.
+    /// Takes in what flows along the edges of the state of that number, in their order, and says whether a shape was
+    /// changed. What flowed along each edge is remembered. Each other state that waited or was at rest still waits or is at
+    /// rest then. So does the state itself, if these are its edges and no rule of its own is broken.
     pub fn take_edges(
         &mut self,
         machine: &Machine,
@@ -97,8 +97,8 @@ impl Walker {
         }
     }
 
-    /// Takes in what flows into one of the shapes, and says whether this changed it. Where it did, the state that looks at
-    /// the shape waits, and so do the states whose edges lead to it and would change it again.
+    /// Takes in what flows into one of the shapes, and says whether this changed it. Where it did, the state that looks
+    /// at the shape waits, and so do the states whose edges lead to it and would change it again.
     pub fn take(&mut self, target: Target, flowing: usize) -> Result<bool, OutOfMemory>
         requires { flowing < length self.old.draft.store }
         ensures takes { IfOk result
