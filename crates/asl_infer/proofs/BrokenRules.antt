@@ -1,19 +1,17 @@
--- The rules that are broken along a walk stand for some certificate.
-use Rattle.std.proofs.Common.{◌≡◌, ℕ, List, [], ◌∷◌, ◌++◌, map, Bool, true, false, codes, slice_get, Option, Some, None, option_map, Result, Ok, Err, Contains, if◌then◌else◌, refl, sym, ap, ◌∙◌, subst, ◌⊎◌, inl, inr}
-use Rattle.std.proofs.lemmas.List.Elements.{All-contains, All-from_recursion, Contains-append_left, Contains-append_right}
+-- The rules that are broken along a walk whatever is certified have faults of the machine.
+use Rattle.std.proofs.Common.{◌≡◌, ℕ, List, [], ◌∷◌, ◌++◌, map, Bool, true, false, codes, Option, Some, None, Result, Ok, Err, if◌then◌else◌, refl}
 use Rattle.std.specs.List.{AllByRecursion}
 use Rattle.std.specs.Prelude.{IsTrue}
-use Rattle.asl_model.specs.Certificate.{Declared, StateShapes, gives_of, takes_of}
-use Rattle.asl_model.specs.Edges.{DestinationShapes, ToInput, ToOutput, ToEnd, ToTask, Walked, Flows, Breaks, breaches_along, breaches_at, breaks, breaks_unless, flows_to, onward, destination_shapes, to_branches, to_child, to_end, to_next, walk, walk_catchers, walk_caught, walk_chosen, walk_default, walk_delay, walk_elements, walk_items, walk_items_result, walk_named, walk_result, walk_rule, walk_rules, walk_settled, walk_then, walk_work, with_elements_walked}
-use Rattle.asl_model.specs.Finding.{Breach, FindingFault, WrongKind, PathMayBeMissing, ResultMayNotFit, NoDefault, array_parts, as_first_elements, breach_of, breach_unless_sub, effective_flow, element_shape, error_placed_shape, flow_breaches, item_flow, map_result}
-use Rattle.asl_model.specs.Inference.{IsBrokenAnyway, is_of_machine}
-use Rattle.asl_model.specs.Machine.{Catcher, Delay, Seconds, SecondsPath, Timestamp, TimestampPath, Kind, Pass, Task, Choice, Wait, Succeed, Fail, Parallel, Map, Scope, Scopes, NoScopes, AndScope, Settings, State, kind_of, settings_of, start_of}
+use Rattle.asl_model.specs.Certificate.{StateShapes}
+use Rattle.asl_model.specs.Edges.{ToTask, Walked, Flows, Breaks, breaks_unless, onward, to_branches, to_child, to_end, to_next, walk, walk_catchers, walk_caught, walk_chosen, walk_default, walk_delay, walk_elements, walk_items, walk_items_result, walk_named, walk_result, walk_rule, walk_rules, walk_settled, walk_then, walk_work, with_elements_walked}
+use Rattle.asl_model.specs.Finding.{WrongKind, array_parts, as_first_elements, breach_of, effective_flow, element_shape, error_placed_shape, item_flow, map_result}
+use Rattle.asl_model.specs.Inference.{is_of_machine}
+use Rattle.asl_model.specs.Machine.{Catcher, Delay, Seconds, SecondsPath, Timestamp, TimestampPath, Kind, Pass, Task, Choice, Wait, Succeed, Fail, Parallel, Map, Scope, Scopes, NoScopes, AndScope, Settings}
 use Rattle.asl_model.specs.Shape.{Shape, Shapes, Never, ArrayShape, inhabited}
 use Rattle.asl_model.specs.ShapeFlow.{Flow, FlowFault, MissingAt, FailsAt, MisfitAt, leave, literal, look, rule_shape}
-use Rattle.asl_model.specs.ShapeOrder.{sub, is_integer_shape, is_string_shape}
+use Rattle.asl_model.specs.ShapeOrder.{is_integer_shape, is_string_shape}
 use Rattle.asl_model.specs.Template.{Template}
 use Rattle.asl_model.specs.Test.{Rule}
-use Rattle.asl_model.proofs.Listed.{first_in, first_or_later, map_in, none_in}
 
 -- ---- the steps of a walk
 
@@ -161,18 +159,3 @@ walk_of_machine gives settings kind entry = by (inhabited entry.input)
     by : (b : Bool) → AreOfMachine (if b then whole else [])
     by true = parts
     by false = none
-
--- ---- a broken rule along a walk
-
--- it is broken at one of the steps
-pub along : (standing : DestinationShapes) (steps : List Walked) (step : Walked) (b : Breach) → Contains steps step → Contains (breaches_at standing step) b → Contains (breaches_along standing steps) b
-along standing [] step b there h = none_in step there
-along standing (first ∷ steps) step b there h = by (first_or_later first step steps there) (λ below. along standing steps step b below h)
-  where
-    by : (first ≡ step) ⊎ Contains steps step → (Contains steps step → Contains (breaches_along standing steps) b) → Contains (breaches_at standing first ++ breaches_along standing steps) b
-    by (inl is) later = Contains-append_left (breaches_at standing first) (breaches_along standing steps) b (subst (λ x. Contains (breaches_at standing x) b) (sym is) h)
-    by (inr below) later = Contains-append_right (breaches_at standing first) (breaches_along standing steps) b (later below)
-
--- one of the steps
-pub step_of_machine : (steps : List Walked) (step : Walked) → AreOfMachine steps → Contains steps step → IsOfMachine step
-step_of_machine steps step h there = All-contains IsOfMachine steps step (All-from_recursion IsOfMachine steps h.each) there

@@ -1,23 +1,23 @@
 -- The numbers of what is declared of tasks.
-use Rattle.std.proofs.Common.{◌≡◌, ◌<◌, ◌+◌, ℕ, zero, suc, List, [], ◌∷◌, ◌++◌, length, slice_get, Bor, Option, Some, None, is_some, option_map, false, refl, sym, ap, ◌∙◌, subst, ◌⊎◌, inl, inr, arith}
-use Rattle.std.proofs.lemmas.List.{length_push}
+use Rattle.std.proofs.Common.{◌≡◌, ℕ, List, [], ◌∷◌, ◌++◌, length, slice_get, Bor, Option, Some, None, is_some, option_map, false, refl, sym, ap, ◌∙◌, subst, ◌⊎◌, inl, inr}
 use Rattle.std.specs.Option.{unwrap_or}
 use Rattle.asl_model.specs.Certificate as model
 use Rattle.asl_model.specs.Certificate.{gives_among, gives_of, takes_among, takes_of, under}
 use Rattle.asl_model.specs.Shape.{Shape, Any}
 use Rattle.asl_numbered.specs.Expansion.{Keeps}
 use Rattle.asl_numbered.specs.Joins.{Shows}
-use Rattle.asl_numbered.proofs.Expansions.{keeps_longer}
-use Rattle.asl_records.specs.View.{declared_view, task_view}
+use Rattle.asl_records.specs.View.{task_view}
+use Rattle.asl_records.specs.declared.records.Declared as code
 use Rattle.asl_records.specs.declared.records.TaskShapes.{TaskShapes}
+use Rattle.asl_states.specs.declared.machine.Machine.{Machine}
 use Rattle.asl_shape.specs.View.{view}
-use Rattle.asl_states.specs.Table.{table_view}
-use Rattle.asl_infer.specs.Rounds.{IsGiven}
+use Rattle.asl_infer.specs.Rounds.{IsGiven, IsGivenOf, IsRowOf, declared_in, table_in}
 use Rattle.asl_infer.specs.Tasks.{IsTaskOf, AreTasks}
 use Rattle.asl_infer.specs.declared.rounds.Given.{Given}
+use Rattle.asl_infer.specs.declared.rounds.Row.{Row}
 use Rattle.asl_infer.specs.declared.tasks.TaskNumbers.{TaskNumbers}
-use Rattle.asl_infer.proofs.Known.{shows_kept}
-use Rattle.asl_infer.proofs.Measured.{pushed}
+use Rattle.asl_growing.proofs.Known.{shows_kept}
+use Rattle.asl_growing.proofs.Measured.{pushed}
 
 -- ---- one task
 
@@ -75,4 +75,17 @@ one_more_task declared names a b tasks new task number o else name here are keep
 -- ---- what is given
 
 pub given_kept : (a b : List Shape) (given : Given) → Keeps a b → IsGiven a given → IsGiven b given
-given_kept a b given keeps is = record { tasks = tasks_kept (declared_view given.declared.now) (table_view given.machine.now).names a b given.tasks.items keeps is.tasks; input = omega (arith, is.input, keeps_longer a b keeps) }
+given_kept a b given keeps is = record {
+  tasks = tasks_kept (declared_in given) (table_in given).names a b given.tasks.items keeps is.tasks;
+  many = is.many;
+  input = shows_kept a b (declared_in given).input given.input keeps is.input;
+  order = is.order;
+}
+
+-- the task of a row
+pub task_of_row : (table : List Shape) (given : Given) (number : ℕ) (row : Row) → IsGiven table given → IsRowOf given number row → IsTaskOf (declared_in given) row.name.now table row.task
+task_of_row table given number row is of = is.tasks.each number row.name.now row.task of.among.named of.task
+
+-- what is given, in a table that has grown
+pub given_of_kept : (shown : Machine) (declared : code.Declared) (a b : List Shape) (given : Given) → Keeps a b → IsGivenOf shown declared a given → IsGivenOf shown declared b given
+given_of_kept shown declared a b given keeps is = record { machine = is.machine; declares = is.declares; numbers = given_kept a b given keeps is.numbers }

@@ -1,14 +1,50 @@
 -- What is wrong with the names of declared tasks. No public clause cites this module.
-use Rattle.asl_model.specs.Certificate.{Declared}
+use Rattle.std.specs.Prelude.{◌≡◌, ℕ, List, [], ◌∷◌, true, Option, Some, None, option_map, ⊤}
+use Rattle.asl_model.specs.Certificate.{Declared, TaskShapes}
+use Rattle.asl_model.specs.Finding as finding
 use Rattle.asl_model.specs.Inference.{finding_of}
-use Rattle.asl_model.specs.Machine.{Scope}
-use Rattle.asl_states.specs.Table.{Shows}
-use Rattle.asl_states.specs.declared.machine.Machine.{Machine}
+use Rattle.asl_model.specs.Numbering.{Table}
+use Rattle.asl_model.specs.ShapeSpelling.{are_distinct}
+use Rattle.asl_drafts.specs.Drafts.{Row, earlier, first_by_name, misnamed, rows_of, undeclared, unknown}
+use Rattle.asl_check.specs.View.{finding_view}
 use Rattle.asl_edges.specs.View.{broken_view}
-use Rattle.asl_infer.specs.Inferring.{IsOfMachine}
+use Rattle.asl_infer.specs.Rounds.{IsIn}
 use Rattle.asl_infer.specs.declared.declarations.Misnamed.{Misnamed}
+use Rattle.asl_infer.specs.declared.inferring.InferRefusal.{InferRefusal}
+use Rattle.asl_infer.specs.declared.inferring.InferRefusal.TheVariants.{Finding, NotSettled, OutOfMemory}
 
--- the rule is broken for that name, for some certificate
-pub record IsMisnamed (shown : Machine) (declared : Declared) (misnamed : Misnamed) : Type 0 where
-  pub stands : (machine : Scope) → Shows shown machine
-      → IsOfMachine machine declared (finding_of misnamed.name.now (broken_view misnamed.rule))
+-- as a finding
+abbrev pub misnamed_view : Misnamed → finding.Finding
+misnamed_view m = finding_of m.name.now (broken_view m.rule)
+
+-- the one whose name comes first, where both may be there
+abbrev pub first_of : Option finding.Finding → Option finding.Finding → Option finding.Finding
+first_of None other = other
+first_of (Some found) other = Some (earlier found other)
+
+-- the first of the findings by name, in a table in which no name stands twice
+pub record IsFirst (table : Table) (findings : List finding.Finding) (one : Option Misnamed) : Type 0 where
+  pub first : are_distinct table.names ≡ true → option_map misnamed_view one ≡ first_by_name findings
+
+-- that of the state of that number: it is a Task that isn't declared
+pub record IsFirstAt (table : Table) (declared : Declared) (number : ℕ) (one : Option Misnamed) : Type 0 where
+  pub first : (row : Row) → IsIn table row → row.number ≡ number
+      → option_map misnamed_view one ≡ first_by_name (undeclared declared (row ∷ []))
+
+-- that of a declared task of that name: no Task has it
+pub record IsFirstOf (table : Table) (name : List ℕ) (one : Option Misnamed) : Type 0 where
+  pub first : are_distinct table.names ≡ true → (task : List ℕ × TaskShapes) → task.0 ≡ name
+      → option_map misnamed_view one ≡ first_by_name (unknown (rows_of table) (task ∷ []))
+
+-- each Task is declared and no other, where no name stands twice
+pub record AreNamed (table : Table) (declared : Declared) : Type 0 where
+  pub named : are_distinct table.names ≡ true → misnamed table declared ≡ []
+
+-- the finding is the first by name of what is wrong with them
+abbrev pub IsFirstRefusal : Table → Declared → InferRefusal → Type 0
+IsFirstRefusal table declared (Finding found) = first_by_name (misnamed table declared) ≡ Some (finding_view found)
+IsFirstRefusal table declared NotSettled = ⊥
+IsFirstRefusal table declared OutOfMemory = ⊤
+
+pub record NamesTell (table : Table) (declared : Declared) (refusal : InferRefusal) : Type 0 where
+  pub tells : are_distinct table.names ≡ true → IsFirstRefusal table declared refusal

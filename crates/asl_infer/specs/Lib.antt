@@ -1,13 +1,4 @@
-pub mod Cuts
-pub mod Cutting
 pub mod Declarations
-pub mod Depths
-pub mod Drafted
-pub mod Growing
 pub mod Inferring
-pub mod Parts
-pub mod Rooms
 pub mod Rounds
-pub mod Settling
 pub mod Tasks
-pub mod Widest

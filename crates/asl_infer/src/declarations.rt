@@ -1,19 +1,19 @@
 // Tasks that aren't declared, and declared tasks that no state is.
 
-ghost use Rattle.std.specs.Prelude.{◌≡◌, IfErr, IfSome};
-ghost use mathlib.Core.Logic.{◌⊎◌};
+ghost use Rattle.std.specs.Prelude.{◌≡◌, option_map, IfErr, OnOk};
+ghost use Rattle.asl_drafts.specs.Drafts.{rows_of, undeclared, unknown};
 ghost use Rattle.asl_model.specs.Machine as machines;
 ghost use Rattle.asl_records.specs.View.{declared_view};
 ghost use Rattle.asl_states.specs.Machine.{kind_view};
 ghost use Rattle.asl_states.specs.Table.{table_view};
 ghost use Rattle.asl_check.specs.Rules.{names_task_in};
-ghost use Rattle.asl_infer.specs.Declarations.{IsMisnamed};
-ghost use Rattle.asl_infer.specs.Inferring.{Halts};
+ghost use Rattle.asl_growing.specs.Order.{AreOrdered};
+ghost use Rattle.asl_infer.specs.Declarations.{AreNamed, IsFirst, IsFirstAt, IsFirstOf, NamesTell};
+ghost use Rattle.asl_infer.specs.Declarations.{first_of, misnamed_view};
 
 use crate::inferring::InferRefusal;
 use crate::rounds::finding;
 use asl_edges::{Broken, FindingFault};
-use asl_model::shape_laws::findings_are_exactly_the_broken_rules;
 use asl_records::Declared;
 use asl_states::{Kind, Machine};
 use std::alloc::Global;
@@ -25,37 +25,47 @@ pub(crate) struct Misnamed<'n> {
     rule: Broken,
 }
 
-/// Refuses where a Task isn't declared or a declared task names no Task, with the first such name in byte order.
+/// Refuses where a Task isn't declared or a declared task names no Task, with the first such name in byte order. The
+/// numbers are those of the machine's states in the order of their names.
 pub(crate) fn check_tasks(
     alloc: Global,
     machine: &Machine,
     declared: &Declared,
+    order: &[usize],
 ) -> Result<(), InferRefusal>
-    ensures { IfErr result (Halts machine.now (declared_view declared.now)) }
+    requires { AreOrdered (table_view machine.now) order.now }
+    ensures named { OnOk result (AreNamed (table_view machine.now) (declared_view declared.now)) }
+    ensures told { IfErr result (NamesTell (table_view machine.now) (declared_view declared.now)) }
 {
-    let undeclared = first_undeclared(machine, declared);
-    match earlier(undeclared, first_unknown(machine, declared)) {
+    let undeclared = first_undeclared(machine, declared, order);
+    let unknown = first_unknown(machine, declared);
+    match earlier(undeclared, unknown) {
         Some(first) => Err(InferRefusal::Finding(finding(alloc, first.name, first.rule)?)),
         None => Ok(()),
     }
 }
 
 // The first name of a Task that isn't declared.
-fn first_undeclared<'n>(machine: &'n Machine, declared: &Declared) -> Option<Misnamed<'n>>
-    ensures { IfSome result (IsMisnamed machine.now (declared_view declared.now)) }
+fn first_undeclared<'n>(
+    machine: &'n Machine,
+    declared: &Declared,
+    order: &[usize],
+) -> Option<Misnamed<'n>>
+    requires { AreOrdered (table_view machine.now) order.now }
+    ensures { IsFirst (table_view machine.now)
+        (undeclared (declared_view declared.now) (rows_of (table_view machine.now))) result }
 {
     let mut first = None;
-    for number in 0..machine.states() {
-        first = earlier(first, undeclared(machine, declared, number));
+    for number in order {
+        first = earlier(first, undeclared(machine, declared, *number));
     }
     first
 }
 
 // The name of the state of that number, where it is a Task that isn't declared.
 fn undeclared<'n>(machine: &'n Machine, declared: &Declared, number: usize) -> Option<Misnamed<'n>>
-    ensures { IfSome result (IsMisnamed machine.now (declared_view declared.now)) }
+    ensures { IsFirstAt (table_view machine.now) (declared_view declared.now) number result }
 {
-    findings_are_exactly_the_broken_rules();
     let name = machine.name(number)?;
     let state = machine.state(number)?;
     if is_task(&state.kind) && declared.task(name).is_none() {
@@ -71,18 +81,29 @@ fn undeclared<'n>(machine: &'n Machine, declared: &Declared, number: usize) -> O
 
 // The first declared name that no Task has.
 fn first_unknown<'n>(machine: &Machine, declared: &'n Declared) -> Option<Misnamed<'n>>
-    ensures { IfSome result (IsMisnamed machine.now (declared_view declared.now)) }
+    ensures { IsFirst (table_view machine.now)
+        (unknown (rows_of (table_view machine.now)) (declared_view declared.now).tasks) result }
 {
+    let mut first = None;
     for (name, _) in declared.tasks.iter() {
-        if !names_task(machine, name) {
-            let rule = Broken {
-                field: "tasks",
-                fault: FindingFault::TaskUnknown,
-            };
-            return Some(Misnamed { name, rule });
-        }
+        first = earlier(first, unknown(machine, name));
     }
-    None
+    first
+}
+
+// The name, where no Task has it.
+fn unknown<'n>(machine: &Machine, name: &'n str) -> Option<Misnamed<'n>>
+    ensures { IsFirstOf (table_view machine.now) name.now result }
+{
+    if names_task(machine, name) {
+        None
+    } else {
+        let rule = Broken {
+            field: "tasks",
+            fault: FindingFault::TaskUnknown,
+        };
+        Some(Misnamed { name, rule })
+    }
 }
 
 // Whether a Task has that name.
@@ -105,9 +126,10 @@ fn is_task(kind: &Kind) -> bool
     matches!(kind, Kind::Task { .. })
 }
 
-// The one whose name comes first in byte order.
+// The one whose name comes first in byte order, the first one where both are the same.
 fn earlier<'n>(first: Option<Misnamed<'n>>, second: Option<Misnamed<'n>>) -> Option<Misnamed<'n>>
-    ensures { (result ≡ first.entry) ⊎ (result ≡ second.entry) }
+    ensures { option_map misnamed_view result
+        ≡ first_of (option_map misnamed_view first.entry) (option_map misnamed_view second.entry) }
 {
     match first {
         Some(one) => match second {

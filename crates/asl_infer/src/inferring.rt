@@ -1,24 +1,34 @@
 // Inferring a certificate, round after round.
 
-ghost use Rattle.std.specs.Prelude.{◌≡◌, ◌≤◌, IfErr, IfOk};
+ghost use Rattle.std.specs.Prelude.{◌≡◌, ◌≤◌, ℕ, length, IfErr, IfOk};
 ghost use Rattle.serde_json.specs.Data.{depth};
 ghost use Rattle.serde_json.specs.Read.{max_depth};
+ghost use Rattle.asl_model.specs.Certificate as certificates;
 ghost use Rattle.asl_model.specs.Certificate.{IsClosed};
+ghost use Rattle.asl_model.specs.Finding as findings;
 ghost use Rattle.asl_model.specs.Json.{value_of};
 ghost use Rattle.asl_model.specs.Machine as machines;
+ghost use Rattle.asl_model.specs.Numbering.{IsWellNamed, table_of};
+ghost use Rattle.asl_model.specs.RecordShapes.{HoldsForCertificate};
 ghost use Rattle.asl_model.specs.Written.{written_certificate};
-ghost use Rattle.asl_states.specs.Table.{Shows};
+ghost use Rattle.asl_drafts.specs.Drafts.{IsInferred, IsTold, first_draft};
+ghost use Rattle.asl_states.specs.Table.{Shows, table_view};
+ghost use Rattle.asl_numbered.specs.Expansion.{expansions};
 ghost use Rattle.asl_records.specs.Numbered.{numbered_view, AreWithin};
 ghost use Rattle.asl_records.specs.View.{declared_view, certificate_view};
-ghost use Rattle.asl_infer.specs.Inferring.{IsInferRefusal};
+ghost use Rattle.asl_growing.specs.Cutting.{IsShallow};
+ghost use Rattle.asl_growing.specs.Drafted.{draft_view};
+ghost use Rattle.asl_growing.specs.Order.{AreOrdered};
+ghost use Rattle.asl_infer.specs.Inferring.{IsInferRefusal, IsOfMachine, IsReasonOf};
+ghost use Rattle.asl_infer.specs.Rounds.{AreCalm, Infers, IsGivenOf, Refuses};
 
 use crate::declarations::check_tasks;
-use crate::draft::Draft;
 use crate::rounds::Given;
-use crate::settling::settle;
-use crate::store::Store;
-use crate::waiting::Waiting;
 use asl_check::Finding;
+use asl_drafts::settled_drafts_are_closed;
+use asl_growing::{Draft, Predecessors, Store, Waiting, Walker, order_of};
+use asl_model::inference_laws::a_broken_rule_of_a_state_stands;
+use asl_model::shape_laws::{findings_are_exactly_the_broken_rules, walk_breaks_what_flow_breaks};
 use asl_records::{Certificate, Declared, NumberedCertificate, expand_certificate};
 use asl_states::Machine;
 use asl_tree::OutOfMemory;
@@ -47,27 +57,33 @@ impl From<OutOfMemory> for InferRefusal {
 
 /// Infers a certificate of the machine that is closed for what is declared.
 ///
-/// At first no tree has any of its shapes. In each round the declared input flows into the start state's input, and then
-/// what flows out of each state, in byte order of their names, is joined into the shapes that it would be compared
-/// with. A state is passed over where this would change nothing: its input hasn't changed since it was walked last, nor
-/// the end of one of its branches or of its processor, and what flowed out of it then would change none of the shapes
-/// into which it flowed. The certificate is answered after a round that changed no shape. Refuses with a finding where a rule is broken
-/// that compares nothing with the certificate, where a Task isn't declared, and where a declared task names no Task;
-/// where all rounds changed a shape; and where an allocation was refused.
+/// At first no tree has any of its shapes. In each round the declared input flows into the start state's input, and
+/// then what flows out of each state, in byte order of their names, is joined into the shapes that it would be
+/// compared with. The certificate is answered after a round that changed no shape. Refuses with a finding where a Task isn't
+/// declared or a declared task names no Task, the first such name in byte order; then with the first finding of a round
+/// that compares nothing with the certificate; where all rounds changed a shape; and where an allocation was refused.
 ///
-/// What is written of the certificate nests at most 127 levels, so that its text reads back.
+/// A state is passed over where a walk through it would change nothing: its input hasn't changed since it was walked
+/// last, nor the end of one of its branches or of its processor, and what flowed out of it then would change none of
+/// the shapes into which it flowed. What is written of the certificate nests at most 127 levels, so that its text reads
+/// back.
 pub fn infer(
     alloc: Global,
     machine: &Machine,
     declared: &Declared,
     max_rounds: u32,
 ) -> Result<Certificate, InferRefusal>
+    ensures inferred { IfOk result (λ certificate. (m : machines.Scope) → Shows machine.now m
+        → IsInferred (table_of m) (declared_view declared.now) max_rounds
+        (certificate_view certificate)) }
     ensures closed { IfOk result (λ certificate. (m : machines.Scope) → Shows machine.now m
         → IsClosed (declared_view declared.now) (certificate_view certificate) m) }
     ensures shallow { IfOk result (λ certificate.
         depth (value_of (written_certificate (certificate_view certificate))) ≤ max_depth) }
     ensures refused { IfErr result (λ refusal. (m : machines.Scope) → Shows machine.now m
         → IsInferRefusal m (declared_view declared.now) max_rounds refusal) }
+    ensures told { IfErr result (λ refusal. (m : machines.Scope) → Shows machine.now m
+        → IsReasonOf (table_of m) (declared_view declared.now) max_rounds refusal) }
 {
     let certificate = infer_numbered(alloc, machine, declared, max_rounds)?;
     Ok(expand_certificate(alloc, &certificate)?)
@@ -80,6 +96,9 @@ pub fn infer_numbered(
     declared: &Declared,
     max_rounds: u32,
 ) -> Result<NumberedCertificate, InferRefusal>
+    ensures inferred { IfOk result (λ certificate. (m : machines.Scope) → Shows machine.now m
+        → IsInferred (table_of m) (declared_view declared.now) max_rounds
+        (numbered_view certificate)) }
     ensures closed { IfOk result (λ certificate. (m : machines.Scope) → Shows machine.now m
         → IsClosed (declared_view declared.now) (numbered_view certificate) m) }
     ensures within { IfOk result AreWithin }
@@ -87,12 +106,73 @@ pub fn infer_numbered(
         depth (value_of (written_certificate (numbered_view certificate))) ≤ max_depth) }
     ensures refused { IfErr result (λ refusal. (m : machines.Scope) → Shows machine.now m
         → IsInferRefusal m (declared_view declared.now) max_rounds refusal) }
+    ensures told { IfErr result (λ refusal. (m : machines.Scope) → Shows machine.now m
+        → IsReasonOf (table_of m) (declared_view declared.now) max_rounds refusal) }
 {
-    check_tasks(alloc, machine, declared)?;
-    let mut waiting = Waiting::new(alloc, machine)?;
+    settled_drafts_are_closed();
+    told_findings_stand();
+    settle(alloc, machine, declared, max_rounds)
+}
+
+// Checks the names of the tasks, and takes rounds until the draft settles.
+fn settle(
+    alloc: Global,
+    machine: &Machine,
+    declared: &Declared,
+    max_rounds: u32,
+) -> Result<NumberedCertificate, InferRefusal>
+    ensures inferred { IfOk result (λ certificate.
+        Infers (table_view machine.now) (declared_view declared.now) max_rounds
+        (numbered_view certificate)) }
+    ensures within { IfOk result AreWithin }
+    ensures shallow { IfOk result
+        (λ certificate. HoldsForCertificate IsShallow (numbered_view certificate)) }
+    ensures told { IfErr result
+        (Refuses (table_view machine.now) (declared_view declared.now) max_rounds) }
+{
+    let order = order_of(alloc, machine)?;
+    check_tasks(alloc, machine, declared, &order)?;
+    let (given, mut walker) = begin(alloc, machine, declared, order)?;
+    given.take_rounds(max_rounds, &mut walker)?;
+    Ok(walker.draft.certificate(machine)?)
+}
+
+// What is given, and the draft before the first round, for which all states wait.
+fn begin<'m>(
+    alloc: Global,
+    machine: &'m Machine,
+    declared: &'m Declared,
+    order: Vec<usize>,
+) -> Result<(Given<'m>, Walker), OutOfMemory>
+    requires { AreOrdered (table_view machine.now) order.items }
+    ensures given { IfOk result (λ begun.
+        IsGivenOf machine.now declared.now (expansions begun.1.draft.store) begun.0) }
+    ensures first { IfOk result (λ begun.
+        draft_view begun.1.draft ≡ first_draft (table_view machine.now)) }
+    ensures calm { IfOk result (λ begun.
+        AreCalm (table_view machine.now) (declared_view declared.now) begun.1) }
+{
     let mut store = Store::new(alloc);
-    let given = Given::new(alloc, machine, declared, &mut store)?;
-    let mut draft = Draft::new(machine, store)?;
-    given.take_rounds(max_rounds, &mut draft, &mut waiting)?;
-    settle(alloc, machine, declared, draft)
+    let given = Given::new(alloc, machine, declared, order, &mut store)?;
+    let draft = Draft::new(machine, store)?;
+    let waiting = Waiting::new(alloc, machine.states())?;
+    let predecessors = Predecessors::new(alloc);
+    let walker = Walker {
+        draft,
+        waiting,
+        predecessors,
+    };
+    Ok((given, walker))
+}
+
+// A finding that is told of the names of tasks or in a round is of the machine or of what is declared, and stands for
+// some certificate.
+fn told_findings_stand()
+    ensures { (machine : machines.Scope) (declared : certificates.Declared) (rounds : ℕ)
+        (found : findings.Finding) → IsWellNamed machine
+        → IsTold (table_of machine) declared rounds found → IsOfMachine machine declared found }
+{
+    a_broken_rule_of_a_state_stands();
+    walk_breaks_what_flow_breaks();
+    findings_are_exactly_the_broken_rules();
 }

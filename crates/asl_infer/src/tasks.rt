@@ -1,16 +1,17 @@
 // The shapes that are declared of tasks, by number.
 
-ghost use Rattle.std.specs.Prelude.{IfOk};
+ghost use Rattle.std.specs.Prelude.{◌≡◌, length, IfOk};
 ghost use Rattle.asl_numbered.specs.Expansion.{expansions, Keeps};
 ghost use Rattle.asl_records.specs.View.{declared_view};
 ghost use Rattle.asl_states.specs.Table.{table_view};
 ghost use Rattle.asl_infer.specs.Tasks.{AreTasks, IsTaskOf};
 
-use crate::store::Store;
+use asl_growing::Store;
 use asl_numbered::Node;
 use asl_records::Declared;
 use asl_states::Machine;
 use asl_tree::OutOfMemory;
+use std::alloc::Global;
 
 /// The numbers of a task's shapes.
 #[derive(Clone, Copy)]
@@ -23,6 +24,7 @@ pub(crate) struct TaskNumbers {
 
 /// The numbers of the shapes of each state's task, by the state's number: those of Any where none is declared.
 pub(crate) fn task_numbers(
+    alloc: Global,
     machine: &Machine,
     declared: &Declared,
     store: &mut Store,
@@ -30,9 +32,11 @@ pub(crate) fn task_numbers(
     ensures tasks { IfOk result
         (λ tasks. AreTasks (declared_view declared.now) (table_view machine.now).names
         (expansions store.new) tasks.items) }
+    ensures many { IfOk result
+        (λ tasks. length tasks.items ≡ length (table_view machine.now).states) }
     ensures keeps { Keeps (expansions store.old) (expansions store.new) }
 {
-    let mut tasks = Vec::new(store.alloc);
+    let mut tasks = Vec::new(alloc);
     for number in 0..machine.states() {
         let name = machine.name(number).unwrap_or("");
         tasks.push(task_of(declared, name, store)?)?;

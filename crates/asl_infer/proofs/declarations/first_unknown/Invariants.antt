@@ -1,6 +1,8 @@
-use Rattle.std.proofs.Common.{◌≡◌, List, ◌++◌, String, Global}
-use Rattle.asl_records.specs.declared.records.TaskShapes.{TaskShapes}
+use Rattle.std.proofs.Common.{map}
+use Rattle.asl_records.specs.View.{declared_view}
+use Rattle.asl_states.specs.Table.{table_view}
+use Rattle.asl_infer.proofs.TaskNames.{UnknownLeft, task_seen}
 use Rattle.asl_infer.proofs.declarations.first_unknown.Given as goal
 
 abbrev pub invariant-loop-name : goal.invariant-loop-name
-invariant-loop-name l = (done : List (String Global × TaskShapes)) × (l.declared.tasks.entries ≡ done ++ l.name-iterator)
+invariant-loop-name l = UnknownLeft (table_view l.machine) (declared_view l.declared).tasks (map task_seen l.name-iterator) l.first

@@ -1,8 +1,12 @@
 use Rattle.asl_numbered.specs.Expansion.{expansions, Keeps}
-use Rattle.asl_infer.specs.Rooms.{room, IsSpent}
+use Rattle.asl_growing.specs.Drafted.{draft_view}
+use Rattle.asl_infer.specs.Rounds.{AreCalm, declared_in, table_in}
+use Rattle.asl_infer.proofs.TakenRounds.{IsInRound}
 use Rattle.asl_infer.proofs.rounds.Given.take_round.Given as goal
 
-abbrev pub invariant-loop : goal.invariant-loop
-invariant-loop l =
-    IsSpent (room l.fn.draft) l.changed (room l.draft)
-    × Keeps (expansions l.fn.draft.store) (expansions l.draft.store)
+abbrev pub invariant-loop-number : goal.invariant-loop-number
+invariant-loop-number l = record {
+  keeps : Keeps (expansions l.fn.walker.draft.store) (expansions l.walker.draft.store);
+  calm : AreCalm (table_in l.self) (declared_in l.self) l.walker;
+  round : IsInRound (table_in l.self) (declared_in l.self) (draft_view l.fn.walker.draft) l.number-index l.changed (draft_view l.walker.draft);
+}

@@ -1,9 +1,12 @@
-use Rattle.std.proofs.Common.{◌+◌, ◌≤◌}
 use Rattle.asl_numbered.specs.Expansion.{expansions, Keeps}
-use Rattle.asl_infer.specs.Rooms.{room}
+use Rattle.asl_growing.specs.Drafted.{draft_view}
+use Rattle.asl_infer.specs.Rounds.{AreCalm, declared_in, table_in}
+use Rattle.asl_infer.proofs.TakenRounds.{AreTaken}
 use Rattle.asl_infer.proofs.rounds.Given.take_rounds.Given as goal
 
 abbrev pub invariant-loop : goal.invariant-loop
-invariant-loop l =
-    (room l.draft + l.counter ≤ room l.fn.draft)
-    × Keeps (expansions l.fn.draft.store) (expansions l.draft.store)
+invariant-loop l = record {
+  keeps : Keeps (expansions l.fn.walker.draft.store) (expansions l.walker.draft.store);
+  calm : AreCalm (table_in l.self) (declared_in l.self) l.walker;
+  taken : AreTaken (table_in l.self) (declared_in l.self) l.counter (draft_view l.walker.draft);
+}

@@ -1,0 +1,205 @@
+-- Rounds as they are taken, row by row, and round by round.
+use Rattle.std.proofs.Common.{◌≡◌, ◌≢◌, ◌<◌, ◌≤◌, ◌+◌, ◌*◌, ℕ, zero, suc, List, [], ◌∷◌, length, drop, get_or, map, slice_get, Bool, true, false, Option, Some, None, option_map, Result, Ok, Err, refl, sym, ap, ◌∙◌, subst, ◌⊎◌, inl, inr, arith}
+use Rattle.std.proofs.lemmas.List.{length-map, drop_all}
+use Rattle.std.proofs.lemmas.Option.{slice_get-get_or, slice_get-map}
+use Rattle.asl_model.specs.Certificate as model
+use Rattle.asl_model.specs.Numbering.{Placement, Table}
+use Rattle.asl_model.specs.Shape.{Shape}
+use Rattle.asl_model.specs.ShapeSpelling.{are_distinct}
+use Rattle.asl_model.proofs.RunOptions.{none_some, some_inj}
+use Rattle.asl_drafts.specs.Drafts.{Draft, PartOf, Row, after_rounds, all_walked, first_draft, input_taken, misnamed, of_flow, round, rows_of, taken_at, unless_told}
+use Rattle.asl_drafts.proofs.CertifiedRows.{Among, row-known}
+use Rattle.asl_growing.specs.Drafted.{room}
+use Rattle.asl_growing.specs.Entries.{Makes}
+use Rattle.asl_growing.specs.Order.{AreOrdered}
+use Rattle.asl_check.specs.View.{finding_view}
+use Rattle.asl_infer.specs.Rounds.{EndsWhereNamed, IsChanged, IsEndOf, IsIn, RoundTells, SettlesWhereNamed, TakesRound, Tells, WalkTells, Walks}
+use Rattle.asl_infer.specs.declared.inferring.InferRefusal.{InferRefusal}
+use Rattle.asl_infer.specs.declared.inferring.InferRefusal.TheVariants as refusal
+use Rattle.asl_infer.proofs.FirstRooms.{first-room}
+
+-- ---- changes
+
+pub unchanged : (before : Draft) → IsChanged before false before
+unchanged before = record { told = refl }
+
+pub made-changed : (make : Draft → Draft) (before : Draft) (changed : Bool) (after : Draft) → Makes room make before changed after → IsChanged before changed after
+made-changed make before changed after makes = record { told = makes.told }
+
+pub more-changed : (before between after : Draft) (changed : Bool) → IsChanged before changed between → IsChanged between true after → IsChanged before true after
+more-changed before between after true one two = record { told = omega (arith, one.told, two.told) }
+more-changed before between after false one two = record { told = subst (λ (d : Draft). room after < room d) one.told two.told }
+
+pub still-changed : (before between after : Draft) (changed : Bool) → IsChanged before changed between → IsChanged between false after → IsChanged before changed after
+still-changed before between after changed one two = subst (IsChanged before changed) (sym two.told) one
+
+-- ---- the declared input
+
+pub input-made : (table : Table) (declared : model.Declared) (placement : Placement) (s : Shape) (before : Draft) (changed : Bool) (after : Draft) → slice_get table.placements 0 ≡ Some placement → s ≡ declared.input → Makes room (taken_at (Some (PartOf placement.start 0)) s) before changed after → Makes room (input_taken table declared) before changed after
+input-made table declared placement s before changed after there same makes = record {
+  made = makes.made ∙ (ap (λ t. taken_at (Some (PartOf placement.start 0)) t before) same ∙ sym (ap (λ o. taken_at (option_map (λ (p : Placement). PartOf p.start 0) o) declared.input before) there));
+  told = makes.told;
+}
+
+pub no-input : (table : Table) (declared : model.Declared) (before : Draft) → slice_get table.placements 0 ≡ None → Makes room (input_taken table declared) before false before
+no-input table declared before none = record {
+  made = sym (ap (λ o. taken_at (option_map (λ (p : Placement). PartOf p.start 0) o) declared.input before) none);
+  told = refl;
+}
+
+-- ---- the rows in their order
+
+-- the element at a position
+drop-at : {A : Type 0} (xs : List A) (i : ℕ) (x : A) → slice_get xs i ≡ Some x → drop i xs ≡ x ∷ drop (suc i) xs
+drop-at [] i x h = none_some h
+drop-at (y ∷ ys) zero x h = ap (λ z. z ∷ ys) (some_inj h)
+drop-at (y ∷ ys) (suc i) x h = drop-at ys i x h
+
+among-at : (rows : List Row) (i : ℕ) (row : Row) → slice_get rows i ≡ Some row → Among rows row
+among-at [] i row h = none_some h
+among-at (r ∷ rows) zero row h = inl (some_inj h)
+among-at (r ∷ rows) (suc i) row h = inr (among-at rows i row h)
+
+-- what is seen of an element
+seen-at : {A B : Type 0} (f : A → B) (o : Option A) (y : B) → option_map f o ≡ Some y → (x : A) × (o ≡ Some x) × (f x ≡ y)
+seen-at f None y h = none_some h
+seen-at f (Some x) y h = (x, refl, some_inj h)
+
+-- the next row
+pub record IsNext (table : Table) (place n : ℕ) : Type 0 where
+  pub row : Row
+  pub among : IsIn table row
+  pub number : row.number ≡ n
+  pub left : drop place (rows_of table) ≡ row ∷ drop (place + 1) (rows_of table)
+
+module _ (table : Table) (numbers : List ℕ) (are : AreOrdered table numbers) (distinct : are_distinct table.names ≡ true) where
+  pub next-row : (place number : ℕ) → place < length numbers → number ≡ get_or numbers place number → IsNext table place number
+  next-row place number within is =
+      let here : slice_get numbers place ≡ Some number = slice_get-get_or numbers place number within ∙ ap Some (sym is) in
+      let seen : option_map (λ (row : Row). row.number) (slice_get (rows_of table) place) ≡ Some number = sym (slice_get-map (λ (row : Row). row.number) (rows_of table) place) ∙ (ap (λ ns. slice_get ns place) (sym (are.ordered distinct)) ∙ here) in
+      let there = seen-at (λ (row : Row). row.number) (slice_get (rows_of table) place) number seen in
+      let after : suc place ≡ place + 1 = omega arith in
+      let known = row-known table there.0 (among-at (rows_of table) place there.0 there.1) in
+      record {
+        row = there.0;
+        among = record { named = known.0; at = known.1 };
+        number = there.2;
+        left = drop-at (rows_of table) place there.0 there.1 ∙ ap (λ i. there.0 ∷ drop i (rows_of table)) after;
+      }
+
+  pub no-row : (place : ℕ) → length numbers ≤ place → drop place (rows_of table) ≡ []
+  no-row place past =
+      let many : length numbers ≡ length (rows_of table) = ap length (are.ordered distinct) ∙ length-map (rows_of table) (λ (row : Row). row.number) in
+      drop_all place (rows_of table) (omega (arith, past, many))
+
+-- ---- a round
+
+module _ (table : Table) (declared : model.Declared) where
+  -- the rows before that place have been walked
+  pub record IsInRound (before : Draft) (place : ℕ) (is_changed : Bool) (now : Draft) : Type 0 where
+    pub walked : are_distinct table.names ≡ true → all_walked table declared (drop place (rows_of table)) now ≡ round table declared before
+    pub changed : IsChanged before is_changed now
+
+  pub begin-round : (before : Draft) (changed : Bool) (now : Draft) → Makes room (input_taken table declared) before changed now → IsInRound before 0 changed now
+  begin-round before changed now makes = record { walked = λ distinct. ap (all_walked table declared (rows_of table)) makes.made; changed = record { told = makes.told } }
+
+  walk-next : (numbers : List ℕ) (before : Draft) (place number : ℕ) (changed : Bool) (now next : Draft) → AreOrdered table numbers → place < length numbers → number ≡ get_or numbers place number → IsInRound before place changed now → Walks table declared number now next → are_distinct table.names ≡ true → all_walked table declared (drop (place + 1) (rows_of table)) next ≡ round table declared before
+  walk-next numbers before place number changed now next are within is so_far walks distinct =
+      let at = next-row table numbers are distinct place number within is in
+      sym (ap (λ rows. all_walked table declared rows now) at.left ∙ ap (unless_told (all_walked table declared (drop (place + 1) (rows_of table)))) (walks.walks at.row at.among at.number)) ∙ so_far.walked distinct
+
+  pub walk-changed : (numbers : List ℕ) (before : Draft) (place number : ℕ) (changed : Bool) (now next : Draft) → AreOrdered table numbers → place < length numbers → number ≡ get_or numbers place number → IsInRound before place changed now → Walks table declared number now next → IsChanged now true next → IsInRound before (place + 1) true next
+  walk-changed numbers before place number changed now next are within is so_far walks more = record {
+    walked = walk-next numbers before place number changed now next are within is so_far walks;
+    changed = more-changed before now next changed so_far.changed more;
+  }
+
+  pub walk-unchanged : (numbers : List ℕ) (before : Draft) (place number : ℕ) (changed : Bool) (now next : Draft) → AreOrdered table numbers → place < length numbers → number ≡ get_or numbers place number → IsInRound before place changed now → Walks table declared number now next → IsChanged now false next → IsInRound before (place + 1) changed next
+  walk-unchanged numbers before place number changed now next are within is so_far walks more = record {
+    walked = walk-next numbers before place number changed now next are within is so_far walks;
+    changed = still-changed before now next changed so_far.changed more;
+  }
+
+  -- a walk tells
+  pub walk-told : (numbers : List ℕ) (before : Draft) (place number : ℕ) (changed : Bool) (now : Draft) (why : InferRefusal) → AreOrdered table numbers → place < length numbers → number ≡ get_or numbers place number → IsInRound before place changed now → WalkTells table declared number now why → RoundTells table declared before why
+  walk-told numbers before place number changed now why are within is so_far tells = record { tells = λ distinct. by why distinct (next-row table numbers are distinct place number within is) tells }
+    where
+      by : (r : InferRefusal) → are_distinct table.names ≡ true → IsNext table place number → WalkTells table declared number now r → Tells (round table declared before) r
+      by (refusal.Finding found) distinct at h =
+          sym (so_far.walked distinct) ∙ (ap (λ rows. all_walked table declared rows now) at.left ∙ ap (unless_told (all_walked table declared (drop (place + 1) (rows_of table)))) (h.tells at.row at.among at.number))
+      by refusal.NotSettled distinct at h = h.tells at.row at.among at.number
+      by refusal.OutOfMemory distinct at h = tt
+
+  pub end-round : (numbers : List ℕ) (before : Draft) (place : ℕ) (changed : Bool) (now : Draft) → AreOrdered table numbers → length numbers ≤ place → IsInRound before place changed now → TakesRound table declared before now
+  end-round numbers before place changed now are past so_far = record {
+    taken = λ distinct. sym (so_far.walked distinct) ∙ ap (λ rows. all_walked table declared rows now) (no-row table numbers are distinct place past);
+  }
+
+  pub memory-told : (before : Draft) → RoundTells table declared before refusal.OutOfMemory
+  memory-told before = record { tells = λ distinct. tt }
+
+  -- ---- several rounds
+
+  -- so many have been taken, and each of them changed the draft before it
+  abbrev pub Changes : ℕ → Type 0
+  Changes n = (before after : Draft) × (after_rounds table declared n ≡ Ok before) × (round table declared before ≡ Ok after) × (after ≢ before)
+
+  pub record AreTaken (count : ℕ) (now : Draft) : Type 0 where
+    pub comes : are_distinct table.names ≡ true → after_rounds table declared count ≡ Ok now
+    pub changes : are_distinct table.names ≡ true → (n : ℕ) → n < count → Changes n
+    pub spent : room now + count ≤ room (first_draft table)
+
+  pub none-taken : (now : Draft) → now ≡ first_draft table → AreTaken 0 now
+  none-taken now is = record {
+    comes = λ distinct. ap Ok (sym is);
+    changes = λ distinct n less. absurd (omega (arith, less));
+    spent = subst (λ (d : Draft). room d + 0 ≤ room (first_draft table)) (sym is) (omega arith);
+  }
+
+  -- one that changed the draft
+  pub one-taken : (count : ℕ) (now next : Draft) → AreTaken count now → TakesRound table declared now next → IsChanged now true next → AreTaken (count + 1) next
+  one-taken count now next are takes changed = record {
+    comes = λ distinct. let more : count + 1 ≡ suc count = omega arith in ap (after_rounds table declared) more ∙ (ap (unless_told (round table declared)) (are.comes distinct) ∙ takes.taken distinct);
+    changes = λ distinct n less. by distinct n (Rattle.std.proofs.lemmas.Bool.Decides.eqb_tells n count) less;
+    spent = omega (arith, are.spent, changed.told);
+  }
+    where
+      other : next ≢ now
+      other same =
+          let never : room now < room now = subst (λ (d : Draft). room d < room now) same changed.told in
+          omega (arith, never)
+
+      by : are_distinct table.names ≡ true → (n : ℕ) → ((Rattle.std.proofs.Common.eqb n count ≡ true) × (n ≡ count)) ⊎ ((Rattle.std.proofs.Common.eqb n count ≡ false) × (n ≢ count)) → n < count + 1 → Changes n
+      by distinct n (inl here) less = (now, next, ap (after_rounds table declared) here.1 ∙ are.comes distinct, takes.taken distinct, other)
+      by distinct n (inr before) less = are.changes distinct n (omega (arith, less, before.1))
+
+  -- one that left it as it was
+  pub settled : (rounds count : ℕ) (now next : Draft) → AreTaken count now → count < rounds → TakesRound table declared now next → IsChanged now false next → SettlesWhereNamed table declared rounds next
+  settled rounds count now next are within takes changed = record {
+    settles = λ distinct named.
+        let same : next ≡ now = changed.told in
+        record {
+          named = named;
+          before = count;
+          within = within;
+          comes = are.comes distinct ∙ ap Ok (sym same);
+          stays = ap (round table declared) same ∙ takes.taken distinct;
+        };
+  }
+
+  -- one that tells
+  pub told : (rounds count : ℕ) (now : Draft) (why : InferRefusal) → AreTaken count now → count < rounds → RoundTells table declared now why → EndsWhereNamed table declared rounds why
+  told rounds count now why are within tells = record { ends = by why tells }
+    where
+      by : (r : InferRefusal) → RoundTells table declared now r → are_distinct table.names ≡ true → misnamed table declared ≡ [] → IsEndOf table declared rounds r
+      by (refusal.Finding found) h distinct named =
+          let comes = are.comes distinct in
+          of_flow named within (λ err. absurd (let both : Ok now ≡ Err (finding_view found) = sym comes ∙ err in cc)) (ap (unless_told (round table declared)) comes ∙ h.tells distinct)
+      by refusal.NotSettled h distinct named = absurd (h.tells distinct)
+      by refusal.OutOfMemory h distinct named = tt
+
+  -- all of them
+  pub never-settled : (rounds count : ℕ) (now : Draft) → AreTaken count now → rounds ≤ count → EndsWhereNamed table declared rounds refusal.NotSettled
+  never-settled rounds count now are past = record {
+    ends = λ distinct named. (record { named = named; changes = λ n less. are.changes distinct n (omega (arith, less, past)) }, omega (arith, are.spent, past, first-room table));
+  }

@@ -1,0 +1,83 @@
+-- A finding that is told in a round stands for some certificate.
+use Rattle.std.proofs.Common.{◌≡◌, ℕ, zero, suc, List, [], ◌∷◌, Contains, slice_get, Some, Result, Ok, Err, refl, sym, ap, ◌∙◌, subst, inl, inr}
+use Rattle.asl_model.specs.Certificate.{Declared, StateShapes, gives_of, takes_of}
+use Rattle.asl_model.specs.Edges.{Walked, breaches_along, destination_shapes, walk}
+use Rattle.asl_model.specs.Finding.{Breach, Finding, Surroundings, surrounded_by, flow_breaches}
+use Rattle.asl_model.specs.Inference.{IsBrokenAnyway, StandsForSome, finding_of}
+use Rattle.asl_model.specs.Machine.{Kind, Scope, Settings, State, kind_of, settings_of}
+use Rattle.asl_model.specs.Numbering.{Table, table_of}
+use Rattle.asl_model.specs.Shape.{Shape}
+use Rattle.asl_model.proofs.Listed.{first_in}
+use Rattle.asl_drafts.specs.Drafts.{Draft, Row, after_rounds, all_walked, entry_of, input_taken, own_breaches, round, rows_of, steps_of, steps_taken, unless_broken, unless_told, walked}
+use Rattle.asl_drafts.proofs.CertifiedRows.{Among, row-known}
+use Rattle.asl_infer.proofs.Listing.{own-along, own-of-machine}
+use Rattle.asl_infer.proofs.BrokenRules.{walk_of_machine}
+use Rattle.asl_infer.specs.Inferring.{IsOfMachine}
+
+-- a rule stands for some certificate that is broken in a state whatever is certified elsewhere
+abbrev pub StandsInTable : Type 0
+StandsInTable = (machine : Scope) (declared : Declared) (i : ℕ) (n : List ℕ) (state : State) (entry : StateShapes) (breach : Breach) → slice_get (table_of machine).names i ≡ Some n → slice_get (table_of machine).states i ≡ Some state → IsBrokenAnyway declared n state entry breach → StandsForSome machine declared (finding_of n breach)
+
+-- the rules along a walk are those of what flows through a state
+abbrev pub WalkBreaks : Type 0
+WalkBreaks = (around : Surroundings) (settings : Settings) (kind : Kind) → breaches_along (destination_shapes around) (walk (gives_of around.declared around.name) settings kind around.entry) ≡ flow_breaches around settings kind
+
+module _ (law : StandsInTable) (bridge : WalkBreaks) (machine : Scope) (declared : Declared) where
+  abbrev table : Table
+  table = table_of machine
+
+  -- in the walk through a state
+  in-walk : (row : Row) (draft : Draft) (found : Finding) → Among (rows_of table) row → walked table declared row draft ≡ Err found → IsOfMachine machine declared found
+  in-walk row draft found there h = go (own_breaches takes steps) refl h
+    where
+      entry : StateShapes
+      entry = entry_of draft row.number (kind_of row.state)
+
+      steps : List Walked
+      steps = steps_of declared draft row
+
+      takes : Shape
+      takes = takes_of declared row.name
+
+      known : (slice_get table.names row.number ≡ Some row.name) × (slice_get table.states row.number ≡ Some row.state)
+      known = row-known table row there
+
+      anyway : (b : Breach) → Contains (own_breaches takes steps) b → IsBrokenAnyway declared row.name row.state entry b
+      anyway b among inputs end =
+          let around : Surroundings = surrounded_by declared inputs end row.name entry in
+          subst (λ rules. Contains rules b) (bridge around (settings_of row.state) (kind_of row.state)) (own-along (destination_shapes around) steps b among)
+
+      go : (breaches : List Breach) → own_breaches takes steps ≡ breaches → unless_broken row.name breaches (steps_taken table row.number steps draft) ≡ Err found → IsOfMachine machine declared found
+      go [] is e = absurd (cc)
+      go (b ∷ further) is e =
+          let told : finding_of row.name b ≡ found = cc in
+          let among : Contains (own_breaches takes steps) b = subst (λ bs. Contains bs b) (sym is) (first_in b further) in
+          subst (IsOfMachine machine declared) told (record {
+            fault = own-of-machine takes steps b (walk_of_machine (gives_of declared row.name) (settings_of row.state) (kind_of row.state) entry).each among;
+            stands = law machine declared row.number row.name row.state entry b known.0 known.1 (anyway b among);
+          })
+
+  -- in the walks through several
+  in-walks : (rows : List Row) (draft : Draft) (found : Finding) → ((r : Row) → Among rows r → Among (rows_of table) r) → all_walked table declared rows draft ≡ Err found → IsOfMachine machine declared found
+  in-walks [] draft found all h = absurd (cc)
+  in-walks (row ∷ rows) draft found all h = go (walked table declared row draft) refl h (λ next e. in-walks rows next found (λ r a. all r (inr a)) e)
+    where
+      go : (r : Result Draft Finding) → walked table declared row draft ≡ r → unless_told (all_walked table declared rows) r ≡ Err found → ((next : Draft) → all_walked table declared rows next ≡ Err found → IsOfMachine machine declared found) → IsOfMachine machine declared found
+      go (Ok next) is e further = further next e
+      go (Err other) is e further =
+          let same : other ≡ found = cc in
+          in-walk row draft found (all row (inl refl)) (is ∙ ap Err same)
+
+  -- in a round, and in so many
+  in-round : (draft : Draft) (found : Finding) → round table declared draft ≡ Err found → IsOfMachine machine declared found
+  in-round draft found h = in-walks (rows_of table) (input_taken table declared draft) found (λ r a. a) h
+
+  pub in-rounds : (n : ℕ) (found : Finding) → after_rounds table declared n ≡ Err found → IsOfMachine machine declared found
+  in-rounds zero found h = absurd (cc)
+  in-rounds (suc n) found h = go (after_rounds table declared n) refl h (in-rounds n found)
+    where
+      go : (r : Result Draft Finding) → after_rounds table declared n ≡ r → unless_told (round table declared) r ≡ Err found → (after_rounds table declared n ≡ Err found → IsOfMachine machine declared found) → IsOfMachine machine declared found
+      go (Ok draft) is e further = in-round draft found e
+      go (Err other) is e further =
+          let same : other ≡ found = cc in
+          further (is ∙ ap Err same)

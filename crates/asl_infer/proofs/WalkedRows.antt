@@ -1,0 +1,81 @@
+-- Walks through the states of a table.
+use Rattle.std.proofs.Common.{◌≡◌, ℕ, List, [], ◌∷◌, length, slice_get, Option, Some, None, option_map, Ok, Err, sym, ap, ◌∙◌, subst, arith}
+use Rattle.std.proofs.lemmas.Option.{slice_get_within}
+use Rattle.asl_model.specs.Certificate as model
+use Rattle.asl_model.specs.Certificate.{takes_of}
+use Rattle.asl_model.specs.Edges.{Walked}
+use Rattle.asl_model.specs.Finding.{Breach}
+use Rattle.asl_model.specs.Inference.{finding_of}
+use Rattle.asl_model.specs.Numbering.{Table}
+use Rattle.asl_model.proofs.RunOptions.{none_some, some_inj}
+use Rattle.asl_drafts.specs.Drafts.{Draft, Row, own_breaches, steps_of, steps_taken, unless_broken, walked}
+use Rattle.asl_drafts.proofs.DraftShapes.{there-within}
+use Rattle.asl_infer.specs.Rounds.{IsIn, IsNoRow, Tells, WalkTells, Walks}
+use Rattle.asl_infer.specs.declared.inferring.InferRefusal.{InferRefusal}
+use Rattle.asl_infer.specs.declared.inferring.InferRefusal.TheVariants as refusal
+
+-- ---- the row of a number
+
+module _ (table : Table) where
+  pub same-row : (one two : Row) → IsIn table one → IsIn table two → one.number ≡ two.number → one ≡ two
+  same-row one two is also same =
+      let name : one.name ≡ two.name = some_inj (sym is.named ∙ (ap (slice_get table.names) same ∙ also.named)) in
+      let state : one.state ≡ two.state = some_inj (sym is.at ∙ (ap (slice_get table.states) same ∙ also.at)) in
+      ap (λ n. let row : Row = record { number = n; name = one.name; state = one.state } in row) same
+      ∙ (ap (λ m. let row : Row = record { number = two.number; name = m; state = one.state } in row) name
+      ∙ ap (λ s. let row : Row = record { number = two.number; name = two.name; state = s } in row) state)
+
+  -- there is none without a name, or without a state
+  pub no-name : (number : ℕ) → slice_get table.names number ≡ None → IsNoRow table number
+  no-name number none = record { none = λ row is same. none_some (sym none ∙ (ap (slice_get table.names) (sym same) ∙ is.named)) }
+
+  pub no-state : (number : ℕ) → slice_get table.states number ≡ None → IsNoRow table number
+  no-state number none = record { none = λ row is same. none_some (sym none ∙ (ap (slice_get table.states) (sym same) ∙ is.at)) }
+
+  -- nor where something that stands there for each state doesn't
+  pub no-number : {A : Type 0} (xs : List A) (number : ℕ) → length xs ≡ length table.states → slice_get xs number ≡ None → IsNoRow table number
+  no-number xs number many none = record {
+    none = λ row is same.
+        let below = slice_get_within table.states row.number row.state is.at in
+        let there = there-within xs number (omega (arith, below, many, same)) in
+        none_some (sym none ∙ there.1);
+  }
+
+-- what is seen of what isn't there
+pub none-seen : {A B : Type 0} (f : A → B) (o : Option A) (p : Option B) → option_map f o ≡ p → o ≡ None → p ≡ None
+none-seen f o p is none = sym is ∙ ap (option_map f) none
+
+-- ---- walks
+
+module _ (table : Table) (declared : model.Declared) where
+  -- of the row of that number
+  pub walks-row : (number : ℕ) (row : Row) (before after : Draft) → IsIn table row → row.number ≡ number → walked table declared row before ≡ Ok after → Walks table declared number before after
+  walks-row number row before after is same h = record { walks = λ r also here. subst (λ (x : Row). walked table declared x before ≡ Ok after) (same-row table row r is also (same ∙ sym here)) h }
+
+  pub tells-row : (number : ℕ) (row : Row) (before : Draft) (why : InferRefusal) → IsIn table row → row.number ≡ number → Tells (walked table declared row before) why → WalkTells table declared number before why
+  tells-row number row before why is same h = record { tells = λ r also here. subst (λ (x : Row). Tells (walked table declared x before) why) (same-row table row r is also (same ∙ sym here)) h }
+
+  -- of none
+  pub walks-none : (number : ℕ) (before after : Draft) → IsNoRow table number → Walks table declared number before after
+  walks-none number before after none = record { walks = λ row is same. absurd (none.none row is same) }
+
+  -- memory may run out at any time
+  pub tells-memory : (number : ℕ) (before : Draft) → WalkTells table declared number before refusal.OutOfMemory
+  tells-memory number before = record { tells = λ row is same. tt }
+
+  -- no rule is broken
+  pub walked-whole : (row : Row) (steps : List Walked) (before after : Draft) → steps_of declared before row ≡ steps → own_breaches (takes_of declared row.name) steps ≡ [] → after ≡ steps_taken table row.number steps before → walked table declared row before ≡ Ok after
+  walked-whole row steps before after seen whole made =
+      ap (λ ss. unless_broken row.name (own_breaches (takes_of declared row.name) ss) (steps_taken table row.number ss before)) seen
+      ∙ (ap (λ bs. unless_broken row.name bs (steps_taken table row.number steps before)) whole
+      ∙ ap Ok (sym made))
+
+  -- one is
+  pub walked-broken : (row : Row) (before : Draft) (breach : Breach) → slice_get (own_breaches (takes_of declared row.name) (steps_of declared before row)) 0 ≡ Some breach → walked table declared row before ≡ Err (finding_of row.name breach)
+  walked-broken row before breach h = by (own_breaches (takes_of declared row.name) (steps_of declared before row)) h
+    where
+      by : (breaches : List Breach) → slice_get breaches 0 ≡ Some breach → unless_broken row.name breaches (steps_taken table row.number (steps_of declared before row) before) ≡ Err (finding_of row.name breach)
+      by [] e = absurd (cc)
+      by (b ∷ further) e =
+          let same : b ≡ breach = cc in
+          ap (λ x. Err (finding_of row.name x)) same

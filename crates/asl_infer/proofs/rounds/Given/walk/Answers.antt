@@ -1,0 +1,33 @@
+use Rattle.std.proofs.Common.{refl, subst}
+use Rattle.asl_numbered.specs.Expansion.{expansions}
+use Rattle.asl_edges.specs.View.{steps_of}
+use Rattle.asl_drafts.specs.Drafts.{steps_taken}
+use Rattle.asl_growing.specs.Drafted.{draft_view, room}
+use Rattle.asl_growing.specs.Entries.{Makes}
+use Rattle.asl_growing.specs.Underway.{IsCalmAfter}
+use Rattle.asl_growing.specs.declared.walker.Walker.{Walker}
+use Rattle.asl_infer.specs.Rounds.{declared_in, table_in}
+use Rattle.asl_infer.proofs.CalmStates.{walked-calm}
+use Rattle.asl_infer.proofs.StateEdges.{state-calm, state-walks}
+use Rattle.asl_infer.proofs.rounds.Given.walk.Goals as goal
+
+pub returns-clause-walks : goal.returns-clause-walks
+returns-clause-walks c =
+    let given = c.args.self.now in
+    let n = c.args.number in
+    let one = c.args.walker.now in
+    let two = c.take_edges.new.self in
+    let made : Walker = record { draft = c.edges.new.draft; waiting = one.waiting; predecessors = one.predecessors } in
+    state-walks given n c.in-Some.row one made two c.in_ok-edges.edges c.in-Some.ensures.there c.in_ok-edges.ensures.whole c.in_ok-edges.ensures.same c.in_ok-take_edges.field-0
+    (subst (λ es. Makes room (steps_taken (table_in given) n (steps_of (expansions made.draft.store) es)) (draft_view made.draft) c.in_ok-take_edges.field-0 (draft_view two.draft)) c.deref.ensures.value c.in_ok-take_edges.ensures.takes)
+
+pub returns-clause-calm : goal.returns-clause-calm
+returns-clause-calm c =
+    let given = c.args.self.now in
+    let n = c.args.number in
+    let one = c.args.walker.now in
+    let two = c.take_edges.new.self in
+    let made : Walker = record { draft = c.edges.new.draft; waiting = one.waiting; predecessors = one.predecessors } in
+    let after = subst (λ es. IsCalmAfter (table_in given) n (steps_of (expansions made.draft.store) es) made two) c.deref.ensures.value c.in_ok-take_edges.ensures.walked in
+    walked-calm (table_in given) (declared_in given) one made two n refl refl c.in_ok-edges.ensures.same c.in_ok-edges.ensures.keeps c.in_ok-take_edges.ensures.waits c.in_ok-take_edges.ensures.others
+    (state-calm given n c.in-Some.row one made two c.in_ok-edges.edges c.in-Some.ensures.there c.in_ok-edges.ensures.whole c.in_ok-edges.ensures.same after) c.requires.calm

@@ -1,5 +1,0 @@
-use Rattle.asl_infer.proofs.Grown.{state_changed}
-use Rattle.asl_infer.proofs.states.take_in_state.Goals as goal
-
-pub returns-in-Some-clause-grown : goal.returns-in-Some-clause-grown
-returns-in-Some-clause-grown c = state_changed c.args.store.now c.take.new.store c.args.states.now.items c.args.number c.take.new.self c.take.ensures.keeps c.requires.grown c.take.ensures.grown
