@@ -3,18 +3,20 @@
 ghost use Rattle.std.specs.Prelude.{List, Option, Some, ℕ};
 ghost use Rattle.asl_model.specs.Headline.{NeverFaults};
 ghost use Rattle.asl_model.specs.Machine.{Scope, LeadsInside};
-ghost use Rattle.asl_model.specs.Certificate.{Declared, Certificate, IsClosed, MovesOn, Works, Nests, IsKeptBy};
+ghost use Rattle.asl_model.specs.Certificate.{Declared, Certificate, IsClosed, MovesOn, Works, Nests, IsKeptBy, KeepsData};
 ghost use Rattle.asl_model.specs.Printed.{RunEnd};
 ghost use Rattle.asl_model.specs.TracePrinted.{HasNoRaiseLine};
 ghost use Rattle.asl_tool.specs.Runs.{RunsTexts, texts_of, request_of};
 ghost use Rattle.asl_tool.specs.declared.runs.Pick.{Pick};
 
-/// An event at a Pass, a Succeed or a Fail, wherever it is nested, leaves every activity of a run as certified:
-/// each state one of the scope in which it stands, its raw input of its certified input, an ended scope's output of
-/// the shape certified for its end. The machine's names have to lead inside its scopes, as those of every
-/// definition do.
+/// An event at a Pass, a Succeed or a Fail, wherever it is nested, leaves every activity of a run as certified: its
+/// raw input of its certified input, an ended scope's output of the shape certified for its end; and, where the
+/// machine's names lead inside its scopes, as those of every definition do, each state one of the scope in which it
+/// stands.
 pub fn activities_stay_as_certified()
-    ensures { (declared : Declared) (certificate : Certificate) (machine : Scope)
+    ensures data { (declared : Declared) (certificate : Certificate) (machine : Scope)
+        → IsClosed declared certificate machine → KeepsData MovesOn declared certificate machine }
+    ensures activities { (declared : Declared) (certificate : Certificate) (machine : Scope)
         → IsClosed declared certificate machine → LeadsInside machine
         → IsKeptBy MovesOn declared certificate machine }
 {
@@ -24,7 +26,9 @@ pub fn activities_stay_as_certified()
 /// An event at a Wait, a Choice or a Task, wherever it is nested, retried and caught or not, leaves every activity
 /// of a run as certified, a waiting Task's payload of the shape that the task takes with it.
 pub fn working_activities_stay_as_certified()
-    ensures { (declared : Declared) (certificate : Certificate) (machine : Scope)
+    ensures data { (declared : Declared) (certificate : Certificate) (machine : Scope)
+        → IsClosed declared certificate machine → KeepsData Works declared certificate machine }
+    ensures activities { (declared : Declared) (certificate : Certificate) (machine : Scope)
         → IsClosed declared certificate machine → LeadsInside machine
         → IsKeptBy Works declared certificate machine }
 {
@@ -34,7 +38,9 @@ pub fn working_activities_stay_as_certified()
 /// An event at a Parallel or a Map, wherever it is nested, which splits, joins or abandons its children, leaves every
 /// activity of a run as certified, each child in its own scope.
 pub fn nesting_activities_stay_as_certified()
-    ensures { (declared : Declared) (certificate : Certificate) (machine : Scope)
+    ensures data { (declared : Declared) (certificate : Certificate) (machine : Scope)
+        → IsClosed declared certificate machine → KeepsData Nests declared certificate machine }
+    ensures activities { (declared : Declared) (certificate : Certificate) (machine : Scope)
         → IsClosed declared certificate machine → LeadsInside machine
         → IsKeptBy Nests declared certificate machine }
 {
