@@ -4,7 +4,9 @@ use crate::command_line::{InferRequest, MachineFiles};
 use crate::endings::finish;
 use crate::files::file_text;
 use crate::printing::{print_text, print_verdict};
-use asl_tool::{Closing, Finding, Inferred, RunFault, Verdict, infer_texts, verify_texts};
+use asl_tool::{
+    Closing, Finding, Inferred, RunFault, Verdict, Verified, infer_texts, verify_inferred,
+};
 use std::rt::Files;
 
 /// How many rounds an inference may take.
@@ -54,8 +56,8 @@ fn infer_on<R: Files + Print + AllocGlobal>(
     }
 }
 
-/// The check of what is inferred of the texts in two files, in the text that lists its shapes. Its verdict is written to
-/// standard output, or that of the inference, where it has a finding. Both files are read, the definition first, before a text is looked at.
+/// The check of what is inferred of the texts in two files. Its verdict is written to standard output, or that of the
+/// inference, where it has a finding. Both files are read, the definition first, before a text is looked at.
 ///
 /// Refused as by [`infer_on`].
 fn verify_on<R: Files + Print + AllocGlobal>(
@@ -64,15 +66,10 @@ fn verify_on<R: Files + Print + AllocGlobal>(
 ) -> Result<Closing, RunFault> {
     let definition = file_text(rt, files.definition)?;
     let declared = file_text(rt, files.declared)?;
-    match infer_texts(rt.alloc(), &definition, &declared, ROUNDS, true)? {
-        Inferred::Certificate(text) => {
-            match verify_texts(rt.alloc(), &definition, &declared, text.as_bytes()) {
-                Ok(verdict) => tell_verdict(rt, verdict),
-                Err(refusal) => Err(RunFault::Text(refusal)),
-            }
-        }
-        Inferred::Finding(finding) => tell_finding(rt, finding),
-        Inferred::NotSettled => Ok(Closing::NotSettled),
+    match verify_inferred(rt.alloc(), &definition, &declared, ROUNDS)? {
+        Verified::Verdict(verdict) => tell_verdict(rt, verdict),
+        Verified::Finding(finding) => tell_finding(rt, finding),
+        Verified::NotSettled => Ok(Closing::NotSettled),
     }
 }
 

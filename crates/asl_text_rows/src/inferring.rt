@@ -1,5 +1,7 @@
-//! Texts of inferred certificates, with a list of their shapes and without one.
-use asl_tool::{Inferred, Verdict, infer_texts, verify_texts};
+//! Texts of inferred certificates, with a list of their shapes and without one, and what is told of these certificates.
+use asl_tool::{
+    FindingFault, Inferred, Verdict, Verified, infer_texts, verify_inferred, verify_texts,
+};
 use std::alloc::Global;
 
 const PARALLEL: &str =
@@ -57,4 +59,27 @@ fn certificates(rt: HostRuntime) {
         );
         assert!(rt; matches!(&verdict, Ok(Verdict::Yes)));
     }
+}
+
+/// What is told of the certificate that is inferred of a definition in so many rounds.
+fn verified(alloc: Global, definition: &str, declared: &str, rounds: u32) -> Option<Verified> {
+    verify_inferred(alloc, definition.as_bytes(), declared.as_bytes(), rounds).ok()
+}
+
+/// The branches' ends are known in the second round, and nothing changes in the third.
+#[test]
+fn verdicts_on_what_is_inferred(rt: HostRuntime) {
+    let alloc = rt.alloc();
+    let third = verified(alloc, PARALLEL, TASKS, 3);
+    assert!(rt; matches!(&third, Some(Verified::Verdict(Verdict::Yes))));
+    let second = verified(alloc, PARALLEL, TASKS, 2);
+    assert!(rt; matches!(&second, Some(Verified::NotSettled)));
+    let finding = match verified(alloc, PARALLEL, r#"{"input":true}"#, 3) {
+        Some(Verified::Finding(finding)) => Some(finding),
+        _ => None,
+    };
+    let finding = finding.expect(&rt, "a finding");
+    assert_eq!(rt; finding.state.as_str(), "T0");
+    assert_eq!(rt; finding.field.as_str(), "Resource");
+    assert!(rt; matches!(finding.fault, FindingFault::TaskUndeclared));
 }

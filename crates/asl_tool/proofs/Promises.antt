@@ -38,3 +38,8 @@ headline definition declared certificate (Rejected told) quiet certified c = tt
 pub rejected : (definition declared certificate : List ℕ) (verdict : Verdict) → IsVerdictOn definition declared certificate verdict → WhereRejected (AreRejected definition declared certificate) verdict
 rejected definition declared certificate Accepted v = tt
 rejected definition declared certificate (Rejected told) v = record { machine = v.machine; shapes = v.shapes; certified = v.certified; read = v.read; telling = v.right }
+
+-- what holds at all holds where the verdict is yes
+pub where_accepted : (P : Type 0) (verdict : Verdict) → P → WhereAccepted P verdict
+where_accepted P Accepted p = p
+where_accepted P (Rejected told) p = tt

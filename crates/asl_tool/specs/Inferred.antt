@@ -11,6 +11,7 @@ use Rattle.asl_model.specs.Tree.{Tree}
 use Rattle.asl_model.specs.Texts.{Which, DefinitionText, DeclaredText, CertificateText, InputText, AnswersText, TextFault, ReadsAsMachine, ReadsAsDeclared}
 use Rattle.asl_model.specs.Written.{written_certificate}
 use Rattle.asl_model.specs.WrittenNumbered.{written_numbered}
+use Rattle.asl_drafts.specs.Drafts.{IsInferred, IsTold, NeverSettles}
 use Rattle.asl_check.specs.View.{finding_view}
 use Rattle.asl_infer.specs.Inferring.{IsOfMachine, certified_shapes}
 use Rattle.asl_tool.specs.Verifying.{MachineReads, RefusesDefinition, RefusesDeclared}
@@ -25,31 +26,36 @@ abbrev pub written_as : Bool → model.Certificate → Tree
 written_as true certificate = written_numbered certificate
 written_as false certificate = written_certificate certificate
 
--- The three texts read, and the certificate that the third one reads as is closed for the machine and the declared shapes
--- that the others read as. The text is the compact one of what is written of that certificate, with a list of its shapes
--- or without one.
-pub record IsWrittenFor (numbered : Bool) (definition declared text : List ℕ) : Type 0 where
+-- The three texts read, and the certificate that the third one reads as is the one that is inferred in so many rounds of
+-- the machine and the declared shapes that the others read as, and closed for these. The text is the compact one of what
+-- is written of that certificate, with a list of its shapes or without one.
+pub record IsWrittenFor (numbered : Bool) (rounds : ℕ) (definition declared text : List ℕ) : Type 0 where
   pub machine : Scope
   pub shapes : Declared
   pub certified : model.Certificate
   pub read : ReadAs definition declared text machine shapes certified
+  pub inferred : IsInferred (table_of machine) shapes rounds certified
   pub closed : IsClosed shapes certified machine
   pub compact : text ≡ compact_text (written_as numbered certified)
 
--- the two texts read, and the finding is of that machine or of what is declared, and stands for some certificate
-pub record IsFindingOn (definition declared : List ℕ) (found : finding.Finding) : Type 0 where
+-- the two texts read, and the finding is the one that is told in so many rounds; it is of that machine or of what is
+-- declared, and stands for some certificate
+pub record IsFindingOn (rounds : ℕ) (definition declared : List ℕ) (found : finding.Finding) : Type 0 where
   pub machine : Scope
   pub shapes : Declared
   pub as_machine : ReadsAsMachine definition machine
   pub as_declared : ReadsAsDeclared declared shapes
+  pub told : IsTold (table_of machine) shapes rounds found
   pub finding : IsOfMachine machine shapes found
 
--- the two texts read, and so many rounds are no more than all shapes of a certificate together may change
+-- the two texts read, each of so many rounds changes a shape, and they are no more than all shapes of a certificate
+-- together may change
 pub record AreFewRounds (definition declared : List ℕ) (rounds : ℕ) : Type 0 where
   pub machine : Scope
   pub shapes : Declared
   pub as_machine : ReadsAsMachine definition machine
   pub as_declared : ReadsAsDeclared declared shapes
+  pub changes : NeverSettles (table_of machine) shapes rounds
   pub few : rounds ≤ 33 * certified_shapes (table_of machine)
 
 -- ---- answers

@@ -6,6 +6,7 @@ pub mod Lines
 pub mod Runs
 pub mod Texts
 pub mod Tracing
+pub mod VerifiedInference
 pub mod Verifying
 pub mod View
 pub mod Writing

@@ -1,20 +1,26 @@
-//! From a definition and declared shapes, given as texts, to the text of a certificate.
+//! From a definition and declared shapes, given as texts, to the text of a certificate, or to the verdict on it.
 
 ghost use Rattle.std.specs.Prelude.{◌≡◌, ◌≤◌, IfOk, IfErr, string_bytes};
 ghost use Rattle.serde_json.specs.Data.{depth};
 ghost use Rattle.serde_json.specs.Read.{max_depth};
+ghost use Rattle.asl_model.specs.Headline.{WhereAccepted};
 ghost use Rattle.asl_model.specs.Json.{compact_text, value_of};
 ghost use Rattle.asl_model.specs.Texts.{ReadsAsCertificate};
 ghost use Rattle.asl_model.specs.Written.{written_certificate};
 ghost use Rattle.asl_model.specs.WrittenNumbered.{written_numbered};
 ghost use Rattle.asl_records.specs.Numbered.{AreWithin, numbered_view};
 ghost use Rattle.asl_tool.specs.Inferred.{AreFewRounds, InferFaultStands, IsFindingOn, IsWrittenFor, WhereCertificate, WhereFinding, WhereNotSettled, written_as};
+ghost use Rattle.asl_tool.specs.VerifiedInference.{Describes, IsVerdictOnInferred, NeverFaultsAsInferred, Tells, WhereVerdict};
 
 use crate::reading::{declared_text, machine_text};
 use crate::refusals::{RunFault, TextRefusal, Which};
-use asl_check::Finding;
+use asl_check::{Finding, Verdict, check_numbered};
 use asl_infer::{InferRefusal, infer_numbered};
-use asl_records::{NumberedCertificate, expand_certificate, write_certificate, write_numbered};
+use asl_machine::Machine;
+use asl_model::run_laws::{closed_runs_never_fault, closed_runs_tell_no_fault};
+use asl_records::{
+    Declared, NumberedCertificate, expand_certificate, write_certificate, write_numbered,
+};
 use asl_tree::{OutOfMemory, to_text};
 use std::alloc::Global;
 
@@ -31,10 +37,12 @@ pub enum Inferred {
 
 /// Infers a certificate of a definition and declared shapes, both given as JSON texts, in at most `max_rounds` rounds.
 ///
-/// The text of a certificate reads as it, and it is closed for what the two texts read as. It is compact, with names in
-/// byte order. Where `numbered` is true each distinct shape of lists or objects is listed once in it, in `shapes`, and
-/// stands everywhere as a reference; otherwise each shape is spelled out wherever it stands. A finding is of the machine or
-/// of what is declared. The certificate isn't settled only where the rounds are no more than 33 for each of its shapes.
+/// The text of a certificate reads as the one on which the rounds settle for what the two texts read as, which is closed.
+/// It is compact, with names in byte order. Where `numbered` is true each distinct shape of lists or objects is listed once
+/// in it, in `shapes`, and stands everywhere as a reference; otherwise each shape is spelled out wherever it stands. A
+/// finding is that of the first of these rounds in which a rule is broken that compares nothing with the certificate, or of
+/// the names of tasks, before all rounds. The certificate isn't settled exactly where each of the rounds changes a shape;
+/// then they are no more than 33 for each of its shapes.
 ///
 /// The texts are read in this order. Refused: Text for the first text that is refused, with a fault that stands in it, or
 /// with OutOfMemory where there was none to read it; OutOfMemory where a growth was refused afterwards.
@@ -46,10 +54,87 @@ pub fn infer_texts(
     numbered: bool,
 ) -> Result<Inferred, RunFault>
     ensures certificate { IfOk result
-        (WhereCertificate (IsWrittenFor numbered definition.now declared.now)) }
-    ensures finding { IfOk result (WhereFinding (IsFindingOn definition.now declared.now)) }
+        (WhereCertificate (IsWrittenFor numbered max_rounds definition.now declared.now)) }
+    ensures finding { IfOk result (WhereFinding (IsFindingOn max_rounds definition.now declared.now)) }
     ensures not_settled { IfOk result
         (WhereNotSettled (AreFewRounds definition.now declared.now max_rounds)) }
+    ensures refused { IfErr result (InferFaultStands definition.now declared.now) }
+{
+    let subject = read_subject(alloc, definition, declared)?;
+    let inferred = infer_numbered(alloc, &subject.machine, &subject.declared, max_rounds);
+    let certificate = match inferred {
+        Ok(certificate) => certificate,
+        Err(InferRefusal::Finding(finding)) => return Ok(Inferred::Finding(finding)),
+        Err(InferRefusal::NotSettled) => return Ok(Inferred::NotSettled),
+        Err(InferRefusal::OutOfMemory) => return Err(RunFault::OutOfMemory),
+    };
+    match written_text(alloc, &certificate, numbered) {
+        Ok(text) => Ok(Inferred::Certificate(text)),
+        Err(_) => Err(RunFault::OutOfMemory),
+    }
+}
+
+/// What is told of a certificate that is inferred.
+#[derive(Drop)]
+pub enum Verified {
+    /// The verdict on it.
+    Verdict(Verdict),
+    /// A rule that is about the machine or about what is declared is broken for some certificate, so there is none.
+    Finding(Finding),
+    /// Some shape still changed in the last round, so there is none.
+    NotSettled,
+}
+
+/// Infers a certificate of a definition and declared shapes, both given as JSON texts, in at most `max_rounds` rounds, and
+/// checks it: the verdict is right for the certificate that the text of [`infer_texts`] reads as.
+///
+/// Where it is yes, then for every input of the declared shape and every list of moves and task answers, branches and
+/// iterations interleaved in any way, each answer a failure or of its declared shape, the run raises none of the six
+/// data-flow faults, and every state's input, every task's payload and every output has its certified shape.
+///
+/// Refused as by [`infer_texts`].
+pub fn verify_inferred(
+    alloc: Global,
+    definition: &[u8],
+    declared: &[u8],
+    max_rounds: u32,
+) -> Result<Verified, RunFault>
+    ensures verdict { IfOk result
+        (WhereVerdict (IsVerdictOnInferred max_rounds definition.now declared.now)) }
+    ensures headline { IfOk result
+        (WhereVerdict (WhereAccepted
+        (NeverFaultsAsInferred max_rounds definition.now declared.now))) }
+    ensures otherwise { IfOk result
+        (Tells (IsFindingOn max_rounds definition.now declared.now)
+        (AreFewRounds definition.now declared.now max_rounds)) }
+    ensures refused { IfErr result (InferFaultStands definition.now declared.now) }
+{
+    let subject = read_subject(alloc, definition, declared)?;
+    let settled = infer_numbered(alloc, &subject.machine, &subject.declared, max_rounds);
+    let mut certificate = match settled {
+        Ok(certificate) => certificate,
+        Err(InferRefusal::Finding(finding)) => return Ok(Verified::Finding(finding)),
+        Err(InferRefusal::NotSettled) => return Ok(Verified::NotSettled),
+        Err(InferRefusal::OutOfMemory) => return Err(RunFault::OutOfMemory),
+    };
+    closed_runs_never_fault();
+    closed_runs_tell_no_fault();
+    match check_numbered(alloc, &subject.machine, &subject.declared, &mut certificate) {
+        Ok(verdict) => Ok(Verified::Verdict(verdict)),
+        Err(_) => Err(RunFault::OutOfMemory),
+    }
+}
+
+/// What a certificate is inferred of.
+#[derive(Drop)]
+struct Subject {
+    machine: Machine,
+    declared: Declared,
+}
+
+/// The machine that a definition reads as, and the declared shapes. The definition is read first.
+fn read_subject(alloc: Global, definition: &[u8], declared: &[u8]) -> Result<Subject, RunFault>
+    ensures read { IfOk result (Describes definition.now declared.now) }
     ensures refused { IfErr result (InferFaultStands definition.now declared.now) }
 {
     let machine = match machine_text(alloc, definition) {
@@ -59,22 +144,12 @@ pub fn infer_texts(
             fault,
         })),
     };
-    let declared = match declared_text(alloc, declared) {
-        Ok(declared) => declared,
-        Err(fault) => return Err(RunFault::Text(TextRefusal {
+    match declared_text(alloc, declared) {
+        Ok(declared) => Ok(Subject { machine, declared }),
+        Err(fault) => Err(RunFault::Text(TextRefusal {
             which: Which::Declared,
             fault,
         })),
-    };
-    let certificate = match infer_numbered(alloc, &machine, &declared, max_rounds) {
-        Ok(certificate) => certificate,
-        Err(InferRefusal::Finding(finding)) => return Ok(Inferred::Finding(finding)),
-        Err(InferRefusal::NotSettled) => return Ok(Inferred::NotSettled),
-        Err(InferRefusal::OutOfMemory) => return Err(RunFault::OutOfMemory),
-    };
-    match written_text(alloc, &certificate, numbered) {
-        Ok(text) => Ok(Inferred::Certificate(text)),
-        Err(_) => Err(RunFault::OutOfMemory),
     }
 }
 

@@ -2,7 +2,7 @@
 //!
 //! [`verify_texts`] checks a certificate of shapes against a state machine and its declared shapes, all three given as
 //! texts. [`check_lines`] does it for three lines of a [`Source`] and writes the lines of the verdict to a [`Sink`].
-//! [`infer_texts`] infers such a certificate. [`run_texts`] runs a state machine on an input, with answers for its tasks,
+//! [`infer_texts`] infers such a certificate, [`verify_inferred`] infers and checks it. [`run_texts`] runs a state machine on an input, with answers for its tasks,
 //! and writes what happened. [`read_text`] takes a whole source as one text, and [`closing`] says how a program ends that
 //! did any of this.
 #![tactic(auto)]
@@ -30,7 +30,7 @@ pub use asl_check::{Finding, FindingFault, Verdict};
 pub use asl_machine::{DefFault, DefRefusal};
 pub use asl_records::{RecordFault, RecordRefusal};
 pub use endings::Closing;
-pub use inferring::{Inferred, infer_texts};
+pub use inferring::{Inferred, Verified, infer_texts, verify_inferred};
 pub use laws::{
     activities_stay_as_certified, nesting_activities_stay_as_certified,
     verified_runs_write_no_raise_line, working_activities_stay_as_certified,

@@ -3,11 +3,31 @@ use Rattle.asl_records.specs.View.{declared_view}
 use Rattle.asl_tool.proofs.inferring.infer_texts.Goals as goal
 
 pub returns-in-Ok-written_text-clause-certificate : goal.returns-in-Ok-written_text-clause-certificate
-returns-in-Ok-written_text-clause-certificate c = record {
-  machine = c.in-Ok.ensures.machine.definition;
-  shapes = declared_view c.in-Ok-declared_text.declared;
-  certified = numbered_view c.in-Ok-infer_numbered.certificate;
-  read = record { as_machine = c.in-Ok.ensures.machine.reads; as_declared = c.in-Ok-declared_text.ensures.declared; as_certificate = c.in-Ok-written_text.ensures.reads_back };
-  closed = c.in-Ok-infer_numbered.ensures.closed c.in-Ok.ensures.machine.definition c.in-Ok.ensures.machine.shown;
-  compact = c.in-Ok-written_text.ensures.text;
-}
+returns-in-Ok-written_text-clause-certificate c =
+    let subject = c.in_ok-subject.subject in
+    let read = c.in_ok-subject.ensures.read in
+    let definition = read.machine.definition in
+    record {
+      machine = definition;
+      shapes = declared_view subject.declared;
+      certified = numbered_view c.in-Ok.certificate;
+      read = record { as_machine = read.machine.reads; as_declared = read.as_declared; as_certificate = c.in-Ok-written_text.ensures.reads_back };
+      inferred = c.in-Ok.ensures.inferred definition read.machine.shown;
+      closed = c.in-Ok.ensures.closed definition read.machine.shown;
+      compact = c.in-Ok-written_text.ensures.text;
+    }
+
+pub returns-in-Err-Finding-clause-finding : goal.returns-in-Err-Finding-clause-finding
+returns-in-Err-Finding-clause-finding c =
+    let err = c.in-Err-Finding in
+    let subject = c.in_ok-subject.subject in
+    let read = c.in_ok-subject.ensures.read in
+    let definition = read.machine.definition in
+    rw err.field-0-is (record {
+      machine = definition;
+      shapes = declared_view subject.declared;
+      as_machine = read.machine.reads;
+      as_declared = read.as_declared;
+      told = rw err.field-0-is at (err.ensures.told definition read.machine.shown);
+      finding = rw err.field-0-is at (err.ensures.refused definition read.machine.shown);
+    })

@@ -1,0 +1,42 @@
+use Rattle.asl_records.specs.Numbered.{numbered_view}
+use Rattle.asl_records.specs.View.{declared_view}
+use Rattle.asl_check.specs.View.{verdict_view}
+use Rattle.asl_tool.specs.VerifiedInference.{NeverFaultsAsInferred}
+use Rattle.asl_tool.proofs.Promises.{where_accepted}
+use Rattle.asl_tool.proofs.inferring.verify_inferred.Goals as goal
+
+pub returns-in-Err-Finding-clause-otherwise : goal.returns-in-Err-Finding-clause-otherwise
+returns-in-Err-Finding-clause-otherwise c =
+    let err = c.in-Err-Finding in
+    let subject = c.in_ok-subject.subject in
+    let read = c.in_ok-subject.ensures.read in
+    let definition = read.machine.definition in
+    rw err.field-0-is (record {
+      machine = definition;
+      shapes = declared_view subject.declared;
+      as_machine = read.machine.reads;
+      as_declared = read.as_declared;
+      told = rw err.field-0-is at (err.ensures.told definition read.machine.shown);
+      finding = rw err.field-0-is at (err.ensures.refused definition read.machine.shown);
+    })
+
+pub returns-in-Ok-check_numbered-clause-headline : goal.returns-in-Ok-check_numbered-clause-headline
+returns-in-Ok-check_numbered-clause-headline c =
+    let subject = c.in_ok-subject.subject in
+    let read = c.in_ok-subject.ensures.read in
+    let definition = read.machine.definition in
+    let shapes = declared_view subject.declared in
+    let certified = numbered_view c.in-Ok.certificate in
+    let closed = c.in-Ok.ensures.closed definition read.machine.shown in
+    where_accepted (NeverFaultsAsInferred c.args.max_rounds c.args.definition.now c.args.declared.now)
+    (verdict_view c.in-Ok-check_numbered.verdict) (record {
+      machine = definition;
+      shapes = shapes;
+      certified = certified;
+      as_machine = read.machine.reads;
+      as_declared = read.as_declared;
+      inferred = c.in-Ok.ensures.inferred definition read.machine.shown;
+      closed = closed;
+      tells_no_fault = c.closed_runs_tell_no_fault.ensures shapes certified definition closed;
+      as_certified = c.closed_runs_never_fault.ensures shapes certified definition closed;
+    })

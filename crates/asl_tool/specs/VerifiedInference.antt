@@ -1,0 +1,64 @@
+-- What is told of a certificate that is inferred of two texts, a definition and declared shapes.
+use Rattle.std.specs.Prelude.{ℕ, List, ⊤}
+use Rattle.asl_model.specs.Certificate.{Declared, Certificate, IsClosed, Obeys, TellsNoFault, RunIsAsCertified}
+use Rattle.asl_model.specs.Finding as finding
+use Rattle.asl_model.specs.Machine.{Scope}
+use Rattle.asl_model.specs.Numbering.{table_of}
+use Rattle.asl_model.specs.Run.{Event, run_of, trace}
+use Rattle.asl_model.specs.Texts.{ReadsAsMachine, ReadsAsDeclared}
+use Rattle.asl_model.specs.Tree.{Tree}
+use Rattle.asl_model.specs.Verdict as verdict
+use Rattle.asl_model.specs.Verdict.{IsRight}
+use Rattle.asl_drafts.specs.Drafts.{IsInferred}
+use Rattle.asl_check.specs.View.{finding_view, verdict_view}
+use Rattle.asl_records.specs.View.{declared_view}
+use Rattle.asl_tool.specs.Verifying.{ReadsInto}
+use Rattle.asl_tool.specs.declared.inferring.Subject.{Subject}
+use Rattle.asl_tool.specs.declared.inferring.Verified.{Verified}
+use Rattle.asl_tool.specs.declared.inferring.Verified.TheVariants.{Verdict, Finding, NotSettled}
+
+-- the two texts read, and the verdict is right for the certificate that is inferred in so many rounds of what they read as
+pub record IsVerdictOnInferred (rounds : ℕ) (definition declared : List ℕ) (told : verdict.Verdict) : Type 0 where
+  pub machine : Scope
+  pub shapes : Declared
+  pub certified : Certificate
+  pub as_machine : ReadsAsMachine definition machine
+  pub as_declared : ReadsAsDeclared declared shapes
+  pub inferred : IsInferred (table_of machine) shapes rounds certified
+  pub right : IsRight machine shapes certified told
+
+-- The two texts read, and for every input of the declared shape and every list of moves and task answers, branches and
+-- iterations interleaved in any way, each answer a failure or of its declared shape, the run raises none of the six
+-- data-flow faults, and every state's input, every task's payload and every output has its shape by the certificate that is
+-- inferred in so many rounds.
+pub record NeverFaultsAsInferred (rounds : ℕ) (definition declared : List ℕ) : Type 0 where
+  pub machine : Scope
+  pub shapes : Declared
+  pub certified : Certificate
+  pub as_machine : ReadsAsMachine definition machine
+  pub as_declared : ReadsAsDeclared declared shapes
+  pub inferred : IsInferred (table_of machine) shapes rounds certified
+  pub closed : IsClosed shapes certified machine
+  pub tells_no_fault : (input : Tree) (events : List Event) → Obeys shapes machine input events
+      → TellsNoFault (trace (run_of machine input events))
+  pub as_certified : (input : Tree) (events : List Event) → Obeys shapes machine input events
+      → RunIsAsCertified shapes certified machine input events
+
+-- what holds of the verdict, where there is one
+abbrev pub WhereVerdict : (verdict.Verdict → Type 0) → Verified → Type 0
+WhereVerdict promise (Verdict told) = promise (verdict_view told)
+WhereVerdict promise (Finding found) = ⊤
+WhereVerdict promise NotSettled = ⊤
+
+-- what holds of the finding where one is told instead, and where the shapes haven't settled
+abbrev pub Tells : (finding.Finding → Type 0) → Type 0 → Verified → Type 0
+Tells of_finding unsettled (Verdict told) = ⊤
+Tells of_finding unsettled (Finding found) = of_finding (finding_view found)
+Tells of_finding unsettled NotSettled = unsettled
+
+-- ---- for private clauses
+
+-- the two texts read as that machine and those declared shapes
+pub record Describes (definition declared : List ℕ) (subject : Subject) : Type 0 where
+  pub machine : ReadsInto definition subject.machine
+  pub as_declared : ReadsAsDeclared declared (declared_view subject.declared)
