@@ -74,7 +74,8 @@ fn verdicts_on_what_is_inferred(rt: HostRuntime) {
     assert!(rt; matches!(&third, Some(Verified::Verdict(Verdict::Yes))));
     let second = verified(alloc, PARALLEL, TASKS, 2);
     assert!(rt; matches!(&second, Some(Verified::NotSettled)));
-    let finding = match verified(alloc, PARALLEL, r#"{"input":true}"#, 3) {
+    let undeclared = verified(alloc, PARALLEL, r#"{"input":true}"#, 3);
+    let finding = match &undeclared {
         Some(Verified::Finding(finding)) => Some(finding),
         _ => None,
     };
