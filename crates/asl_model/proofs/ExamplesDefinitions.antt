@@ -1,6 +1,7 @@
 -- Worked examples of definitions: the machine that a text stands for, and one value for each fault.
-use Rattle.std.proofs.Common.{◌≡◌, ℕ, zero, suc, pos, List, [], ◌∷◌, ◌++◌, length, nat_lt, not, if◌then◌else◌, true, false, Option, Some, None, option_map, Contains, decimal, encode_utf8_all, codes, refl, ap, sym, subst}
+use Rattle.std.proofs.Common.{◌≡◌, ℕ, zero, suc, pos, negsuc, List, [], ◌∷◌, ◌++◌, length, nat_lt, not, if◌then◌else◌, true, false, Option, Some, None, option_map, Contains, decimal, encode_utf8_all, codes, refl, ap, sym, subst}
 use lib.Utf8.{scalars}
+use Rattle.std.specs.Float.{fin}
 use Rattle.std.proofs.lemmas.List.Elements.{Contains-append_right}
 use Rattle.serde_json.specs.Data as json
 use Rattle.serde_json.specs.Data.{Data, Members}
@@ -11,12 +12,13 @@ use Rattle.asl_model.specs.Path.{Name, Index}
 use Rattle.asl_model.specs.Intrinsic.{InInput, ItemIndex, InItem}
 use Rattle.asl_model.specs.Test.{NullKind, IsOfKind, IsPresent}
 use Rattle.asl_model.specs.Template.{Literal, FromPath, ObjectTemplate, NoFieldTemplates, AndFieldTemplate}
-use Rattle.asl_model.specs.Machine.{Settings, Seconds, SecondsPath, Timestamp, TimestampPath, Scope, ScopeOf, NoStates, AndState, StateOf, Pass, Task, Choice, Wait, Succeed, Fail, Parallel, Map, NoScopes, AndScope}
+use Rattle.asl_model.specs.Machine.{Seconds, SecondsPath, Timestamp, TimestampPath, Scope, ScopeOf, NoStates, AndState, StateOf, Pass, Task, Choice, Wait, Succeed, Fail, Parallel, Map, NoScopes, AndScope}
 use Rattle.asl_model.specs.DefinitionTable.{DefFault, NotObject, MissingField, WrongKind, UnknownField, LeftOut, UnknownType, NameTooLong, DuplicateName, NoSuchState, NextOrEnd, BadPath, BadTemplate, BadRule, BadErrorEquals, EmptyList, HeartbeatNotSmaller, TooLarge, NotWhole, machine_rows}
 use Rattle.asl_model.specs.StandsFor.{Complaint, complaints, scope_of, each_state, all_names, names_among, scope_complaints, duplicate_complaints, number_complaints, no_object_complaints, HasComplaint, characters}
 use Rattle.asl_model.specs.Texts.{ReadsAsMachine}
 use Rattle.asl_model.proofs.ReadingSteps.{map_from}
 use Rattle.asl_model.proofs.Listed.{first_in}
+use Rattle.asl_model.proofs.ExamplesSettings.{bare, bare_retrier, bare_catcher}
 
 complaints_in : List ℕ → Option (List Complaint)
 complaints_in text = option_map complaints (read text)
@@ -339,35 +341,52 @@ too_large = record {
 
 -- ---- what is read
 
--- the settings of a state that gives none
-bare : Option (List ℕ) → Settings
-bare next = record { input_path = Some []; parameters = None; result_selector = None; result_path = Some []; output_path = Some []; next = next; retriers = []; catchers = [] }
-
 one_pass : ReadsAsMachine (machine (codes "\"A\":{\"Type\":\"Pass\",\"End\":true}")) (ScopeOf (codes "A") (AndState (codes "A") (StateOf (bare None) (Pass None)) NoStates))
-unfolding serde_json_on_literals machine_in machine bare
+unfolding serde_json_on_literals machine_in machine
 one_pass = stands refl refl refl
 
 -- every field of Pass, Succeed and Fail
 every_field : ReadsAsMachine (machine (codes "\"A\":{\"Type\":\"Pass\",\"Comment\":\"c\",\"QueryLanguage\":\"JSONPath\",\"InputPath\":\"$.in\",\"OutputPath\":null,\"ResultPath\":\"$.r[0]\",\"Parameters\":{\"x\":1},\"Result\":[null],\"Next\":\"B\"},\"B\":{\"Type\":\"Succeed\",\"InputPath\":null,\"OutputPath\":\"$.o\"},\"C\":{\"Type\":\"Fail\",\"Comment\":\"d\",\"Error\":\"E\",\"Cause\":\"why\"}")) (
     ScopeOf (codes "A")
-    (AndState (codes "A") (StateOf (record (bare (Some (codes "B"))) { input_path = Some (Name (codes "in") ∷ []); output_path = None; result_path = Some (Name (codes "r") ∷ Index 0 ∷ []); parameters = Some (ObjectTemplate (AndFieldTemplate (codes "x") (Literal (Integer (pos 1))) NoFieldTemplates)) }) (Pass (Some (Array (AndTree Null NoTrees)))))
+    (AndState (codes "A") (StateOf (record (bare (Some (codes "B"))) { input_path = Some (Name (codes "in") ∷ []); output_path = None; result_path = Some (Name (codes "r") ∷ Index 0 ∷ []); comment = Some (codes "c"); parameters = Some (ObjectTemplate (AndFieldTemplate (codes "x") (Literal (Integer (pos 1))) NoFieldTemplates)) }) (Pass (Some (Array (AndTree Null NoTrees)))))
     (AndState (codes "B") (StateOf (record (bare None) { input_path = None; output_path = Some (Name (codes "o") ∷ []) }) Succeed)
-    (AndState (codes "C") (StateOf (bare None) (Fail (codes "E") (codes "why"))) NoStates)))
+    (AndState (codes "C") (StateOf (record (bare None) { comment = Some (codes "d") }) (Fail (codes "E") (codes "why"))) NoStates)))
     )
-unfolding serde_json_on_literals machine_in machine bare
+unfolding serde_json_on_literals machine_in machine
 every_field = stands refl refl refl
 
--- a Task with retriers and a catcher
-a_task : ReadsAsMachine (machine (codes "\"A\":{\"Type\":\"Task\",\"Resource\":\"r\",\"TimeoutSeconds\":5,\"HeartbeatSeconds\":4,\"ResultSelector\":{\"y\":2},\"Retry\":[{\"ErrorEquals\":[\"E\"],\"BackoffRate\":1.5},{\"ErrorEquals\":[\"States.ALL\"],\"MaxAttempts\":0,\"IntervalSeconds\":1,\"MaxDelaySeconds\":2,\"JitterStrategy\":\"FULL\"}],\"Catch\":[{\"ErrorEquals\":[\"F\"],\"ResultPath\":\"$.e\",\"Next\":\"A\"}],\"End\":true}")) (
+-- a Task with every field, which has a retrier and a catcher with every field and one with those that they must have
+a_task : ReadsAsMachine (machine (codes "\"A\":{\"Type\":\"Task\",\"Resource\":\"r\",\"Comment\":\"c\",\"TimeoutSeconds\":5,\"HeartbeatSeconds\":4,\"ResultSelector\":{\"y\":2},\"Retry\":[{\"ErrorEquals\":[\"E\"],\"IntervalSeconds\":7,\"MaxAttempts\":0,\"BackoffRate\":1.5,\"MaxDelaySeconds\":9,\"JitterStrategy\":\"FULL\",\"Comment\":\"d\"},{\"ErrorEquals\":[\"States.ALL\"]}],\"Catch\":[{\"ErrorEquals\":[\"F\"],\"ResultPath\":\"$.e\",\"Comment\":\"f\",\"Next\":\"A\"},{\"ErrorEquals\":[\"G\"],\"Next\":\"A\"}],\"End\":true}")) (
     ScopeOf (codes "A") (AndState (codes "A")
     (StateOf (record (bare None) {
       result_selector = Some (ObjectTemplate (AndFieldTemplate (codes "y") (Literal (Integer (pos 2))) NoFieldTemplates));
-      retriers = record { error_equals = codes "E" ∷ []; max_attempts = 3 } ∷ record { error_equals = codes "States.ALL" ∷ []; max_attempts = 0 } ∷ [];
-      catchers = record { error_equals = codes "F" ∷ []; result_path = Some (Name (codes "e") ∷ []); next = codes "A" } ∷ [];
+      retriers = record {
+        error_equals = codes "E" ∷ [];
+        interval_seconds = 7;
+        max_attempts = 0;
+        backoff_rate = json.float (fin false 3 (negsuc 0));
+        max_delay_seconds = Some 9;
+        jitter_strategy = codes "FULL";
+        comment = Some (codes "d");
+      } ∷ bare_retrier (codes "States.ALL" ∷ []) 3 ∷ [];
+      catchers = record (bare_catcher (codes "F" ∷ []) (Some (Name (codes "e") ∷ [])) (codes "A")) { comment = Some (codes "f") } ∷ bare_catcher (codes "G" ∷ []) (Some []) (codes "A") ∷ [];
+      timeout_seconds = Some 5;
+      heartbeat_seconds = Some 4;
+      comment = Some (codes "c");
     }) (Task (codes "r"))) NoStates)
     )
-unfolding serde_json_on_literals machine_in machine bare
+unfolding serde_json_on_literals machine_in machine
 a_task = stands refl refl refl
+
+-- a retrier that spells the defaults is the one that leaves them out, but for a rate that is written whole
+defaults : ReadsAsMachine (machine (codes "\"A\":{\"Type\":\"Task\",\"Resource\":\"r\",\"Retry\":[{\"ErrorEquals\":[\"E\"],\"IntervalSeconds\":1,\"MaxAttempts\":3,\"BackoffRate\":2.0,\"JitterStrategy\":\"NONE\"},{\"ErrorEquals\":[\"F\"],\"BackoffRate\":2}],\"End\":true}")) (
+    ScopeOf (codes "A") (AndState (codes "A")
+    (StateOf (record (bare None) {
+      retriers = bare_retrier (codes "E" ∷ []) 3 ∷ record (bare_retrier (codes "F" ∷ []) 3) { backoff_rate = json.unsigned 2 } ∷ [];
+    }) (Task (codes "r"))) NoStates)
+    )
+unfolding serde_json_on_literals machine_in machine
+defaults = stands refl refl refl
 
 -- scopes in scopes
 nested_scopes : ReadsAsMachine (machine (codes "\"A\":{\"Type\":\"Parallel\",\"Branches\":[{\"StartAt\":\"B\",\"States\":{\"B\":{\"Type\":\"Succeed\"}}},{\"StartAt\":\"C\",\"States\":{\"C\":{\"Type\":\"Map\",\"ItemsPath\":\"$.l\",\"Parameters\":{\"z\":3},\"Iterator\":{\"StartAt\":\"D\",\"States\":{\"D\":{\"Type\":\"Wait\",\"Seconds\":7,\"End\":true}}},\"End\":true}}}],\"End\":true}")) (
@@ -377,7 +396,7 @@ nested_scopes : ReadsAsMachine (machine (codes "\"A\":{\"Type\":\"Parallel\",\"B
     (ScopeOf (codes "D") (AndState (codes "D") (StateOf (bare None) (Wait (Seconds 7))) NoStates)))) NoStates))
     NoScopes)))) NoStates)
     )
-unfolding serde_json_on_literals machine_in machine bare
+unfolding serde_json_on_literals machine_in machine
 nested_scopes = stands refl refl refl
 
 -- a Parallel with the fields that a Task has too, on its way to another state
@@ -386,33 +405,33 @@ a_parallel : ReadsAsMachine (machine (codes "\"A\":{\"Type\":\"Parallel\",\"Para
     (AndState (codes "A") (StateOf (record (bare (Some (codes "D"))) {
       parameters = Some (ObjectTemplate (AndFieldTemplate (codes "x") (Literal (Integer (pos 1))) NoFieldTemplates));
       result_path = None;
-      retriers = record { error_equals = codes "States.BranchFailed" ∷ []; max_attempts = 1 } ∷ [];
-      catchers = record { error_equals = codes "States.ALL" ∷ []; result_path = Some []; next = codes "D" } ∷ [];
+      retriers = bare_retrier (codes "States.BranchFailed" ∷ []) 1 ∷ [];
+      catchers = bare_catcher (codes "States.ALL" ∷ []) (Some []) (codes "D") ∷ [];
     }) (Parallel
     (AndScope (ScopeOf (codes "B") (AndState (codes "B") (StateOf (bare None) Succeed) NoStates))
     (AndScope (ScopeOf (codes "C") (AndState (codes "C") (StateOf (bare None) (Fail (codes "E") [])) NoStates))
     NoScopes))))
     (AndState (codes "D") (StateOf (bare None) Succeed) NoStates))
     )
-unfolding serde_json_on_literals machine_in machine bare
+unfolding serde_json_on_literals machine_in machine
 a_parallel = stands refl refl refl
 
 -- the machine of the next two
 mapped : Scope
 mapped =
-    ScopeOf (codes "A") (AndState (codes "A") (StateOf (record (bare None) { result_path = Some (Name (codes "r") ∷ []) })
+    ScopeOf (codes "A") (AndState (codes "A") (StateOf (record (bare None) { result_path = Some (Name (codes "r") ∷ []); max_concurrency = 2 })
     (Map (Name (codes "l") ∷ [])
     (Some (ObjectTemplate (AndFieldTemplate (codes "i") (FromPath ItemIndex) (AndFieldTemplate (codes "v") (FromPath (InItem (Name (codes "k") ∷ []))) NoFieldTemplates))))
     (ScopeOf (codes "B") (AndState (codes "B") (StateOf (bare None) (Pass None)) NoStates)))) NoStates)
 
 -- a Map
 a_map : ReadsAsMachine (machine (codes "\"A\":{\"Type\":\"Map\",\"ItemsPath\":\"$.l\",\"ItemSelector\":{\"i.$\":\"$$.Map.Item.Index\",\"v.$\":\"$$.Map.Item.Value.k\"},\"MaxConcurrency\":2,\"ItemProcessor\":{\"ProcessorConfig\":{\"Mode\":\"INLINE\"},\"StartAt\":\"B\",\"States\":{\"B\":{\"Type\":\"Pass\",\"End\":true}}},\"ResultPath\":\"$.r\",\"End\":true}")) mapped
-unfolding serde_json_on_literals machine_in machine mapped bare
+unfolding serde_json_on_literals machine_in machine mapped
 a_map = stands refl refl refl
 
 -- with the older names `Iterator` and `Parameters`
 an_older_map : ReadsAsMachine (machine (codes "\"A\":{\"Type\":\"Map\",\"ItemsPath\":\"$.l\",\"Parameters\":{\"i.$\":\"$$.Map.Item.Index\",\"v.$\":\"$$.Map.Item.Value.k\"},\"MaxConcurrency\":2,\"Iterator\":{\"StartAt\":\"B\",\"States\":{\"B\":{\"Type\":\"Pass\",\"End\":true}}},\"ResultPath\":\"$.r\",\"End\":true}")) mapped
-unfolding serde_json_on_literals machine_in machine mapped bare
+unfolding serde_json_on_literals machine_in machine mapped
 an_older_map = stands refl refl refl
 
 -- a Choice with `Default` and without
@@ -422,7 +441,7 @@ a_choice : ReadsAsMachine (machine (codes "\"A\":{\"Type\":\"Choice\",\"Choices\
     (AndState (codes "B") (StateOf (bare None) Succeed)
     (AndState (codes "C") (StateOf (bare None) (Choice (record { test = IsPresent [] false; next = codes "B" } ∷ []) None)) NoStates)))
     )
-unfolding serde_json_on_literals machine_in machine bare
+unfolding serde_json_on_literals machine_in machine
 a_choice = stands refl refl refl
 
 -- a Wait by a path to seconds, a timestamp, and a path to a timestamp
@@ -432,7 +451,7 @@ waits : ReadsAsMachine (machine (codes "\"A\":{\"Type\":\"Wait\",\"SecondsPath\"
     (AndState (codes "B") (StateOf (bare (Some (codes "C"))) (Wait (Timestamp (codes "t"))))
     (AndState (codes "C") (StateOf (bare None) (Wait (TimestampPath (Name (codes "t") ∷ [])))) NoStates)))
     )
-unfolding serde_json_on_literals machine_in machine bare
+unfolding serde_json_on_literals machine_in machine
 waits = stands refl refl refl
 
 -- a catcher's `ResultPath` that is `null`, and one that isn't given; a Task's `Parameters`
@@ -440,8 +459,8 @@ two_catchers : ReadsAsMachine (machine (codes "\"A\":{\"Type\":\"Task\",\"Resour
     ScopeOf (codes "A") (AndState (codes "A")
     (StateOf (record (bare None) {
       parameters = Some (ObjectTemplate (AndFieldTemplate (codes "x") (FromPath (InInput (Name (codes "k") ∷ []))) NoFieldTemplates));
-      catchers = record { error_equals = codes "E" ∷ []; result_path = None; next = codes "A" } ∷ record { error_equals = codes "States.ALL" ∷ []; result_path = Some []; next = codes "A" } ∷ [];
+      catchers = bare_catcher (codes "E" ∷ []) None (codes "A") ∷ bare_catcher (codes "States.ALL" ∷ []) (Some []) (codes "A") ∷ [];
     }) (Task (codes "r"))) NoStates)
     )
-unfolding serde_json_on_literals machine_in machine bare
+unfolding serde_json_on_literals machine_in machine
 two_catchers = stands refl refl refl

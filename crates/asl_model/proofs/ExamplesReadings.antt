@@ -1,5 +1,5 @@
 -- The first worked example: what its three texts read as. And a machine with too many states.
-use Rattle.std.specs.Prelude.{◌≡◌, ℕ, List, [], ◌∷◌, Some, None, codes, refl, replicate}
+use Rattle.std.specs.Prelude.{◌≡◌, ℕ, List, [], ◌∷◌, None, codes, refl, replicate}
 use Rattle.serde_json.proofs.OnLiterals.{serde_json_on_literals}
 use Rattle.asl_model.specs.Shape.{IntegerShape}
 use Rattle.asl_model.specs.Machine.{Scope, ScopeOf, NoStates, AndState, StateOf, Pass}
@@ -7,6 +7,7 @@ use Rattle.asl_model.specs.Certificate.{Declared, Certificate}
 use Rattle.asl_model.specs.DefinitionTable.{TooLarge}
 use Rattle.asl_model.specs.StandsFor.{number_complaints}
 use Rattle.asl_model.specs.Texts.{ReadsAsMachine, ReadsAsDeclared, ReadsAsCertificate}
+use Rattle.asl_model.proofs.ExamplesSettings.{bare}
 
 abbrev definition_text : List ℕ
 definition_text = codes "{\"StartAt\":\"A\",\"States\":{\"A\":{\"Type\":\"Pass\",\"End\":true}}}"
@@ -18,16 +19,7 @@ abbrev certificate_text : List ℕ
 certificate_text = codes "{\"version\":1,\"output\":{\"type\":\"integer\"},\"states\":{\"A\":{\"input\":{\"type\":\"integer\"},\"output\":{\"type\":\"integer\"}}}}"
 
 abbrev machine : Scope
-machine = ScopeOf (codes "A") (AndState (codes "A") (StateOf (record {
-  input_path = Some [];
-  parameters = None;
-  result_selector = None;
-  result_path = Some [];
-  output_path = Some [];
-  next = None;
-  retriers = [];
-  catchers = [];
-}) (Pass None)) NoStates)
+machine = ScopeOf (codes "A") (AndState (codes "A") (StateOf (bare None) (Pass None)) NoStates)
 
 abbrev declared : Declared
 declared = record { input = IntegerShape; tasks = [] }

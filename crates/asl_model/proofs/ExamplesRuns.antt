@@ -8,10 +8,11 @@ use Rattle.asl_model.specs.Template.{Template, FromPath, ObjectTemplate, NoField
 use Rattle.asl_model.specs.Test.{Rule, Compare, NumericIs, LessThan, Constant}
 use Rattle.asl_model.specs.Machine.{Retrier, Catcher, Settings, SecondsPath, TimestampPath, Scope, ScopeOf, NoStates, AndState, StateOf, Kind, Pass, Task, Choice, Wait, Succeed, Fail, Parallel, Map, NoScopes, AndScope}
 use Rattle.asl_model.specs.Run.{Activity, Ready, Split, Done, Failed, NoActivities, AndActivity, activity_at, Action, Move, Gives, FailsTask, Event, Output, FailedWith, Entry, Entered, Asked, Left, Raised, TaskFailed, BranchFailed, Retried, Caught, Ended, start, run_of, trace, last_activity, step, WantsMove, WantsAnswer, enabled}
+use Rattle.asl_model.proofs.ExamplesSettings.{bare, bare_retrier, bare_catcher}
 
 -- the settings of a state that has none of these fields and ends its scope
 abbrev pub ends : Settings
-ends = record { input_path = Some []; parameters = None; result_selector = None; result_path = Some []; output_path = Some []; next = None; retriers = []; catchers = [] }
+ends = bare None
 
 -- the scope of one state, A
 abbrev pub only : Settings → Kind → Scope
@@ -134,10 +135,10 @@ answers_in_any_order = refl
 
 -- a Task with two retriers and a catcher, and a Succeed that it catches for
 abbrev pub retrier : List ℕ → Retrier
-retrier n = record { error_equals = n ∷ []; max_attempts = 1 }
+retrier n = bare_retrier (n ∷ []) 1
 
 abbrev pub catcher : List Segment → Catcher
-catcher p = record { error_equals = codes "States.ALL" ∷ []; result_path = Some p; next = codes "E" }
+catcher p = bare_catcher (codes "States.ALL" ∷ []) (Some p) (codes "E")
 
 abbrev pub retrying_with : List Retrier → Scope
 retrying_with retriers = ScopeOf (codes "T") (AndState (codes "E") (StateOf ends Succeed) (AndState (codes "T") (StateOf (record ends { retriers = retriers; catchers = catcher (Name (codes "err") ∷ []) ∷ [] }) (Task (codes "r"))) NoStates))
@@ -208,15 +209,12 @@ caught_in_raw_input = refl
 
 -- all fields of the data flow, in their order
 abbrev pub all_fields : Settings
-all_fields = record {
+all_fields = record (bare (Some (codes "B"))) {
   input_path = Some (Name (codes "a") ∷ []);
   parameters = Some (ObjectTemplate (AndFieldTemplate (codes "p") (FromPath (InInput [])) NoFieldTemplates));
   result_selector = Some (ObjectTemplate (AndFieldTemplate (codes "s") (FromPath (InInput (Name (codes "x") ∷ []))) NoFieldTemplates));
   result_path = Some (Name (codes "r") ∷ []);
   output_path = Some (Name (codes "r") ∷ Name (codes "s") ∷ []);
-  next = Some (codes "B");
-  retriers = [];
-  catchers = [];
 }
 
 in_this_order : told (only all_fields (Task (codes "r"))) (one (codes "a") (whole 1)) (at [] Move ∷ at [] (Gives (one (codes "x") (whole 2))) ∷ [])

@@ -12,6 +12,7 @@ use Rattle.asl_model.specs.ShapeOrder.{sub, join}
 use Rattle.asl_model.specs.ShapeFlow.{look, put, literal, template_shape, rule_shape, leave, MayBeMissing, MayFail}
 use Rattle.asl_model.specs.Certificate.{TaskShapes, Declared, StateShapes, Certificate}
 use Rattle.asl_model.specs.Finding.{Finding, FindingFault, NotCertified, NotAState, TaskUndeclared, TaskUnknown, StartInput, PathMayBeMissing, WrongKind, ResultMayNotFit, IntrinsicMayFail, NoDefault, PayloadNotTaken, OutputNotCertified, NextInput, ScopeOutput, BranchInput, CatchInput, map_result, findings}
+use Rattle.asl_model.proofs.ExamplesSettings.{bare, bare_catcher}
 
 -- Shapes and paths
 
@@ -290,11 +291,11 @@ template_without_item = refl
 
 -- a state of a type that has all fields, with none given; it ends its scope
 abbrev ending : Settings
-ending = record { input_path = Some []; parameters = None; result_selector = None; result_path = Some []; output_path = Some []; next = None; retriers = []; catchers = [] }
+ending = bare None
 
 -- the same, going on to that state
 abbrev going_to : List ℕ → Settings
-going_to n = record { input_path = Some []; parameters = None; result_selector = None; result_path = Some []; output_path = Some []; next = Some n; retriers = []; catchers = [] }
+going_to n = bare (Some n)
 
 abbrev finding : List ℕ → List ℕ → FindingFault → Finding
 finding state field fault = record { state = state; field = field; fault = fault }
@@ -324,7 +325,7 @@ leave_of_pass = refl
 
 -- nothing comes of a raw input or a result without a tree, whatever the paths are
 abbrev null_paths : Settings
-null_paths = record { input_path = None; parameters = None; result_selector = None; result_path = None; output_path = None; next = None; retriers = []; catchers = [] }
+null_paths = record (bare None) { input_path = None; result_path = None; output_path = None }
 
 leave_of_nothing : leave null_paths (Pass None) IntegerShape impossible ≡ Ok Never
 leave_of_nothing = refl
@@ -336,7 +337,7 @@ leave_nulls : leave null_paths (Pass None) IntegerShape StringShape ≡ Ok (clos
 leave_nulls = refl
 
 -- `ResultSelector`, `ResultPath` and `OutputPath`, in this order
-leave_in_order : leave (record { input_path = Some []; parameters = None; result_selector = Some (x_from (FromPath (InInput []))); result_path = Some k; output_path = Some (Name (codes "k") ∷ Name (codes "x") ∷ []); next = None; retriers = []; catchers = [] }) (Task (codes "r")) (closed (needed (codes "k") Any NoFieldShapes)) StringShape ≡ Ok StringShape
+leave_in_order : leave (record (bare None) { result_selector = Some (x_from (FromPath (InInput []))); result_path = Some k; output_path = Some (Name (codes "k") ∷ Name (codes "x") ∷ []) }) (Task (codes "r")) (closed (needed (codes "k") Any NoFieldShapes)) StringShape ≡ Ok StringShape
 leave_in_order = refl
 
 pass_yes : findings one_pass of_integers (certificate_of IntegerShape (entry (codes "A") IntegerShape IntegerShape ∷ [])) ≡ []
@@ -366,7 +367,7 @@ pass_next = refl
 
 -- the length of the input
 abbrev with_length : Settings
-with_length = record { input_path = Some []; parameters = Some (ObjectTemplate (AndFieldTemplate (codes "x") (FromCall (CallOf StatesArrayLength (AndArgument (PathArgument (InInput [])) NoArguments))) NoFieldTemplates)); result_selector = None; result_path = Some []; output_path = Some []; next = None; retriers = []; catchers = [] }
+with_length = record (bare None) { parameters = Some (ObjectTemplate (AndFieldTemplate (codes "x") (FromCall (CallOf StatesArrayLength (AndArgument (PathArgument (InInput [])) NoArguments))) NoFieldTemplates)) }
 
 -- a Pass whose template asks for the length of what is no array
 pass_call : findings (ScopeOf (codes "A") (AndState (codes "A") (StateOf with_length (Pass None)) NoStates)) of_integers (certificate_of IntegerShape (entry (codes "A") IntegerShape IntegerShape ∷ [])) ≡ finding (codes "A") (codes "Parameters") IntrinsicMayFail ∷ []
@@ -374,7 +375,7 @@ pass_call = refl
 
 -- a Pass that places 7 at `$.a.b`
 abbrev placing_pass : Scope
-placing_pass = ScopeOf (codes "A") (AndState (codes "A") (StateOf (record { input_path = Some []; parameters = None; result_selector = None; result_path = Some (Name (codes "a") ∷ Name (codes "b") ∷ []); output_path = Some []; next = None; retriers = []; catchers = [] }) (Pass (Some (Integer (pos 7))))) NoStates)
+placing_pass = ScopeOf (codes "A") (AndState (codes "A") (StateOf (record (bare None) { result_path = Some (Name (codes "a") ∷ Name (codes "b") ∷ []) }) (Pass (Some (Integer (pos 7))))) NoStates)
 
 -- its findings for an input of that shape, with Any certified of its output
 abbrev placing_findings : Shape → List Finding
@@ -418,7 +419,7 @@ one_task n = ScopeOf n (AndState n (StateOf ending (Task (codes "r"))) NoStates)
 
 -- a Parallel of two Tasks, and a Pass that takes one of their answers
 abbrev two_tasks : ℕ → Scope
-two_tasks i = ScopeOf (codes "P") (AndState (codes "N") (StateOf (record { input_path = Some (Index i ∷ []); parameters = None; result_selector = None; result_path = Some []; output_path = Some []; next = None; retriers = []; catchers = [] }) (Pass None)) (AndState (codes "P") (StateOf (going_to (codes "N")) (Parallel (AndScope (one_task (codes "T0")) (AndScope (one_task (codes "T1")) NoScopes)))) NoStates))
+two_tasks i = ScopeOf (codes "P") (AndState (codes "N") (StateOf (record (bare None) { input_path = Some (Index i ∷ []) }) (Pass None)) (AndState (codes "P") (StateOf (going_to (codes "N")) (Parallel (AndScope (one_task (codes "T0")) (AndScope (one_task (codes "T1")) NoScopes)))) NoStates))
 
 -- the answers of both
 abbrev both_answers : Shape
@@ -442,7 +443,7 @@ task_yes : findings (one_task (codes "A")) (declared_of Any (task (codes "A") An
 task_yes = refl
 
 abbrev keeps_input : Settings
-keeps_input = record { input_path = Some []; parameters = None; result_selector = None; result_path = None; output_path = Some []; next = None; retriers = []; catchers = [] }
+keeps_input = record (bare None) { result_path = None }
 
 task_payload : findings (ScopeOf (codes "A") (AndState (codes "A") (StateOf keeps_input (Task (codes "r"))) NoStates)) (declared_of IntegerShape (task (codes "A") StringShape Any ∷ [])) (certificate_of IntegerShape (entry (codes "A") IntegerShape IntegerShape ∷ [])) ≡ finding (codes "A") (codes "Parameters") PayloadNotTaken ∷ []
 task_payload = refl
@@ -452,7 +453,7 @@ task_payload = refl
 
 -- a state of that type whose `Parameters` looks up a field, with the entry of a state that has no children
 abbrev looking_up : Kind → Scope
-looking_up kind = ScopeOf (codes "A") (AndState (codes "A") (StateOf (record { input_path = Some []; parameters = Some (ObjectTemplate (AndFieldTemplate (codes "x") (FromPath (InInput k)) NoFieldTemplates)); result_selector = None; result_path = Some []; output_path = Some []; next = None; retriers = []; catchers = [] }) kind) NoStates)
+looking_up kind = ScopeOf (codes "A") (AndState (codes "A") (StateOf (record (bare None) { parameters = Some (ObjectTemplate (AndFieldTemplate (codes "x") (FromPath (InInput k)) NoFieldTemplates)) }) kind) NoStates)
 
 -- its findings where the input has no such field and the output is certified as a text
 abbrev looking_up_findings : Kind → List (List ℕ × TaskShapes) → List Finding
@@ -476,12 +477,12 @@ input_missing : looking_up_findings (Pass None) [] ≡ finding (codes "A") (code
 input_missing = refl
 
 -- a Choice without rules and without `Default`, whose `InputPath` may name nothing
-no_default_missing : findings (ScopeOf (codes "A") (AndState (codes "A") (StateOf (record { input_path = Some k; parameters = None; result_selector = None; result_path = Some []; output_path = Some []; next = None; retriers = []; catchers = [] }) (Choice [] None)) NoStates)) of_integers (certificate_of Any (entry (codes "A") IntegerShape Any ∷ [])) ≡ finding (codes "A") (codes "InputPath") PathMayBeMissing ∷ finding (codes "A") (codes "Default") NoDefault ∷ []
+no_default_missing : findings (ScopeOf (codes "A") (AndState (codes "A") (StateOf (record (bare None) { input_path = Some k }) (Choice [] None)) NoStates)) of_integers (certificate_of Any (entry (codes "A") IntegerShape Any ∷ [])) ≡ finding (codes "A") (codes "InputPath") PathMayBeMissing ∷ finding (codes "A") (codes "Default") NoDefault ∷ []
 no_default_missing = refl
 
 -- a Task that catches all errors for a Pass
 abbrev catching : Scope
-catching = ScopeOf (codes "T") (AndState (codes "E") (StateOf ending (Pass None)) (AndState (codes "T") (StateOf (record { input_path = Some []; parameters = None; result_selector = None; result_path = Some []; output_path = Some []; next = None; retriers = []; catchers = record { error_equals = codes "States.ALL" ∷ []; result_path = Some []; next = codes "E" } ∷ [] }) (Task (codes "r"))) NoStates))
+catching = ScopeOf (codes "T") (AndState (codes "E") (StateOf ending (Pass None)) (AndState (codes "T") (StateOf (record (bare None) { catchers = bare_catcher (codes "States.ALL" ∷ []) (Some []) (codes "E") ∷ [] }) (Task (codes "r"))) NoStates))
 
 -- its findings, by what the Pass takes and by the declared tasks
 abbrev catching_findings : Shape → List (List ℕ × TaskShapes) → List Finding

@@ -17,6 +17,7 @@ pub mod ExamplesReadings
 pub mod ExamplesRecords
 pub mod ExamplesRules
 pub mod ExamplesRuns
+pub mod ExamplesSettings
 pub mod ExamplesShapes
 pub mod ExamplesSpellings
 pub mod ExamplesTemplateSpellings

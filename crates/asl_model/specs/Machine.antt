@@ -1,19 +1,33 @@
 -- Machines: nested scopes of states (States Language, "Structure of a State Machine" and "State Types"). A machine
--- holds what a run or a finding looks at, defaults filled in. What is read and looked at nowhere is left out: comments,
--- `Version`, `QueryLanguage`, `ProcessorConfig`, `MaxConcurrency` (the order of events is free), and all that is time
--- alone (`TimeoutSeconds`, `HeartbeatSeconds`, `IntervalSeconds`, `BackoffRate`, `MaxDelaySeconds`, `JitterStrategy`).
+-- holds each field of its states, retriers and catchers, defaults filled in: also those that no run and no finding
+-- looks at, which are comments, `MaxConcurrency` (the order of events is free) and all that is time alone. It leaves
+-- out `QueryLanguage`, which is always `JSONPath`, the `Comment` of a choice rule, and of the machine itself, of
+-- branches and of processors all but `StartAt` and `States`: `Comment`, `Version`, `TimeoutSeconds`, `ProcessorConfig`.
 use Rattle.std.specs.Prelude.{◌≡◌, ◌<◌, ℕ, zero, suc, List, [], ◌++◌, map, Contains, Bool, true, false, ◌&&◌, ◌||◌}
 use Rattle.std.specs.Prelude.{IsTrue, Option, Some, None, is_some, option_to_list, bytes_eq, if◌then◌else◌}
+use Rattle.serde_json.specs.Data.{Num}
 use Rattle.asl_model.specs.Names.{StateName, ErrorName, Bytes}
 use Rattle.asl_model.specs.Tree.{Tree}
 use Rattle.asl_model.specs.Path.{Segment}
 use Rattle.asl_model.specs.Template.{Template}
 use Rattle.asl_model.specs.Test.{Rule}
 
--- an element of `Retry`: the error names that it takes, and how often it retries within one execution of the state
+-- an element of `Retry`: the error names that it takes, how often it retries within one execution of the state, and how
+-- long it waits before each retry
 pub record Retrier : Type 0 where
   pub error_equals : List ErrorName
+  -- 1 where it is absent
+  pub interval_seconds : ℕ
+  -- 3 where it is absent
   pub max_attempts : ℕ
+  -- whole or a float, as it is written; the float 2.0 where it is absent
+  pub backoff_rate : Num
+  -- None: not given
+  pub max_delay_seconds : Option ℕ
+  -- `NONE` where it is absent
+  pub jitter_strategy : Bytes
+  -- None: not given
+  pub comment : Option Bytes
 
 -- an element of `Catch`: the error names that it takes, where the error output is placed (None: `null`), and the state
 -- that follows
@@ -21,6 +35,8 @@ pub record Catcher : Type 0 where
   pub error_equals : List ErrorName
   pub result_path : Option (List Segment)
   pub next : StateName
+  -- None: not given
+  pub comment : Option Bytes
 
 -- what states of several types have; a state whose type lacks a field has here the value of one that is absent
 pub record Settings : Type 0 where
@@ -38,6 +54,14 @@ pub record Settings : Type 0 where
   pub next : Option StateName
   pub retriers : List Retrier
   pub catchers : List Catcher
+  -- of a Task; None: not given (the default of 60 that the standard gives isn't filled in, since services differ)
+  pub timeout_seconds : Option ℕ
+  -- of a Task; None: not given
+  pub heartbeat_seconds : Option ℕ
+  -- of a Map; 0, which sets no bound, where it is absent
+  pub max_concurrency : ℕ
+  -- None: not given
+  pub comment : Option Bytes
 
 -- what a Wait waits for
 pub data Delay : Type 0 where

@@ -6,10 +6,11 @@ use Rattle.std.specs.Prelude.{◌≡◌, ℕ, ℤ, suc, List, [], ◌∷◌, ◌
 use Rattle.std.specs.Prelude.{◌||◌, not, ◌==◌, ◌/◌, nat_abs, nat_lt, int_lt, is_some, if◌then◌else◌}
 use Rattle.std.specs.Prelude.{Option, Some, None, option_map, option_and_then, bytes_eq, codes}
 use Rattle.std.specs.Option.{unwrap_or}
+use Rattle.std.specs.Float.{two_to}
 use Rattle.std.specs.List.{Contains, filter_map}
 use Rattle.serde_json.specs.Data as json
-use Rattle.serde_json.specs.Data.{Data, Items, Members}
-use Rattle.serde_json.specs.Find.{get_member, as_null, as_bool, as_str, as_array, as_object}
+use Rattle.serde_json.specs.Data.{Data, Items, Members, Num}
+use Rattle.serde_json.specs.Find.{get_member, as_null, as_bool, as_number, as_str, as_array, as_object}
 use Rattle.asl_model.specs.Path.{Segment}
 use Rattle.asl_model.specs.Template.{Template}
 use Rattle.asl_model.specs.Test.{Rule}
@@ -86,21 +87,37 @@ path_at field ms = unwrap_or (option_and_then path_of (text_at field ms)) []
 abbrev pub template_at : Bool → List ℕ → Members → Option Template
 template_at item field ms = option_and_then (template_of item) (option_and_then tree_of (get_member field ms))
 
--- a whole number that isn't negative
+-- a whole number that isn't negative, where the field has one
+abbrev pub optional_natural_at : List ℕ → Members → Option ℕ
+optional_natural_at field ms = option_map nat_abs (option_and_then as_whole (get_member field ms))
+
+-- such a number, and a default where the field has none
 abbrev pub natural_at : List ℕ → ℕ → Members → ℕ
-natural_at field default ms = unwrap_or (option_map nat_abs (option_and_then as_whole (get_member field ms))) default
+natural_at field default ms = unwrap_or (optional_natural_at field ms) default
+
+-- the number of a field, whole or a float as it is written, and a default where the field has none
+abbrev pub number_at : List ℕ → Num → Members → Num
+number_at field default ms = unwrap_or (option_and_then as_number (get_member field ms)) default
 
 -- the error names of a retrier or catcher
 abbrev pub error_names : Members → List (List ℕ)
 error_names ms = filter_map as_str (listed (items_at (codes "ErrorEquals") ms))
 
--- an element of `Retry`; without `MaxAttempts` it retries three times
+-- the float 2.0, by which intervals grow where `BackoffRate` is absent
+abbrev pub default_rate : Num
+default_rate = json.float (two_to 1)
+
+-- an element of `Retry`; where a field is absent, the standard's default stands
 abbrev pub retrier_of : Data → Retrier
-retrier_of v =
-    record {
-      error_equals = error_names (members_in v);
-      max_attempts = natural_at (codes "MaxAttempts") 3 (members_in v);
-    }
+retrier_of v = record {
+  error_equals = error_names (members_in v);
+  interval_seconds = natural_at (codes "IntervalSeconds") 1 (members_in v);
+  max_attempts = natural_at (codes "MaxAttempts") 3 (members_in v);
+  backoff_rate = number_at (codes "BackoffRate") default_rate (members_in v);
+  max_delay_seconds = optional_natural_at (codes "MaxDelaySeconds") (members_in v);
+  jitter_strategy = unwrap_or (text_at (codes "JitterStrategy") (members_in v)) (codes "NONE");
+  comment = text_at (codes "Comment") (members_in v);
+}
 
 -- an element of `Catch`; without `ResultPath` the error output replaces the input
 abbrev pub catcher_of : Data → Catcher
@@ -108,6 +125,7 @@ catcher_of v = record {
   error_equals = error_names (members_in v);
   result_path = path_or_null_at (codes "ResultPath") (members_in v);
   next = unwrap_or (text_at (codes "Next") (members_in v)) [];
+  comment = text_at (codes "Comment") (members_in v);
 }
 
 -- what states of several types have; the `Parameters` of a Map are its `ItemSelector`
@@ -121,6 +139,10 @@ settings_in parameters ms = record {
   next = text_at (codes "Next") ms;
   retriers = map retrier_of (listed (items_at (codes "Retry") ms));
   catchers = map catcher_of (listed (items_at (codes "Catch") ms));
+  timeout_seconds = optional_natural_at (codes "TimeoutSeconds") ms;
+  heartbeat_seconds = optional_natural_at (codes "HeartbeatSeconds") ms;
+  max_concurrency = natural_at (codes "MaxConcurrency") 0 ms;
+  comment = text_at (codes "Comment") ms;
 }
 
 -- what a Wait waits for: the one of its four fields that is there

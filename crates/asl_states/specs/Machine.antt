@@ -1,6 +1,7 @@
 -- What the states of a machine stand for in the definitions.
 use Rattle.std.specs.Prelude.{ℕ, List, [], ◌∷◌, map, Option, Some, None, String, string_bytes, option_map}
 use Rattle.std.specs.declared.alloc.Global.{Global}
+use Rattle.serde_json.specs.View.{number_view}
 use Rattle.asl_model.specs.Machine as model
 use Rattle.asl_model.specs.Numbering.{Placement}
 use Rattle.asl_tree.specs.View as trees
@@ -18,11 +19,24 @@ use Rattle.asl_states.specs.declared.states.Scope.{Scope}
 
 -- an element of `Retry`
 abbrev pub retrier_view : Retrier → model.Retrier
-retrier_view r = record { error_equals = map string_bytes r.error_equals.items; max_attempts = r.max_attempts }
+retrier_view r = record {
+  error_equals = map string_bytes r.error_equals.items;
+  interval_seconds = r.interval_seconds;
+  max_attempts = r.max_attempts;
+  backoff_rate = number_view r.backoff_rate;
+  max_delay_seconds = r.max_delay_seconds;
+  jitter_strategy = string_bytes r.jitter_strategy;
+  comment = option_map string_bytes r.comment;
+}
 
 -- an element of `Catch`
 abbrev pub catcher_view : Catcher → model.Catcher
-catcher_view c = record { error_equals = map string_bytes c.error_equals.items; result_path = c.result_path; next = string_bytes c.next }
+catcher_view c = record {
+  error_equals = map string_bytes c.error_equals.items;
+  result_path = c.result_path;
+  next = string_bytes c.next;
+  comment = option_map string_bytes c.comment;
+}
 
 -- what states of several types have
 abbrev pub settings_view : Settings → model.Settings
@@ -35,6 +49,10 @@ settings_view s = record {
   next = option_map string_bytes s.next;
   retriers = map retrier_view s.retriers.items;
   catchers = map catcher_view s.catchers.items;
+  timeout_seconds = s.timeout_seconds;
+  heartbeat_seconds = s.heartbeat_seconds;
+  max_concurrency = s.max_concurrency;
+  comment = option_map string_bytes s.comment;
 }
 
 -- what a Wait waits for

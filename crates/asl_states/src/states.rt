@@ -4,6 +4,7 @@ use asl_choice::Rule;
 use asl_path::RefPath;
 use asl_template::Template;
 use asl_tree::Tree;
+use serde_json::Number;
 
 /// A state: what states of several types have, and what its type adds.
 #[derive(Drop)]
@@ -31,6 +32,14 @@ pub struct Settings {
     pub retriers: Vec<Retrier>,
     /// `Catch`.
     pub catchers: Vec<Catcher>,
+    /// `TimeoutSeconds` of a Task, where it is given: no default is filled in.
+    pub timeout_seconds: Option<u64>,
+    /// `HeartbeatSeconds` of a Task, where it is given.
+    pub heartbeat_seconds: Option<u64>,
+    /// `MaxConcurrency` of a Map, 0 where it is absent, which sets no bound.
+    pub max_concurrency: u64,
+    /// `Comment`, where it is given.
+    pub comment: Option<String>,
 }
 
 /// An element of `Retry` (States Language, "Retrying after error").
@@ -38,8 +47,18 @@ pub struct Settings {
 pub struct Retrier {
     /// The names of the errors that it takes.
     pub error_equals: Vec<String>,
-    /// How often it retries within one execution of the state.
+    /// `IntervalSeconds`, 1 where it is absent.
+    pub interval_seconds: u64,
+    /// How often it retries within one execution of the state, 3 where `MaxAttempts` is absent.
     pub max_attempts: u64,
+    /// `BackoffRate`, whole or a float as it is written; the float 2.0 where it is absent.
+    pub backoff_rate: Number,
+    /// `MaxDelaySeconds`, where it is given.
+    pub max_delay_seconds: Option<u64>,
+    /// `JitterStrategy`, `NONE` where it is absent.
+    pub jitter_strategy: String,
+    /// `Comment`, where it is given.
+    pub comment: Option<String>,
 }
 
 /// An element of `Catch` (States Language, "Fallback States").
@@ -51,6 +70,8 @@ pub struct Catcher {
     pub result_path: Option<RefPath>,
     /// The name of the state that follows.
     pub next: String,
+    /// `Comment`, where it is given.
+    pub comment: Option<String>,
 }
 
 /// The eight types of states, each with the fields that it alone has.
