@@ -548,6 +548,10 @@ fn state(rt: &impl Abort, alloc: Global, kind: Kind, fields: (&str, &str, &str))
         next: None,
         retriers: Vec::new(alloc),
         catchers: Vec::new(alloc),
+        timeout_seconds: None,
+        heartbeat_seconds: None,
+        max_concurrency: 0,
+        comment: None,
     };
     State { settings, kind }
 }
