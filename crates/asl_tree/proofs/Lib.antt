@@ -1,4 +1,5 @@
 pub mod Texts
 pub mod Tokens
+pub mod Values
 pub mod Views
 pub mod Wholes
