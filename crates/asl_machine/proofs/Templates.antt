@@ -19,12 +19,12 @@ none_with item t f (x ∷ xs) is h = with_faults item t (x ∷ xs) is
 
 -- the template that it spells
 pub template_spelled : {item : Bool} {v : Data} {p : Template} → ValueSpells item v p → option_and_then (template_of item) (tree_of v) ≡ Some p
-template_spelled {item} h = ap (option_and_then (template_of item)) h.is ∙ (with_faults item h.tree [] h.spells.none_wrong ∙ ap Some h.spells.same)
+template_spelled {item} h = ap (option_and_then (template_of item)) h.is ∙ (with_faults item h.tree [] h.holds.none_wrong ∙ ap Some h.holds.same)
 
 -- nothing is wrong then
 pub template_right : {item : Bool} {v : Data} {p : Template} → ValueSpells item v p → model.template_misfits item (tree_of v) ≡ []
-template_right {item} h = ap (model.template_misfits item) h.is ∙ ap (λ o. model.unless (is_some o) model.BadTemplate) (with_faults item h.tree [] h.spells.none_wrong)
+template_right {item} h = ap (model.template_misfits item) h.is ∙ ap (λ o. model.unless (is_some o) model.BadTemplate) (with_faults item h.tree [] h.holds.none_wrong)
 
 -- where it has a fault, that is what is told
 pub template_wrong : {item : Bool} {v : Data} {f : TemplateFault} → ValueHasFault item v f → model.template_misfits item (tree_of v) ≡ model.BadTemplate ∷ []
-template_wrong {item} {f = f} h = ap (model.template_misfits item) h.is ∙ ap (λ o. model.unless (is_some o) model.BadTemplate) (none_with item h.tree f (template_faults item h.tree) refl h.has.listed)
+template_wrong {item} {f = f} h = ap (model.template_misfits item) h.is ∙ ap (λ o. model.unless (is_some o) model.BadTemplate) (none_with item h.tree f (template_faults item h.tree) refl h.holds.listed)

@@ -1,11 +1,9 @@
 -- Reading the fields of an object as templates, one after another, each under its name without the suffix.
-use Rattle.std.proofs.Common.{◌≡◌, ℕ, List, [], ◌∷◌, ◌++◌, Bool, true, false, ◌||◌, ◌&&◌, not, if◌then◌else◌, IsTrue, Option, Some, None, is_some, String, Global, string_bytes, string_cmp, nat_cmp, bytes_eq, Ordering, Less, Equal, Greater, refl, sym, ap, subst, ◌∙◌, rules}
+use Rattle.std.proofs.Common.{◌≡◌, ℕ, List, [], ◌∷◌, ◌++◌, Bool, true, false, ◌||◌, ◌&&◌, not, if◌then◌else◌, IsTrue, Option, Some, None, is_some, String, Global, string_bytes, string_cmp, bytes_eq, Ordering, Less, Equal, Greater, refl, sym, ap, subst, ◌∙◌, rules}
 use Rattle.std.proofs.lemmas.Bool.{and_parts, and_from, or_from, false≢true, true≢false}
-use Rattle.std.proofs.lemmas.Cmp.{nat_list_cmp_total, nat_list_eq_equiv}
-use Rattle.std.proofs.lemmas.Map.Text.{is_eq-slice_cmp}
+use Rattle.std.proofs.lemmas.Cmp.{nat_list_cmp_total}
 use Rattle.std.proofs.lemmas.Slice.Eq.{bytes_eq-Decides}
 use Rattle.std.specs.BTreeMap.{is_at, insert_entry}
-use Rattle.std.specs.Cmp.Lexicographic.{slice_cmp}
 use Rattle.std.specs.Map.{lookup}
 use Rattle.std.specs.Ordering.{is_eq, match_ordering, ordering_reverse}
 use Rattle.asl_model.specs.ShapeSpelling.{is_among, are_distinct}
@@ -19,10 +17,11 @@ use Rattle.asl_model.proofs.ReadingTemplates.{Absent, other_way, neither, not_tr
 use Rattle.asl_model.proofs.ShapeWitness.{comes_before-trans, bytes_eq-comm}
 use Rattle.asl_model.proofs.TemplateGrammar.{one_way, none_among_read}
 use Rattle.serde_json.specs.declared.value.Value.{Value}
+use Rattle.asl_tree.proofs.Values.{same_name}
+use Rattle.asl_tree.specs.Values.{tree_in, fields_in}
 use Rattle.asl_template.specs.Field.{field_template, field_faults}
 use Rattle.asl_template.specs.Refusal.{Tells}
 use Rattle.asl_template.specs.View.{view, entries_view}
-use Rattle.asl_template.specs.Whole.{tree_in, fields_in}
 use Rattle.asl_template.specs.declared.refusal.SpellingRefusal.{SpellingRefusal}
 use Rattle.asl_template.specs.declared.refusal.SpellingRefusal.TheVariants.{DuplicateAfterStrip}
 use Rattle.asl_template.specs.declared.template.Template.{Template}
@@ -73,9 +72,6 @@ either_order a b p q (AndFieldTemplate m r fields) apart = go (comes_before m a)
     go false x false y below = rw (y, x, y) (either_first a b (comes_before a b) p q all (exactly_one a b apart))
 
 -- ---- a map's entry for a name
-
-same_name : (n m : List ℕ) → bytes_eq m n ≡ is_eq (slice_cmp nat_cmp n m)
-same_name n m = nat_list_eq_equiv.symm m n ∙ sym (is_eq-slice_cmp n m)
 
 -- there is none where no field has the name
 absent_lookup : (k : String Global) (es : List Entry) → lookup (is_at (string_cmp k)) es ≡ None → Absent (string_bytes k) (entries_view es)

@@ -4,11 +4,11 @@ use Rattle.std.proofs.lemmas.List.{take_all}
 use Rattle.asl_model.specs.Template as template
 use Rattle.asl_model.specs.TemplateSpelling.{part_of, parts_of, part_faults, parts_faults}
 use Rattle.serde_json.specs.declared.value.Value.{Value}
+use Rattle.asl_tree.specs.Values.{tree_in, elements_in}
 use Rattle.asl_tree.specs.View as trees
 use Rattle.asl_tree.specs.declared.Tree.{Tree}
 use Rattle.asl_template.specs.Refusal.{Tells}
 use Rattle.asl_template.specs.View.{view, templates_of, elements_view}
-use Rattle.asl_template.specs.Whole.{tree_in, elements_in}
 use Rattle.asl_template.specs.declared.refusal.SpellingRefusal.{SpellingRefusal}
 use Rattle.asl_template.specs.declared.template.Template.{Template, the_lemmas}
 use Rattle.asl_template.specs.declared.template.Template.TheVariants as template_of

@@ -10,8 +10,9 @@ ghost use Rattle.asl_model.specs.Tree as json;
 ghost use Rattle.asl_template.specs.Field.{field_template, field_faults};
 ghost use Rattle.asl_template.specs.Refusal.{Tells};
 ghost use Rattle.asl_template.specs.View.{view, elements_view, entries_view};
-ghost use Rattle.asl_template.specs.Whole.{ValueSpells, ValueStandsFor, ValueHasFault, tree_in, elements_in, fields_in};
+ghost use Rattle.asl_template.specs.Whole.{ValueSpells, ValueStandsFor, ValueHasFault};
 ghost use Rattle.asl_template.specs.declared.refusal.SpellingRefusal.TheVariants.{NotObject, NotText, BadPath, BadIntrinsic, DuplicateAfterStrip, LeftOutContext, NotWhole};
+ghost use Rattle.asl_tree.specs.Values.{tree_in, elements_in, fields_in};
 ghost use Rattle.asl_tree.specs.View as trees;
 
 use crate::paths::read_path;

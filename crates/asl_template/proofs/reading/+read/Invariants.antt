@@ -1,9 +1,9 @@
 use Rattle.std.proofs.Common.{◌≡◌, true, List, ◌++◌, map, take, drop}
 use Rattle.asl_model.specs.ShapeSpelling.{are_distinct}
 use Rattle.asl_model.specs.TemplateSpelling.{part_of, parts_faults, field_templates_of, fields_faults, renamed_names}
+use Rattle.asl_tree.specs.Values.{tree_in, elements_in, fields_in}
 use Rattle.asl_template.proofs.Members.{Member}
 use Rattle.asl_template.specs.View.{view, entries_view}
-use Rattle.asl_template.specs.Whole.{tree_in, elements_in, fields_in}
 use Rattle.asl_template.proofs.reading.+read.Given as goal
 
 abbrev pub invariant-read_elements-loop-element : goal.invariant-read_elements-loop-element
