@@ -9,7 +9,7 @@ use Rattle.asl_model.specs.ShapeSpelling.{ShapeFault, SpellsShape, shape_faults,
 use Rattle.asl_model.specs.Tree.{Tree, Trees, NoTrees, AndTree, Fields, NoFields, AndField}
 use Rattle.asl_shape.specs.Level.{Level, Plain, ListLevel, ObjectLevel, shape_over, inner_faults, rest_shape, rest_faults}
 use Rattle.asl_shape.specs.Spelled.{spelled}
-use Rattle.asl_shape.proofs.Trees.{spelled-tree_of, spelled-value_of}
+use Rattle.asl_tree.proofs.Values.{whole-tree_of as spelled-tree_of, whole-value_of as spelled-value_of}
 use Rattle.asl_shape.proofs.Wholes.{level_within}
 use Rattle.serde_json.specs.Data.{Data}
 use Rattle.asl_numbered.specs.declared.NumberedRefusal.{NumberedRefusal}

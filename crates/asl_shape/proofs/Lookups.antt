@@ -1,32 +1,24 @@
 -- A map's look-up by a key finds what the fields, or the mentions, that the map shows have under that name.
-use Rattle.std.proofs.Common.{◌≡◌, ℕ, Bool, true, false, cond, List, [], ◌∷◌, Option, Some, None, Bor, String, string_bytes, option_map, is_some, ap, ◌||◌, bytes_eq, map, refl, ◌∙◌, sym}
+use Rattle.std.proofs.Common.{◌≡◌, ℕ, Bool, true, false, cond, List, [], ◌∷◌, Option, Some, None, Bor, String, string_bytes, option_map, is_some, ap, ◌||◌, map, refl, ◌∙◌, sym}
 use Rattle.std.specs.declared.alloc.Global.{Global}
 use Rattle.std.specs.BTreeMap.{is_at}
 use Rattle.std.specs.Cmp.Lexicographic.{slice_cmp}
 use Rattle.std.specs.Map.{lookup}
 use Rattle.std.specs.Option.{option_copied}
-use Rattle.std.specs.Ordering.{is_eq, nat_cmp}
+use Rattle.std.specs.Ordering.{nat_cmp}
 use Rattle.std.specs.String.{string_cmp}
-use Rattle.std.proofs.lemmas.Cmp.{nat_list_eq_equiv}
-use Rattle.std.proofs.lemmas.Map.Text.{is_eq-slice_cmp}
 use Rattle.asl_model.specs.Tree.{field_named}
 use Rattle.asl_model.specs.Shape as model
 use Rattle.asl_model.specs.Shape.{mentions}
 use Rattle.asl_model.specs.ShapeOrder.{mention_of}
+use Rattle.asl_tree.proofs.Values as values
+pub use Rattle.asl_tree.proofs.Values.{same_name, picked}
 use Rattle.asl_tree.specs.declared.Tree.{Tree}
 use Rattle.asl_tree.specs.View as trees
 use Rattle.asl_shape.specs.declared.shape.Field.{Field}
 use Rattle.asl_shape.specs.Spelled as spelled
 use Rattle.asl_shape.specs.View.{view, fields_view, mentions_of}
 use Rattle.serde_json.specs.declared.value.Value.{Value}
-
-pub same_name : (k m : List ℕ) → bytes_eq m k ≡ is_eq (slice_cmp nat_cmp k m)
-same_name k m = nat_list_eq_equiv.symm m k ∙ sym (is_eq-slice_cmp k m)
-
--- a function of what is picked
-pub picked : {A B : Type 0} (f : A → B) (x : A) (b : Bool) (s : Option A) → cond b (Some (f x)) (option_map f s) ≡ option_map f (cond b (Some x) s)
-picked f x true s = refl
-picked f x false s = refl
 
 pub field_named_lookup : (k : String Global) (es : List (String Global × Tree)) → field_named (string_bytes k) (trees.entries_view es) ≡ option_map trees.view (lookup (is_at (string_cmp k)) es)
 field_named_lookup k [] = refl
@@ -51,16 +43,10 @@ mention_of_lookup k [] = refl
 mention_of_lookup k (m ∷ ms) =
     rw (same_name (string_bytes k) (string_bytes m.0), mention_of_lookup k ms) (picked (λ (m : Field). (m.needed, view m.shape)) m.1 _ _)
 
--- the same for a key that is no text of the map's own, in the members of a value
-pub field_named_lookup_by : (q : List ℕ) (es : List (String Global × Value)) → field_named q (spelled.entries_view es) ≡ option_map spelled.view (lookup (is_at (λ k. slice_cmp nat_cmp q (string_bytes k))) es)
-field_named_lookup_by q [] = refl
-field_named_lookup_by q (e ∷ es) =
-    rw (same_name q (string_bytes e.0), field_named_lookup_by q es) (picked spelled.view e.1 _ _)
-
 there : (o : Option (Bor Value)) → spelled.value_there o ≡ option_map spelled.view (option_copied o)
 there None = refl
 there (Some v) = refl
 
 -- what a look-up in a map gives is what its members have
 pub member_named_lookup : (q : List ℕ) (es : List (String Global × Value)) (o : Option (Bor Value)) → option_copied o ≡ lookup (is_at (λ k. slice_cmp nat_cmp q (string_bytes k))) es → spelled.value_there o ≡ spelled.member_named q es
-member_named_lookup q es o is = there o ∙ ap (option_map spelled.view) is ∙ sym (field_named_lookup_by q es)
+member_named_lookup q es o is = there o ∙ ap (option_map spelled.view) is ∙ sym (values.field_named_lookup q es)
