@@ -1,36 +1,38 @@
 -- The fields of an object: looking them up, and the one that says what is tested.
-use Rattle.std.proofs.Common.{◌≡◌, ℕ, zero, suc, ◌<◌, ◌≤◌, List, [], ◌∷◌, ◌++◌, length, get_or, map, Bool, true, false, if◌then◌else◌, Option, Some, None, option_map, option_and_then, is_some, String, Global, string_bytes, bytes_eq, codes, nat_cmp, append_assoc, refl, sym, ap, ◌∙◌, arith}
+use Rattle.std.proofs.Common.{◌≡◌, ℕ, zero, suc, ◌<◌, ◌≤◌, List, [], ◌∷◌, ◌++◌, length, get_or, map, take, drop, drop-cons, Bool, true, false, if◌then◌else◌, Option, Some, None, option_map, option_and_then, is_some, String, Global, string_bytes, bytes_eq, codes, append_assoc, refl, sym, ap, ◌∙◌, arith}
 use denote.Param.Weighed.{most}
+use Rattle.std.proofs.lemmas.List.{take-append-drop}
 use Rattle.std.proofs.lemmas.List.Elements.{Contains-append_right}
 use Rattle.std.proofs.lemmas.Slice.Eq.{bytes_eq-Decides}
-use Rattle.std.specs.BTreeMap.{is_at}
-use Rattle.std.specs.Cmp.Lexicographic.{slice_cmp}
 use Rattle.std.specs.List.{Contains}
-use Rattle.std.specs.Map.{lookup}
 use Rattle.std.specs.Option.{unwrap_or}
+use Rattle.serde_json.specs.View.{view as json_view, members_view}
+use Rattle.asl_model.specs.Json.{tree_of, members_of}
 use Rattle.asl_model.specs.Tree as model
 use Rattle.asl_model.specs.Tree.{NoFields, AndField, field_named, fields_of}
 use Rattle.asl_model.specs.PathSpelling.{path_of}
 use Rattle.asl_model.specs.Test.{Test, as_text, NoTests, And, Or, Not}
 use Rattle.asl_model.specs.RuleSpelling.{main_fields, variable_in, test_faults, test_of, test_under, tests_of, tests_under, no_test, list_faults, list_faults_under, nested_faults, nested_faults_under, object_faults}
-use Rattle.asl_tree.specs.View.{view, entries_view}
-use Rattle.asl_tree.specs.declared.Tree.{Tree}
-use Rattle.asl_tree.proofs.Tree.TheLaws.{the_size}
-use Rattle.asl_path.proofs.Nodes.{view-lookup}
+use Rattle.serde_json.proofs.value.Value.TheLaws.{the_size}
+use Rattle.serde_json.specs.declared.value.Value.{Value}
+use Rattle.asl_tree.proofs.Texts.{members_none}
+use Rattle.asl_tree.specs.Values.{tree_in, fields_in}
 use Rattle.asl_choice.specs.Single.{is_beside, joined_test, one_joined_faults, variable_path, variable_test, one_variable_faults}
 
 abbrev Entry : Type 0
-Entry = String Global × Tree
-
--- a map's look-up finds what stands under the name
-pub field_named_lookup : (q : List ℕ) (es : List Entry) → field_named q (entries_view es) ≡ option_map view (lookup (is_at (λ k. slice_cmp nat_cmp q (string_bytes k))) es)
-field_named_lookup q es = sym (view-lookup q es)
+Entry = String Global × Value
 
 -- what stands in a map is smaller than the map
 pub smaller : (es : List Entry) (i : ℕ) (e : Entry) → i < length es → get_or es i e ≡ e → the_size e.1 ≤ most the_size (map (λ x. x.1) es)
 smaller [] i e within is = absurd (omega arith)
 smaller (x ∷ es) zero e within is = omega (arith, ap (λ (y : Entry). the_size y.1) is)
 smaller (x ∷ es) (suc i) e within is = let further = smaller es i e (omega arith) is in omega arith
+
+-- where a value in a map is no tree, the map is none
+pub member_lost : (es : List Entry) (e : Entry) → Contains es e → tree_of (json_view e.1) ≡ None → members_of (members_view es) ≡ None
+member_lost es e (i, within, is) none =
+    let split : es ≡ take i es ++ e ∷ drop (suc i) es = sym (take-append-drop i es) ∙ ap (λ ds. take i es ++ ds) (drop-cons es i e within ∙ ap (λ x. x ∷ drop (suc i) es) is) in
+    rw split (members_none (take i es) e (drop (suc i) es) none)
 
 -- one that is seen on the way stands in the whole, and the way goes on
 pub one_seen : (whole done now left : List Entry) (e : Entry) → whole ≡ done ++ now → now ≡ e ∷ left → Contains whole e × ((more : List Entry) × (whole ≡ more ++ left))
@@ -41,10 +43,10 @@ one_seen whole done now left e so_far split =
 -- ---- one field beside `Variable`, `Next` and `Comment`
 
 -- the main fields of what is left, with one more in front
-pub one_beside : (e : Entry) (now left : List Entry) (n : List ℕ) → now ≡ e ∷ left → n ≡ string_bytes e.0 → true ≡ is_beside n → main_fields (entries_view now) ≡ main_fields (entries_view left)
+pub one_beside : (e : Entry) (now left : List Entry) (n : List ℕ) → now ≡ e ∷ left → n ≡ string_bytes e.0 → true ≡ is_beside n → main_fields (fields_in now) ≡ main_fields (fields_in left)
 one_beside e now left n split same is = rw (split, ← same, ← is) refl
 
-pub one_main : (e : Entry) (now left : List Entry) (n : List ℕ) → now ≡ e ∷ left → n ≡ string_bytes e.0 → false ≡ is_beside n → main_fields (entries_view now) ≡ (string_bytes e.0, view e.1) ∷ main_fields (entries_view left)
+pub one_main : (e : Entry) (now left : List Entry) (n : List ℕ) → now ≡ e ∷ left → n ≡ string_bytes e.0 → false ≡ is_beside n → main_fields (fields_in now) ≡ (string_bytes e.0, tree_in e.1) ∷ main_fields (fields_in left)
 one_main e now left n split same is =
     let is_main : is_beside (string_bytes e.0) ≡ false = ap is_beside (sym same) ∙ sym is in
     rw (split, is_main) refl

@@ -2,6 +2,8 @@ pub mod Elements
 pub mod Fields
 pub mod Lists
 pub mod Names
+pub mod Operands
 pub mod Telling
 pub mod VariableTests
 pub mod Walks
+pub mod Wholes

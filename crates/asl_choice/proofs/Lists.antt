@@ -7,9 +7,10 @@ use Rattle.asl_model.specs.Test.{as_text}
 use Rattle.asl_model.specs.Tree as json
 use Rattle.asl_model.specs.Tree.{field_named}
 use Rattle.asl_model.specs.RuleSpelling.{RuleFault, NotARule, test_of, each_test, each_faults, nested_faults, some_element, list_faults, main_fields, one_faults, joined_faults, test_faults, object_faults, variable_path_faults}
-use Rattle.asl_tree.specs.declared.Tree.{Tree, the_lemmas}
-use Rattle.asl_tree.specs.declared.Tree as tree
-use Rattle.asl_tree.specs.View as trees
+use Rattle.serde_json.proofs.Views.{view-Array}
+use Rattle.serde_json.specs.declared.value.Value.{Value}
+use Rattle.serde_json.specs.declared.value.Value as value
+use Rattle.asl_tree.specs.Values.{whole, tree_in, elements_in}
 use Rattle.asl_choice.specs.declared.refusal.RuleRefusal.{RuleRefusal}
 use Rattle.asl_choice.specs.declared.refusal.RuleRefusal.TheVariants as refusal
 use Rattle.asl_choice.specs.declared.rule.Test.{Test}
@@ -19,31 +20,31 @@ use Rattle.asl_choice.proofs.Fields.{faults_by}
 use Rattle.asl_choice.proofs.Telling.{told_same, told_left, told_right}
 
 -- the tests that the elements spell, as parts
-tests_shown : (ts : List Tree) → tests_of (map (λ t. test_of (trees.view t)) ts) ≡ each_test (trees.elements_view ts)
+tests_shown : (ts : List Value) → tests_of (map (λ t. test_of (tree_in t)) ts) ≡ each_test (elements_in ts)
 tests_shown [] = refl
-tests_shown (t ∷ ts) = ap (model.AndTest (test_of (trees.view t))) (tests_shown ts)
+tests_shown (t ∷ ts) = ap (model.AndTest (test_of (tree_in t))) (tests_shown ts)
 
 -- tests that are read one by one are those of the list
-pub tests_read : (tests : List Test) (ts : List Tree) → map view tests ≡ map (λ t. test_of (trees.view t)) ts → tests_view tests ≡ each_test (trees.elements_view ts)
+pub tests_read : (tests : List Test) (ts : List Value) → map view tests ≡ map (λ t. test_of (tree_in t)) ts → tests_view tests ≡ each_test (elements_in ts)
 tests_read tests ts e = ap tests_of e ∙ tests_shown ts
 
 -- what is wrong with one element is wrong with the list
-pub element_told : (e : RuleRefusal) (all left rest : List Tree) (t : Tree) → each_faults (trees.elements_view all) ≡ each_faults (trees.elements_view left) → left ≡ t ∷ rest → Tells e (nested_faults (trees.view t)) → Tells e (each_faults (trees.elements_view all))
+pub element_told : (e : RuleRefusal) (all left rest : List Value) (t : Value) → each_faults (elements_in all) ≡ each_faults (elements_in left) → left ≡ t ∷ rest → Tells e (nested_faults (tree_in t)) → Tells e (each_faults (elements_in all))
 element_told e all left rest t so_far split told =
-    told_same e _ _ (told_left e (nested_faults (trees.view t)) (each_faults (trees.elements_view rest)) told) (sym (so_far ∙ ap (λ ts. each_faults (trees.elements_view ts)) split))
+    told_same e _ _ (told_left e (nested_faults (tree_in t)) (each_faults (elements_in rest)) told) (sym (so_far ∙ ap (λ ts. each_faults (elements_in ts)) split))
 
 -- what a list shows
-view_list : (v : Vec Tree Global) → trees.view (tree.List v) ≡ json.Array (trees.elements_view v.items)
-view_list v = search (rules, the_lemmas)
+view_list : (v : Vec Value Global) → tree_in (value.Array v) ≡ json.Array (elements_in v.items)
+view_list v = ap whole (view-Array v)
 
 -- a list that has an element isn't empty
-some_there : (ts : List Tree) → false ≡ (length ts == 0) → some_element (trees.elements_view ts) ≡ []
+some_there : (ts : List Value) → false ≡ (length ts == 0) → some_element (elements_in ts) ≡ []
 some_there [] none = absurd (cc)
 some_there (t ∷ ts) none = refl
 
 -- a list that isn't empty, of elements with which nothing is wrong
-pub list_right : (value : Tree) (v : Vec Tree Global) (items : List Tree) (r : Result (Vec Test Global) RuleRefusal) → value ≡ tree.List v → items ≡ v.items → false ≡ (length items == 0) → IfOk r (λ _. each_faults (trees.elements_view items) ≡ []) → IfOk r (λ _. list_faults (trees.view value) ≡ [])
-list_right value v items r is same some right =
+pub list_right : (given : Value) (v : Vec Value Global) (items : List Value) (r : Result (Vec Test Global) RuleRefusal) → given ≡ value.Array v → items ≡ v.items → false ≡ (length items == 0) → IfOk r (λ _. each_faults (elements_in items) ≡ []) → IfOk r (λ _. list_faults (tree_in given) ≡ [])
+list_right given v items r is same some right =
     rw (is, view_list v, ← same, some_there items some) right
 
 -- ---- answers that are passed on, along an equation of the faults

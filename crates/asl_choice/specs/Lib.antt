@@ -3,3 +3,4 @@ pub mod Refusal
 pub mod Single
 pub mod View
 pub mod Walking
+pub mod Whole

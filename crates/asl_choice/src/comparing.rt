@@ -1,7 +1,6 @@
 //! Comparing values, and telling their kinds.
 ghost use Rattle.std.specs.Prelude.{◌≡◌, option_map};
 ghost use Rattle.asl_model.specs.Test.{as_text as text_of, as_integer as integer_of, as_boolean as boolean_of, compares as comparison_holds, is_of_kind as has_kind, relates as relation_holds};
-ghost use Rattle.asl_model.specs.RuleSpelling.{is_comparable as is_of_type};
 ghost use Rattle.asl_choice.specs.View.{comparison_view, kind_view, relation_view};
 ghost use Rattle.asl_tree.specs.View as trees;
 
@@ -42,17 +41,6 @@ fn relates(relation: Relation, order: Ordering) -> bool
     }
 }
 
-/// Whether the value is of the comparison's type.
-pub(crate) fn is_comparable(comparison: Comparison, value: &Tree) -> bool
-    ensures { result ≡ is_of_type (comparison_view comparison) (trees.view value.now) }
-{
-    match comparison {
-        Comparison::String(_) => as_text(value).is_some(),
-        Comparison::Numeric(_) => as_integer(value).is_some(),
-        Comparison::BooleanEquals => as_boolean(value).is_some(),
-    }
-}
-
 /// Whether the value is of that kind.
 pub(crate) fn is_of_kind(kind: ValueKind, value: &Tree) -> bool
     ensures { result ≡ has_kind (kind_view kind) (trees.view value.now) }
@@ -86,7 +74,7 @@ fn as_integer(value: &Tree) -> Option<i64>
 }
 
 /// The truth value that the value is, if it is one.
-pub(crate) fn as_boolean(value: &Tree) -> Option<bool>
+fn as_boolean(value: &Tree) -> Option<bool>
     ensures { result ≡ boolean_of (trees.view value.now) }
 {
     match value {

@@ -1,8 +1,9 @@
 //! Reading the patterns of `StringMatches`.
-ghost use Rattle.std.specs.Prelude.{◌≡◌, ◌∷◌, ◌≤◌, length, None, Some, IfErr, IfOk, IfSome, MatchOption, option_map};
+ghost use Rattle.std.specs.Prelude.{◌≡◌, ◌∷◌, ◌≤◌, length, None, Some, Err, IfErr, IfOk, IfSome, MatchOption, option_map};
 ghost use Rattle.asl_model.specs.RuleSpelling as model;
 ghost use Rattle.asl_choice.specs.Refusal.{Tells, missing};
 ghost use Rattle.asl_choice.specs.View.{part_view, pattern_view};
+ghost use Rattle.asl_choice.specs.declared.refusal.RuleRefusal.{RuleRefusal};
 
 use crate::{PatternPart, RuleRefusal};
 use std::alloc::Global;
@@ -10,6 +11,7 @@ use std::alloc::Global;
 /// The pattern that the text spells: `*` is a star, and a backslash stands before a star or a backslash that is itself.
 pub(crate) fn read_pattern(alloc: Global, text: &[u8]) -> Result<Vec<PatternPart>, RuleRefusal>
     ensures pattern { IfOk result (λ parts. model.pattern_of text.now ≡ Some (pattern_view parts.items)) }
+    ensures of_text { ¬ (result ≡ Err RuleRefusal.NotWhole) }
     ensures refused { IfErr result (λ e. Tells e (missing model.BadPattern (model.pattern_of text.now))) }
 {
     let mut parts = Vec::new(alloc);

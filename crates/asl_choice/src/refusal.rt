@@ -1,9 +1,9 @@
-//! Why a tree is no spelling of a rule.
+//! Why a value spells no rule.
 
 use asl_tree::OutOfMemory;
 use std::alloc::{AllocError, AllocFailed};
 
-/// Why a tree is no spelling of a rule.
+/// Why a value spells no rule.
 #[derive(Clone, Copy, Debug, Drop)]
 pub enum RuleRefusal {
     /// It is no object, or its fields aren't those of a rule: exactly one of `And`, `Or` and `Not`, or `Variable` and
@@ -22,6 +22,8 @@ pub enum RuleRefusal {
     EmptyList,
     /// `Next` stands below the top.
     NextInside,
+    /// Some number isn't whole, or is out of an `i64`'s range.
+    NotWhole,
     /// An allocation was refused.
     OutOfMemory,
 }

@@ -1,0 +1,55 @@
+use Rattle.std.proofs.Common.{◌≡◌, true, is_some, refl, rules}
+use Rattle.serde_json.specs.View.{view as json_view}
+use Rattle.asl_model.specs.Json.{tree_of}
+use Rattle.asl_model.specs.RuleSpelling as model
+use Rattle.asl_choice.specs.declared.refusal.RuleRefusal.TheVariants.{NotARule, UnknownOperator, BadOperand, BadPath, BadPattern, EmptyList, NextInside}
+use Rattle.asl_choice.proofs.Wholes.{spelled_whole, told_whole}
+use Rattle.asl_choice.proofs.reading.from_value.Goals as goal
+
+pub returns-clause-spelled : goal.returns-clause-spelled
+returns-clause-spelled c =
+    let v = json_view c.args.value.now in
+    let there : is_some (tree_of v) ≡ true = search rules in
+    spelled_whole c.read_top.result v there c.read_top.ensures.spelled
+
+pub returns-clause-not_a_rule : goal.returns-clause-not_a_rule
+returns-clause-not_a_rule c =
+    let v = json_view c.args.value.now in
+    let there : is_some (tree_of v) ≡ true = search rules in
+    told_whole c.read_top.result v NotARule model.NotARule there c.read_top.ensures.refused refl
+
+pub returns-clause-unknown_operator : goal.returns-clause-unknown_operator
+returns-clause-unknown_operator c =
+    let v = json_view c.args.value.now in
+    let there : is_some (tree_of v) ≡ true = search rules in
+    told_whole c.read_top.result v UnknownOperator model.UnknownOperator there c.read_top.ensures.refused refl
+
+pub returns-clause-bad_operand : goal.returns-clause-bad_operand
+returns-clause-bad_operand c =
+    let v = json_view c.args.value.now in
+    let there : is_some (tree_of v) ≡ true = search rules in
+    told_whole c.read_top.result v BadOperand model.BadOperand there c.read_top.ensures.refused refl
+
+pub returns-clause-bad_path : goal.returns-clause-bad_path
+returns-clause-bad_path c =
+    let v = json_view c.args.value.now in
+    let there : is_some (tree_of v) ≡ true = search rules in
+    told_whole c.read_top.result v BadPath model.BadPath there c.read_top.ensures.refused refl
+
+pub returns-clause-bad_pattern : goal.returns-clause-bad_pattern
+returns-clause-bad_pattern c =
+    let v = json_view c.args.value.now in
+    let there : is_some (tree_of v) ≡ true = search rules in
+    told_whole c.read_top.result v BadPattern model.BadPattern there c.read_top.ensures.refused refl
+
+pub returns-clause-empty_list : goal.returns-clause-empty_list
+returns-clause-empty_list c =
+    let v = json_view c.args.value.now in
+    let there : is_some (tree_of v) ≡ true = search rules in
+    told_whole c.read_top.result v EmptyList model.EmptyList there c.read_top.ensures.refused refl
+
+pub returns-clause-next_inside : goal.returns-clause-next_inside
+returns-clause-next_inside c =
+    let v = json_view c.args.value.now in
+    let there : is_some (tree_of v) ≡ true = search rules in
+    told_whole c.read_top.result v NextInside model.NextInside there c.read_top.ensures.refused refl
