@@ -1,19 +1,18 @@
 -- Fields and places of nodes of which one is replaced.
-use Rattle.std.proofs.Common.{◌≡◌, ◌<◌, ◌≤◌, ℕ, zero, suc, List, [], ◌∷◌, ◌++◌, Bool, true, false, bytes_eq, String, Global, Vec, Ordering, Less, Equal, Greater, string_bytes, string_cmp, nat_cmp, length, slice_set, refl, sym, ap, ◌∙◌, subst, arith}
-use Rattle.std.proofs.lemmas.Cmp.{nat_list_cmp_total}
+use Rattle.std.proofs.Common.{◌≡◌, ◌<◌, ◌≤◌, ℕ, zero, suc, List, [], ◌∷◌, ◌++◌, Bool, true, false, IsTrue, bytes_eq, String, Global, Vec, Ordering, Less, Equal, Greater, string_bytes, string_cmp, nat_cmp, length, slice_set, refl, sym, ap, ◌∙◌, subst, arith}
 use Rattle.std.proofs.lemmas.Map.Text.{is_eq-slice_cmp}
 use Rattle.std.proofs.lemmas.Slice.Eq.{bytes_eq-Decides}
 use Rattle.std.specs.BTreeMap.{BTreeMap, insert_entry}
 use Rattle.std.specs.Cmp.Lexicographic.{slice_cmp}
-use Rattle.std.specs.List.{AllByRecursion}
-use Rattle.std.specs.List.Sorted.{IsStrictlySortedBy}
-use Rattle.std.specs.Map.{keys_of}
-use Rattle.std.specs.Ordering.{is_eq, ordering_reverse}
+use Rattle.std.specs.List.{AllZip}
+use Rattle.std.specs.Ordering.{is_eq}
 use Rattle.asl_model.specs.Shape as model
-use Rattle.asl_model.specs.Shape.{AndFieldShape, AndShape, NoFieldShapes, FieldShapes}
+use Rattle.asl_model.specs.Shape.{AndFieldShape, AndShape, NoFieldShapes, FieldShapes, before_mentions, AreProperFields}
 use Rattle.asl_model.specs.ShapeFlow.{set_place}
-use Rattle.asl_model.specs.ShapeOrder.{set_mention, without_mention}
-use Rattle.asl_flow.specs.Changing.{AreOthers, AreWithField, AreWithPlace}
+use Rattle.asl_model.specs.ShapeOrder.{set_mention}
+use Rattle.asl_flow.specs.Changing.{AreWithField, AreWithPlace}
+use Rattle.asl_model.specs.Tree.{comes_before}
+use Rattle.asl_flow.proofs.Stays.{unmentioned, in_front, before_next}
 use Rattle.asl_shape.proofs.Spellings.{put}
 use Rattle.asl_numbered.specs.declared.node.NodeField.{NodeField}
 use Rattle.asl_numbered.specs.declared.node.Node.{Node}
@@ -24,73 +23,57 @@ use Rattle.asl_numbered.proofs.Parts.{Entry, put-shown, put-below}
 
 -- ---- fields
 
--- a field of another name goes in front of the first name that comes behind
-put-set : (n : List ℕ) (needed : Bool) (s : model.Shape) (shapes : FieldShapes) → put n needed s (without_mention n shapes) ≡ set_mention n needed s shapes
-put-set n needed s NoFieldShapes = refl
-put-set n needed s (AndFieldShape m other r shapes) = go (bytes_eq m n) refl (slice_cmp nat_cmp n m) refl (put-set n needed s shapes)
+-- a field goes in front of the first name that comes behind, or in place of its own
+put-set : (n : List ℕ) (s : model.Shape) (shapes : FieldShapes) → AreProperFields shapes → put n true s shapes ≡ set_mention n true s shapes
+put-set n s NoFieldShapes proper = refl
+put-set n s (AndFieldShape m other r shapes) proper = go (bytes_eq m n) refl (slice_cmp nat_cmp n m) refl (put-set n s shapes proper.3)
   where
-    go : (same : Bool) → bytes_eq m n ≡ same → (order : Ordering) → slice_cmp nat_cmp n m ≡ order → put n needed s (without_mention n shapes) ≡ set_mention n needed s shapes → put n needed s (without_mention n (AndFieldShape m other r shapes)) ≡ set_mention n needed s (AndFieldShape m other r shapes)
-    go true is order at below = rw is below
-    go false is Less at below = rw (is, at) refl
+    not_at : (order : Ordering) → slice_cmp nat_cmp n m ≡ order → is_eq order ≡ bytes_eq n m
+    not_at order at = ap is_eq (sym at) ∙ is_eq-slice_cmp n m
+
+    go : (same : Bool) → bytes_eq m n ≡ same → (order : Ordering) → slice_cmp nat_cmp n m ≡ order → put n true s shapes ≡ set_mention n true s shapes → put n true s (AndFieldShape m other r shapes) ≡ set_mention n true s (AndFieldShape m other r shapes)
+    go true is Less at below =
+        let again : bytes_eq n m ≡ true = (bytes_eq-Decides n m).1 (sym ((bytes_eq-Decides m n).0 is)) in
+        let differ : false ≡ bytes_eq n m = not_at Less at in
+        absurd (cc)
+    go true is Greater at below =
+        let again : bytes_eq n m ≡ true = (bytes_eq-Decides n m).1 (sym ((bytes_eq-Decides m n).0 is)) in
+        let differ : false ≡ bytes_eq n m = not_at Greater at in
+        absurd (cc)
+    go true is Equal at below =
+        let same : m ≡ n = (bytes_eq-Decides m n).0 is in
+        let before : IsTrue (before_mentions n shapes) = subst (λ x. IsTrue (before_mentions x shapes)) same proper.1 in
+        rw (is, at, unmentioned n shapes before proper.3, in_front n s shapes before, same) refl
+    go false is Less at below =
+        let first : IsTrue (comes_before n m) = rw at refl in
+        rw (is, unmentioned n shapes (before_next n m shapes first proper.1) proper.3, at) refl
     go false is Equal at below =
         let same : n ≡ m = (bytes_eq-Decides n m).0 (sym (is_eq-slice_cmp n m) ∙ ap is_eq at) in
         let again : bytes_eq m n ≡ true = (bytes_eq-Decides m n).1 (sym same) in
         absurd (cc)
     go false is Greater at below = rw (is, at) (ap (AndFieldShape m other r) below)
 
--- inserting a field into those of other names is the setting of its mention
-pub field_set : (name : List ℕ) (k : String Global) (f : NodeField) (old others new : List Entry) → string_bytes k ≡ name → f.needed ≡ true → AreOthers name old others → new ≡ insert_entry string_cmp others k f → AreWithField name f.shape old new
-field_set name k f old others new same needed are inserted = record {
-  shapes = λ table. ap (fields_at table) inserted ∙ put-shown table others k f ∙ rw (same, needed, are.shapes table) (put-set name true (shape_at table f.shape) (fields_at table old));
-  below = λ bound within below. subst (λ es. AreBelow bound (numbers_in es)) (sym inserted) (put-below bound others k f within (are.below bound below));
-}
+-- the second fields have the names and the numbers of the first
+abbrev pub AreAlike : List Entry → List Entry → Type 0
+AreAlike old new = AllZip (λ (p q : Entry). (string_bytes q.0 ≡ string_bytes p.0) × (q.1 ≡ p.1)) old new
 
-below_middle : (first : Entry) (ms : List Entry) (m : Entry) (more : List Entry) → AllByRecursion (λ y. string_cmp first.0 y ≡ Less) (keys_of (ms ++ m ∷ more)) → string_cmp first.0 m.0 ≡ Less
-below_middle first [] m more h = h.0
-below_middle first (x ∷ ms) m more h = below_middle first ms m more h.1
+alike_shown : (table : List model.Shape) (old new : List Entry) → AreAlike old new → fields_at table new ≡ fields_at table old
+alike_shown table [] [] alike = refl
+alike_shown table [] (f ∷ new) alike = absurd alike
+alike_shown table (e ∷ old) [] alike = absurd alike
+alike_shown table (e ∷ old) (f ∷ new) alike = rw (alike.0.0, alike.0.1, alike_shown table old new alike.1) refl
 
--- a name that is above those before it goes last
-put_last : (table : List model.Shape) (n : List ℕ) (done : List Entry) (m : Entry) (more : List Entry) → IsStrictlySortedBy string_cmp (keys_of (done ++ m ∷ more)) → bytes_eq (string_bytes m.0) n ≡ false → put (string_bytes m.0) m.1.needed (shape_at table m.1.shape) (without_mention n (fields_at table done)) ≡ without_mention n (fields_at table (done ++ m ∷ []))
-unfolding IsStrictlySortedBy
-put_last table n [] m more h other = rw other refl
-put_last table n (first ∷ done) m more h other = go (bytes_eq (string_bytes first.0) n) refl (put_last table n done m more h.1 other)
-  where
-    above : slice_cmp nat_cmp (string_bytes m.0) (string_bytes first.0) ≡ Greater
-    above = nat_list_cmp_total.antisymm (string_bytes m.0) (string_bytes first.0) ∙ ap ordering_reverse (below_middle first done m more h.0)
+alike_below : (bound : ℕ) (old new : List Entry) → AreAlike old new → AreBelow bound (numbers_in old) → AreBelow bound (numbers_in new)
+alike_below bound [] [] alike below = tt
+alike_below bound [] (f ∷ new) alike below = absurd alike
+alike_below bound (e ∷ old) [] alike below = absurd alike
+alike_below bound (e ∷ old) (f ∷ new) alike below = (subst (λ (g : NodeField). g.shape < bound) (sym alike.0.1) below.0, alike_below bound old new alike.1 below.1)
 
-    go : (same : Bool) → bytes_eq (string_bytes first.0) n ≡ same → put (string_bytes m.0) m.1.needed (shape_at table m.1.shape) (without_mention n (fields_at table done)) ≡ without_mention n (fields_at table (done ++ m ∷ [])) → put (string_bytes m.0) m.1.needed (shape_at table m.1.shape) (without_mention n (fields_at table (first ∷ done))) ≡ without_mention n (fields_at table (first ∷ (done ++ m ∷ [])))
-    go true is below = rw is below
-    go false is below = rw (is, above) (ap (AndFieldShape (string_bytes first.0) first.1.needed (shape_at table first.1.shape)) below)
-
--- the numbers of fields and of one more
-below_last : (bound : ℕ) (done : List Entry) (m : Entry) → AreBelow bound (numbers_in (done ++ m ∷ [])) → AreBelow bound (numbers_in done) × (m.1.shape < bound)
-below_last bound [] m h = (tt, h.0)
-below_last bound (first ∷ done) m h = let rest = below_last bound done m h.1 in ((h.0, rest.0), rest.1)
-
--- no fields yet
-pub none_copied : (n : List ℕ) → AreOthers n [] []
-none_copied n = record { shapes = λ table. refl; below = λ bound h. tt }
-
--- a field of another name goes behind the copies
-pub other_copied : (n : List ℕ) (done : List Entry) (m : Entry) (more copies new : List Entry) (k : String Global) → IsStrictlySortedBy string_cmp (keys_of (done ++ m ∷ more)) → bytes_eq (string_bytes m.0) n ≡ false → AreOthers n done copies → string_bytes k ≡ string_bytes m.0 → new ≡ insert_entry string_cmp copies k m.1 → AreOthers n (done ++ m ∷ []) new
-other_copied n done m more copies new k sorted other are named inserted = record {
-  shapes = λ table. ap (fields_at table) inserted ∙ put-shown table copies k m.1 ∙ rw (named, are.shapes table) (put_last table n done m more sorted other);
-  below = λ bound h. let parts = below_last bound done m h in subst (λ es. AreBelow bound (numbers_in es)) (sym inserted) (put-below bound copies k m.1 parts.1 (are.below bound parts.0));
-}
-
-passed : (table : List model.Shape) (n : List ℕ) (done : List Entry) (m : Entry) → bytes_eq (string_bytes m.0) n ≡ true → without_mention n (fields_at table done) ≡ without_mention n (fields_at table (done ++ m ∷ []))
-passed table n [] m same = rw same refl
-passed table n (first ∷ done) m same = go (bytes_eq (string_bytes first.0) n) refl (passed table n done m same)
-  where
-    go : (here : Bool) → bytes_eq (string_bytes first.0) n ≡ here → without_mention n (fields_at table done) ≡ without_mention n (fields_at table (done ++ m ∷ [])) → without_mention n (fields_at table (first ∷ done)) ≡ without_mention n (fields_at table (first ∷ (done ++ m ∷ [])))
-    go true is below = rw is below
-    go false is below = rw is (ap (AndFieldShape (string_bytes first.0) first.1.needed (shape_at table first.1.shape)) below)
-
--- the field of that name is passed over
-pub same_passed : (n : List ℕ) (done : List Entry) (m : Entry) (copies : List Entry) → bytes_eq (string_bytes m.0) n ≡ true → AreOthers n done copies → AreOthers n (done ++ m ∷ []) copies
-same_passed n done m copies same are = record {
-  shapes = λ table. are.shapes table ∙ passed table n done m same;
-  below = λ bound h. are.below bound (below_last bound done m h).0;
+-- inserting a field into a clone is the setting of its mention
+pub field_set : (name : List ℕ) (k : String Global) (f : NodeField) (old cloned new : List Entry) → string_bytes k ≡ name → f.needed ≡ true → AreAlike old cloned → new ≡ insert_entry string_cmp cloned k f → AreWithField name f.shape old new
+field_set name k f old cloned new same needed alike inserted = record {
+  shapes = λ table proper. ap (fields_at table) inserted ∙ put-shown table cloned k f ∙ rw (same, needed, alike_shown table old cloned alike) (put-set name (shape_at table f.shape) (fields_at table old) proper);
+  below = λ bound within below. subst (λ es. AreBelow bound (numbers_in es)) (sym inserted) (put-below bound cloned k f within (alike_below bound old cloned alike below));
 }
 
 -- the node with the changed fields has numbers of the table alone

@@ -20,18 +20,18 @@ before_mentioned m n w (AndFieldShape k needed s shapes) before proper there = g
     go false is further = comes_before-trans m k n before (further (rw is at there))
 
 -- a name that comes before a mention comes before those behind it
-before_next : (n m : List ℕ) (shapes : FieldShapes) → IsTrue (comes_before n m) → IsTrue (before_mentions m shapes) → IsTrue (before_mentions n shapes)
+pub before_next : (n m : List ℕ) (shapes : FieldShapes) → IsTrue (comes_before n m) → IsTrue (before_mentions m shapes) → IsTrue (before_mentions n shapes)
 before_next n m NoFieldShapes first second = refl
 before_next n m (AndFieldShape k needed s shapes) first second = comes_before-trans n m k first second
 
 -- a name before all mentions has none
-unmentioned : (n : List ℕ) (shapes : FieldShapes) → IsTrue (before_mentions n shapes) → AreProperFields shapes → without_mention n shapes ≡ shapes
+pub unmentioned : (n : List ℕ) (shapes : FieldShapes) → IsTrue (before_mentions n shapes) → AreProperFields shapes → without_mention n shapes ≡ shapes
 unmentioned n NoFieldShapes before proper = refl
 unmentioned n (AndFieldShape m needed s shapes) before proper =
     rw (bytes_eq-comm n m (comes_before-other n m before), unmentioned n shapes (before_next n m shapes before proper.1) proper.3) refl
 
 -- and goes in front of them
-in_front : (n : List ℕ) (w : Shape) (shapes : FieldShapes) → IsTrue (before_mentions n shapes) → insert_mention n true w shapes ≡ AndFieldShape n true w shapes
+pub in_front : (n : List ℕ) (w : Shape) (shapes : FieldShapes) → IsTrue (before_mentions n shapes) → insert_mention n true w shapes ≡ AndFieldShape n true w shapes
 in_front n w NoFieldShapes before = refl
 in_front n w (AndFieldShape m needed s shapes) before = rw before refl
 

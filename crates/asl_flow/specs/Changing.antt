@@ -1,9 +1,9 @@
 -- A shape with one of its parts changed.
 use Rattle.std.specs.Prelude.{◌≡◌, ◌<◌, ℕ, List, true, String}
 use Rattle.std.specs.declared.alloc.Global.{Global}
-use Rattle.asl_model.specs.Shape.{Shape, Any, Never, NullShape, BooleanShape, IntegerShape, StringShape, ArrayShape, ObjectShape}
+use Rattle.asl_model.specs.Shape.{Shape, Any, Never, NullShape, BooleanShape, IntegerShape, StringShape, ArrayShape, ObjectShape, AreProperFields}
 use Rattle.asl_model.specs.ShapeFlow.{set_place}
-use Rattle.asl_model.specs.ShapeOrder.{set_mention, without_mention}
+use Rattle.asl_model.specs.ShapeOrder.{set_mention}
 use Rattle.asl_numbered.specs.declared.node.NodeField.{NodeField}
 use Rattle.asl_numbered.specs.Expansion.{shape_at, shapes_at, fields_at, numbers_in, AreBelow}
 
@@ -29,14 +29,10 @@ with_place i w StringShape = StringShape
 with_place i w (ArrayShape first rest) = ArrayShape (set_place i w first) rest
 with_place i w (ObjectShape shapes extra) = ObjectShape shapes extra
 
--- the new fields are the old ones but for that of a name, over each table
-pub record AreOthers (n : List ℕ) (old new : List (String Global × NodeField)) : Type 0 where
-  pub shapes : (table : List Shape) → fields_at table new ≡ without_mention n (fields_at table old)
-  pub below : (bound : ℕ) → AreBelow bound (numbers_in old) → AreBelow bound (numbers_in new)
-
--- the new fields are the old ones with a needed one of that name and number, over each table
+-- the new fields are the old ones with a needed one of that name and number, over each table in which their names ascend
 pub record AreWithField (n : List ℕ) (number : ℕ) (old new : List (String Global × NodeField)) : Type 0 where
-  pub shapes : (table : List Shape) → fields_at table new ≡ set_mention n true (shape_at table number) (fields_at table old)
+  pub shapes : (table : List Shape) → AreProperFields (fields_at table old)
+      → fields_at table new ≡ set_mention n true (shape_at table number) (fields_at table old)
   pub below : (bound : ℕ) → number < bound → AreBelow bound (numbers_in old) → AreBelow bound (numbers_in new)
 
 -- the new places are the old ones with that number at a position, over each table

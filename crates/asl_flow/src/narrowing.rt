@@ -66,11 +66,11 @@ fn narrow_under(
             Segment::Name(name) => match fields.get(name).copied() {
                 Some(field) => {
                     let narrowed = narrow_to_present(alloc, shapes, field.shape, rest)?;
-                    put_field(alloc, shapes, number, name, narrowed)
+                    put_field(shapes, number, name, narrowed)
                 }
                 None if *extra => {
                     let any = put_node(shapes, Node::Any)?;
-                    put_field(alloc, shapes, number, name, any)
+                    put_field(shapes, number, name, any)
                 }
                 None => put_never(shapes),
             },

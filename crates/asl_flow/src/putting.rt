@@ -169,7 +169,7 @@ fn put_in_object(
     let field = fields.get(name).copied();
     let extra = *extra;
     let value = put_in_field(alloc, shapes, field, extra, further, at + 1, placed)?;
-    Ok(put_field(alloc, shapes, number, name, value)?)
+    Ok(put_field(shapes, number, name, value)?)
 }
 
 /// What stands in a field, where it is mentioned, with the shape put at the segments; `extra` says whether the object may

@@ -1,7 +1,7 @@
 //! Shapes of a table with one of their parts replaced.
 
 ghost use Rattle.std.specs.Prelude.{◌<◌, IfOk, length, string_bytes};
-ghost use Rattle.asl_flow.specs.Changing.{with_field as changed_field, with_place as changed_place, AreOthers, AreWithField, AreWithPlace};
+ghost use Rattle.asl_flow.specs.Changing.{with_field as changed_field, with_place as changed_place, AreWithField, AreWithPlace};
 ghost use Rattle.asl_flow.specs.Numbers.{Shows};
 ghost use Rattle.asl_numbered.specs.Expansion.{expansions, shape_at, Keeps};
 
@@ -16,7 +16,6 @@ use std::collections::BTreeMap;
 /// The number of an object shape with a field of that name, which is needed and has the shape of the other number, in
 /// place of any other of its name. Another shape stays as it is, and so does one that has that field already.
 pub(crate) fn put_field(
-    alloc: Global,
     shapes: &mut Shapes,
     number: usize,
     name: &String,
@@ -30,15 +29,15 @@ pub(crate) fn put_field(
         (shape_at (expansions shapes.old) number))) }
     ensures keeps { Keeps (expansions shapes.old) (expansions shapes.new) }
 {
+    shapes.are_proper();
     if field_of(shapes, number, name) == Some(field) {
-        shapes.are_proper();
         return Ok(number);
     }
     let Some(Node::Object { fields, extra }) = shapes.node(number) else {
         return Ok(number);
     };
     let changed = Node::Object {
-        fields: with_field(alloc, fields, name, field)?,
+        fields: with_field(fields, name, field)?,
         extra: *extra,
     };
     put_node(shapes, changed)
@@ -71,7 +70,6 @@ pub(crate) fn put_place(
 
 /// The fields, with one of that name that is needed and has that number in place of any other of its name.
 fn with_field(
-    alloc: Global,
     fields: &BTreeMap<String, NodeField>,
     name: &String,
     number: usize,
@@ -79,30 +77,13 @@ fn with_field(
     ensures { IfOk result
         (λ m. AreWithField (string_bytes name.now) number fields.now.entries m.entries) }
 {
-    let mut changed = copy_others(alloc, fields, name)?;
+    let mut changed = fields.clone()?;
     let field = NodeField {
         needed: true,
         shape: number,
     };
     set_field(&mut changed, name, field)?;
     Ok(changed)
-}
-
-/// The fields but for the one of that name.
-fn copy_others(
-    alloc: Global,
-    fields: &BTreeMap<String, NodeField>,
-    name: &String,
-) -> Result<BTreeMap<String, NodeField>, OutOfMemory>
-    ensures { IfOk result (λ m. AreOthers (string_bytes name.now) fields.now.entries m.entries) }
-{
-    let mut copies = BTreeMap::new(alloc);
-    for (other, field) in fields.iter() {
-        if other != name {
-            set_field(&mut copies, other, *field)?;
-        }
-    }
-    Ok(copies)
 }
 
 /// The places, with that number at an index, where there is one.
