@@ -11,6 +11,7 @@ pub mod Objects
 pub mod Outlines
 pub mod OwnFields
 pub mod OwnRules
+pub mod Rates
 pub mod Refused
 pub mod Starts
 pub mod Templates

@@ -32,9 +32,13 @@ fields_of v = members_in (view v)
 abbrev pub names_in : Value → List (List ℕ)
 names_in scope = state_names (fields_of scope)
 
--- the text of a field, the empty one where there is none
+-- the text of a field, and a default where there is none
+abbrev pub text_or : List ℕ → List ℕ → Value → List ℕ
+text_or default field v = unwrap_or (text_at field (fields_of v)) default
+
+-- the empty text where there is none
 abbrev pub text_or_none : List ℕ → Value → List ℕ
-text_or_none field v = unwrap_or (text_at field (fields_of v)) []
+text_or_none field v = text_or [] field v
 
 -- the rules that elements spell
 abbrev pub rules_among : Items → List Rule

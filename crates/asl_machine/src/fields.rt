@@ -2,16 +2,16 @@
 
 ghost use Rattle.std.specs.Prelude.{◌≡◌, IfOk, [], is_some, Some, string_bytes, option_map, option_and_then};
 ghost use Rattle.serde_json.specs.Find.{get_member, as_str};
-ghost use Rattle.serde_json.specs.View.{view, items_view};
+ghost use Rattle.serde_json.specs.View.{view, items_view, number_view};
 ghost use Rattle.asl_model.specs.DefinitionTable as model;
 ghost use Rattle.asl_model.specs.Json.{tree_of};
 ghost use Rattle.asl_model.specs.PathSpelling.{path_of as model_path_of};
-ghost use Rattle.asl_model.specs.StandsFor.{items_at, text_at, path_at, path_in, path_or_null_at, natural_at, template_at, is_given as model_is_given};
+ghost use Rattle.asl_model.specs.StandsFor.{items_at, text_at, path_at, path_in, path_or_null_at, natural_at, optional_natural_at, number_at, template_at, is_given as model_is_given};
 ghost use Rattle.asl_model.specs.TemplateSpelling.{template_of as model_template_of};
 ghost use Rattle.asl_template.specs.View as templates;
 ghost use Rattle.asl_tree.specs.View as trees;
 ghost use Rattle.asl_machine.specs.Definition.{IsMisfit, IsVerdict, place_view};
-ghost use Rattle.asl_machine.specs.Reading.{told_at, template_wanted, fields_of, text_or_none};
+ghost use Rattle.asl_machine.specs.Reading.{told_at, template_wanted, fields_of, text_or, text_or_none};
 
 use crate::places::{Complaint, Place};
 use crate::refusals::DefFault;
@@ -19,7 +19,7 @@ use crate::value_checking::wrong_kind;
 use asl_path::{PathRefusal, RefPath};
 use asl_template::{SpellingRefusal, Template};
 use asl_tree::{OutOfMemory, Tree, TreeRefusal};
-use serde_json::Value;
+use serde_json::{Number, Value};
 use std::alloc::Global;
 
 /// The text of a field, where it has one.
@@ -36,10 +36,7 @@ pub(crate) fn text_of<'a>(object: &'a Value, field: &'static str) -> Option<&'a 
 pub(crate) fn text_or_empty<'a>(object: &'a Value, field: &'static str) -> &'a str
     ensures { result.now ≡ text_or_none field.now object.now }
 {
-    match text_of(object, field) {
-        Some(text) => text,
-        None => "",
-    }
+    text_of(object, field).unwrap_or("")
 }
 
 /// Whether an object has the field.
@@ -72,7 +69,20 @@ pub(crate) fn build_text_or_empty(
 ) -> Result<String, OutOfMemory>
     ensures { IfOk result (λ text. string_bytes text ≡ text_or_none field.now object.now) }
 {
-    Ok(String::from_str(alloc, text_or_empty(object, field))?)
+    build_text_or(alloc, object, field, "")
+}
+
+/// The text of a field, `default` where it has none.
+pub(crate) fn build_text_or(
+    alloc: Global,
+    object: &Value,
+    field: &'static str,
+    default: &'static str,
+) -> Result<String, OutOfMemory>
+    ensures { IfOk result
+        (λ text. string_bytes text ≡ text_or default.now field.now object.now) }
+{
+    Ok(String::from_str(alloc, text_of(object, field).unwrap_or(default))?)
 }
 
 /// The path of a field: `$` where the field isn't there, none where it is null.
@@ -241,13 +251,34 @@ fn read_template(alloc: Global, value: &Value, item: bool) -> Result<Template, D
     }
 }
 
-/// The size of a field's whole number, and `default` where it has none.
+/// The size of a field's whole number, `default` where it has none.
 pub(crate) fn natural_of(object: &Value, field: &'static str, default: u64) -> u64
     ensures { result ≡ natural_at field.now default (fields_of object.now) }
 {
+    optional_natural_of(object, field).unwrap_or(default)
+}
+
+/// The size of a field's whole number, where it has one.
+pub(crate) fn optional_natural_of(object: &Value, field: &'static str) -> Option<u64>
+    ensures { result ≡ optional_natural_at field.now (fields_of object.now) }
+{
     match object.get(field) {
         Some(value) => match value.as_i64() {
-            Some(number) => number.unsigned_abs(),
+            Some(number) => Some(number.unsigned_abs()),
+            None => None,
+        },
+        None => None,
+    }
+}
+
+/// The number of a field, `default` where it has none.
+pub(crate) fn number_of(object: &Value, field: &'static str, default: Number) -> Number
+    ensures { number_view result
+        ≡ number_at field.now (number_view default) (fields_of object.now) }
+{
+    match object.get(field) {
+        Some(value) => match value.as_number() {
+            Some(number) => *number,
             None => default,
         },
         None => default,

@@ -10,7 +10,7 @@ ghost use Rattle.asl_machine.specs.Reading.{processing_told, settings_told, fiel
 ghost use Rattle.asl_machine.specs.Rows.{type_view};
 ghost use Rattle.asl_machine.specs.Built.{state_as};
 
-use crate::fields::{build_text, path_or_null_of, template_of};
+use crate::fields::{build_text, natural_of, optional_natural_of, path_or_null_of, template_of};
 use crate::kinds::read_parameters;
 use crate::places::{Complaint, Place};
 use crate::rows::StateType;
@@ -20,6 +20,9 @@ use asl_states::Settings;
 use asl_template::Template;
 use serde_json::Value;
 use std::alloc::Global;
+
+/// The most items that a Map without `MaxConcurrency` works on at once: no bound.
+const DEFAULT_CONCURRENCY: u64 = 0;
 
 /// What a state makes of its data (States Language, "Input and Output Processing").
 #[derive(Drop)]
@@ -49,6 +52,7 @@ pub(crate) fn read_settings<'a>(
         within: None,
     };
     let next = place.or_out_of_memory("Next", build_text(alloc, state, "Next"))?;
+    let comment = place.or_out_of_memory("Comment", build_text(alloc, state, "Comment"))?;
     let trouble = read_trouble(alloc, name, state, scope)?;
     let processing = read_processing(alloc, &place, state)?;
     let parameters = read_parameters(alloc, &place, state_type, state)?;
@@ -61,6 +65,10 @@ pub(crate) fn read_settings<'a>(
         next,
         retriers: trouble.retriers,
         catchers: trouble.catchers,
+        timeout_seconds: optional_natural_of(state, "TimeoutSeconds"),
+        heartbeat_seconds: optional_natural_of(state, "HeartbeatSeconds"),
+        max_concurrency: natural_of(state, "MaxConcurrency", DEFAULT_CONCURRENCY),
+        comment,
     })
 }
 

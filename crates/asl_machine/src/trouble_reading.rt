@@ -3,17 +3,20 @@
 ghost use Rattle.std.specs.Prelude.{◌≡◌, IfOk, codes, map, string_bytes};
 ghost use Rattle.std.specs.List.{filter_map};
 ghost use Rattle.serde_json.specs.Find.{as_str};
-ghost use Rattle.serde_json.specs.View.{view, items_view};
+ghost use Rattle.serde_json.specs.View.{view, items_view, number_view};
 ghost use Rattle.asl_model.specs.ShapeSpelling.{is_among};
 ghost use Rattle.asl_model.specs.StandsFor as model;
-ghost use Rattle.asl_model.specs.StandsFor.{place_within, listed, items_at, error_names, retrier_of, catcher_of};
+ghost use Rattle.asl_model.specs.StandsFor.{place_within, listed, items_at, error_names, default_rate as model_default_rate, retrier_of, catcher_of};
 ghost use Rattle.asl_states.specs.Machine.{retrier_view, catcher_view};
 ghost use Rattle.asl_machine.specs.Rows.{rows_view};
 ghost use Rattle.asl_machine.specs.Definition.{IsVerdict, place_view};
 ghost use Rattle.asl_machine.specs.Reading.{are_proper as model_are_proper, element_checked, fields_of, names_in, names_told, retrier_told, catcher_told, caught_checked};
 
 use crate::field_checking::check_fields;
-use crate::fields::{build_text_or_empty, elements_of, natural_of, path_or_null_of};
+use crate::fields::{
+    build_text, build_text_or, build_text_or_empty, elements_of, natural_of, number_of,
+    optional_natural_of, path_or_null_of,
+};
 use crate::places::{Complaint, Place};
 use crate::refusals::DefFault;
 use crate::rows::{self, Row};
@@ -21,11 +24,17 @@ use crate::state_checking::check_target;
 use crate::value_checking::wrong_kind;
 use asl_states::{Catcher, Retrier};
 use asl_tree::OutOfMemory;
-use serde_json::Value;
+use serde_json::{Number, Value};
 use std::alloc::Global;
+
+/// The seconds before the first retry of a retrier without `IntervalSeconds`.
+const DEFAULT_INTERVAL: u64 = 1;
 
 /// How often a retrier without `MaxAttempts` retries.
 const DEFAULT_ATTEMPTS: u64 = 3;
+
+/// The jitter of a retrier without `JitterStrategy`.
+const DEFAULT_JITTER: &str = "NONE";
 
 /// What a state does about errors.
 #[derive(Drop)]
@@ -127,10 +136,26 @@ fn read_retrier<'a>(
 {
     check_element(place, "Retry", element, &rows::RETRIER)?;
     let error_equals = read_error_names(alloc, place, "Retry", element, is_last)?;
+    let jitter_strategy = build_text_or(alloc, element, "JitterStrategy", DEFAULT_JITTER);
+    let jitter_strategy = place.or_out_of_memory("Retry", jitter_strategy)?;
+    let comment = place.or_out_of_memory("Retry", build_text(alloc, element, "Comment"))?;
     Ok(Retrier {
         error_equals,
+        interval_seconds: natural_of(element, "IntervalSeconds", DEFAULT_INTERVAL),
         max_attempts: natural_of(element, "MaxAttempts", DEFAULT_ATTEMPTS),
+        backoff_rate: number_of(element, "BackoffRate", default_rate()),
+        max_delay_seconds: optional_natural_of(element, "MaxDelaySeconds"),
+        jitter_strategy,
+        comment,
     })
+}
+
+/// The growth of the intervals of a retrier without `BackoffRate`.
+#[tactic(auto, using(crate::proofs::Rates::two_is_the_rate))]
+fn default_rate() -> Number
+    ensures { number_view result ≡ model_default_rate }
+{
+    Number::from_f64(2.0).unwrap()
 }
 
 /// The catchers that the elements of `Catch` stand for.
@@ -172,10 +197,12 @@ fn read_catcher<'a>(
     let error_equals = read_caught(alloc, place, element, is_last, scope)?;
     let result_path = path_or_null_of(alloc, place, element, "ResultPath")?;
     let next = place.or_out_of_memory("Catch", build_text_or_empty(alloc, element, "Next"))?;
+    let comment = place.or_out_of_memory("Catch", build_text(alloc, element, "Comment"))?;
     Ok(Catcher {
         error_equals,
         result_path,
         next,
+        comment,
     })
 }
 
