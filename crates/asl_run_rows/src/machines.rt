@@ -37,6 +37,38 @@ fn scope(rt: &impl Abort, alloc: Global, machine: &asl_machine::Machine, number:
     }
 }
 
+/// The numbers and the jitter of the first retrier of the first state.
+fn retrier(rt: &impl Abort, alloc: Global, definition: &str) -> String {
+    let value = read_value(alloc, definition.as_bytes()).expect(rt, "a value");
+    let machine = read(alloc, &value).expect(rt, "a machine");
+    let state = machine.state(0).expect(rt, "a state");
+    let retrier = state.settings.retriers.get(0).expect(rt, "a retrier");
+    let interval = retrier.interval_seconds;
+    let attempts = retrier.max_attempts;
+    let rate = retrier.backoff_rate;
+    let delay = retrier.max_delay_seconds.unwrap_or(0);
+    let jitter = retrier.jitter_strategy.as_str();
+    format!(in alloc; "{interval} {attempts} {rate} {delay} {jitter}").expect(rt, "memory")
+}
+
+#[test]
+fn retriers(rt: HostRuntime) {
+    let alloc = rt.alloc();
+    for (definition, wanted) in [
+        (
+            r#"{"StartAt":"A","States":{"A":{"Type":"Task","Resource":"r","End":true,"Retry":[{"ErrorEquals":["E"]}]}}}"#,
+            "1 3 2.0 0 NONE",
+        ),
+        (
+            r#"{"StartAt":"A","States":{"A":{"Type":"Task","Resource":"r","End":true,"Retry":[{"ErrorEquals":["E"],"IntervalSeconds":7,"MaxAttempts":0,"BackoffRate":1.5,"MaxDelaySeconds":9,"JitterStrategy":"FULL"}]}}}"#,
+            "7 0 1.5 9 FULL",
+        ),
+    ] {
+        let answer = retrier(&rt, alloc, definition);
+        assert_eq!(rt; answer.as_str(), wanted);
+    }
+}
+
 #[test]
 fn definitions(rt: HostRuntime) {
     let alloc = rt.alloc();
