@@ -62,7 +62,7 @@ some-outlined test same (s ∷ states) = ap (λ b. b || some_of_each test (map o
 -- ---- positions
 
 -- a position is the first, or one further on
-first-position : {A : Type 0} (p : A → Bool) (x : A) (xs : List A) → position p (x ∷ xs) ≡ cond (p x) (Some 0) (option_map suc (position p xs))
+pub first-position : {A : Type 0} (p : A → Bool) (x : A) (xs : List A) → position p (x ∷ xs) ≡ cond (p x) (Some 0) (option_map suc (position p xs))
 first-position p x xs = by (p x)
   where
     one_more : 1 + position_or_len p xs ≡ suc (position_or_len p xs)
@@ -77,7 +77,7 @@ first-position p x xs = by (p x)
     by false = ap (λ i. cond (nat_lt i (length (x ∷ xs))) (Some i) None) one_more ∙ (ap (λ b. cond b (Some (suc (position_or_len p xs))) None) (leb-suc-suc (suc (position_or_len p xs)) (length xs)) ∙ further (nat_lt (position_or_len p xs) (length xs)))
 
 -- names are equal whichever comes first
-equal-swapped : (m n : List ℕ) → bytes_eq m n ≡ bytes_eq n m
+pub equal-swapped : (m n : List ℕ) → bytes_eq m n ≡ bytes_eq n m
 equal-swapped m n = by (bytes_eq m n) (bytes_eq n m) (λ h. (bytes_eq-Decides n m).1 (sym ((bytes_eq-Decides m n).0 h))) (λ h. (bytes_eq-Decides m n).1 (sym ((bytes_eq-Decides n m).0 h)))
   where
     by : (a b : Bool) → (a ≡ true → b ≡ true) → (b ≡ true → a ≡ true) → a ≡ b
@@ -113,15 +113,15 @@ none-named n test (s ∷ states) h = by (bytes_eq s.name n) h (none-named n test
     by false g below = below g
 
 -- where both hold, each does
-not-first : (a b : Bool) → not a && b ≡ true → a ≡ false
+pub not-first : (a b : Bool) → not a && b ≡ true → a ≡ false
 not-first true b h = absurd (cc)
 not-first false b h = refl
 
-second : (a b : Bool) → not a && b ≡ true → b ≡ true
+pub second : (a b : Bool) → not a && b ≡ true → b ≡ true
 second true b h = absurd (cc)
 second false b h = h
 
-or-false : (a b : Bool) → b ≡ false → a || b ≡ a
+pub or-false : (a b : Bool) → b ≡ false → a || b ≡ a
 or-false true b h = refl
 or-false false b h = h
 
