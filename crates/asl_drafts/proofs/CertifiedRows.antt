@@ -1,75 +1,85 @@
 -- What the certificate of a draft has under the names of a table.
-use Rattle.std.proofs.Common.{◌≡◌, ◌+◌, ℕ, zero, suc, List, [], ◌∷◌, length, map, drop, Bool, true, false, if◌then◌else◌, Some, None, slice_get, refl, sym, ap, subst, ◌∙◌, ◌⊎◌, inl, inr, arith}
-use Rattle.std.specs.Prelude.{IsTrue, bytes_eq, is_some}
+use Rattle.std.proofs.Common.{◌≡◌, ◌+◌, ℕ, zero, suc, List, [], ◌∷◌, length, map, Bool, true, false, if◌then◌else◌, Some, None, slice_get, refl, sym, ap, subst, ◌∙◌, ◌⊎◌, inl, inr, arith}
+use Rattle.std.specs.Prelude.{IsTrue, bytes_eq, is_some, zip}
 use Rattle.std.proofs.lemmas.Bool.{false≢true}
-use Rattle.std.proofs.lemmas.List.{length-drop}
+use Rattle.std.proofs.lemmas.List.{length-map}
 use Rattle.std.proofs.lemmas.Slice.Eq.{bytes_eq-Decides}
 use Rattle.asl_model.specs.Certificate.{StateShapes, under, certified, branches_in, is_map, branch_shape}
-use Rattle.asl_model.specs.Machine.{State, Kind, Pass, Task, Choice, Wait, Succeed, Fail, Parallel, Map, kind_of}
+use Rattle.asl_model.specs.Machine.{State, Kind, Pass, Task, Choice, Wait, Succeed, Fail, Parallel, Map}
 use Rattle.asl_model.specs.Numbering.{Table}
 use Rattle.asl_model.specs.Shape.{Shape}
 use Rattle.asl_model.specs.ShapeSpelling.{are_distinct}
 use Rattle.asl_model.specs.Tree.{comes_before}
 use Rattle.asl_model.proofs.NumberedRows.{one_number}
 use Rattle.asl_model.proofs.RunOptions.{none_some, some_inj}
-use Rattle.asl_drafts.specs.Drafts.{Draft, Row, entry_shapes, entry_with, entry_of, rows_from, with_row, in_name_order, rows_of, certificate_of}
+use Rattle.asl_drafts.specs.Drafts.{Draft, Row, DraftEntry, Growth, children_in, entry_with, entry_of, rows_from, with_named, in_name_order, rows_of, certificate_of}
 
 -- ---- rows
 
--- one of the rows
-abbrev pub Among : List Row → Row → Type 0
-Among [] row = ⊥
-Among (x ∷ xs) row = (x ≡ row) ⊎ Among xs row
+-- one of the elements
+abbrev pub Among : {A : Type 0} → List A → A → Type 0
+Among [] x = ⊥
+Among (y ∷ ys) x = (y ≡ x) ⊎ Among ys x
 
--- one more stands among them
-with-here : (row : Row) (rows : List Row) → Among (with_row row rows) row
-with-here row [] = inl refl
-with-here row (x ∷ xs) = by (comes_before x.name row.name) (with-here row xs)
-  where
-    by : (b : Bool) → Among (with_row row xs) row → Among (if b then x ∷ with_row row xs else row ∷ (x ∷ xs)) row
-    by true further = inr further
-    by false further = inl refl
+module _ {A : Type 0} (name : A → List ℕ) where
+  -- one more stands among them
+  with-here : (x : A) (xs : List A) → Among (with_named name x xs) x
+  with-here x [] = inl refl
+  with-here x (y ∷ ys) = by (comes_before (name y) (name x)) (with-here x ys)
+    where
+      by : (b : Bool) → Among (with_named name x ys) x → Among (if b then y ∷ with_named name x ys else x ∷ (y ∷ ys)) x
+      by true further = inr further
+      by false further = inl refl
 
--- so does each other
-with-there : (row r : Row) (rows : List Row) → Among rows r → Among (with_row row rows) r
-with-there row r [] h = absurd h
-with-there row r (x ∷ xs) h = by (comes_before x.name row.name) h (with-there row r xs)
-  where
-    by : (b : Bool) → (x ≡ r) ⊎ Among xs r → (Among xs r → Among (with_row row xs) r) → Among (if b then x ∷ with_row row xs else row ∷ (x ∷ xs)) r
-    by true (inl e) further = inl e
-    by true (inr a) further = inr (further a)
-    by false a further = inr a
+  -- so does each other
+  with-there : (x z : A) (xs : List A) → Among xs z → Among (with_named name x xs) z
+  with-there x z [] h = absurd h
+  with-there x z (y ∷ ys) h = by (comes_before (name y) (name x)) h (with-there x z ys)
+    where
+      by : (b : Bool) → (y ≡ z) ⊎ Among ys z → (Among ys z → Among (with_named name x ys) z) → Among (if b then y ∷ with_named name x ys else x ∷ (y ∷ ys)) z
+      by true (inl e) further = inl e
+      by true (inr a) further = inr (further a)
+      by false a further = inr a
 
--- and there is no other
-with-only : (row r : Row) (rows : List Row) → Among (with_row row rows) r → (row ≡ r) ⊎ Among rows r
-with-only row r [] (inl e) = inl e
-with-only row r [] (inr h) = absurd h
-with-only row r (x ∷ xs) h = by (comes_before x.name row.name) h (with-only row r xs)
-  where
-    front : (row ≡ r) ⊎ Among xs r → (row ≡ r) ⊎ ((x ≡ r) ⊎ Among xs r)
-    front (inl e) = inl e
-    front (inr a) = inr (inr a)
+  -- and there is no other
+  with-only : (x z : A) (xs : List A) → Among (with_named name x xs) z → (x ≡ z) ⊎ Among xs z
+  with-only x z [] (inl e) = inl e
+  with-only x z [] (inr h) = absurd h
+  with-only x z (y ∷ ys) h = by (comes_before (name y) (name x)) h (with-only x z ys)
+    where
+      front : (x ≡ z) ⊎ Among ys z → (x ≡ z) ⊎ ((y ≡ z) ⊎ Among ys z)
+      front (inl e) = inl e
+      front (inr a) = inr (inr a)
 
-    by : (b : Bool) → Among (if b then x ∷ with_row row xs else row ∷ (x ∷ xs)) r → (Among (with_row row xs) r → (row ≡ r) ⊎ Among xs r) → (row ≡ r) ⊎ ((x ≡ r) ⊎ Among xs r)
-    by true (inl e) further = inr (inl e)
-    by true (inr a) further = front (further a)
-    by false a further = a
+      by : (b : Bool) → Among (if b then y ∷ with_named name x ys else x ∷ (y ∷ ys)) z → (Among (with_named name x ys) z → (x ≡ z) ⊎ Among ys z) → (x ≡ z) ⊎ ((y ≡ z) ⊎ Among ys z)
+      by true (inl e) further = inr (inl e)
+      by true (inr a) further = front (further a)
+      by false a further = a
 
-ordered-there : (rows : List Row) (r : Row) → Among rows r → Among (in_name_order rows) r
-ordered-there [] r h = h
-ordered-there (x ∷ xs) r (inl e) = subst (Among (with_row x (in_name_order xs))) e (with-here x (in_name_order xs))
-ordered-there (x ∷ xs) r (inr h) = with-there x r (in_name_order xs) (ordered-there xs r h)
+  pub ordered-there : (xs : List A) (z : A) → Among xs z → Among (in_name_order name xs) z
+  ordered-there [] z h = h
+  ordered-there (x ∷ xs) z (inl e) = subst (Among (with_named name x (in_name_order name xs))) e (with-here x (in_name_order name xs))
+  ordered-there (x ∷ xs) z (inr h) = with-there x z (in_name_order name xs) (ordered-there xs z h)
 
-pub ordered-only : (rows : List Row) (r : Row) → Among (in_name_order rows) r → Among rows r
-ordered-only [] r h = h
-ordered-only (x ∷ xs) r h = by (with-only x r (in_name_order xs) h) (ordered-only xs r)
-  where
-    by : (x ≡ r) ⊎ Among (in_name_order xs) r → (Among (in_name_order xs) r → Among xs r) → (x ≡ r) ⊎ Among xs r
-    by (inl e) further = inl e
-    by (inr a) further = inr (further a)
+  pub ordered-only : (xs : List A) (z : A) → Among (in_name_order name xs) z → Among xs z
+  ordered-only [] z h = h
+  ordered-only (x ∷ xs) z h = by (with-only x z (in_name_order name xs) h) (ordered-only xs z)
+    where
+      by : (x ≡ z) ⊎ Among (in_name_order name xs) z → (Among (in_name_order name xs) z → Among xs z) → (x ≡ z) ⊎ Among xs z
+      by (inl e) further = inl e
+      by (inr a) further = inr (further a)
+
+  -- where the ordered list is empty, so is the list
+  pub ordered-none : (xs : List A) → in_name_order name xs ≡ [] → xs ≡ []
+  ordered-none [] none = refl
+  ordered-none (x ∷ xs) none = absurd (subst (λ ys. Among ys x) none (ordered-there (x ∷ xs) x (inl refl)))
+
+-- the name of a row
+abbrev pub name_of : Row → List ℕ
+name_of row = row.name
 
 -- the row of a number stands among those from another on
-from-there : (i : ℕ) (names : List (List ℕ)) (states : List State) (k : ℕ) (n : List ℕ) (state : State) → slice_get names k ≡ Some n → slice_get states k ≡ Some state → Among (rows_from i names states) (record { number = i + k; name = n; state = state })
+from-there : (i : ℕ) (names : List (List ℕ)) (states : List State) (k : ℕ) (n : List ℕ) (state : State) → slice_get names k ≡ Some n → slice_get states k ≡ Some state → Among (rows_from i (zip names states)) (record { number = i + k; name = n; state = state })
 from-there i [] states k n state named at = none_some named
 from-there i (m ∷ names) [] k n state named at = none_some at
 from-there i (m ∷ names) (st ∷ states) zero n state named at =
@@ -77,7 +87,7 @@ from-there i (m ∷ names) (st ∷ states) zero n state named at =
     inl (rw (some_inj named, some_inj at, ← same) refl)
 from-there i (m ∷ names) (st ∷ states) (suc k) n state named at =
     let same : suc i + k ≡ i + suc k = omega arith in
-    inr (subst (λ j. Among (rows_from (suc i) names states) (record { number = j; name = n; state = state })) same (from-there (suc i) names states k n state named at))
+    inr (subst (λ j. Among (rows_from (suc i) (zip names states)) (record { number = j; name = n; state = state })) same (from-there (suc i) names states k n state named at))
 
 -- and each of them is the row of its number
 pub record IsRowFrom (i : ℕ) (names : List (List ℕ)) (states : List State) (r : Row) : Type 0 where
@@ -86,7 +96,7 @@ pub record IsRowFrom (i : ℕ) (names : List (List ℕ)) (states : List State) (
   pub named : slice_get names place ≡ Some r.name
   pub at : slice_get states place ≡ Some r.state
 
-pub from-only : (i : ℕ) (names : List (List ℕ)) (states : List State) (r : Row) → Among (rows_from i names states) r → IsRowFrom i names states r
+pub from-only : (i : ℕ) (names : List (List ℕ)) (states : List State) (r : Row) → Among (rows_from i (zip names states)) r → IsRowFrom i names states r
 from-only i [] states r h = absurd h
 from-only i (m ∷ names) [] r h = absurd h
 from-only i (m ∷ names) (st ∷ states) r (inl e) = record { place = 0; number = ap (λ (x : Row). x.number) (sym e) ∙ omega arith; named = ap (λ (x : Row). Some x.name) e; at = ap (λ (x : Row). Some x.state) e }
@@ -99,11 +109,11 @@ module _ (table : Table) where
   pub row-there : (k : ℕ) (n : List ℕ) (state : State) → slice_get table.names k ≡ Some n → slice_get table.states k ≡ Some state → Among (rows_of table) (record { number = k; name = n; state = state })
   row-there k n state named at =
       let same : 0 + k ≡ k = omega arith in
-      ordered-there (rows_from 0 table.names table.states) (record { number = k; name = n; state = state }) (subst (λ j. Among (rows_from 0 table.names table.states) (record { number = j; name = n; state = state })) same (from-there 0 table.names table.states k n state named at))
+      ordered-there name_of (rows_from 0 (zip table.names table.states)) (record { number = k; name = n; state = state }) (subst (λ j. Among (rows_from 0 (zip table.names table.states)) (record { number = j; name = n; state = state })) same (from-there 0 table.names table.states k n state named at))
 
   pub row-known : (r : Row) → Among (rows_of table) r → (slice_get table.names r.number ≡ Some r.name) × (slice_get table.states r.number ≡ Some r.state)
   row-known r h =
-      let is = from-only 0 table.names table.states r (ordered-only (rows_from 0 table.names table.states) r h) in
+      let is = from-only 0 table.names table.states r (ordered-only name_of (rows_from 0 (zip table.names table.states)) r h) in
       let same : is.place ≡ r.number = omega (arith, is.number) in
       (subst (λ k. slice_get table.names k ≡ Some r.name) same is.named, subst (λ k. slice_get table.states k ≡ Some r.state) same is.at)
 
@@ -137,10 +147,10 @@ module _ (entry : Row → StateShapes) where
           (below.0, inr below.1, below.2)
 
 -- the entry of a state in the certificate of a draft
-pub certified-row : (table : Table) (draft : Draft) → are_distinct table.names ≡ true → (k : ℕ) (n : List ℕ) (state : State) → slice_get table.names k ≡ Some n → slice_get table.states k ≡ Some state → certified (certificate_of table draft) n ≡ Some (entry_of draft k (kind_of state))
+pub certified-row : (table : Table) (draft : Draft) → are_distinct table.names ≡ true → (k : ℕ) (n : List ℕ) (state : State) → slice_get table.names k ≡ Some n → slice_get table.states k ≡ Some state → certified (certificate_of table draft) n ≡ Some (entry_of draft (record { number = k; name = n; state = state }))
 certified-row table draft distinct k n state named at =
     let row : Row = record { number = k; name = n; state = state } in
-    under-only (λ r. entry_of draft r.number (kind_of r.state)) (rows_of table) row (row-there table k n state named at) (λ r h same. one r h same)
+    under-only (entry_of draft) (rows_of table) row (row-there table k n state named at) (λ r h same. one r h same)
   where
     one : (r : Row) → Among (rows_of table) r → r.name ≡ n → r ≡ record { number = k; name = n; state = state }
     one r h same =
@@ -152,7 +162,7 @@ certified-row table draft distinct k n state named at =
 -- its names are those of the table
 pub certified-named : (table : Table) (draft : Draft) (n : List ℕ) → IsTrue (is_some (certified (certificate_of table draft) n)) → (k : ℕ) × (slice_get table.names k ≡ Some n)
 certified-named table draft n h =
-    let found = under-named (λ r. entry_of draft r.number (kind_of r.state)) (rows_of table) n h in
+    let found = under-named (entry_of draft) (rows_of table) n h in
     (found.0.number, (row-known table found.0 found.1).0 ∙ ap Some found.2)
 
 -- ---- the form of an entry
@@ -168,28 +178,25 @@ no-branches (Fail error cause) h = refl
 no-branches (Parallel branches) h = absurd (false≢true h)
 no-branches (Map items selector processor) h = refl
 
-third-there : {A : Type 0} (xs : List A) → length xs ≡ 3 → is_some (slice_get xs 2) ≡ true
-third-there [] h = absurd (omega (arith, h))
-third-there (x ∷ []) h = absurd (omega (arith, h))
-third-there (x ∷ (y ∷ [])) h = absurd (omega (arith, h))
-third-there (x ∷ (y ∷ (z ∷ zs))) h = refl
+-- there is one
+one-there : {A B : Type 0} (f : A → B) (xs : List A) → length xs ≡ 1 → is_some (slice_get (map f xs) 0) ≡ true
+one-there f [] h = absurd (omega (arith, h))
+one-there f (x ∷ xs) h = refl
 
-pub entry-form : (kind : Kind) (shapes : List Shape) → length shapes ≡ entry_shapes kind → (length (entry_with kind shapes).branches ≡ branches_in kind) × (is_some (entry_with kind shapes).item ≡ is_map kind)
-entry-form kind shapes long = go (is_map kind) refl long
+pub entry-form : (kind : Kind) (entry : DraftEntry) → length entry.ends ≡ children_in kind → (length (entry_with kind entry).branches ≡ branches_in kind) × (is_some (entry_with kind entry).item ≡ is_map kind)
+entry-form kind entry long = go (is_map kind) refl long
   where
-    go : (m : Bool) → is_map kind ≡ m → length shapes ≡ 2 + (branches_in kind + (if m then 1 else 0)) → (length {A = Shape} (if m then [] else drop 2 shapes) ≡ branches_in kind) × (is_some {T = Shape} (if m then slice_get shapes 2 else None) ≡ m)
+    shape : Growth → Shape
+    shape g = g.shape
+
+    go : (m : Bool) → is_map kind ≡ m → length entry.ends ≡ branches_in kind + (if m then 1 else 0) → (length {A = Shape} (if m then [] else map shape entry.ends) ≡ branches_in kind) × (is_some {T = Shape} (if m then slice_get (map shape entry.ends) 0 else None) ≡ m)
     go true is all =
         let none = no-branches kind is in
-        (sym none, third-there shapes (omega (arith, all, none)))
-    go false is all = (omega (arith, all, length-drop 2 shapes), refl)
+        (sym none, one-there shape entry.ends (omega (arith, all, none)))
+    go false is all = (omega (arith, all, length-map entry.ends shape), refl)
 
--- a branch's end stands behind the input and the output
+-- a branch's end is the shape at its number
 pub branch-at : (i : ℕ) (shapes : List Shape) → branch_shape i shapes ≡ slice_get shapes i
 branch-at i [] = refl
 branch-at zero (s ∷ further) = refl
 branch-at (suc i) (s ∷ further) = branch-at i further
-
-pub behind-two : {A : Type 0} (xs : List A) (i : ℕ) → slice_get (drop 2 xs) i ≡ slice_get xs (2 + i)
-behind-two [] i = refl
-behind-two (x ∷ []) i = let e : 2 + i ≡ suc (suc i) = omega arith in rw e refl
-behind-two (x ∷ (y ∷ xs)) i = let e : 2 + i ≡ suc (suc i) = omega arith in rw e refl

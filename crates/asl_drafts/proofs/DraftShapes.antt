@@ -1,68 +1,19 @@
 -- The shapes of drafts: as many for each state as its entry has, and Any where a shape may change no more. What flows into
 -- a shape that stays is inside it.
-use Rattle.std.proofs.Common.{◌≡◌, ◌<◌, ℕ, zero, suc, List, [], ◌∷◌, length, map, replicate, Bool, true, false, if◌then◌else◌, Option, Some, None, option_map, Result, Ok, Err, slice_get, refl, sym, ap, subst, ◌∙◌, arith}
+use Rattle.std.proofs.Common.{◌≡◌, ◌<◌, ℕ, zero, suc, List, [], ◌∷◌, length, map, replicate, Option, Some, None, option_map, Result, Ok, Err, slice_get, refl, sym, ap, subst, ◌∙◌, arith}
 use Rattle.std.specs.List.{AllByRecursion}
 use Rattle.std.specs.Option.{unwrap_or}
 use Rattle.std.proofs.lemmas.Option.{slice_get-map}
 use Rattle.asl_model.specs.Certificate.{Declared, takes_of}
 use Rattle.asl_model.specs.Edges.{Walked, Flows, Breaks}
-use Rattle.asl_model.specs.Finding.{Breach, Finding}
-use Rattle.asl_model.specs.Machine.{State, kind_of}
+use Rattle.asl_model.specs.Finding.{Breach, Finding, found_at}
+use Rattle.asl_model.specs.Machine.{State, Kind, kind_of}
 use Rattle.asl_model.specs.Numbering.{Table}
-use Rattle.asl_model.specs.Shape.{Shape, Any, Has, Inside}
-use Rattle.asl_model.specs.ShapeOrder.{join}
-use Rattle.asl_model.specs.WrittenNumbered.{same_shape}
+use Rattle.asl_model.specs.Shape.{Shape, Inside}
 use Rattle.asl_model.proofs.ReadingSteps.{map_from}
 use Rattle.asl_model.proofs.RunOptions.{none_some, some_inj}
-use Rattle.asl_model.proofs.SameShapes.{same_are}
-use Rattle.asl_model.proofs.ShapeJoin.{join_above}
-use Rattle.asl_drafts.specs.Cutting.{cut}
-use Rattle.asl_drafts.specs.Drafts.{Growth, Draft, Target, MachineOutput, PartOf, Row, changed_to, grown_to, taken_in, ungrown, entry_shapes, first_draft, with_element, taken_at, target_of, own_breaches, step_taken, steps_taken, unless_broken, steps_of, walked, unless_told, all_walked, input_taken, round, rows_of, after_rounds}
-use Rattle.asl_drafts.proofs.CutAbove.{cut-above}
-
--- ---- a shape that grows
-
--- where it may change no more it is Any
-abbrev pub IsSound : Growth → Type 0
-IsSound g = g.changes_left ≡ 0 → g.shape ≡ Any
-
-changed-sound : (left : ℕ) (s : Shape) → IsSound (record { shape = changed_to left s; changes_left = left })
-changed-sound zero s = λ e. refl
-changed-sound (suc left) s = λ e. absurd (omega (arith, e))
-
-taken_in-sound : (s : Shape) (g : Growth) → IsSound g → IsSound (taken_in s g)
-taken_in-sound s g sound = go g.changes_left sound
-  where
-    joined : Shape
-    joined = cut (join g.shape s)
-
-    by : (left : ℕ) (b : Bool) → IsSound (if b then record { shape = g.shape; changes_left = suc left } else record { shape = changed_to left joined; changes_left = left })
-    by left true = λ e. absurd (omega (arith, e))
-    by left false = changed-sound left joined
-
-    go : (changes : ℕ) → (changes ≡ 0 → g.shape ≡ Any) → IsSound (grown_to g.shape joined changes)
-    go zero h = h
-    go (suc left) h = by left (same_shape joined g.shape)
-
--- what flows in where it stays is inside it
-pub stays-inside : (s : Shape) (g : Growth) → IsSound g → taken_in s g ≡ g → Inside s g.shape
-stays-inside s g sound stays t h = go g.changes_left refl stays
-  where
-    joined : Shape
-    joined = cut (join g.shape s)
-
-    there : Has joined t
-    there = cut-above (join g.shape s) t (join_above.right g.shape s t h)
-
-    by : (left : ℕ) (b : Bool) → same_shape joined g.shape ≡ b → g.changes_left ≡ suc left → (if b then record { shape = g.shape; changes_left = suc left } else record { shape = changed_to left joined; changes_left = left }) ≡ g → Has g.shape t
-    by left true same is e = subst (λ (z : Shape). Has z t) (same_are joined g.shape same) there
-    by left false same is e =
-        let fewer : left ≡ g.changes_left = ap (λ (x : Growth). x.changes_left) e in
-        absurd (omega (arith, fewer, is))
-
-    go : (changes : ℕ) → g.changes_left ≡ changes → grown_to g.shape joined changes ≡ g → Has g.shape t
-    go zero is e = subst (λ (z : Shape). Has z t) (sym (sound is)) refl
-    go (suc left) is e = by left (same_shape joined g.shape) refl is e
+use Rattle.asl_drafts.specs.Drafts.{Growth, Draft, DraftEntry, Target, MachineOutput, Input, Output, End, Row, taken_in, ungrown, children_in, first_entry, first_draft, entry_with, entry_of, with_element, with_entry, taken_at, target_of, own_breaches, step_taken, steps_taken, unless_found, steps_of, walked, misnamed, unless_told, all_walked, input_taken, round, rows_of, after_rounds}
+use Rattle.asl_drafts.proofs.TakenIn.{IsSound, stays-inside, taken-sound}
 
 -- ---- lists
 
@@ -78,10 +29,11 @@ with-length make i [] = refl
 with-length make zero (x ∷ xs) = refl
 with-length make (suc i) (x ∷ xs) = ap suc (with-length make i xs)
 
-with-lengths : {A : Type 0} (make : A → A) (n i : ℕ) (xss : List (List A)) → map length (with_element n (with_element i make) xss) ≡ map length xss
-with-lengths make n i [] = refl
-with-lengths make zero i (xs ∷ xss) = ap (λ k. k ∷ map length xss) (with-length make i xs)
-with-lengths make (suc n) i (xs ∷ xss) = ap (λ ks. length xs ∷ ks) (with-lengths make n i xss)
+-- what is seen of each stays, where it stays of what is made
+with-seen : {A B : Type 0} (seen : A → B) (make : A → A) → ((x : A) → seen (make x) ≡ seen x) → (i : ℕ) (xs : List A) → map seen (with_element i make xs) ≡ map seen xs
+with-seen seen make same i [] = refl
+with-seen seen make same zero (x ∷ xs) = ap (λ y. y ∷ map seen xs) (same x)
+with-seen seen make same (suc i) (x ∷ xs) = ap (λ ys. seen x ∷ ys) (with-seen seen make same i xs)
 
 -- where the list stays, so does the element
 pub element-stays : {A : Type 0} (make : A → A) (i : ℕ) (xs : List A) (x : A) → with_element i make xs ≡ xs → slice_get xs i ≡ Some x → make x ≡ x
@@ -115,34 +67,46 @@ there-within (x ∷ xs) (suc i) h = there-within xs i (omega (arith, h))
 
 -- ---- drafts
 
+-- no shape of an entry changes once more
+pub record IsEntrySound (entry : DraftEntry) : Type 0 where
+  pub input : IsSound entry.input
+  pub output : IsSound entry.output
+  pub ends : AllByRecursion IsSound entry.ends
+
+-- how many ends it has
+abbrev pub ends_in : DraftEntry → ℕ
+ends_in entry = length entry.ends
+
 -- the draft is one of that table
 pub record IsDraftOf (table : Table) (draft : Draft) : Type 0 where
-  pub formed : map length draft.entries ≡ map (λ state. entry_shapes (kind_of state)) table.states
+  pub formed : map ends_in draft.entries ≡ map (λ state. children_in (kind_of state)) table.states
   pub output : IsSound draft.output
-  pub entries : AllByRecursion (AllByRecursion IsSound) draft.entries
+  pub entries : AllByRecursion IsEntrySound draft.entries
 
 ungrown-sound : IsSound ungrown
 ungrown-sound = λ e. absurd (omega (arith, e))
 
-first-formed : (states : List State) → map length (map (λ state. replicate (entry_shapes (kind_of state)) ungrown) states) ≡ map (λ state. entry_shapes (kind_of state)) states
+first-formed : (states : List State) → map ends_in (map (λ state. first_entry (children_in (kind_of state))) states) ≡ map (λ state. children_in (kind_of state)) states
 first-formed [] = refl
-first-formed (state ∷ states) = rw (length-replicated (entry_shapes (kind_of state)) ungrown, first-formed states) refl
+first-formed (state ∷ states) = rw (length-replicated (children_in (kind_of state)) ungrown, first-formed states) refl
 
-first-sound : (states : List State) → AllByRecursion (AllByRecursion IsSound) (map (λ state. replicate (entry_shapes (kind_of state)) ungrown) states)
+first-sound : (states : List State) → AllByRecursion IsEntrySound (map (λ state. first_entry (children_in (kind_of state))) states)
 first-sound [] = tt
-first-sound (state ∷ states) = (all-replicate IsSound (entry_shapes (kind_of state)) ungrown ungrown-sound, first-sound states)
+first-sound (state ∷ states) = (record { input = ungrown-sound; output = ungrown-sound; ends = all-replicate IsSound (children_in (kind_of state)) ungrown ungrown-sound }, first-sound states)
 
 pub first-is : (table : Table) → IsDraftOf table (first_draft table)
 first-is table = record { formed = first-formed table.states; output = ungrown-sound; entries = first-sound table.states }
 
+-- one of the entries is changed
+entry-is : (table : Table) (n : ℕ) (make : DraftEntry → DraftEntry) (draft : Draft) → ((e : DraftEntry) → ends_in (make e) ≡ ends_in e) → ((e : DraftEntry) → IsEntrySound e → IsEntrySound (make e)) → IsDraftOf table draft → IsDraftOf table (with_entry n make draft)
+entry-is table n make draft many keeps is = record { formed = with-seen ends_in make many n draft.entries ∙ is.formed; output = is.output; entries = with-all IsEntrySound make keeps n draft.entries is.entries }
+
 taken-is : (table : Table) (target : Option Target) (s : Shape) (draft : Draft) → IsDraftOf table draft → IsDraftOf table (taken_at target s draft)
 taken-is table None s draft is = is
-taken-is table (Some MachineOutput) s draft is = record { formed = is.formed; output = taken_in-sound s draft.output is.output; entries = is.entries }
-taken-is table (Some (PartOf n i)) s draft is = record {
-  formed = with-lengths (taken_in s) n i draft.entries ∙ is.formed;
-  output = is.output;
-  entries = with-all (AllByRecursion IsSound) (with_element i (taken_in s)) (λ gs all. with-all IsSound (taken_in s) (taken_in-sound s) i gs all) n draft.entries is.entries;
-}
+taken-is table (Some MachineOutput) s draft is = record { formed = is.formed; output = taken-sound s draft.output is.output; entries = is.entries }
+taken-is table (Some (Input n)) s draft is = entry-is table n (λ e. record e { input = taken_in s e.input }) draft (λ e. refl) (λ e sound. record { input = taken-sound s e.input sound.input; output = sound.output; ends = sound.ends }) is
+taken-is table (Some (Output n)) s draft is = entry-is table n (λ e. record e { output = taken_in s e.output }) draft (λ e. refl) (λ e sound. record { input = sound.input; output = taken-sound s e.output sound.output; ends = sound.ends }) is
+taken-is table (Some (End n i)) s draft is = entry-is table n (λ e. record e { ends = with_element i (taken_in s) e.ends }) draft (λ e. with-length (taken_in s) i e.ends) (λ e sound. record { input = sound.input; output = sound.output; ends = with-all IsSound (taken_in s) (taken-sound s) i e.ends sound.ends }) is
 
 step-is : (table : Table) (n : ℕ) (step : Walked) (draft : Draft) → IsDraftOf table draft → IsDraftOf table (step_taken table n step draft)
 step-is table n (Flows edge) draft is = taken-is table (target_of table n edge.destination) edge.flowing draft is
@@ -160,7 +124,7 @@ module _ (table : Table) (declared : Declared) where
   walked-is : (row : Row) (draft : Draft) → IsDraftOf table draft → AnswersOne (walked table declared row draft)
   walked-is row draft is after h = go (own_breaches (takes_of declared row.name) (steps_of declared draft row)) h
     where
-      go : (breaches : List Breach) → unless_broken row.name breaches (steps_taken table row.number (steps_of declared draft row) draft) ≡ Ok after → IsDraftOf table after
+      go : (breaches : List Breach) → unless_found (found_at row.name breaches) (steps_taken table row.number (steps_of declared draft row) draft) ≡ Ok after → IsDraftOf table after
       go (breach ∷ further) e = absurd (cc)
       go [] e =
           let same : steps_taken table row.number (steps_of declared draft row) draft ≡ after = cc in
@@ -178,34 +142,58 @@ module _ (table : Table) (declared : Declared) where
 
   -- so after so many rounds
   pub rounds-are : (n : ℕ) → AnswersOne (after_rounds table declared n)
-  rounds-are zero after h =
-      let same : first_draft table ≡ after = cc in
-      subst (IsDraftOf table) same (first-is table)
+  rounds-are zero after h = go (misnamed table declared) h
+    where
+      go : (findings : List Finding) → unless_found findings (first_draft table) ≡ Ok after → IsDraftOf table after
+      go (found ∷ further) e = absurd (cc)
+      go [] e =
+          let same : first_draft table ≡ after = cc in
+          subst (IsDraftOf table) same (first-is table)
   rounds-are (suc n) after h = then-is (round table declared) (after_rounds table declared n) (rounds-are n) (λ next is. all-are (rows_of table) (input_taken table declared next) (taken-is table _ declared.input next is)) after h
 
 -- ---- shapes that are there
 
--- the shape of a draft at a place of an entry, and what flows into it where it stays
-pub record StandsInside (draft : Draft) (n i : ℕ) (s : Shape) : Type 0 where
+-- an entry of a table's draft
+pub record HasEntryAt (draft : Draft) (n : ℕ) (kind : Kind) : Type 0 where
+  pub entry : DraftEntry
+  pub at : slice_get draft.entries n ≡ Some entry
+  pub many : length entry.ends ≡ children_in kind
+  pub sound : IsEntrySound entry
+
+pub entry-there : (table : Table) (draft : Draft) (n : ℕ) (state : State) → IsDraftOf table draft → slice_get table.states n ≡ Some state → HasEntryAt draft n (kind_of state)
+entry-there table draft n state is at =
+    let there = map_from ends_in (slice_get draft.entries n) (children_in (kind_of state))
+    (sym (slice_get-map ends_in draft.entries n) ∙ (ap (λ ks. slice_get ks n) is.formed ∙ (slice_get-map (λ (st : State). children_in (kind_of st)) table.states n ∙ ap (option_map (λ (st : State). children_in (kind_of st))) at))) in
+    record { entry = there.0; at = there.1; many = there.2; sound = all-at IsEntrySound draft.entries n there.0 is.entries there.1 }
+
+-- what a draft comes to of a state
+pub entry-of : (draft : Draft) (row : Row) (has : HasEntryAt draft row.number (kind_of row.state)) → entry_of draft row ≡ entry_with (kind_of row.state) has.entry
+entry-of draft row has = ap (λ o. entry_with (kind_of row.state) (unwrap_or o (first_entry 0))) has.at
+
+-- where the draft stays, so does the entry
+entry-stays : (draft : Draft) (n : ℕ) (kind : Kind) (make : DraftEntry → DraftEntry) (has : HasEntryAt draft n kind) → with_entry n make draft ≡ draft → make has.entry ≡ has.entry
+entry-stays draft n kind make has stays = element-stays make n draft.entries has.entry (ap (λ (d : Draft). d.entries) stays) has.at
+
+-- what flows into a shape of an entry is inside it, where the draft stays
+pub input-stays : (draft : Draft) (n : ℕ) (kind : Kind) (s : Shape) (has : HasEntryAt draft n kind) → taken_at (Some (Input n)) s draft ≡ draft → Inside s has.entry.input.shape
+input-stays draft n kind s has stays = stays-inside s has.entry.input has.sound.input (ap (λ (e : DraftEntry). e.input) (entry-stays draft n kind (λ e. record e { input = taken_in s e.input }) has stays))
+
+pub output-stays : (draft : Draft) (n : ℕ) (kind : Kind) (s : Shape) (has : HasEntryAt draft n kind) → taken_at (Some (Output n)) s draft ≡ draft → Inside s has.entry.output.shape
+output-stays draft n kind s has stays = stays-inside s has.entry.output has.sound.output (ap (λ (e : DraftEntry). e.output) (entry-stays draft n kind (λ e. record e { output = taken_in s e.output }) has stays))
+
+-- an end, and what flows into it
+pub record EndsAt (ends : List Growth) (i : ℕ) (s : Shape) : Type 0 where
   pub shape : Shape
-  pub at : slice_get (map (λ (g : Growth). g.shape) (unwrap_or (slice_get draft.entries n) [])) i ≡ Some shape
+  pub at : slice_get (map (λ (g : Growth). g.shape) ends) i ≡ Some shape
   pub inside : Inside s shape
 
--- so many shapes stand in an entry
-pub entry-there : (table : Table) (draft : Draft) (n : ℕ) (state : State) → IsDraftOf table draft → slice_get table.states n ≡ Some state → (gs : List Growth) × (slice_get draft.entries n ≡ Some gs) × (length gs ≡ entry_shapes (kind_of state))
-entry-there table draft n state is at =
-    map_from length (slice_get draft.entries n) (entry_shapes (kind_of state))
-    (sym (slice_get-map length draft.entries n) ∙ (ap (λ ks. slice_get ks n) is.formed ∙ (slice_get-map (λ (st : State). entry_shapes (kind_of st)) table.states n ∙ ap (option_map (λ (st : State). entry_shapes (kind_of st))) at)))
-
-pub part-inside : (table : Table) (draft : Draft) (n i : ℕ) (state : State) (s : Shape) → IsDraftOf table draft → slice_get table.states n ≡ Some state → i < entry_shapes (kind_of state) → taken_at (Some (PartOf n i)) s draft ≡ draft → StandsInside draft n i s
-part-inside table draft n i state s is at within stays =
-    let entry = entry-there table draft n state is at in
-    let there = there-within entry.0 i (omega (arith, within, entry.2)) in
-    let entries : with_element n (with_element i (taken_in s)) draft.entries ≡ draft.entries = ap (λ (d : Draft). d.entries) stays in
-    let same : with_element i (taken_in s) entry.0 ≡ entry.0 = element-stays (with_element i (taken_in s)) n draft.entries entry.0 entries entry.1 in
-    let sound = all-at IsSound entry.0 i there.0 (all-at (AllByRecursion IsSound) draft.entries n entry.0 is.entries entry.1) there.1 in
+pub end-stays : (draft : Draft) (n : ℕ) (kind : Kind) (i : ℕ) (s : Shape) (has : HasEntryAt draft n kind) → i < children_in kind → taken_at (Some (End n i)) s draft ≡ draft → EndsAt has.entry.ends i s
+end-stays draft n kind i s has within stays =
+    let ends = has.entry.ends in
+    let there = there-within ends i (omega (arith, within, has.many)) in
+    let same : with_element i (taken_in s) ends ≡ ends = ap (λ (e : DraftEntry). e.ends) (entry-stays draft n kind (λ e. record e { ends = with_element i (taken_in s) e.ends }) has stays) in
     record {
       shape = there.0.shape;
-      at = ap (λ o. slice_get (map (λ (g : Growth). g.shape) (unwrap_or o [])) i) entry.1 ∙ (slice_get-map (λ (g : Growth). g.shape) entry.0 i ∙ ap (option_map (λ (g : Growth). g.shape)) there.1);
-      inside = stays-inside s there.0 sound (element-stays (taken_in s) i entry.0 there.0 same there.1);
+      at = slice_get-map (λ (g : Growth). g.shape) ends i ∙ ap (option_map (λ (g : Growth). g.shape)) there.1;
+      inside = stays-inside s there.0 (all-at IsSound ends i there.0 has.sound.ends there.1) (element-stays (taken_in s) i ends there.0 same there.1);
     }

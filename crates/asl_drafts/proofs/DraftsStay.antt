@@ -1,24 +1,22 @@
 -- A draft that a round leaves as it is is left as it is by each step of the round.
-use Rattle.std.proofs.Common.{◌≡◌, ◌<◌, ◌+◌, ℕ, zero, suc, List, [], ◌∷◌, Bool, true, false, if◌then◌else◌, Option, Some, None, Result, Ok, Err, refl, sym, ap, subst, ◌∙◌, ◌⊎◌, inl, inr, arith}
+use Rattle.std.proofs.Common.{◌≡◌, ◌<◌, ◌+◌, ℕ, zero, suc, List, [], ◌∷◌, Option, Some, None, Result, Ok, Err, refl, sym, ap, subst, ◌∙◌, ◌⊎◌, inl, inr, arith}
 use Rattle.std.specs.Prelude.{sum_by}
 use Rattle.std.proofs.lemmas.List.Sums.{sum_by-cons}
 use Rattle.asl_model.specs.Certificate.{Declared, takes_of}
 use Rattle.asl_model.specs.Edges.{Walked, Flows, Breaks}
-use Rattle.asl_model.specs.Finding.{Breach, Finding}
+use Rattle.asl_model.specs.Finding.{Breach, Finding, found_at}
 use Rattle.asl_model.specs.Numbering.{Table}
 use Rattle.asl_model.specs.Shape.{Shape}
-use Rattle.asl_model.specs.ShapeOrder.{join}
-use Rattle.asl_model.specs.WrittenNumbered.{same_shape}
-use Rattle.asl_drafts.specs.Cutting.{cut}
-use Rattle.asl_drafts.specs.Drafts.{Growth, Draft, Target, MachineOutput, PartOf, Row, changed_to, grown_to, taken_in, with_element, taken_at, target_of, own_breaches, step_taken, steps_taken, unless_broken, steps_of, walked, unless_told, all_walked, input_taken, round, rows_of}
+use Rattle.asl_drafts.specs.Drafts.{Growth, Draft, DraftEntry, Target, MachineOutput, Input, Output, End, Row, taken_in, with_element, with_entry, taken_at, target_of, own_breaches, step_taken, steps_taken, unless_found, steps_of, walked, unless_told, all_walked, input_taken, round, rows_of}
+use Rattle.asl_drafts.proofs.TakenIn.{taken-spends}
 
 -- ---- how often the shapes may still change
 
 abbrev room_of : Growth → ℕ
 room_of g = g.changes_left
 
-abbrev entry_room : List Growth → ℕ
-entry_room gs = sum_by room_of gs
+abbrev entry_room : DraftEntry → ℕ
+entry_room e = e.input.changes_left + (e.output.changes_left + sum_by room_of e.ends)
 
 abbrev room : Draft → ℕ
 room draft = draft.output.changes_left + sum_by entry_room draft.entries
@@ -26,20 +24,6 @@ room draft = draft.output.changes_left + sum_by entry_room draft.entries
 -- it is left as it is, or may change less often
 abbrev Spends : {A : Type 0} → (A → ℕ) → (A → A) → Type 0
 Spends {A} size make = (x : A) → (make x ≡ x) ⊎ (size (make x) < size x)
-
-grown-spends : (s joined : Shape) (changes : ℕ) → (grown_to s joined changes ≡ record { shape = s; changes_left = changes }) ⊎ ((grown_to s joined changes).changes_left < changes)
-grown-spends s joined zero = inl refl
-grown-spends s joined (suc left) = by (same_shape joined s)
-  where
-    grown : Bool → Growth
-    grown b = if b then record { shape = s; changes_left = suc left } else record { shape = changed_to left joined; changes_left = left }
-
-    by : (b : Bool) → (grown b ≡ record { shape = s; changes_left = suc left }) ⊎ ((grown b).changes_left < suc left)
-    by true = inl refl
-    by false = inr (omega arith)
-
-taken_in-spends : (s : Shape) → Spends room_of (taken_in s)
-taken_in-spends s g = grown-spends g.shape (cut (join g.shape s)) g.changes_left
 
 element-spends : {A : Type 0} (size : A → ℕ) (make : A → A) → Spends size make → (i : ℕ) → Spends (sum_by size) (with_element i make)
 element-spends size make spends i [] = inl refl
@@ -54,21 +38,34 @@ element-spends size make spends (suc i) (x ∷ xs) = by (element-spends size mak
     by (inl e) = inl (ap (λ ys. x ∷ ys) e)
     by (inr less) = inr (omega (arith, less, sum_by-cons size x xs, sum_by-cons size x (with_element i make xs)))
 
+entry-spends : (n : ℕ) (make : DraftEntry → DraftEntry) → Spends entry_room make → Spends room (with_entry n make)
+entry-spends n make spends draft = by (element-spends entry_room make spends n draft.entries)
+  where
+    by : (with_element n make draft.entries ≡ draft.entries) ⊎ (sum_by entry_room (with_element n make draft.entries) < sum_by entry_room draft.entries) → (with_entry n make draft ≡ draft) ⊎ (room (with_entry n make draft) < room draft)
+    by (inl e) = inl (ap (λ es. record draft { entries = es }) e)
+    by (inr less) = inr (omega (arith, less))
+
+-- so where a shape flows into one that is put into its place
+part-spends : {A : Type 0} (size : A → ℕ) (s : Shape) (g : Growth) (x : A) (put : Growth → A) → put g ≡ x → ((taken_in s g).changes_left < g.changes_left → size (put (taken_in s g)) < size x) → (put (taken_in s g) ≡ x) ⊎ (size (put (taken_in s g)) < size x)
+part-spends size s g x put same less = by (taken-spends s g)
+  where
+    by : (taken_in s g ≡ g) ⊎ ((taken_in s g).changes_left < g.changes_left) → (put (taken_in s g) ≡ x) ⊎ (size (put (taken_in s g)) < size x)
+    by (inl e) = inl (ap put e ∙ same)
+    by (inr fewer) = inr (less fewer)
+
 taken_at-spends : (target : Option Target) (s : Shape) → Spends room (taken_at target s)
 taken_at-spends None s draft = inl refl
-taken_at-spends (Some MachineOutput) s draft = by (taken_in-spends s draft.output)
+taken_at-spends (Some MachineOutput) s draft = part-spends room s draft.output draft (λ g. record draft { output = g }) refl (λ less. omega (arith, less))
+taken_at-spends (Some (Input n)) s draft = entry-spends n (λ e. record e { input = taken_in s e.input }) (λ e. part-spends entry_room s e.input e (λ g. record e { input = g }) refl (λ less. omega (arith, less))) draft
+taken_at-spends (Some (Output n)) s draft = entry-spends n (λ e. record e { output = taken_in s e.output }) (λ e. part-spends entry_room s e.output e (λ g. record e { output = g }) refl (λ less. omega (arith, less))) draft
+taken_at-spends (Some (End n i)) s draft = entry-spends n (λ e. record e { ends = with_element i (taken_in s) e.ends }) ends-spend draft
   where
-    by : (taken_in s draft.output ≡ draft.output) ⊎ ((taken_in s draft.output).changes_left < draft.output.changes_left) → (taken_at (Some MachineOutput) s draft ≡ draft) ⊎ (room (taken_at (Some MachineOutput) s draft) < room draft)
-    by (inl e) = inl (ap (λ g. record { output = g; entries = draft.entries }) e)
-    by (inr less) = inr (omega (arith, less))
-taken_at-spends (Some (PartOf n i)) s draft = by (element-spends entry_room (with_element i (taken_in s)) (element-spends room_of (taken_in s) (taken_in-spends s) i) n draft.entries)
-  where
-    more : List (List Growth)
-    more = with_element n (with_element i (taken_in s)) draft.entries
-
-    by : (more ≡ draft.entries) ⊎ (sum_by entry_room more < sum_by entry_room draft.entries) → (taken_at (Some (PartOf n i)) s draft ≡ draft) ⊎ (room (taken_at (Some (PartOf n i)) s draft) < room draft)
-    by (inl e) = inl (ap (λ gs. record { output = draft.output; entries = gs }) e)
-    by (inr less) = inr (omega (arith, less))
+    ends-spend : Spends entry_room (λ e. record e { ends = with_element i (taken_in s) e.ends })
+    ends-spend e = by (element-spends room_of (taken_in s) (taken-spends s) i e.ends)
+      where
+        by : (with_element i (taken_in s) e.ends ≡ e.ends) ⊎ (sum_by room_of (with_element i (taken_in s) e.ends) < sum_by room_of e.ends) → (let after : DraftEntry = record e { ends = with_element i (taken_in s) e.ends } in (after ≡ e) ⊎ (entry_room after < entry_room e))
+        by (inl same) = inl (ap (λ gs. record e { ends = gs }) same)
+        by (inr less) = inr (omega (arith, less))
 
 -- ---- steps
 
@@ -114,7 +111,7 @@ module _ (table : Table) (declared : Declared) where
   walk-spends : (row : Row) (draft after : Draft) → walked table declared row draft ≡ Ok after → ((after ≡ draft) × IsAtRest row draft) ⊎ (room after < room draft)
   walk-spends row draft after h = go (own_breaches (takes_of declared row.name) (steps_of declared draft row)) refl h
     where
-      go : (breaches : List Breach) → own_breaches (takes_of declared row.name) (steps_of declared draft row) ≡ breaches → unless_broken row.name breaches (steps_taken table row.number (steps_of declared draft row) draft) ≡ Ok after → ((after ≡ draft) × IsAtRest row draft) ⊎ (room after < room draft)
+      go : (breaches : List Breach) → own_breaches (takes_of declared row.name) (steps_of declared draft row) ≡ breaches → unless_found (found_at row.name breaches) (steps_taken table row.number (steps_of declared draft row) draft) ≡ Ok after → ((after ≡ draft) × IsAtRest row draft) ⊎ (room after < room draft)
       go (breach ∷ further) is e = absurd (cc)
       go [] is e =
           let same : steps_taken table row.number (steps_of declared draft row) draft ≡ after = cc in

@@ -4,5 +4,6 @@ pub mod DraftShapes
 pub mod DraftsStay
 pub mod PassedOver
 pub mod SettledClosed
+pub mod TakenIn
 pub mod WalkLeads
 pub mod WalkedClosed

@@ -1,37 +1,28 @@
 -- A state may be passed over that is at rest: its walk would change nothing. It stays so where a shape changes at which it
 -- doesn't look, and into which nothing flows from it that would change the shape again.
-use Rattle.std.proofs.Common.{◌≡◌, ◌≢◌, ◌<◌, ◌+◌, ℕ, zero, suc, List, [], ◌∷◌, ◌++◌, length, map, Bool, true, false, if◌then◌else◌, Option, Some, None, option_map, Ok, slice_get, refl, sym, ap, subst, ◌∙◌, ◌⊎◌, inl, inr, arith}
+use Rattle.std.proofs.Common.{◌≡◌, ◌≢◌, ◌<◌, ◌+◌, ℕ, zero, suc, List, [], ◌∷◌, ◌++◌, length, if◌then◌else◌, Option, Some, None, option_map, Ok, slice_get, refl, sym, ap, subst, ◌∙◌, ◌⊎◌, inl, inr, arith}
 use Rattle.std.specs.Prelude.{IsTrue}
 use Rattle.std.specs.Option.{unwrap_or}
-use Rattle.std.proofs.lemmas.Bool.{false≢true}
 use mathlib.Core.Path.{fun_ext}
 use Rattle.asl_model.specs.Certificate.{Declared, StateShapes, gives_of, takes_of}
 use Rattle.asl_model.specs.Edges.{Walked, Flows, Breaks, walk, walk_catchers, walk_settled, walk_then, walk_work}
-use Rattle.asl_model.specs.Finding.{effective_flow}
+use Rattle.asl_model.specs.Finding.{effective_flow, found_at}
 use Rattle.asl_model.specs.Machine.{Settings, Kind, Pass, Task, Choice, Wait, Succeed, Fail, Parallel, Map, settings_of, kind_of}
 use Rattle.asl_model.specs.Numbering.{Table}
 use Rattle.asl_model.specs.Shape.{Shape, inhabited}
 use Rattle.asl_drafts.specs.Resting as words
 use Rattle.asl_drafts.specs.Resting.{IsPassedBy, Memory}
-use Rattle.asl_drafts.specs.Drafts.{Growth, Draft, Row, Target, MachineOutput, PartOf, entry_with, taken_in, taken_at, target_of, with_element, own_breaches, steps_taken, unless_broken, steps_of, walked}
+use Rattle.asl_drafts.specs.Drafts.{Draft, DraftEntry, Row, Target, MachineOutput, Input, Output, End, entry_of, entry_with, first_entry, taken_in, taken_at, target_of, with_element, with_entry, own_breaches, steps_taken, unless_found, steps_of, walked}
 
 -- ---- elements of lists
 
--- what is done at two positions may be done in either order
-apart-elements : {A : Type 0} (f g : A → A) (i j : ℕ) (xs : List A) → i ≢ j → with_element i f (with_element j g xs) ≡ with_element j g (with_element i f xs)
+-- what is done at two positions may be done in either order, if it may at one
+apart-elements : {A : Type 0} (f g : A → A) (i j : ℕ) (xs : List A) → (i ≡ j → (x : A) → f (g x) ≡ g (f x)) → with_element i f (with_element j g xs) ≡ with_element j g (with_element i f xs)
 apart-elements f g i j [] apart = refl
-apart-elements f g zero zero (x ∷ xs) apart = absurd (apart refl)
+apart-elements f g zero zero (x ∷ xs) apart = ap (λ y. y ∷ xs) (apart refl x)
 apart-elements f g zero (suc j) (x ∷ xs) apart = refl
 apart-elements f g (suc i) zero (x ∷ xs) apart = refl
 apart-elements f g (suc i) (suc j) (x ∷ xs) apart = ap (λ ys. x ∷ ys) (apart-elements f g i j xs (λ e. apart (ap suc e)))
-
--- so in lists of lists, at positions that differ in the outer list or in the inner one
-apart-entries : {A : Type 0} (f g : A → A) (n m i j : ℕ) (xss : List (List A)) → (n ≡ m → i ≢ j) → with_element n (with_element i f) (with_element m (with_element j g) xss) ≡ with_element m (with_element j g) (with_element n (with_element i f) xss)
-apart-entries f g n m i j [] apart = refl
-apart-entries f g zero zero i j (xs ∷ xss) apart = ap (λ ys. ys ∷ xss) (apart-elements f g i j xs (apart refl))
-apart-entries f g zero (suc m) i j (xs ∷ xss) apart = refl
-apart-entries f g (suc n) zero i j (xs ∷ xss) apart = refl
-apart-entries f g (suc n) (suc m) i j (xs ∷ xss) apart = ap (λ yss. xs ∷ yss) (apart-entries f g n m i j xss (λ e. apart (ap suc e)))
 
 -- the element at a position is as it was, or as it was made
 element-or : {A : Type 0} (f : A → A) (i j : ℕ) (xs : List A) → (slice_get (with_element i f xs) j ≡ slice_get xs j) ⊎ ((i ≡ j) × (slice_get (with_element i f xs) j ≡ option_map f (slice_get xs j)))
@@ -47,13 +38,39 @@ element-or f (suc i) (suc j) (x ∷ xs) = by (element-or f i j xs)
 
 -- ---- what flows into two shapes
 
--- may do so in either order
+-- into a part of an entry
+abbrev into_input : Shape → DraftEntry → DraftEntry
+into_input s e = record e { input = taken_in s e.input }
+
+abbrev into_output : Shape → DraftEntry → DraftEntry
+into_output s e = record e { output = taken_in s e.output }
+
+abbrev into_end : ℕ → Shape → DraftEntry → DraftEntry
+into_end i s e = record e { ends = with_element i (taken_in s) e.ends }
+
+entries-apart : (f g : DraftEntry → DraftEntry) (n m : ℕ) (draft : Draft) → (n ≡ m → (e : DraftEntry) → f (g e) ≡ g (f e)) → with_entry n f (with_entry m g draft) ≡ with_entry m g (with_entry n f draft)
+entries-apart f g n m draft apart = ap (λ es. record draft { entries = es }) (apart-elements f g n m draft.entries apart)
+
+-- they may do so in either order
 taken-apart : (t u : Target) (s r : Shape) (draft : Draft) → t ≢ u → taken_at (Some t) s (taken_at (Some u) r draft) ≡ taken_at (Some u) r (taken_at (Some t) s draft)
 taken-apart MachineOutput MachineOutput s r draft apart = absurd (apart refl)
-taken-apart MachineOutput (PartOf n i) s r draft apart = refl
-taken-apart (PartOf n i) MachineOutput s r draft apart = refl
-taken-apart (PartOf n i) (PartOf m j) s r draft apart =
-    ap (λ entries. record { output = draft.output; entries = entries }) (apart-entries (taken_in s) (taken_in r) n m i j draft.entries (λ same inner. apart (ap (λ k. PartOf k i) same ∙ ap (PartOf m) inner)))
+taken-apart MachineOutput (Input m) s r draft apart = refl
+taken-apart MachineOutput (Output m) s r draft apart = refl
+taken-apart MachineOutput (End m j) s r draft apart = refl
+taken-apart (Input n) MachineOutput s r draft apart = refl
+taken-apart (Input n) (Input m) s r draft apart = entries-apart (into_input s) (into_input r) n m draft (λ same e. absurd (apart (ap Input same)))
+taken-apart (Input n) (Output m) s r draft apart = entries-apart (into_input s) (into_output r) n m draft (λ same e. refl)
+taken-apart (Input n) (End m j) s r draft apart = entries-apart (into_input s) (into_end j r) n m draft (λ same e. refl)
+taken-apart (Output n) MachineOutput s r draft apart = refl
+taken-apart (Output n) (Input m) s r draft apart = entries-apart (into_output s) (into_input r) n m draft (λ same e. refl)
+taken-apart (Output n) (Output m) s r draft apart = entries-apart (into_output s) (into_output r) n m draft (λ same e. absurd (apart (ap Output same)))
+taken-apart (Output n) (End m j) s r draft apart = entries-apart (into_output s) (into_end j r) n m draft (λ same e. refl)
+taken-apart (End n i) MachineOutput s r draft apart = refl
+taken-apart (End n i) (Input m) s r draft apart = entries-apart (into_end i s) (into_input r) n m draft (λ same e. refl)
+taken-apart (End n i) (Output m) s r draft apart = entries-apart (into_end i s) (into_output r) n m draft (λ same e. refl)
+taken-apart (End n i) (End m j) s r draft apart =
+    entries-apart (into_end i s) (into_end j r) n m draft (λ same e.
+    ap (λ gs. record e { ends = gs }) (apart-elements (taken_in s) (taken_in r) i j e.ends (λ inner g. absurd (apart (ap (λ k. End k i) same ∙ ap (End m) inner)))))
 
 -- so a shape stays where another one changes
 pub stays-apart : (t u : Target) (s r : Shape) (draft : Draft) → t ≢ u → taken_at (Some t) s draft ≡ draft → taken_at (Some t) s (taken_at (Some u) r draft) ≡ taken_at (Some u) r draft
@@ -61,36 +78,42 @@ stays-apart t u s r draft apart stays = taken-apart t u s r draft apart ∙ ap (
 
 -- ---- what a walk looks at
 
--- what stands of the entry but for its output
-record SameBut (kind : Kind) (shapes others : List Shape) : Type 0 where
-  pub input : (entry_with kind shapes).input ≡ (entry_with kind others).input
-  pub branches : (entry_with kind shapes).branches ≡ (entry_with kind others).branches
-  pub item : (entry_with kind shapes).item ≡ (entry_with kind others).item
+-- the shapes are those but for the output
+record SameBut (shapes others : StateShapes) : Type 0 where
+  pub input : shapes.input ≡ others.input
+  pub branches : shapes.branches ≡ others.branches
+  pub item : shapes.item ≡ others.item
 
-output-only : (kind : Kind) (f : Growth → Growth) (gs : List Growth) → SameBut kind (map (λ g. g.shape) (with_element 1 f gs)) (map (λ g. g.shape) gs)
-output-only kind f [] = record { input = refl; branches = refl; item = refl }
-output-only kind f (x ∷ []) = record { input = refl; branches = refl; item = refl }
-output-only kind f (x ∷ (y ∷ gs)) = record { input = refl; branches = refl; item = refl }
+same-all : (shapes : StateShapes) → SameBut shapes shapes
+same-all shapes = record { input = refl; branches = refl; item = refl }
 
-passed-same : (n : ℕ) (kind : Kind) (target : Target) (s : Shape) (draft : Draft) → IsPassedBy n target → SameBut kind (map (λ g. g.shape) (unwrap_or (slice_get (taken_at (Some target) s draft).entries n) [])) (map (λ g. g.shape) (unwrap_or (slice_get draft.entries n) []))
-passed-same n kind MachineOutput s draft passed = record { input = refl; branches = refl; item = refl }
-passed-same n kind (PartOf m i) s draft passed = by (element-or (with_element i (taken_in s)) m n draft.entries) passed
+passed-same : (row : Row) (target : Target) (s : Shape) (draft : Draft) → IsPassedBy row.number target → SameBut (entry_of (taken_at (Some target) s draft) row) (entry_of draft row)
+passed-same row target s draft passed = by target passed
   where
-    -- the shapes of an entry that may be there
-    shapes : Option (List Growth) → List Shape
-    shapes o = map (λ (g : Growth). g.shape) (unwrap_or o [])
+    -- the entry that may be there
+    shapes : Option DraftEntry → StateShapes
+    shapes o = entry_with (kind_of row.state) (unwrap_or o (first_entry 0))
 
-    made : (o : Option (List Growth)) → SameBut kind (shapes (option_map (with_element 1 (taken_in s)) o)) (shapes o)
-    made None = record { input = refl; branches = refl; item = refl }
-    made (Some gs) = output-only kind (taken_in s) gs
+    another : (m : ℕ) (make : DraftEntry → DraftEntry) → m ≢ row.number → SameBut (entry_of (with_entry m make draft) row) (entry_of draft row)
+    another m make other = pick (element-or make m row.number draft.entries)
+      where
+        pick : (slice_get (with_element m make draft.entries) row.number ≡ slice_get draft.entries row.number) ⊎ ((m ≡ row.number) × (slice_get (with_element m make draft.entries) row.number ≡ option_map make (slice_get draft.entries row.number))) → SameBut (entry_of (with_entry m make draft) row) (entry_of draft row)
+        pick (inl e) = subst (λ o. SameBut (shapes o) (entry_of draft row)) (sym e) (same-all (entry_of draft row))
+        pick (inr e) = absurd (other e.0)
 
-    by : (slice_get (with_element m (with_element i (taken_in s)) draft.entries) n ≡ slice_get draft.entries n) ⊎ ((m ≡ n) × (slice_get (with_element m (with_element i (taken_in s)) draft.entries) n ≡ option_map (with_element i (taken_in s)) (slice_get draft.entries n))) → (m ≢ n) ⊎ (i ≡ 1)
-        → SameBut kind (shapes (slice_get (with_element m (with_element i (taken_in s)) draft.entries) n)) (shapes (slice_get draft.entries n))
-    by (inl e) p = subst (λ o. SameBut kind (shapes o) (shapes (slice_get draft.entries n))) (sym e) (record { input = refl; branches = refl; item = refl })
-    by (inr e) (inl other) = absurd (other e.0)
-    by (inr e) (inr output) =
-        let at : slice_get (with_element m (with_element i (taken_in s)) draft.entries) n ≡ option_map (with_element 1 (taken_in s)) (slice_get draft.entries n) = e.1 ∙ ap (λ k. option_map (with_element k (taken_in s)) (slice_get draft.entries n)) output in
-        subst (λ o. SameBut kind (shapes o) (shapes (slice_get draft.entries n))) (sym at) (made (slice_get draft.entries n))
+    made : (o : Option DraftEntry) → SameBut (shapes (option_map (into_output s) o)) (shapes o)
+    made None = same-all (shapes None)
+    made (Some e) = record { input = refl; branches = refl; item = refl }
+
+    own : (m : ℕ) → (slice_get (with_element m (into_output s) draft.entries) row.number ≡ slice_get draft.entries row.number) ⊎ ((m ≡ row.number) × (slice_get (with_element m (into_output s) draft.entries) row.number ≡ option_map (into_output s) (slice_get draft.entries row.number))) → SameBut (entry_of (with_entry m (into_output s) draft) row) (entry_of draft row)
+    own m (inl e) = subst (λ o. SameBut (shapes o) (entry_of draft row)) (sym e) (same-all (entry_of draft row))
+    own m (inr e) = subst (λ o. SameBut (shapes o) (entry_of draft row)) (sym e.1) (made (slice_get draft.entries row.number))
+
+    by : (t : Target) → IsPassedBy row.number t → SameBut (entry_of (taken_at (Some t) s draft) row) (entry_of draft row)
+    by MachineOutput p = same-all (entry_of draft row)
+    by (Input m) p = another m (into_input s) p
+    by (Output m) p = own m (element-or (into_output s) m row.number draft.entries)
+    by (End m i) p = another m (into_end i s) p
 
 module _ (gives : Shape) (settings : Settings) (input : Shape) (branches : List Shape) (item : Option Shape) (output other : Shape) where
   abbrev one : StateShapes
@@ -128,10 +151,8 @@ module _ (gives : Shape) (settings : Settings) (input : Shape) (branches : List 
       ap (λ work. if inhabited input then walk_then work (effective_flow settings input) ++ (walk_settled gives settings kind one ++ walk_catchers input settings.catchers) else []) (fun_ext (λ (s : Shape). work-alike kind s))
       ∙ ap (λ settled. if inhabited input then walk_then (walk_work settings kind two) (effective_flow settings input) ++ (settled ++ walk_catchers input settings.catchers) else []) (settled-alike kind)
 
-same-walk : (gives : Shape) (settings : Settings) (kind : Kind) (shapes others : List Shape) → SameBut kind shapes others → walk gives settings kind (entry_with kind shapes) ≡ walk gives settings kind (entry_with kind others)
-same-walk gives settings kind shapes others same =
-    let a = entry_with kind shapes in
-    let b = entry_with kind others in
+same-walk : (gives : Shape) (settings : Settings) (kind : Kind) (a b : StateShapes) → SameBut a b → walk gives settings kind a ≡ walk gives settings kind b
+same-walk gives settings kind a b same =
     ap (λ i. walk gives settings kind (record { input = i; output = a.output; branches = a.branches; item = a.item })) same.input
     ∙ (ap (λ bs. walk gives settings kind (record { input = b.input; output = a.output; branches = bs; item = a.item })) same.branches
     ∙ (ap (λ o. walk gives settings kind (record { input = b.input; output = a.output; branches = b.branches; item = o })) same.item
@@ -139,7 +160,7 @@ same-walk gives settings kind shapes others same =
 
 -- the steps of a state are the same where a shape changes at which it doesn't look
 pub steps-passed : (declared : Declared) (row : Row) (target : Target) (s : Shape) (draft : Draft) → IsPassedBy row.number target → steps_of declared (taken_at (Some target) s draft) row ≡ steps_of declared draft row
-steps-passed declared row target s draft passed = same-walk (gives_of declared row.name) (settings_of row.state) (kind_of row.state) _ _ (passed-same row.number (kind_of row.state) target s draft passed)
+steps-passed declared row target s draft passed = same-walk (gives_of declared row.name) (settings_of row.state) (kind_of row.state) _ _ (passed-same row target s draft passed)
 
 -- ---- states at rest
 
@@ -156,26 +177,46 @@ number-or (suc a) (suc b) = by (number-or a b)
 
 abbrev state_in : Target → ℕ
 state_in MachineOutput = 0
-state_in (PartOf n i) = n
+state_in (Input n) = n
+state_in (Output n) = n
+state_in (End n i) = n
 
-abbrev place_in : Target → ℕ
-place_in MachineOutput = 0
-place_in (PartOf n i) = i
-
-abbrev is_output : Target → Bool
-is_output MachineOutput = true
-is_output (PartOf n i) = false
+abbrev child_in : Target → ℕ
+child_in MachineOutput = 0
+child_in (Input n) = 0
+child_in (Output n) = 0
+child_in (End n i) = i
 
 target-or : (t u : Target) → (t ≡ u) ⊎ (t ≢ u)
 target-or MachineOutput MachineOutput = inl refl
-target-or MachineOutput (PartOf n i) = inr (λ e. false≢true (sym (ap is_output e)))
-target-or (PartOf n i) MachineOutput = inr (λ e. false≢true (ap is_output e))
-target-or (PartOf n i) (PartOf m j) = by (number-or n m) (number-or i j)
+target-or MachineOutput (Input m) = inr (λ e. absurd (cc))
+target-or MachineOutput (Output m) = inr (λ e. absurd (cc))
+target-or MachineOutput (End m j) = inr (λ e. absurd (cc))
+target-or (Input n) MachineOutput = inr (λ e. absurd (cc))
+target-or (Input n) (Input m) = by (number-or n m)
   where
-    by : (n ≡ m) ⊎ (n ≢ m) → (i ≡ j) ⊎ (i ≢ j) → (PartOf n i ≡ PartOf m j) ⊎ (PartOf n i ≢ PartOf m j)
-    by (inl a) (inl b) = inl (ap (λ k. PartOf k i) a ∙ ap (PartOf m) b)
+    by : (n ≡ m) ⊎ (n ≢ m) → (Input n ≡ Input m) ⊎ (Input n ≢ Input m)
+    by (inl a) = inl (ap Input a)
+    by (inr a) = inr (λ e. a (ap state_in e))
+target-or (Input n) (Output m) = inr (λ e. absurd (cc))
+target-or (Input n) (End m j) = inr (λ e. absurd (cc))
+target-or (Output n) MachineOutput = inr (λ e. absurd (cc))
+target-or (Output n) (Input m) = inr (λ e. absurd (cc))
+target-or (Output n) (Output m) = by (number-or n m)
+  where
+    by : (n ≡ m) ⊎ (n ≢ m) → (Output n ≡ Output m) ⊎ (Output n ≢ Output m)
+    by (inl a) = inl (ap Output a)
+    by (inr a) = inr (λ e. a (ap state_in e))
+target-or (Output n) (End m j) = inr (λ e. absurd (cc))
+target-or (End n i) MachineOutput = inr (λ e. absurd (cc))
+target-or (End n i) (Input m) = inr (λ e. absurd (cc))
+target-or (End n i) (Output m) = inr (λ e. absurd (cc))
+target-or (End n i) (End m j) = by (number-or n m) (number-or i j)
+  where
+    by : (n ≡ m) ⊎ (n ≢ m) → (i ≡ j) ⊎ (i ≢ j) → (End n i ≡ End m j) ⊎ (End n i ≢ End m j)
+    by (inl a) (inl b) = inl (ap (λ k. End k i) a ∙ ap (End m) b)
     by (inr a) b = inr (λ e. a (ap state_in e))
-    by (inl a) (inr b) = inr (λ e. b (ap place_in e))
+    by (inl a) (inr b) = inr (λ e. b (ap child_in e))
 
 module _ (table : Table) (n : ℕ) where
   abbrev FlowRests : Memory → Draft → ℕ → Option Target → Shape → Type 0
@@ -249,7 +290,7 @@ module _ (table : Table) (declared : Declared) (row : Row) where
   -- so it may be passed over
   pub rests-walked : (known : Memory) (draft : Draft) → Rests known draft → walked table declared row draft ≡ Ok draft
   rests-walked known draft rest =
-      ap (λ breaches. unless_broken row.name breaches (steps_taken table row.number (steps_of declared draft row) draft)) rest.whole
+      ap (λ breaches. unless_found (found_at row.name breaches) (steps_taken table row.number (steps_of declared draft row) draft)) rest.whole
       ∙ ap Ok (steps-stay table row.number known draft 0 (steps_of declared draft row) rest.steps)
 
   -- it stays so where more is remembered

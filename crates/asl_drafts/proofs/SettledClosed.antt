@@ -1,18 +1,18 @@
 -- A draft that a round leaves as it is comes to a closed certificate, where each Task is declared and no other.
-use Rattle.std.proofs.Common.{◌≡◌, ◌<◌, ◌+◌, ℕ, zero, suc, List, [], ◌∷◌, length, map, drop, Bool, true, false, ◌&&◌, ◌||◌, not, if◌then◌else◌, Option, Some, None, option_map, Ok, codes, slice_get, refl, sym, ap, subst, ◌∙◌, ◌⊎◌, inl, inr, arith}
+use Rattle.std.proofs.Common.{◌≡◌, ◌<◌, ◌+◌, ℕ, zero, suc, List, [], ◌∷◌, length, ◌++◌, map, Bool, true, false, ◌&&◌, ◌||◌, not, if◌then◌else◌, Option, Some, None, option_map, Result, Ok, Err, codes, slice_get, refl, sym, ap, subst, ◌∙◌, ◌⊎◌, inl, inr, arith}
 use Rattle.std.specs.Prelude.{IsTrue, ◌↔◌, bytes_eq, is_some, position}
+use Rattle.std.specs.List.{list_any}
 use Rattle.std.specs.Option.{unwrap_or}
 use Rattle.std.proofs.lemmas.Bool.{and_parts, or_cases, false≢true}
-use Rattle.std.proofs.lemmas.List.{length-map}
 use Rattle.std.proofs.lemmas.Option.{slice_get-map}
 use Rattle.std.proofs.lemmas.Slice.Eq.{bytes_eq-Decides}
 use Rattle.asl_model.specs.Certificate.{TaskShapes, Declared, StateShapes, Certificate, under, certified, certified_input, certified_output, input_among, output_among, branches_in, is_map, child_end, or_never, takes_of, gives_of, HasEntry, IsClosedAt, IsClosed}
-use Rattle.asl_model.specs.Edges.{Destination, ToInput, ToOutput, ToEnd, ToTask, Edge, Walked, Flows, Breaks, walk}
-use Rattle.asl_model.specs.Finding.{TaskUndeclared, TaskUnknown, breach_unless, found_at}
+use Rattle.asl_model.specs.Edges.{Destination, ToInput, ToOutput, ToEnd, ToTask, DestinationShapes, Edge, Walked, Flows, Breaks, breaches_at, walk}
+use Rattle.asl_model.specs.Finding.{Finding, TaskUndeclared, TaskUnknown, breach_unless, found_at}
 use Rattle.asl_model.specs.FindingRules.{HasState}
 use Rattle.asl_model.specs.Machine.{Scope, ScopeOf, States, NoStates, AndState, State, StateOf, Settings, Kind, Pass, Task, Choice, Wait, Succeed, Fail, Parallel, Map, Scopes, NoScopes, AndScope, settings_of, kind_of, start_of, is_task, state_named, state_among, scope_at, child_scope, how_many, names_state, names_task, IsScopeOf, own_scope, scope_of_child, HasNamed, targets_of}
 use Rattle.asl_model.specs.Numbering.{Standing, Table, Placement, IsWellNamed, kind_outline, number_or_0, outline, outlined, placement_of, standing, standing_in, standing_among, standing_inside, standing_by, standing_each, table_of}
-use Rattle.asl_model.specs.Shape.{Shape, Inside}
+use Rattle.asl_model.specs.Shape.{Shape, Any, Inside}
 use Rattle.asl_model.specs.ShapeOrder.{sub}
 use Rattle.asl_model.specs.ShapeSpelling.{are_distinct}
 use Rattle.asl_model.proofs.FindingNames.{named_task, state_is_named, task_is_named, is_a_task}
@@ -25,11 +25,12 @@ use Rattle.asl_model.proofs.OutlinedRules.{how-many-outlined}
 use Rattle.asl_model.proofs.RunOptions.{none_some, some_inj}
 use Rattle.asl_model.proofs.ShapeInside.{sub-inside}
 use Rattle.asl_model.proofs.StandingStates.{is_named, is_shown, state_numbered}
-use Rattle.asl_drafts.specs.Drafts.{Growth, Draft, Row, MachineOutput, PartOf, entry_shapes, entry_with, entry_of, taken_at, end_target, target_of, own_breaches, own_breaches_at, rows_of, after_rounds, round, input_taken, certificate_of, have_task, undeclared, unknown, misnamed}
+use Rattle.asl_drafts.specs.Drafts.{Growth, Draft, DraftEntry, Row, MachineOutput, Input, Output, End, children_in, first_draft, entry_with, entry_of, taken_at, end_target, target_of, own_breaches, rows_of, unless_found, unless_told, after_rounds, round, input_taken, certificate_of, undeclared, unknown, misnamed}
 use Rattle.asl_drafts.specs.Fits.{AllFit, certified_at}
-use Rattle.asl_drafts.proofs.CertifiedRows.{Among, behind-two, branch-at, certified-named, certified-row, entry-form, row-known, row-there}
-use Rattle.asl_drafts.proofs.DraftShapes.{IsDraftOf, entry-there, part-inside, rounds-are, stays-inside}
+use Rattle.asl_drafts.proofs.CertifiedRows.{Among, branch-at, certified-named, certified-row, entry-form, ordered-none, row-known, row-there}
+use Rattle.asl_drafts.proofs.DraftShapes.{IsDraftOf, end-stays, entry-of, entry-there, input-stays, output-stays, rounds-are}
 use Rattle.asl_drafts.proofs.DraftsStay.{AllStay, AreAtRest, IsAtRest, settled-rests}
+use Rattle.asl_drafts.proofs.TakenIn.{stays-inside}
 use Rattle.asl_drafts.proofs.WalkLeads.{AllLead, ChildrenLead, StartsLead, each-of, walk-leads, walk-outlined}
 use Rattle.asl_drafts.proofs.WalkedClosed.{walked-closed}
 
@@ -66,9 +67,9 @@ found-branch m j (AndScope scope others) (suc i) n state e =
 -- a state in the scope of a child: the number under which the scope belongs to its state is that of one of the ends
 pub record StandsInChild (m : List ℕ) (parent : Kind) (i : ℕ) (n : List ℕ) (state : State) : Type 0 where
   pub child : ℕ
-  pub within : 2 + child < entry_shapes (kind_outline parent)
+  pub within : child < children_in (kind_outline parent)
   pub listed : IsListed (standing_by m parent) (record { name = n; state = state; start = start_of (child_scope parent i); owner = Some (m, child) })
-  pub end : (shapes : List Shape) (s : Shape) → slice_get shapes (2 + child) ≡ Some s → or_never (child_end parent (Some (entry_with (kind_outline parent) shapes)) i) ≡ s
+  pub end : (entry : DraftEntry) (s : Shape) → slice_get (map (λ (g : Growth). g.shape) entry.ends) child ≡ Some s → or_never (child_end parent (Some (entry_with (kind_outline parent) entry)) i) ≡ s
 
 found-child : (m : List ℕ) (parent : Kind) (i : ℕ) (n : List ℕ) (state : State) → state_named n (child_scope parent i) ≡ Some state → StandsInChild m parent i n state
 found-child m (Pass result) i n state e = none_some e
@@ -85,14 +86,35 @@ found-child m (Parallel branches) i n state e =
       child = i;
       within = omega (arith, found.0, many);
       listed = subst (λ k. IsListed (standing_each m 0 branches) (record { name = n; state = state; start = start_of (scope_at i branches); owner = Some (m, k) })) same found.1;
-      end = λ shapes s at. ap or_never (branch-at i (drop 2 shapes) ∙ (behind-two shapes i ∙ at));
+      end = λ entry s at. ap or_never (branch-at i (map (λ (g : Growth). g.shape) entry.ends) ∙ at);
     }
 found-child m (Map items selector processor) i n state e = record {
   child = 0;
   within = omega arith;
   listed = found-in (Some (m, 0)) processor n state e;
-  end = λ shapes s at. ap or_never (let same : 2 ≡ 2 + 0 = omega arith in ap (slice_get shapes) same ∙ at);
+  end = λ entry s at. ap or_never at;
 }
+
+-- what stands at the destinations of edges whatever is certified: what the task takes
+abbrev pub own_shapes : Shape → DestinationShapes
+own_shapes takes = record { inputs = λ n. None; output = Any; end = None; takes = takes }
+
+-- one of the rows is that of a Task of that name
+abbrev pub have_task : List ℕ → List Row → Bool
+have_task n rows = list_any (λ row. bytes_eq row.name n && is_task (kind_of row.state)) rows
+
+-- where the rounds come to a draft, the names of tasks are right
+names-right : (table : Table) (declared : Declared) (rounds : ℕ) (draft : Draft) → after_rounds table declared rounds ≡ Ok draft → misnamed table declared ≡ []
+names-right table declared zero draft h = go (misnamed table declared) refl h
+  where
+    go : (findings : List Finding) → misnamed table declared ≡ findings → unless_found findings (first_draft table) ≡ Ok draft → misnamed table declared ≡ []
+    go [] is e = is
+    go (found ∷ further) is e = absurd (cc)
+names-right table declared (suc n) draft h = go (after_rounds table declared n) refl h (names-right table declared n)
+  where
+    go : (r : Result Draft Finding) → after_rounds table declared n ≡ r → unless_told (round table declared) r ≡ Ok draft → ((before : Draft) → after_rounds table declared n ≡ Ok before → misnamed table declared ≡ []) → misnamed table declared ≡ []
+    go (Ok before) is e further = further before is
+    go (Err found) is e further = absurd (cc)
 
 -- ---- rows of the table
 
@@ -171,7 +193,7 @@ module _ (machine : Scope) (w : IsWellNamed machine) where
     certificate = certificate_of table draft
 
     -- what is certified of a state of the table
-    certified-at : (k : ℕ) (n : List ℕ) (state : State) → slice_get table.names k ≡ Some n → slice_get table.states k ≡ Some state → certified certificate n ≡ Some (entry_of draft k (kind_of state))
+    certified-at : (k : ℕ) (n : List ℕ) (state : State) → slice_get table.names k ≡ Some n → slice_get table.states k ≡ Some state → certified certificate n ≡ Some (entry_of draft (record { number = k; name = n; state = state }))
     certified-at k n state named shown = certified-row table draft distinct-names k n state named shown
 
     at-rest : (rows : List Row) → AreAtRest table declared rows draft → (row : Row) → Among rows row → IsAtRest table declared row draft
@@ -180,27 +202,27 @@ module _ (machine : Scope) (w : IsWellNamed machine) where
     at-rest (x ∷ xs) all row (inr h) = at-rest xs all.1 row h
 
     -- what flows into an input that stays is inside it
-    input-inside : (k : ℕ) (n : List ℕ) (state : State) (s : Shape) → slice_get table.names k ≡ Some n → slice_get table.states k ≡ Some state → taken_at (Some (PartOf k 0)) s draft ≡ draft → Inside s (certified_input certificate n)
+    input-inside : (k : ℕ) (n : List ℕ) (state : State) (s : Shape) → slice_get table.names k ≡ Some n → slice_get table.states k ≡ Some state → taken_at (Some (Input k)) s draft ≡ draft → Inside s (certified_input certificate n)
     input-inside k n state s named shown stays =
-        let part = part-inside table draft k 0 state s is shown (omega arith) stays in
-        let same : certified_input certificate n ≡ part.shape = ap input_among (certified-at k n state named shown) ∙ ap or_never part.at in
-        subst (Inside s) (sym same) part.inside
+        let has = entry-there table draft k state is shown in
+        let same : certified_input certificate n ≡ has.entry.input.shape = ap input_among (certified-at k n state named shown) ∙ ap (λ (shapes : StateShapes). shapes.input) (entry-of draft (record { number = k; name = n; state = state }) has) in
+        subst (Inside s) (sym same) (input-stays draft k (kind_of state) s has stays)
 
     -- so for an output
-    output-inside : (k : ℕ) (n : List ℕ) (state : State) (s : Shape) → slice_get table.names k ≡ Some n → slice_get table.states k ≡ Some state → taken_at (Some (PartOf k 1)) s draft ≡ draft → Inside s (certified_output certificate n)
+    output-inside : (k : ℕ) (n : List ℕ) (state : State) (s : Shape) → slice_get table.names k ≡ Some n → slice_get table.states k ≡ Some state → taken_at (Some (Output k)) s draft ≡ draft → Inside s (certified_output certificate n)
     output-inside k n state s named shown stays =
-        let part = part-inside table draft k 1 state s is shown (omega arith) stays in
-        let same : certified_output certificate n ≡ part.shape = ap output_among (certified-at k n state named shown) ∙ ap or_never part.at in
-        subst (Inside s) (sym same) part.inside
+        let has = entry-there table draft k state is shown in
+        let same : certified_output certificate n ≡ has.entry.output.shape = ap output_among (certified-at k n state named shown) ∙ ap (λ (shapes : StateShapes). shapes.output) (entry-of draft (record { number = k; name = n; state = state }) has) in
+        subst (Inside s) (sym same) (output-stays draft k (kind_of state) s has stays)
 
     -- what flows to the end of a scope where it stays is inside what is certified there
     abbrev EndsInside : ℕ → Shape → Type 0
     EndsInside k end = (s : Shape) → taken_at (target_of table k ToEnd) s draft ≡ draft → Inside s end
 
     module _ (k : ℕ) (n : List ℕ) (state : State) (named : slice_get table.names k ≡ Some n) (shown : slice_get table.states k ≡ Some state) (end : Shape) (ends : EndsInside k end) where
-      edge-fits : (edge : Edge) (to : Destination) → own_breaches_at (takes_of declared n) (Flows (record { flowing = edge.flowing; destination = to; field = edge.field; fault = edge.fault })) ≡ [] → taken_at (target_of table k to) edge.flowing draft ≡ draft → Rattle.asl_drafts.proofs.WalkLeads.DestinationLeads LeadsTo to → Inside edge.flowing (certified_at declared certificate end n to)
+      edge-fits : (edge : Edge) (to : Destination) → breaches_at (own_shapes (takes_of declared n)) (Flows (record { flowing = edge.flowing; destination = to; field = edge.field; fault = edge.fault })) ≡ [] → taken_at (target_of table k to) edge.flowing draft ≡ draft → Rattle.asl_drafts.proofs.WalkLeads.DestinationLeads LeadsTo to → Inside edge.flowing (certified_at declared certificate end n to)
       edge-fits edge (ToInput next) whole stays lead =
-          input-inside lead.number next lead.state edge.flowing lead.named lead.shown (subst (λ o. taken_at (option_map (λ i. PartOf i 0) o) edge.flowing draft ≡ draft) lead.found stays)
+          input-inside lead.number next lead.state edge.flowing lead.named lead.shown (subst (λ o. taken_at (option_map Input o) edge.flowing draft ≡ draft) lead.found stays)
       edge-fits edge ToOutput whole stays lead = output-inside k n state edge.flowing named shown stays
       edge-fits edge ToEnd whole stays lead = ends edge.flowing stays
       edge-fits edge ToTask whole stays lead = sub-inside edge.flowing (takes_of declared n) (none-unless (sub edge.flowing (takes_of declared n)) edge.field edge.fault whole)
@@ -208,19 +230,18 @@ module _ (machine : Scope) (w : IsWellNamed machine) where
       steps-fit : (steps : List Walked) → own_breaches (takes_of declared n) steps ≡ [] → AllStay table k steps draft → AllLead LeadsTo steps → AllFit declared certificate end n steps
       steps-fit [] whole stay lead = tt
       steps-fit (Flows edge ∷ steps) whole stay lead =
-          let parts = append-none (own_breaches_at (takes_of declared n) (Flows edge)) (own_breaches (takes_of declared n) steps) whole in
+          let parts = append-none (breaches_at (own_shapes (takes_of declared n)) (Flows edge)) (own_breaches (takes_of declared n) steps) whole in
           (edge-fits edge edge.destination parts.0 stay.0 lead.0, steps-fit steps parts.1 stay.1 lead.1)
       steps-fit (Breaks breach ∷ steps) whole stay lead = absurd (cc)
 
     -- the certificate is closed at a state of a scope
     closed-at : (scope : Scope) → IsScopeOf machine scope → (n : List ℕ) (settings : Settings) (kind : Kind) → state_named n scope ≡ Some (StateOf settings kind) → (k : ℕ) → slice_get table.names k ≡ Some n → slice_get table.states k ≡ Some (StateOf settings (kind_outline kind)) → (end : Shape) → EndsInside k end → IsClosedAt declared certificate end n (StateOf settings kind)
     closed-at scope is_scope n settings kind e k named shown end ends =
-        let entry = entry_of draft k (kind_outline kind) in
         let row : Row = record { number = k; name = n; state = StateOf settings (kind_outline kind) } in
+        let entry = entry_of draft row in
         let rest = at-rest (rows_of table) rests row (row-there table k n (StateOf settings (kind_outline kind)) named shown) in
-        let gs = entry-there table draft k (StateOf settings (kind_outline kind)) is shown in
-        let long : length (map (λ (g : Growth). g.shape) (unwrap_or (slice_get draft.entries k) [])) ≡ entry_shapes (kind_outline kind) = ap (λ o. length (map (λ (g : Growth). g.shape) (unwrap_or o []))) gs.1 ∙ (length-map gs.0 (λ (g : Growth). g.shape) ∙ gs.2) in
-        let form = entry-form (kind_outline kind) (map (λ (g : Growth). g.shape) (unwrap_or (slice_get draft.entries k) [])) long in
+        let has = entry-there table draft k (StateOf settings (kind_outline kind)) is shown in
+        let form = subst (λ (shapes : StateShapes). (length shapes.branches ≡ branches_in (kind_outline kind)) × (is_some shapes.item ≡ is_map (kind_outline kind))) (sym (entry-of draft row has)) (entry-form (kind_outline kind) has.entry has.many) in
         let there : HasEntry certificate n kind = record { shapes = entry; stands = certified-at k n (StateOf settings (kind_outline kind)) named shown; branches = form.0 ∙ branches-same kind; item = form.1 ∙ map-same kind } in
         let lead : AllLead LeadsTo (walk (gives_of declared n) settings (kind_outline kind) entry) = subst (AllLead LeadsTo) (sym (walk-outlined (gives_of declared n) settings entry kind)) (edges-lead scope is_scope n (gives_of declared n) settings kind entry e) in
         let fits = steps-fit k n (StateOf settings (kind_outline kind)) named shown end ends (walk (gives_of declared n) settings (kind_outline kind) entry) rest.whole rest.stays lead in
@@ -267,10 +288,12 @@ module _ (machine : Scope) (w : IsWellNamed machine) where
         let number : number_or_0 (map outlined (standing machine)) n ≡ own.number = ap (λ o. unwrap_or o 0) own.found in
         let end : Shape = or_never (child_end parent (certified certificate n) i) in
         let ends : EndsInside s.number end = λ shape stays.
-        let placed : taken_at (Some (PartOf (number_or_0 (map outlined (standing machine)) n) (2 + found.child))) shape draft ≡ draft = subst (λ o. taken_at (option_map (λ (p : Placement). end_target p.owner) o) shape draft ≡ draft) s.placed stays in
-        let taken : taken_at (Some (PartOf own.number (2 + found.child))) shape draft ≡ draft = subst (λ k. taken_at (Some (PartOf k (2 + found.child))) shape draft ≡ draft) number placed in
-        let part = part-inside table draft own.number (2 + found.child) (StateOf above (kind_outline parent)) shape is own.shown found.within taken in
-        let same : end ≡ part.shape = ap (λ o. or_never (child_end parent o i)) (certified-at own.number n (StateOf above (kind_outline parent)) own.named own.shown) ∙ found.end (map (λ (g : Growth). g.shape) (unwrap_or (slice_get draft.entries own.number) [])) part.shape part.at in
+        let placed : taken_at (Some (End (number_or_0 (map outlined (standing machine)) n) found.child)) shape draft ≡ draft = subst (λ o. taken_at (option_map (λ (p : Placement). end_target p.owner) o) shape draft ≡ draft) s.placed stays in
+        let taken : taken_at (Some (End own.number found.child)) shape draft ≡ draft = subst (λ k. taken_at (Some (End k found.child)) shape draft ≡ draft) number placed in
+        let row : Row = record { number = own.number; name = n; state = StateOf above (kind_outline parent) } in
+        let has = entry-there table draft own.number (StateOf above (kind_outline parent)) is own.shown in
+        let part = end-stays draft own.number (kind_outline parent) found.child shape has found.within taken in
+        let same : end ≡ part.shape = ap (λ o. or_never (child_end parent o i)) (certified-at own.number n (StateOf above (kind_outline parent)) own.named own.shown ∙ ap Some (entry-of draft row has)) ∙ found.end has.entry part.shape part.at in
         subst (Inside shape) (sym same) part.inside in
         closed-at (child_scope parent i) (scope_of_child n (StateOf above parent) i is_scope e) m settings kind f s.number s.named s.shown end ends
 
@@ -285,8 +308,8 @@ module _ (machine : Scope) (w : IsWellNamed machine) where
             let at : slice_get table.placements 0 ≡ Some (placement_of (map outlined (standing machine)) (outlined (record { name = first; state = state; start = start; owner = None }))) = subst (λ (x : Scope). slice_get (table_of x).placements 0 ≡ Some (placement_of (map outlined (standing x)) (outlined (record { name = first; state = state; start = start; owner = None })))) same refl in
             let starts : start ≡ start_of machine = ap start_of same in
             let number : number_or_0 (map outlined (standing machine)) start ≡ led.number = ap (λ n. number_or_0 (map outlined (standing machine)) n) starts ∙ ap (λ o. unwrap_or o 0) led.found in
-            let placed : taken_at (Some (PartOf (number_or_0 (map outlined (standing machine)) start) 0)) declared.input draft ≡ draft = subst (λ o. taken_at (option_map (λ (p : Placement). PartOf p.start 0) o) declared.input draft ≡ draft) at stays in
-            input-inside led.number (start_of machine) led.state declared.input led.named led.shown (subst (λ k. taken_at (Some (PartOf k 0)) declared.input draft ≡ draft) number placed)
+            let placed : taken_at (Some (Input (number_or_0 (map outlined (standing machine)) start))) declared.input draft ≡ draft = subst (λ o. taken_at (option_map (λ (p : Placement). Input p.start) o) declared.input draft ≡ draft) at stays in
+            input-inside led.number (start_of machine) led.state declared.input led.named led.shown (subst (λ k. taken_at (Some (Input k)) declared.input draft ≡ draft) number placed)
 
     -- ---- names
 
@@ -357,7 +380,7 @@ module _ (machine : Scope) (w : IsWellNamed machine) where
     tasks-named certificate none n = (to, from)
       where
         parts : (undeclared declared (rows_of table) ≡ []) × (unknown (rows_of table) declared.tasks ≡ [])
-        parts = append-none (undeclared declared (rows_of table)) (unknown (rows_of table) declared.tasks) none
+        parts = append-none (undeclared declared (rows_of table)) (unknown (rows_of table) declared.tasks) (ordered-none (λ (found : Finding). found.state) (undeclared declared (rows_of table) ++ unknown (rows_of table) declared.tasks) none)
 
         task-there : (settings : Settings) (kind : Kind) (end : Option Shape) → HasState machine certificate n settings kind end → is_task kind ≡ true → IsTrue (names_task machine n)
         task-there settings kind end has task =
@@ -379,13 +402,13 @@ module _ (machine : Scope) (w : IsWellNamed machine) where
             row-declared (rows_of table) parts.0 (record { number = at.number; name = n; state = StateOf found.0 (Task found.1) }) (row-there table at.number n (StateOf found.0 (Task found.1)) at.named at.shown) refl
 
 -- a draft that a round leaves as it is comes to a closed certificate
-pub settled-closed : (machine : Scope) (declared : Declared) (rounds : ℕ) (draft : Draft) → IsWellNamed machine → misnamed (table_of machine) declared ≡ [] → after_rounds (table_of machine) declared rounds ≡ Ok draft → round (table_of machine) declared draft ≡ Ok draft → IsClosed declared (certificate_of (table_of machine) draft) machine
-settled-closed machine declared rounds draft w none comes stays =
+pub settled-closed : (machine : Scope) (declared : Declared) (rounds : ℕ) (draft : Draft) → IsWellNamed machine → after_rounds (table_of machine) declared rounds ≡ Ok draft → round (table_of machine) declared draft ≡ Ok draft → IsClosed declared (certificate_of (table_of machine) draft) machine
+settled-closed machine declared rounds draft w comes stays =
     let is = rounds-are (table_of machine) declared rounds draft comes in
     let rests = settled-rests (table_of machine) declared draft stays in
     record {
       no_other_entry = no-other machine w declared draft is rests.1;
-      tasks = tasks-named machine w declared (certificate_of (table_of machine) draft) none;
+      tasks = tasks-named machine w declared (certificate_of (table_of machine) draft) (names-right (table_of machine) declared rounds draft comes);
       start = start-inside machine w declared draft is rests.1 rests.0;
       own = own-closed machine w declared draft is rests.1;
       children = λ scope is_scope n state e i. child-closed machine w declared draft is rests.1 scope is_scope n state e i;

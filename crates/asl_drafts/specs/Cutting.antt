@@ -1,19 +1,14 @@
 -- Shapes cut to a depth, so that a shape can't grow without end.
 use Rattle.std.specs.Prelude.{ℕ, zero, suc}
-use Rattle.asl_model.specs.Shape.{Shape, Any, Never, NullShape, BooleanShape, IntegerShape, StringShape, ArrayShape, ObjectShape, Shapes, NoShapes, AndShape, FieldShapes, NoFieldShapes, AndFieldShape}
+use Rattle.asl_model.specs.Shape.{Shape, Any, ArrayShape, ObjectShape, Shapes, NoShapes, AndShape, FieldShapes, NoFieldShapes, AndFieldShape}
 
 abbrev mutual
   -- the shape down to so many levels, the outermost counted: Any stands for each shape below them
   pub cut_to : ℕ → Shape → Shape
   cut_to zero s = Any
-  cut_to (suc levels) Any = Any
-  cut_to (suc levels) Never = Never
-  cut_to (suc levels) NullShape = NullShape
-  cut_to (suc levels) BooleanShape = BooleanShape
-  cut_to (suc levels) IntegerShape = IntegerShape
-  cut_to (suc levels) StringShape = StringShape
   cut_to (suc levels) (ArrayShape first rest) = ArrayShape (cut_elements_to levels first) (cut_to levels rest)
   cut_to (suc levels) (ObjectShape shapes extra) = ObjectShape (cut_fields_to levels shapes) extra
+  cut_to (suc levels) s = s
 
   -- so for each of the shapes
   pub cut_elements_to : ℕ → Shapes → Shapes

@@ -1,16 +1,17 @@
 -- States that may be passed over in a round: a walk through them would change nothing.
 use Rattle.std.specs.Prelude.{◌≡◌, ◌≢◌, ℕ, suc, List, [], ◌∷◌, Bool, IsTrue, Option, Some, None}
-use mathlib.Core.Logic.{◌⊎◌}
 use Rattle.asl_model.specs.Certificate.{Declared, takes_of}
 use Rattle.asl_model.specs.Edges.{Walked, Flows, Breaks}
 use Rattle.asl_model.specs.Numbering.{Table}
 use Rattle.asl_model.specs.Shape.{Shape}
-use Rattle.asl_drafts.specs.Drafts.{Draft, Row, Target, MachineOutput, PartOf, target_of, taken_at, own_breaches, steps_of}
+use Rattle.asl_drafts.specs.Drafts.{Draft, Row, Target, MachineOutput, Input, Output, End, target_of, taken_at, own_breaches, steps_of}
 
 -- the state of that number doesn't look at the shape: no state looks at its own output, nor at the machine's
 abbrev pub IsPassedBy : ℕ → Target → Type 0
 IsPassedBy n MachineOutput = Unit {0}
-IsPassedBy n (PartOf m i) = (m ≢ n) ⊎ (i ≡ 1)
+IsPassedBy n (Input m) = m ≢ n
+IsPassedBy n (Output m) = Unit {0}
+IsPassedBy n (End m child) = m ≢ n
 
 -- What is remembered: whether that shape flowed into that one, from the state of that number, along the edge at that
 -- place among its edges.

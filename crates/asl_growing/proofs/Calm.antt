@@ -29,7 +29,9 @@ use Rattle.asl_growing.specs.declared.walker.Walker.{Walker}
 
 pub meant-same : (t : Target) → target_meant (target_view t) ≡ t
 meant-same target.MachineOutput = refl
-meant-same (target.Part state place) = refl
+meant-same (target.Input state) = refl
+meant-same (target.Output state) = refl
+meant-same (target.End state child) = refl
 
 pub recalled : (table : List Shape) (o : Option ℕ) (s : Shape) → IsTrue (has_shape table o s) → (f : ℕ) × (o ≡ Some f) × (f < length table) × (shape_at table f ≡ s)
 recalled table None s h = absurd (false≢true h)

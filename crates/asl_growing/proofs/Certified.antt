@@ -1,23 +1,21 @@
 -- The certificate that a draft comes to.
-use Rattle.std.proofs.Common.{◌≡◌, ◌<◌, ◌≤◌, ℕ, zero, suc, List, [], ◌∷◌, length, drop, map, Bool, true, false, Vec, Option, Some, None, option_map, slice_get, String, Global, string_bytes, string_cmp, Bor, Result, Ok, Err, IfOk, if◌then◌else◌, Ordering, Less, Equal, Greater, refl, sym, ap, ◌∙◌, subst, arith}
+use Rattle.std.proofs.Common.{◌≡◌, ◌<◌, ◌≤◌, ℕ, zero, suc, List, [], ◌∷◌, length, map, Bool, true, false, Option, Some, None, option_map, slice_get, String, Global, string_bytes, string_cmp, Bor, Result, Ok, Err, IfOk, if◌then◌else◌, Ordering, Less, Equal, Greater, refl, sym, ap, ◌∙◌, subst, arith}
 use Rattle.std.specs.BTreeMap.{insert_entry}
 use Rattle.std.specs.List.{All, AllByRecursion}
 use Rattle.std.specs.Option.{unwrap_or}
 use Rattle.std.specs.Ordering.{match_ordering}
 use Rattle.std.specs.Prelude.{IfSome}
 use Rattle.std.proofs.lemmas.List.Elements.{All-head, All-tail}
-use Rattle.asl_model.specs.Certificate.{StateShapes, Certificate, is_map, or_never}
+use Rattle.asl_model.specs.Certificate.{StateShapes, Certificate, is_map}
 use Rattle.asl_model.specs.Machine.{Kind, State, kind_of}
 use Rattle.asl_model.specs.Numbering.{Table}
 use Rattle.asl_model.specs.RecordShapes.{HoldsForCertificate, HoldsForState}
 use Rattle.asl_model.specs.Shape.{Shape, Never}
 use Rattle.asl_model.specs.ShapeSpelling.{are_distinct}
 use Rattle.asl_model.proofs.RunOptions.{none_some, some_inj}
-use Rattle.asl_drafts.specs.Drafts.{Growth, certificate_of, entry_of, entry_with}
+use Rattle.asl_drafts.specs.Drafts.{DraftEntry, Growth, certificate_of, entry_of, entry_with, first_entry}
 use Rattle.asl_numbered.specs.declared.node.Node.{Node}
-use Rattle.asl_numbered.specs.Expansion.{expansions, shape_at, AreBelow}
-use Rattle.asl_numbered.specs.Joins.{Shows}
-use Rattle.asl_numbered.proofs.Expansions.{keeps_same}
+use Rattle.asl_numbered.specs.Expansion.{expansions, shape_at}
 use Rattle.asl_edges.specs.Entry.{entry_view as shapes_view, IsEntryBelow}
 use Rattle.asl_edges.specs.declared.found.Entry.{Entry}
 use Rattle.asl_records.specs.Numbered.{numbered_entries, numbered_view, numbers_view, AreNumbersBelow, AreWithin}
@@ -25,13 +23,12 @@ use Rattle.asl_records.specs.declared.records.NumberedCertificate.{NumberedCerti
 use Rattle.asl_records.specs.declared.records.StateNumbers.{StateNumbers}
 use Rattle.asl_growing.specs.Certified.{entry_certified, row_certified, AreCertified, AreNumbersOf, IsCertified, IsFit}
 use Rattle.asl_growing.specs.Cutting.{IsShallow}
-use Rattle.asl_growing.specs.Drafted.{draft_view, numbers_in}
+use Rattle.asl_growing.specs.Drafted.{draft_view, shapes_of}
 use Rattle.asl_growing.specs.Entries.{entries_view}
 use Rattle.asl_growing.specs.Growing.{growth_view, IsEntryGrown, IsGrown}
 use Rattle.asl_growing.specs.declared.draft.Draft.{Draft}
+use Rattle.asl_growing.specs.declared.entries.DraftEntry as code
 use Rattle.asl_growing.specs.declared.growing.Growing.{Growing}
-use Rattle.asl_growing.proofs.DraftViews.{numbers-below, numbers-shown}
-use Rattle.asl_growing.proofs.Kept.{among}
 use Rattle.asl_growing.proofs.Ordered.{IsPut, placed-at, placed-none}
 
 -- ---- the shapes of an entry have few levels
@@ -39,51 +36,47 @@ use Rattle.asl_growing.proofs.Ordered.{IsPut, placed-at, placed-none}
 never-shallow : IsShallow Never
 never-shallow = omega arith
 
-first-shallow : (shapes : List Shape) (i : ℕ) → AllByRecursion IsShallow shapes → IsShallow (or_never (slice_get shapes i))
-first-shallow [] i h = never-shallow
-first-shallow (s ∷ shapes) zero h = h.0
-first-shallow (s ∷ shapes) (suc i) h = first-shallow shapes i h.1
+item-shallow : (shapes : List Shape) → AllByRecursion IsShallow shapes → IfSome (slice_get shapes 0) IsShallow
+item-shallow [] h = tt
+item-shallow (s ∷ shapes) h = h.0
 
-behind-shallow : (shapes : List Shape) (i : ℕ) → AllByRecursion IsShallow shapes → AllByRecursion IsShallow (drop i shapes)
-behind-shallow [] zero h = h
-behind-shallow [] (suc i) h = h
-behind-shallow (s ∷ shapes) zero h = h
-behind-shallow (s ∷ shapes) (suc i) h = behind-shallow shapes i h.1
+-- all shapes of an entry have few levels
+record AreEntryShallow (entry : DraftEntry) : Type 0 where
+  pub input : IsShallow entry.input.shape
+  pub output : IsShallow entry.output.shape
+  pub ends : AllByRecursion IsShallow (map (λ (g : Growth). g.shape) entry.ends)
 
-item-shallow : (shapes : List Shape) (i : ℕ) → AllByRecursion IsShallow shapes → IfSome (slice_get shapes i) IsShallow
-item-shallow [] i h = tt
-item-shallow (s ∷ shapes) zero h = h.0
-item-shallow (s ∷ shapes) (suc i) h = item-shallow shapes i h.1
-
-entry-shallow : (kind : Kind) (shapes : List Shape) → AllByRecursion IsShallow shapes → HoldsForState IsShallow (entry_with kind shapes)
-entry-shallow kind shapes h = record {
-  input = first-shallow shapes 0 h;
-  output = first-shallow shapes 1 h;
+entry-shallow : (kind : Kind) (entry : DraftEntry) → AreEntryShallow entry → HoldsForState IsShallow (entry_with kind entry)
+entry-shallow kind entry h = record {
+  input = h.input;
+  output = h.output;
   branches = branches (is_map kind);
   item = item (is_map kind);
 }
   where
-    branches : (m : Bool) → AllByRecursion IsShallow (if m then [] else drop 2 shapes)
+    branches : (m : Bool) → AllByRecursion IsShallow (if m then [] else map (λ (g : Growth). g.shape) entry.ends)
     branches true = tt
-    branches false = behind-shallow shapes 2 h
+    branches false = h.ends
 
-    item : (m : Bool) → IfSome (if m then slice_get shapes 2 else None) IsShallow
-    item true = item-shallow shapes 2 h
+    item : (m : Bool) → IfSome (if m then slice_get (map (λ (g : Growth). g.shape) entry.ends) 0 else None) IsShallow
+    item true = item-shallow (map (λ (g : Growth). g.shape) entry.ends) h.ends
     item false = tt
 
 growths-shallow : (nodes : List Node) (gs : List Growing) → All (IsGrown nodes) gs → AllByRecursion IsShallow (map (λ (g : Growth). g.shape) (map (growth_view (expansions nodes)) gs))
 growths-shallow nodes [] h = tt
 growths-shallow nodes (g ∷ gs) h = ((All-head (IsGrown nodes) g gs h).shallow, growths-shallow nodes gs (All-tail (IsGrown nodes) g gs h))
 
-entries-shallow : (nodes : List Node) (entries : List (Vec Growing Global)) (n : ℕ) → All (IsEntryGrown nodes) entries → AllByRecursion IsShallow (map (λ (g : Growth). g.shape) (unwrap_or (slice_get (entries_view (expansions nodes) entries) n) []))
-entries-shallow nodes [] n h = tt
-entries-shallow nodes (e ∷ es) zero h = growths-shallow nodes e.items (All-head (IsEntryGrown nodes) e es h)
+entries-shallow : (nodes : List Node) (entries : List code.DraftEntry) (n : ℕ) → All (IsEntryGrown nodes) entries → AreEntryShallow (unwrap_or (slice_get (entries_view (expansions nodes) entries) n) (first_entry 0))
+entries-shallow nodes [] n h = record { input = never-shallow; output = never-shallow; ends = tt }
+entries-shallow nodes (e ∷ es) zero h =
+    let is = All-head (IsEntryGrown nodes) e es h in
+    record { input = is.input.shallow; output = is.output.shallow; ends = growths-shallow nodes e.ends.items is.ends }
 entries-shallow nodes (e ∷ es) (suc n) h = entries-shallow nodes es n (All-tail (IsEntryGrown nodes) e es h)
 
 -- ---- an entry
 
-is-certified : (draft : Draft) (number : ℕ) (kind : Kind) (numbers : List ℕ) (entry : Entry) (made : StateNumbers) → numbers ≡ numbers_in draft number → shapes_view (expansions draft.store) entry ≡ entry_with kind (map (shape_at (expansions draft.store)) numbers) → IsEntryBelow (length draft.store) entry → AreNumbersOf entry made → IsCertified draft number kind made
-is-certified draft number kind numbers entry made are shown below of = record {
+is-certified : (draft : Draft) (number : ℕ) (kind : Kind) (entry : Entry) (made : StateNumbers) → shapes_view (expansions draft.store) entry ≡ shapes_of (draft_view draft) number kind → IsEntryBelow (length draft.store) entry → AreNumbersOf entry made → IsCertified draft number kind made
+is-certified draft number kind entry made shown below of = record {
   shown = whole;
   fit = record {
     below = record {
@@ -99,15 +92,13 @@ is-certified draft number kind numbers entry made are shown below of = record {
     same : numbers_view (expansions draft.store) made ≡ shapes_view (expansions draft.store) entry
     same = rw (of.input, of.output, of.branches, of.item) refl
 
-    whole : numbers_view (expansions draft.store) made ≡ entry_of (draft_view draft) number kind
-    whole = same ∙ (shown ∙ ap (entry_with kind) (ap (map (shape_at (expansions draft.store))) are ∙ numbers-shown draft.store draft.store draft.entries.items number (keeps_same (expansions draft.store)) draft.entries_grown.each))
+    whole : numbers_view (expansions draft.store) made ≡ shapes_of (draft_view draft) number kind
+    whole = same ∙ shown
 
 -- where it is made
-pub all-certified : {E : Type 0} (r : Result StateNumbers E) (draft : Draft) (number never : ℕ) (kind : Kind) (numbers : List ℕ) (entry : Entry) → Shows (expansions draft.store) Never never → numbers ≡ numbers_in draft number → ((table : List Shape) → shape_at table never ≡ Never → shapes_view table entry ≡ entry_with kind (map (shape_at table) numbers)) → ((bound : ℕ) → never < bound → AreBelow bound numbers → IsEntryBelow bound entry) → IfOk r (AreNumbersOf entry) → IfOk r (IsCertified draft number kind)
-all-certified (Err e) draft number never kind numbers entry none are shown below of = tt
-all-certified (Ok made) draft number never kind numbers entry none are shown below of =
-    let within : AreBelow (length draft.store) numbers = subst (AreBelow (length draft.store)) (sym are) (numbers-below draft.store draft.entries.items number draft.entries_grown.each) in
-    is-certified draft number kind numbers entry made are (shown (expansions draft.store) none.same) (below (length draft.store) (among draft.store never none.within) within) of
+pub all-certified : {E : Type 0} (r : Result StateNumbers E) (draft : Draft) (number : ℕ) (kind : Kind) (entry : Entry) → shapes_view (expansions draft.store) entry ≡ shapes_of (draft_view draft) number kind → IsEntryBelow (length draft.store) entry → IfOk r (AreNumbersOf entry) → IfOk r (IsCertified draft number kind)
+all-certified (Err e) draft number kind entry shown below of = tt
+all-certified (Ok made) draft number kind entry shown below of = is-certified draft number kind entry made shown below of
 
 -- ---- the entries
 
@@ -131,7 +122,7 @@ module _ (table : Table) (draft : Draft) where
   -- a state whose name is missing
   pub certified-nameless : (number : ℕ) (es : List Certified) (name : Option (Bor (List ℕ))) → number < length table.states → option_map (λ (n : Bor (List ℕ)). n.now) name ≡ slice_get table.names number → ((k : Bor (List ℕ)) → name ≡ Some k → ⊥) → AreCertified table draft (suc number) es → AreCertified table draft number es
   certified-nameless number es name within named nameless are = record {
-    rows = placed-at string_cmp string_bytes (numbers_view (expansions draft.store)) (λ row. entry_of (draft_view draft) row.number (kind_of row.state)) (λ x y. refl) table number es es within (λ none. refl) (λ n state some at. none_some (sym (ap (option_map (λ (m : Bor (List ℕ)). m.now)) (missing name refl)) ∙ (named ∙ some))) are.rows;
+    rows = placed-at string_cmp string_bytes (numbers_view (expansions draft.store)) (entry_of (draft_view draft)) (λ x y. refl) table number es es within (λ none. refl) (λ n state some at. none_some (sym (ap (option_map (λ (m : Bor (List ℕ)). m.now)) (missing name refl)) ∙ (named ∙ some))) are.rows;
     fit = are.fit;
   }
     where
@@ -142,15 +133,15 @@ module _ (table : Table) (draft : Draft) where
   -- one more
   pub certified-more : (number : ℕ) (es new : List Certified) (name : Option (Bor (List ℕ))) (n : Bor (List ℕ)) (state : State) (k : String Global) (made : StateNumbers) → number < length table.states → option_map (λ (m : Bor (List ℕ)). m.now) name ≡ slice_get table.names number → name ≡ Some n → Some state ≡ slice_get table.states number → string_bytes k ≡ n.now → IsCertified draft number (kind_of state) made → new ≡ insert_entry string_cmp es k made → AreCertified table draft (suc number) es → AreCertified table draft number new
   certified-more number es new name n state k made within named is found key certified put are = record {
-    rows = placed-at string_cmp string_bytes (numbers_view (expansions draft.store)) (λ row. entry_of (draft_view draft) row.number (kind_of row.state)) (λ x y. refl) table number es new within (λ none. none_some (sym none ∙ there)) (λ m other some at. one m other (some_inj (sym there ∙ some)) (some_inj (found ∙ at))) are.rows;
+    rows = placed-at string_cmp string_bytes (numbers_view (expansions draft.store)) (entry_of (draft_view draft)) (λ x y. refl) table number es new within (λ none. none_some (sym none ∙ there)) (λ m other some at. one m other (some_inj (sym there ∙ some)) (some_inj (found ∙ at))) are.rows;
     fit = subst (AllByRecursion (λ (entry : Certified). IsFit draft.store entry.1)) (sym put) (put-fit (λ (entry : Certified). IsFit draft.store entry.1) es k made (λ m. certified.fit) are.fit);
   }
     where
       there : slice_get table.names number ≡ Some n.now
       there = sym named ∙ ap (option_map (λ (m : Bor (List ℕ)). m.now)) is
 
-      one : (m : List ℕ) (other : State) → n.now ≡ m → state ≡ other → IsPut string_cmp string_bytes (numbers_view (expansions draft.store)) (λ row. entry_of (draft_view draft) row.number (kind_of row.state)) es new (record { number = number; name = m; state = other })
-      one m other same alike = record { name = k; value = made; put = put; named = key ∙ same; same = certified.shown ∙ ap (λ s. entry_of (draft_view draft) number (kind_of s)) alike }
+      one : (m : List ℕ) (other : State) → n.now ≡ m → state ≡ other → IsPut string_cmp string_bytes (numbers_view (expansions draft.store)) (entry_of (draft_view draft)) es new (record { number = number; name = m; state = other })
+      one m other same alike = record { name = k; value = made; put = put; named = key ∙ same; same = certified.shown ∙ ap (λ s. shapes_of (draft_view draft) number (kind_of s)) alike }
 
 -- ---- the certificate
 

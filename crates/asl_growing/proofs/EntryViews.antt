@@ -1,24 +1,22 @@
 -- Entries of a draft in which one shape has changed.
-use Rattle.std.proofs.Common.{◌≡◌, ◌<◌, ◌≤◌, ◌+◌, ◌-◌, ℕ, zero, suc, List, [], ◌∷◌, ◌++◌, length, get_or, map, slice_get, slice_set, sum_by, take, drop, if◌then◌else◌, Bool, Bor, Vec, String, Option, Some, None, option_map, true, false, Result, Ok, Err, IfOk, refl, sym, ap, ap₂, ◌∙◌, subst, arith}
+use Rattle.std.proofs.Common.{◌≡◌, ◌<◌, ◌≤◌, ◌+◌, ℕ, zero, suc, List, [], ◌∷◌, ◌++◌, length, get_or, map, slice_get, slice_set, sum_by, take, Bool, Bor, Vec, String, Option, Some, option_map, true, false, Result, Ok, Err, IfOk, refl, sym, ap, ap₂, ◌∙◌, subst, arith}
 use Rattle.std.specs.List.{All}
 use Rattle.std.specs.declared.alloc.Global.{Global}
 use Rattle.std.proofs.lemmas.List.Elements.{All-head, All-tail, All-weaker}
 use Rattle.std.proofs.lemmas.List.Sums.{sum_by-cons}
 use Rattle.std.proofs.lemmas.List.{map-append}
-use Rattle.std.proofs.lemmas.List.{take_all}
-use Rattle.asl_model.specs.Certificate.{is_map}
-use Rattle.asl_model.specs.Machine.{Kind, State, how_many}
-use Rattle.asl_edges.specs.Entry.{entry_view as shapes_view}
-use Rattle.asl_edges.specs.declared.found.Entry.{Entry}
+use Rattle.asl_model.specs.Machine.{State, how_many}
 use Rattle.asl_model.specs.Shape.{Shape}
 use Rattle.asl_model.proofs.RunOptions.{none_some, some_inj}
 use Rattle.asl_states.specs.Machine.{branches_view, state_view}
-use Rattle.asl_states.specs.declared.states.State as code
-use Rattle.asl_drafts.specs.Drafts.{Growth, entry_with, taken_in, with_element}
+use Rattle.asl_states.specs.declared.states.State as states
+use Rattle.asl_drafts.specs.Drafts.{DraftEntry, Growth, taken_in, with_element}
 use Rattle.asl_numbered.specs.declared.node.Node.{Node}
-use Rattle.asl_numbered.specs.Expansion.{expansions, shape_at, Keeps}
-use Rattle.asl_growing.specs.Entries.{Makes, entries_view, entry_view}
-use Rattle.asl_growing.specs.Growing.{AreGrown, IsEntryGrown, IsGrown, Takes, growth_view}
+use Rattle.asl_numbered.specs.Expansion.{expansions, Keeps}
+use Rattle.asl_growing.specs.Entries.{Makes, ends_room, ends_view, entries_view, entry_room, entry_view, made_part}
+use Rattle.asl_growing.specs.Growing.{AreEndsGrown, AreGrown, IsEntryGrown, IsGrown, Takes, growth_view}
+use Rattle.asl_growing.specs.declared.entries.DraftEntry as code
+use Rattle.asl_growing.specs.declared.entries.Part.TheVariants as part
 use Rattle.asl_growing.specs.declared.growing.Growing.{Growing}
 use Rattle.asl_growing.proofs.Kept.{shown}
 
@@ -78,6 +76,13 @@ module _ {A B : Type 0} (old new : A → B) (make : B → B) where
 
 -- ---- shapes
 
+-- an entry of those shapes
+abbrev pub parts : Growth → Growth → List Growth → DraftEntry
+parts input output ends = record { input = input; output = output; ends = ends }
+
+pub parts-same : {i i' o o' : Growth} {es es' : List Growth} → i ≡ i' → o ≡ o' → es ≡ es' → parts i o es ≡ parts i' o' es'
+parts-same {i} {i'} {o} {o'} {es} {es'} input output ends = ap₂ (λ x y. parts x y es) input output ∙ ap (parts i' o') ends
+
 -- what a growing shape takes in is made of it
 takes-makes : (flowing : Shape) (before after : Growth) (changed : Bool) → Takes before flowing changed after → Makes (λ g. g.changes_left) (taken_in flowing) before changed after
 takes-makes flowing before after true takes = record { made = takes.grown; told = takes.told }
@@ -94,14 +99,64 @@ growth-kept a b g keeps is = ap (λ (s : Shape). let growth : Growth = record { 
 pub growths-kept : (a b : List Node) (gs : List Growing) → Keeps (expansions a) (expansions b) → All (IsGrown a) gs → All (λ g. growth_view (expansions b) g ≡ growth_view (expansions a) g) gs
 growths-kept a b gs keeps are = All-weaker (IsGrown a) (λ g. growth_view (expansions b) g ≡ growth_view (expansions a) g) (λ g is. growth-kept a b g keeps is) gs are
 
-pub entry-same : (a b : List Node) (entry : Vec Growing Global) → Keeps (expansions a) (expansions b) → IsEntryGrown a entry → entry_view (expansions b) entry ≡ entry_view (expansions a) entry
-entry-same a b entry keeps are = same-all (growth_view (expansions a)) (growth_view (expansions b)) (λ g. g) entry.items (growths-kept a b entry.items keeps are)
+pub ends-same : (a b : List Node) (ends : Vec Growing Global) → Keeps (expansions a) (expansions b) → AreEndsGrown a ends → ends_view (expansions b) ends ≡ ends_view (expansions a) ends
+ends-same a b ends keeps are = same-all (growth_view (expansions a)) (growth_view (expansions b)) (λ g. g) ends.items (growths-kept a b ends.items keeps are)
 
-pub entries-same : (a b : List Node) (entries : List (Vec Growing Global)) → Keeps (expansions a) (expansions b) → AreGrown a entries → All (λ entry. entry_view (expansions b) entry ≡ entry_view (expansions a) entry) entries
+pub entry-same : (a b : List Node) (entry : code.DraftEntry) → Keeps (expansions a) (expansions b) → IsEntryGrown a entry → entry_view (expansions b) entry ≡ entry_view (expansions a) entry
+entry-same a b entry keeps are = parts-same (growth-kept a b entry.input keeps are.input) (growth-kept a b entry.output keeps are.output) (ends-same a b entry.ends keeps are.ends)
+
+pub entries-same : (a b : List Node) (entries : List code.DraftEntry) → Keeps (expansions a) (expansions b) → AreGrown a entries → All (λ entry. entry_view (expansions b) entry ≡ entry_view (expansions a) entry) entries
 entries-same a b entries keeps are = All-weaker (IsEntryGrown a) (λ entry. entry_view (expansions b) entry ≡ entry_view (expansions a) entry) (λ entry is. entry-same a b entry keeps is) entries are.each
 
-pub all-entries-same : (a b : List Node) (entries : List (Vec Growing Global)) → Keeps (expansions a) (expansions b) → AreGrown a entries → entries_view (expansions b) entries ≡ entries_view (expansions a) entries
+pub all-entries-same : (a b : List Node) (entries : List code.DraftEntry) → Keeps (expansions a) (expansions b) → AreGrown a entries → entries_view (expansions b) entries ≡ entries_view (expansions a) entries
 all-entries-same a b entries keeps are = same-all (entry_view (expansions a)) (entry_view (expansions b)) (λ e. e) entries (entries-same a b entries keeps are)
+
+-- ---- one of the shapes of an entry has changed
+
+module _ (make : Growth → Growth) (before after output other : Growth) (ends others : List Growth) where
+  input-makes : (changed : Bool) → other ≡ output → others ≡ ends → Makes (λ g. g.changes_left) make before changed after → Makes entry_room (made_part part.Input make) (parts before output ends) changed (parts after other others)
+  input-makes true same alike makes = record {
+    made = parts-same makes.made same alike;
+    told = (let less : after.changes_left < before.changes_left = makes.told in omega (arith, less, ap (λ (g : Growth). g.changes_left) same, ap ends_room alike));
+  }
+  input-makes false same alike makes = record { made = parts-same makes.made same alike; told = parts-same makes.told same alike }
+
+  output-makes : (changed : Bool) → other ≡ output → others ≡ ends → Makes (λ g. g.changes_left) make before changed after → Makes entry_room (made_part part.Output make) (parts output before ends) changed (parts other after others)
+  output-makes true same alike makes = record {
+    made = parts-same same makes.made alike;
+    told = (let less : after.changes_left < before.changes_left = makes.told in omega (arith, less, ap (λ (g : Growth). g.changes_left) same, ap ends_room alike));
+  }
+  output-makes false same alike makes = record { made = parts-same same makes.made alike; told = parts-same same makes.told alike }
+
+end-makes : (make : Growth → Growth) (child : ℕ) (input input' output output' : Growth) (before after : List Growth) (changed : Bool) → input' ≡ input → output' ≡ output → Makes ends_room (with_element child make) before changed after → Makes entry_room (made_part (part.End child) make) (parts input output before) changed (parts input' output' after)
+end-makes make child input input' output output' before after true same alike makes = record {
+  made = parts-same same alike makes.made;
+  told = (let less : ends_room after < ends_room before = makes.told in omega (arith, less, ap (λ (g : Growth). g.changes_left) same, ap (λ (g : Growth). g.changes_left) alike));
+}
+end-makes make child input input' output output' before after false same alike makes = record { made = parts-same same alike makes.made; told = parts-same same alike makes.told }
+
+-- so where the result is told
+module _ (s : Shape) (a b : List Node) (entry : code.DraftEntry) (keeps : Keeps (expansions a) (expansions b)) (is : IsEntryGrown a entry) where
+  input-kept : growth_view (expansions b) entry.input ≡ growth_view (expansions a) entry.input
+  input-kept = growth-kept a b entry.input keeps is.input
+
+  output-kept : growth_view (expansions b) entry.output ≡ growth_view (expansions a) entry.output
+  output-kept = growth-kept a b entry.output keeps is.output
+
+  ends-kept : ends_view (expansions b) entry.ends ≡ ends_view (expansions a) entry.ends
+  ends-kept = ends-same a b entry.ends keeps is.ends
+
+  pub input-made : {E : Type 0} (r : Result Bool E) (after : Growing) → IfOk r (λ changed. Takes (growth_view (expansions a) entry.input) s changed (growth_view (expansions b) after)) → IfOk r (λ changed. Makes entry_room (made_part part.Input (taken_in s)) (entry_view (expansions a) entry) changed (entry_view (expansions b) (record entry { input = after })))
+  input-made (Ok changed) after takes = input-makes (taken_in s) _ _ _ _ _ _ changed output-kept ends-kept (takes-makes s _ _ changed takes)
+  input-made (Err e) after takes = tt
+
+  pub output-made : {E : Type 0} (r : Result Bool E) (after : Growing) → IfOk r (λ changed. Takes (growth_view (expansions a) entry.output) s changed (growth_view (expansions b) after)) → IfOk r (λ changed. Makes entry_room (made_part part.Output (taken_in s)) (entry_view (expansions a) entry) changed (entry_view (expansions b) (record entry { output = after })))
+  output-made (Ok changed) after takes = output-makes (taken_in s) _ _ _ _ _ _ changed input-kept ends-kept (takes-makes s _ _ changed takes)
+  output-made (Err e) after takes = tt
+
+  pub end-made : {E : Type 0} (child : ℕ) (r : Result Bool E) (after : Vec Growing Global) → IfOk r (λ changed. Makes ends_room (with_element child (taken_in s)) (ends_view (expansions a) entry.ends) changed (ends_view (expansions b) after)) → IfOk r (λ changed. Makes entry_room (made_part (part.End child) (taken_in s)) (entry_view (expansions a) entry) changed (entry_view (expansions b) (record entry { ends = after })))
+  end-made child (Ok changed) after makes = end-makes (taken_in s) child _ _ _ _ _ _ changed input-kept output-kept makes
+  end-made child (Err e) after makes = tt
 
 -- ---- new entries
 
@@ -116,32 +171,13 @@ take-next (y ∷ ys) zero x h = ap (λ z. z ∷ []) (some_inj h)
 take-next (y ∷ ys) (suc i) x h = let e : suc i + 1 ≡ suc (i + 1) = omega arith in rw e (ap (λ zs. y ∷ zs) (take-next ys i x h))
 
 -- one more entry
-pub entries-next : (entry : State → List Growing) (all : List State) (i : ℕ) (state : State) (es more : List (Vec Growing Global)) (new : Vec Growing Global) → map (λ (e : Vec Growing Global). e.items) es ≡ map entry (take i all) → Some state ≡ slice_get all i → new.items ≡ entry state → more ≡ es ++ new ∷ [] → map (λ (e : Vec Growing Global). e.items) more ≡ map entry (take (i + 1) all)
-entries-next entry all i state es more new so_far at made pushed =
-    ap (map (λ (e : Vec Growing Global). e.items)) pushed
-    ∙ (map-append (λ (e : Vec Growing Global). e.items) es (new ∷ [])
+pub entries-next : {E W : Type 0} (seen : E → W) (entry : State → W) (all : List State) (i : ℕ) (state : State) (es more : List E) (new : E) → map seen es ≡ map entry (take i all) → Some state ≡ slice_get all i → seen new ≡ entry state → more ≡ es ++ new ∷ [] → map seen more ≡ map entry (take (i + 1) all)
+entries-next seen entry all i state es more new so_far at made pushed =
+    ap (map seen) pushed
+    ∙ (map-append seen es (new ∷ [])
     ∙ (ap₂ (λ xs y. xs ++ y ∷ []) so_far made
     ∙ (sym (map-append entry (take i all) (state ∷ [])) ∙ ap (map entry) (sym (take-next all i state (sym at))))))
 
 -- the state that is found at a number
-pub state_found : (o : Option (Bor code.State)) (state : Bor code.State) (all : List State) (i : ℕ) → o ≡ Some state → option_map (λ (s : Bor code.State). state_view s.now) o ≡ slice_get all i → Some (state_view state.now) ≡ slice_get all i
-state_found o state all i is found = subst (λ (x : Option (Bor code.State)). option_map (λ (s : Bor code.State). state_view s.now) x ≡ slice_get all i) is found
-
--- ---- the entry that is walked
-
--- the entry of the shapes of those numbers
-pub entry-shown : (table : List Shape) (kind : Kind) (ns : List ℕ) (e : Entry) → 2 ≤ length ns → e.input ≡ get_or ns 0 0 → e.output ≡ get_or ns 1 0 → e.branches.now ≡ (if is_map kind then [] else take (length ns - 2) (drop 2 ns)) → e.item ≡ (if is_map kind then slice_get (take (length ns - 2) (drop 2 ns)) 0 else None) → shapes_view table e ≡ entry_with kind (map (shape_at table) ns)
-entry-shown table kind [] e long input output branches item = absurd (omega (arith, long))
-entry-shown table kind (x ∷ []) e long input output branches item = absurd (omega (arith, long))
-entry-shown table kind (x ∷ (y ∷ ns)) e long input output branches item = by (is_map kind) refl (branches ∙ ap (λ ends. if is_map kind then [] else ends) all) (item ∙ ap (λ ends. if is_map kind then slice_get ends 0 else None) all)
-  where
-    all : take (length (x ∷ (y ∷ ns)) - 2) ns ≡ ns
-    all = take_all (length (x ∷ (y ∷ ns)) - 2) ns (omega arith)
-
-    first : (zs : List ℕ) → option_map (shape_at table) (slice_get zs 0) ≡ slice_get (map (shape_at table) zs) 0
-    first [] = refl
-    first (z ∷ zs) = refl
-
-    by : (m : Bool) → is_map kind ≡ m → e.branches.now ≡ (if is_map kind then [] else ns) → e.item ≡ (if is_map kind then slice_get ns 0 else None) → shapes_view table e ≡ entry_with kind (map (shape_at table) (x ∷ (y ∷ ns)))
-    by true is b i = rw (input, output, b, i, is, first ns) refl
-    by false is b i = rw (input, output, b, i, is) refl
+pub state_found : (o : Option (Bor states.State)) (state : Bor states.State) (all : List State) (i : ℕ) → o ≡ Some state → option_map (λ (s : Bor states.State). state_view s.now) o ≡ slice_get all i → Some (state_view state.now) ≡ slice_get all i
+state_found o state all i is found = subst (λ (x : Option (Bor states.State)). option_map (λ (s : Bor states.State). state_view s.now) x ≡ slice_get all i) is found

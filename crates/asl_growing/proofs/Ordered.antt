@@ -1,5 +1,5 @@
 -- The rows of a table in byte order of their names, as a map by name holds them.
-use Rattle.std.proofs.Common.{◌≡◌, ◌≢◌, ◌<◌, ◌≤◌, ◌+◌, ◌-◌, ℕ, zero, suc, List, [], ◌∷◌, length, drop, map, Bor, true, if◌then◌else◌, Option, Some, None, option_map, slice_get, Ordering, Less, Equal, Greater, nat_cmp, refl, sym, ap, ap₂, ◌∙◌, subst, inl, inr, arith}
+use Rattle.std.proofs.Common.{◌≡◌, ◌≢◌, ◌<◌, ◌≤◌, ◌+◌, ◌-◌, ℕ, zero, suc, List, [], ◌∷◌, length, drop, map, zip, Bor, true, if◌then◌else◌, Option, Some, None, option_map, slice_get, Ordering, Less, Equal, Greater, nat_cmp, refl, sym, ap, ap₂, ◌∙◌, subst, inl, inr, arith}
 use Rattle.std.specs.BTreeMap.{insert_entry}
 use Rattle.std.proofs.Math.ListN.{drop_of_length-le}
 use Rattle.std.specs.Ordering.{match_ordering, ordering_reverse, is_eq}
@@ -14,8 +14,8 @@ use Rattle.asl_model.specs.ShapeSpelling.{are_distinct}
 use Rattle.asl_model.specs.Tree.{comes_before}
 use Rattle.asl_model.proofs.NumberedRows.{one_number}
 use Rattle.asl_model.proofs.RunOptions.{none_some, some_inj}
-use Rattle.asl_drafts.specs.Drafts.{Row, in_name_order, rows_from, rows_of, with_row}
-use Rattle.asl_drafts.proofs.CertifiedRows.{Among, IsRowFrom, from-only, ordered-only}
+use Rattle.asl_drafts.specs.Drafts.{Row, in_name_order, rows_from, rows_of, with_named}
+use Rattle.asl_drafts.proofs.CertifiedRows.{Among, IsRowFrom, from-only, name_of, ordered-only}
 use Rattle.asl_drafts.proofs.DraftShapes.{there-within}
 use Rattle.asl_growing.specs.Order.{AreOrdered, IsPlaced, entry_seen, row_seen}
 
@@ -37,7 +37,7 @@ module _ {K V W : Type 0} (cmp : K → K → Ordering) (key : K → List ℕ) (s
 
   module _ (ordered : (x y : K) → cmp x y ≡ slice_cmp nat_cmp (key x) (key y)) where
     -- one more row is put into the map
-    insert-row : (es : List (K × V)) (rows : List Row) (k : K) (v : V) (row : Row) → key k ≡ row.name → seen v ≡ made row → map entry_as es ≡ map row_as rows → ((r : Row) → Among rows r → r.name ≢ row.name) → map entry_as (insert_entry cmp es k v) ≡ map row_as (with_row row rows)
+    insert-row : (es : List (K × V)) (rows : List Row) (k : K) (v : V) (row : Row) → key k ≡ row.name → seen v ≡ made row → map entry_as es ≡ map row_as rows → ((r : Row) → Among rows r → r.name ≢ row.name) → map entry_as (insert_entry cmp es k v) ≡ map row_as (with_named name_of row rows)
     insert-row [] [] k v row named same are others = ap₂ (λ n w. (n, w) ∷ []) named same
     insert-row [] (r ∷ rows) k v row named same are others = absurd (cc)
     insert-row (e ∷ es) [] k v row named same are others = absurd (cc)
@@ -59,8 +59,8 @@ module _ {K V W : Type 0} (cmp : K → K → Ordering) (key : K → List ℕ) (s
         back : slice_cmp nat_cmp r.name row.name ≡ ordering_reverse (cmp k e.0)
         back = nat_list_cmp_total.antisymm r.name row.name ∙ ap ordering_reverse (sym order)
 
-        by : (o : Ordering) → cmp k e.0 ≡ o → map entry_as (insert_entry cmp es k v) ≡ map row_as (with_row row rows)
-            → map entry_as (match_ordering o ((k, v) ∷ e ∷ es) ((e.0, v) ∷ es) (e ∷ insert_entry cmp es k v)) ≡ map row_as (if comes_before r.name row.name then r ∷ with_row row rows else row ∷ (r ∷ rows))
+        by : (o : Ordering) → cmp k e.0 ≡ o → map entry_as (insert_entry cmp es k v) ≡ map row_as (with_named name_of row rows)
+            → map entry_as (match_ordering o ((k, v) ∷ e ∷ es) ((e.0, v) ∷ es) (e ∷ insert_entry cmp es k v)) ≡ map row_as (if comes_before r.name row.name then r ∷ with_named name_of row rows else row ∷ (r ∷ rows))
         by Less is further =
             let greater : slice_cmp nat_cmp r.name row.name ≡ Greater = back ∙ ap ordering_reverse is in
             rw greater (ap₂ (λ p ps. p ∷ ps) (ap₂ (λ n w. (n, w)) named same) are)
@@ -90,7 +90,7 @@ drop-past [] (suc i) h = refl
 drop-past (y ∷ ys) zero h = none_some (sym h)
 drop-past (y ∷ ys) (suc i) h = drop-past ys i h
 
-no-rows : (i : ℕ) (names : List (List ℕ)) (states : List State) → states ≡ [] → rows_from i names states ≡ []
+no-rows : (i : ℕ) (names : List (List ℕ)) (states : List State) → states ≡ [] → rows_from i (zip names states) ≡ []
 no-rows i [] states none = refl
 no-rows i (n ∷ names) states none = rw none refl
 
@@ -99,7 +99,7 @@ no-rows i (n ∷ names) states none = rw none refl
 module _ {E W : Type 0} (seen : E → W) (made : Row → W) (table : Table) where
   -- none so far
   pub placed-none : (from : ℕ) → length table.states ≤ from → IsPlaced seen made table from []
-  placed-none from past = record { placed = λ distinct. sym (ap (λ rows. map made (in_name_order rows)) (no-rows from (drop from table.names) (drop from table.states) (drop_of_length-le table.states past))) }
+  placed-none from past = record { placed = λ distinct. sym (ap (λ rows. map made (in_name_order name_of rows)) (no-rows from (drop from table.names) (drop from table.states) (drop_of_length-le table.states past))) }
 
   -- a row whose name is missing
   placed-nameless : (from : ℕ) (es : List E) → slice_get table.names from ≡ None → IsPlaced seen made table (suc from) es → IsPlaced seen made table from es
@@ -107,7 +107,7 @@ module _ {E W : Type 0} (seen : E → W) (made : Row → W) (table : Table) wher
     placed = λ distinct.
         let none : drop from table.names ≡ [] = drop-past table.names from missing in
         let further : drop (suc from) table.names ≡ [] = past-more table.names from none in
-        is.placed distinct ∙ (ap (λ ns. map made (in_name_order (rows_from (suc from) ns (drop (suc from) table.states)))) further ∙ sym (ap (λ ns. map made (in_name_order (rows_from from ns (drop from table.states)))) none));
+        is.placed distinct ∙ (ap (λ ns. map made (in_name_order name_of (rows_from (suc from) (zip ns (drop (suc from) table.states))))) further ∙ sym (ap (λ ns. map made (in_name_order name_of (rows_from from (zip ns (drop from table.states))))) none));
   }
     where
       past-more : {A : Type 0} (xs : List A) (i : ℕ) → drop i xs ≡ [] → drop (suc i) xs ≡ []
@@ -125,10 +125,10 @@ module _ {K V W : Type 0} (cmp : K → K → Ordering) (key : K → List ℕ) (s
   placed-row from es new n state named at put is = record {
     placed = λ distinct.
         let row : Row = record { number = from; name = n; state = state } in
-        let further : List Row = rows_from (suc from) (drop (suc from) table.names) (drop (suc from) table.states) in
+        let further : List Row = rows_from (suc from) (zip (drop (suc from) table.names) (drop (suc from) table.states)) in
         ap (map (entry_as cmp key seen made)) put.put
-        ∙ (insert-row cmp key seen made ordered es (in_name_order further) put.name put.value row put.named put.same (is.placed distinct) (λ r h e. twice distinct r (from-only (suc from) (drop (suc from) table.names) (drop (suc from) table.states) r (ordered-only further r h)) e)
-        ∙ sym (ap₂ (λ ns ss. map (row_as cmp key seen made) (in_name_order (rows_from from ns ss))) (drop-from table.names from n named) (drop-from table.states from state at)));
+        ∙ (insert-row cmp key seen made ordered es (in_name_order name_of further) put.name put.value row put.named put.same (is.placed distinct) (λ r h e. twice distinct r (from-only (suc from) (drop (suc from) table.names) (drop (suc from) table.states) r (ordered-only name_of further r h)) e)
+        ∙ sym (ap₂ (λ ns ss. map (row_as cmp key seen made) (in_name_order name_of (rows_from from (zip ns ss)))) (drop-from table.names from n named) (drop-from table.states from state at)));
   }
     where
       twice : are_distinct table.names ≡ true → (r : Row) → IsRowFrom (suc from) (drop (suc from) table.names) (drop (suc from) table.states) r → r.name ≡ n → ⊥

@@ -20,7 +20,9 @@ use Rattle.asl_growing.specs.declared.walker.Walker.{Walker}
 -- the code's name of a shape of a draft
 abbrev pub target_meant : model.Target → Target
 target_meant model.MachineOutput = target.MachineOutput
-target_meant (model.PartOf n i) = target.Part n i
+target_meant (model.Input n) = target.Input n
+target_meant (model.Output n) = target.Output n
+target_meant (model.End n child) = target.End n child
 
 -- whether there is a number, of that shape in the table
 abbrev pub has_shape : List Shape → Option ℕ → Shape → Bool

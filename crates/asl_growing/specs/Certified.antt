@@ -3,7 +3,7 @@ use Rattle.std.specs.Prelude.{◌≡◌, ℕ, List, length, String, string_bytes
 use Rattle.std.specs.List.{AllByRecursion}
 use Rattle.std.specs.declared.alloc.Global.{Global}
 use Rattle.asl_model.specs.Certificate.{StateShapes}
-use Rattle.asl_model.specs.Machine.{Kind, kind_of}
+use Rattle.asl_model.specs.Machine.{Kind}
 use Rattle.asl_model.specs.Numbering.{Table}
 use Rattle.asl_model.specs.RecordShapes.{HoldsForState}
 use Rattle.asl_drafts.specs.Drafts.{Row, entry_of}
@@ -13,7 +13,7 @@ use Rattle.asl_edges.specs.declared.found.Entry.{Entry}
 use Rattle.asl_records.specs.Numbered.{numbers_view, AreNumbersBelow}
 use Rattle.asl_records.specs.declared.records.StateNumbers.{StateNumbers}
 use Rattle.asl_growing.specs.Cutting.{IsShallow}
-use Rattle.asl_growing.specs.Drafted.{draft_view}
+use Rattle.asl_growing.specs.Drafted.{draft_view, shapes_of}
 use Rattle.asl_growing.specs.Order.{IsPlaced}
 use Rattle.asl_growing.specs.declared.draft.Draft.{Draft}
 
@@ -31,12 +31,12 @@ pub record IsFit (nodes : List Node) (numbers : StateNumbers) : Type 0 where
 
 -- they are those of the shapes of the state of that number and type
 pub record IsCertified (draft : Draft) (number : ℕ) (kind : Kind) (numbers : StateNumbers) : Type 0 where
-  pub shown : numbers_view (expansions draft.store) numbers ≡ entry_of (draft_view draft) number kind
+  pub shown : numbers_view (expansions draft.store) numbers ≡ shapes_of (draft_view draft) number kind
   pub fit : IsFit draft.store numbers
 
 -- what is certified of a row, with its name
 abbrev pub row_certified : Draft → Row → List ℕ × StateShapes
-row_certified draft row = (row.name, entry_of (draft_view draft) row.number (kind_of row.state))
+row_certified draft row = (row.name, entry_of (draft_view draft) row)
 
 -- an entry with its name
 abbrev pub entry_certified : Draft → String Global × StateNumbers → List ℕ × StateShapes

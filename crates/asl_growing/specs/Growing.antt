@@ -7,6 +7,7 @@ use Rattle.asl_drafts.specs.Drafts.{Growth, taken_in}
 use Rattle.asl_numbered.specs.declared.node.Node.{Node}
 use Rattle.asl_numbered.specs.Expansion.{expansions, shape_at}
 use Rattle.asl_growing.specs.Cutting.{IsShallow}
+use Rattle.asl_growing.specs.declared.entries.DraftEntry.{DraftEntry}
 use Rattle.asl_growing.specs.declared.growing.Growing.{Growing}
 
 -- where a change is told, fewer are left, and else all is as it was
@@ -28,9 +29,14 @@ pub record IsGrown (nodes : List Node) (g : Growing) : Type 0 where
   pub within : g.number < length nodes
   pub shallow : IsShallow (shape_at (expansions nodes) g.number)
 
--- so each shape of an entry, and of several entries
-abbrev pub IsEntryGrown : List Node → Vec Growing Global → Type 0
-IsEntryGrown nodes entry = All (IsGrown nodes) entry.items
+-- so each of the ends of an entry, each shape of an entry, and of several entries
+abbrev pub AreEndsGrown : List Node → Vec Growing Global → Type 0
+AreEndsGrown nodes ends = All (IsGrown nodes) ends.items
 
-pub record AreGrown (nodes : List Node) (entries : List (Vec Growing Global)) : Type 0 where
+pub record IsEntryGrown (nodes : List Node) (entry : DraftEntry) : Type 0 where
+  pub input : IsGrown nodes entry.input
+  pub output : IsGrown nodes entry.output
+  pub ends : AreEndsGrown nodes entry.ends
+
+pub record AreGrown (nodes : List Node) (entries : List DraftEntry) : Type 0 where
   pub each : All (IsEntryGrown nodes) entries

@@ -1,5 +1,5 @@
 -- The order in which the states of a machine are walked. No public clause cites this module.
-use Rattle.std.specs.Prelude.{◌≡◌, ℕ, List, drop, map, true}
+use Rattle.std.specs.Prelude.{◌≡◌, ℕ, List, drop, map, true, zip}
 use Rattle.std.specs.Borrow.{Bor}
 use Rattle.asl_model.specs.ShapeSpelling.{are_distinct}
 use Rattle.asl_model.specs.Numbering.{Table}
@@ -21,4 +21,4 @@ row_seen row = (row.name, row.number)
 pub record IsPlaced {E W : Type 0} (seen : E → W) (made : Row → W) (table : Table) (from : ℕ) (entries : List E)
     : Type 0 where
   pub placed : are_distinct table.names ≡ true
-      → map seen entries ≡ map made (in_name_order (rows_from from (drop from table.names) (drop from table.states)))
+      → map seen entries ≡ map made (in_name_order (λ row. row.name) (rows_from from (zip (drop from table.names) (drop from table.states))))

@@ -78,8 +78,8 @@ fn certified(
     requires { Shows (expansions draft.now.store) Never never }
     ensures { IfOk result (IsCertified draft.now number (kind_view kind.now)) }
 {
-    let numbers = draft.numbers(number)?;
-    let entry = entry_in(kind, &numbers, never);
+    let numbers = draft.numbers(number, never)?;
+    let entry = entry_in(kind, &numbers);
     numbers_of_entry(alloc, entry)
 }
 

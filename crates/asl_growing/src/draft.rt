@@ -3,7 +3,7 @@
 ghost use Rattle.asl_growing.specs.Growing.{AreGrown, IsGrown};
 
 use crate::certificate::certified_states;
-use crate::entries::{entry_in, new_entries, numbers_of, take_in_entries};
+use crate::entries::{DraftEntry, EntryNumbers, Part, entry_in, new_entries, take_in_entries};
 use crate::growing::Growing;
 use crate::store::Store;
 use asl_edges::Edges;
@@ -14,14 +14,34 @@ use asl_tree::OutOfMemory;
 use std::alloc::Global;
 use std::collections::BTreeMap;
 
-/// A shape of a draft.
+/// A shape of a draft, by the numbers of states and of their children.
 #[derive(Clone, Copy, PartialEq, Eq, Hash)]
 pub enum Target {
     /// That of the machine's output.
     MachineOutput,
-    /// One of those of a state, by their numbers: those of its input, of its output, and of the end of each of its
-    /// children.
-    Part { state: usize, place: usize },
+    /// That of a state's input.
+    Input(usize),
+    /// That of a state's output.
+    Output(usize),
+    /// That of the end of a child of a state.
+    End { state: usize, child: usize },
+}
+
+impl Target {
+    ghost use Rattle.std.specs.Prelude.{◌≡◌};
+    ghost use Rattle.asl_growing.specs.Drafted.{part_of};
+
+    // The state whose entry has the shape, and which of the entry's it is.
+    fn part(self) -> Option<(usize, Part)>
+        ensures { result ≡ part_of self }
+    {
+        match self {
+            Target::MachineOutput => None,
+            Target::Input(state) => Some((state, Part::Input)),
+            Target::Output(state) => Some((state, Part::Output)),
+            Target::End { state, child } => Some((state, Part::End(child))),
+        }
+    }
 }
 
 /// The shapes of a certificate, so far.
@@ -31,19 +51,19 @@ pub struct Draft {
     /// The machine's output.
     output: Growing,
     /// Each state's shapes, by its number.
-    entries: Vec<Vec<Growing>>,
+    entries: Vec<DraftEntry>,
     ghost output_grown: { IsGrown store output },
     ghost entries_grown: { AreGrown store entries.items },
 }
 
 impl Draft {
-    ghost use Rattle.std.specs.Prelude.{◌≡◌, ◌<◌, false, length, true, IfOk, IfSome, Some};
+    ghost use Rattle.std.specs.Prelude.{◌≡◌, ◌≢◌, ◌<◌, false, length, true, IfOk, IfSome, Some};
     ghost use Rattle.asl_model.specs.Edges.{walk};
     ghost use Rattle.asl_model.specs.RecordShapes.{HoldsForCertificate};
     ghost use Rattle.asl_model.specs.Shape.{Never};
     ghost use Rattle.asl_model.specs.ShapeOrder as order;
     ghost use Rattle.asl_model.specs.ShapeSpelling.{are_distinct};
-    ghost use Rattle.asl_drafts.specs.Drafts.{certificate_of, entry_of, first_draft, taken_at};
+    ghost use Rattle.asl_drafts.specs.Drafts.{certificate_of, first_draft, taken_at};
     ghost use Rattle.asl_edges.specs.Entry.{AreEdgesOf};
     ghost use Rattle.asl_states.specs.Machine.{kind_view, settings_view};
     ghost use Rattle.asl_states.specs.Table.{table_view};
@@ -51,8 +71,8 @@ impl Draft {
     ghost use Rattle.asl_numbered.specs.Joins.{Shows};
     ghost use Rattle.asl_records.specs.Numbered.{numbered_view, AreWithin};
     ghost use Rattle.asl_growing.specs.Cutting.{IsShallow};
-    ghost use Rattle.asl_growing.specs.Drafted.{draft_view, growing_of, numbers_in, room, target_view};
-    ghost use Rattle.asl_growing.specs.Entries.{Makes};
+    ghost use Rattle.asl_growing.specs.Drafted.{draft_view, growing_of, numbers_at, room, shapes_of, target_view};
+    ghost use Rattle.asl_growing.specs.Entries.{Makes, numbers_seen};
 
     /// The draft of a machine over that table: no tree has any of its shapes.
     pub fn new(machine: &Machine, store: Store) -> Result<Draft, OutOfMemory>
@@ -83,14 +103,14 @@ impl Draft {
             (AreEdgesOf (expansions self.new.store)
             (walk (shape_at (expansions self.old.store) gives)
             (settings_view state.now.settings) (kind_view state.now.kind)
-            (entry_of (draft_view self.old) number (kind_view state.now.kind)))) }
+            (shapes_of (draft_view self.old) number (kind_view state.now.kind)))) }
         ensures same { draft_view self.new ≡ draft_view self.old }
         ensures keeps { Keeps (expansions self.old.store)
             (expansions self.new.store) }
     {
-        let numbers = self.numbers(number)?;
-        let never = self.store.put(Node::Never)?;
-        let entry = entry_in(&state.kind, &numbers, never);
+        let never = self.never()?;
+        let numbers = self.numbers(number, never)?;
+        let entry = entry_in(&state.kind, &numbers);
         self.store.edges(state, entry, gives)
     }
 
@@ -99,15 +119,20 @@ impl Draft {
         self.store.alloc
     }
 
-    /// The numbers of the shapes of the state of that number; none where it isn't there.
-    pub(crate) fn numbers(&self, number: usize) -> Result<Vec<usize>, OutOfMemory>
-        ensures numbers { IfOk result
-            (λ numbers. numbers.items ≡ numbers_in self.now number) }
+    /// The numbers of the shapes of the state of that number. Where it has no entry, these are the one of the shape that
+    /// no tree has, and no ends.
+    pub(crate) fn numbers(&self, number: usize, never: usize) -> Result<EntryNumbers, OutOfMemory>
+        ensures { IfOk result
+            (λ numbers. numbers_seen numbers ≡ numbers_at self.now number never) }
     {
         let alloc = self.store.alloc;
         match self.entries.get(number) {
-            Some(entry) => numbers_of(alloc, entry),
-            None => Ok(Vec::new(alloc)),
+            Some(entry) => entry.numbers(alloc),
+            None => Ok(EntryNumbers {
+                input: never,
+                output: never,
+                ends: Vec::new(alloc),
+            }),
         }
     }
 
@@ -134,10 +159,10 @@ impl Draft {
         ensures keeps { Keeps (expansions self.old.store)
             (expansions self.new.store) }
     {
-        match target {
-            Target::MachineOutput => self.output.take(&mut self.store, flowing),
-            Target::Part { state, place } => {
-                take_in_entries(&mut self.store, &mut self.entries, state, place, flowing)
+        match target.part() {
+            None => self.output.take(&mut self.store, flowing),
+            Some((state, part)) => {
+                take_in_entries(&mut self.store, &mut self.entries, state, part, flowing)
             }
         }
     }
@@ -149,6 +174,10 @@ impl Draft {
             (λ changed. changed ≡ false → flowing < length self.old.store
             → taken_at (Some (target_view target)) (shape_at (expansions self.old.store) flowing)
             (draft_view self.old) ≡ draft_view self.old) }
+        ensures changes { IfOk result
+            (λ changed. changed ≡ true → (flowing < length self.old.store)
+            × (taken_at (Some (target_view target)) (shape_at (expansions self.old.store) flowing)
+            (draft_view self.old) ≢ draft_view self.old)) }
         ensures same { draft_view self.new ≡ draft_view self.old }
         ensures keeps { Keeps (expansions self.old.store)
             (expansions self.new.store) }
@@ -193,6 +222,8 @@ impl Draft {
     fn never(&mut self) -> Result<usize, OutOfMemory>
         ensures number { IfOk result (Shows (expansions self.new.store) Never) }
         ensures same { draft_view self.new ≡ draft_view self.old }
+        ensures keeps { Keeps (expansions self.old.store)
+            (expansions self.new.store) }
     {
         self.store.put(Node::Never)
     }
@@ -202,12 +233,9 @@ impl Draft {
         ensures grown { IfSome result (IsGrown self.now.store) }
         ensures there { result ≡ growing_of self.now target }
     {
-        match target {
-            Target::MachineOutput => Some(self.output),
-            Target::Part { state, place } => match self.entries.get(state) {
-                Some(entry) => entry.get(place).copied(),
-                None => None,
-            },
+        match target.part() {
+            None => Some(self.output),
+            Some((state, part)) => self.entries.get(state)?.growing(part),
         }
     }
 }

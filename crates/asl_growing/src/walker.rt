@@ -88,7 +88,7 @@ impl Walker {
         ensures keeps { Keeps (expansions self.old.draft.store)
             (expansions self.new.draft.store) }
     {
-        match target_of(machine, origin.state, edge.destination)? {
+        match target_of(machine, origin.state, edge.destination) {
             Some(target) => {
                 self.predecessors.add(target, origin, edge.flowing)?;
                 self.take(target, edge.flowing)
@@ -135,12 +135,8 @@ impl Walker {
         ensures predecessors { self.new.predecessors ≡ self.old.predecessors }
     {
         match target {
-            Target::MachineOutput => {}
-            Target::Part { state, place } => {
-                if place != 1 {
-                    self.waiting.wake(state);
-                }
-            }
+            Target::MachineOutput | Target::Output(_) => {}
+            Target::Input(state) | Target::End { state, .. } => self.waiting.wake(state),
         }
     }
 

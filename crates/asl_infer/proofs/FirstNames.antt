@@ -1,7 +1,5 @@
 -- What is wrong with the names of tasks: that whose name comes first.
-use Rattle.std.proofs.Common.{◌≡◌, ◌+◌, ℕ, suc, List, [], ◌∷◌, ◌++◌, length, Bool, true, false, not, ◌||◌, ◌&&◌, cond, bytes_eq, position, nat_lt, lt-ltb, IsTrue, Contains, if◌then◌else◌, Option, Some, None, option_map, Ordering, Less, Equal, Greater, nat_cmp, refl, sym, ap, ◌∙◌, subst, arith}
-use Rattle.std.specs.List.{position_or_len}
-use lib.Dec.{leb-suc-suc}
+use Rattle.std.proofs.Common.{◌≡◌, ℕ, suc, List, [], ◌∷◌, ◌++◌, Bool, true, false, ◌||◌, ◌&&◌, cond, bytes_eq, position, IsTrue, slice_get, zip, if◌then◌else◌, Option, Some, None, option_map, Ordering, Less, Equal, Greater, nat_cmp, refl, sym, ap, ◌∙◌, subst}
 use Rattle.std.specs.Ordering.{match_ordering, ordering_reverse}
 use Rattle.std.specs.Cmp.Lexicographic.{slice_cmp}
 use Rattle.std.proofs.lemmas.Bool.{false≢true}
@@ -12,11 +10,13 @@ use Rattle.asl_model.specs.Machine.{State, kind_of, is_task}
 use Rattle.asl_model.specs.Numbering.{Table}
 use Rattle.asl_model.specs.ShapeSpelling.{is_among, are_distinct}
 use Rattle.asl_model.specs.Tree.{comes_before}
-use Rattle.asl_model.proofs.Listed.{first_in, later_in}
 use Rattle.asl_model.proofs.ShapeWitness.{comes_before-trans}
-use Rattle.asl_drafts.specs.Drafts.{Row, earlier, first_by_name, have_task, in_name_order, rows_from, rows_of, with_row}
+use Rattle.asl_drafts.specs.Drafts.{Row, in_name_order, rows_from, rows_of, with_named}
+use Rattle.asl_drafts.proofs.CertifiedRows.{name_of}
+use Rattle.asl_drafts.proofs.SettledClosed.{have_task}
+use Rattle.asl_check.proofs.TableNames.{equal-swapped, first-position, not-first, or-false, second}
 use Rattle.asl_check.specs.Rules.{is_task_at, names_task_in}
-use Rattle.asl_infer.specs.Declarations.{first_of}
+use Rattle.asl_infer.specs.Declarations.{earlier, first_by_name, first_of}
 
 -- ---- the first by name of two lists
 
@@ -58,28 +58,22 @@ pub first-append : (xs ys : List Finding) → first_by_name (xs ++ ys) ≡ first
 first-append [] ys = refl
 first-append (x ∷ xs) ys = ap (λ o. Some (earlier x o)) (first-append xs ys) ∙ earlier-first x (first_by_name xs) (first_by_name ys)
 
--- none where there are none, and else one of them
-pub first-none : (xs : List Finding) → first_by_name xs ≡ None → xs ≡ []
-first-none [] h = refl
-first-none (x ∷ xs) h = absurd (cc)
+-- the name of a finding's state
+abbrev pub state_in : Finding → List ℕ
+state_in found = found.state
 
-pub first-in : (xs : List Finding) (found : Finding) → first_by_name xs ≡ Some found → Contains xs found
-first-in [] found h = absurd (cc)
-first-in (x ∷ xs) found h = go (first_by_name xs) refl h (first-in xs)
+-- it is the first in byte order of names
+head-named : (x : Finding) (xs : List Finding) → slice_get (with_named state_in x xs) 0 ≡ Some (earlier x (slice_get xs 0))
+head-named x [] = refl
+head-named x (y ∷ ys) = by (comes_before y.state x.state)
   where
-    go : (o : Option Finding) → first_by_name xs ≡ o → Some (earlier x o) ≡ Some found → ((f : Finding) → first_by_name xs ≡ Some f → Contains xs f) → Contains (x ∷ xs) found
-    go None is e further =
-        let same : x ≡ found = cc in
-        subst (λ f. Contains (x ∷ xs) f) same (first_in x xs)
-    go (Some other) is e further = pick (comes_before other.state x.state) e
-      where
-        pick : (b : Bool) → Some (if b then other else x) ≡ Some found → Contains (x ∷ xs) found
-        pick true k =
-            let same : other ≡ found = cc in
-            later_in x found xs (subst (λ f. Contains xs f) same (further other is))
-        pick false k =
-            let same : x ≡ found = cc in
-            subst (λ f. Contains (x ∷ xs) f) same (first_in x xs)
+    by : (b : Bool) → slice_get (if b then y ∷ with_named state_in x ys else x ∷ (y ∷ ys)) 0 ≡ Some (if b then y else x)
+    by true = refl
+    by false = refl
+
+pub first-ordered : (xs : List Finding) → slice_get (in_name_order state_in xs) 0 ≡ first_by_name xs
+first-ordered [] = refl
+first-ordered (x ∷ xs) = head-named x (in_name_order state_in xs) ∙ ap (λ o. Some (earlier x o)) (first-ordered xs)
 
 -- ---- a Task has a name
 
@@ -93,70 +87,33 @@ or-swap false false c = refl
 abbrev is_named : List ℕ → Row → Bool
 is_named n row = bytes_eq row.name n && is_task (kind_of row.state)
 
-have-with : (n : List ℕ) (row : Row) (rows : List Row) → have_task n (with_row row rows) ≡ is_named n row || have_task n rows
+have-with : (n : List ℕ) (row : Row) (rows : List Row) → have_task n (with_named name_of row rows) ≡ is_named n row || have_task n rows
 have-with n row [] = refl
 have-with n row (other ∷ others) = by (comes_before other.name row.name) (have-with n row others)
   where
-    by : (b : Bool) → have_task n (with_row row others) ≡ is_named n row || have_task n others → have_task n (if b then other ∷ with_row row others else row ∷ (other ∷ others)) ≡ is_named n row || (is_named n other || have_task n others)
+    by : (b : Bool) → have_task n (with_named name_of row others) ≡ is_named n row || have_task n others → have_task n (if b then other ∷ with_named name_of row others else row ∷ (other ∷ others)) ≡ is_named n row || (is_named n other || have_task n others)
     by true below = ap (λ c. is_named n other || c) below ∙ or-swap (is_named n other) (is_named n row) (have_task n others)
     by false below = refl
 
-have-ordered : (n : List ℕ) (rows : List Row) → have_task n (in_name_order rows) ≡ have_task n rows
+have-ordered : (n : List ℕ) (rows : List Row) → have_task n (in_name_order name_of rows) ≡ have_task n rows
 have-ordered n [] = refl
-have-ordered n (row ∷ rows) = have-with n row (in_name_order rows) ∙ ap (λ c. is_named n row || c) (have-ordered n rows)
-
--- a position is the first, or one further on
-first-position : {A : Type 0} (p : A → Bool) (x : A) (xs : List A) → position p (x ∷ xs) ≡ cond (p x) (Some 0) (option_map suc (position p xs))
-first-position p x xs = by (p x)
-  where
-    one_more : 1 + position_or_len p xs ≡ suc (position_or_len p xs)
-    one_more = omega arith
-
-    further : (b : Bool) → cond b (Some (suc (position_or_len p xs))) None ≡ option_map suc (cond b (Some (position_or_len p xs)) None)
-    further true = refl
-    further false = refl
-
-    by : (b : Bool) → cond (nat_lt (cond (not b) (1 + position_or_len p xs) 0) (length (x ∷ xs))) (Some (cond (not b) (1 + position_or_len p xs) 0)) None ≡ cond b (Some 0) (option_map suc (position p xs))
-    by true = ap (λ b. cond b (Some 0) None) (lt-ltb 0 (suc (length xs)) (omega arith))
-    by false = ap (λ i. cond (nat_lt i (length (x ∷ xs))) (Some i) None) one_more ∙ (ap (λ b. cond b (Some (suc (position_or_len p xs))) None) (leb-suc-suc (suc (position_or_len p xs)) (length xs)) ∙ further (nat_lt (position_or_len p xs) (length xs)))
-
--- names are equal whichever comes first
-equal-swapped : (m n : List ℕ) → bytes_eq m n ≡ bytes_eq n m
-equal-swapped m n = by (bytes_eq m n) (bytes_eq n m) (λ h. (bytes_eq-Decides n m).1 (sym ((bytes_eq-Decides m n).0 h))) (λ h. (bytes_eq-Decides m n).1 (sym ((bytes_eq-Decides n m).0 h)))
-  where
-    by : (a b : Bool) → (a ≡ true → b ≡ true) → (b ≡ true → a ≡ true) → a ≡ b
-    by true b f g = sym (f refl)
-    by false true f g = g refl
-    by false false f g = refl
-
--- where both hold, each does
-not-first : (a b : Bool) → not a && b ≡ true → a ≡ false
-not-first true b h = absurd (cc)
-not-first false b h = refl
-
-second : (a b : Bool) → not a && b ≡ true → b ≡ true
-second true b h = absurd (cc)
-second false b h = h
-
-or-false : (a b : Bool) → b ≡ false → a || b ≡ a
-or-false true b h = refl
-or-false false b h = h
+have-ordered n (row ∷ rows) = have-with n row (in_name_order name_of rows) ∙ ap (λ c. is_named n row || c) (have-ordered n rows)
 
 no-task : (o : Option ℕ) → is_task_at [] o ≡ false
 no-task None = refl
 no-task (Some i) = refl
 
 -- no row is a Task of a name that isn't there
-none-named : (n : List ℕ) (i : ℕ) (names : List (List ℕ)) (states : List State) → is_among n names ≡ false → have_task n (rows_from i names states) ≡ false
+none-named : (n : List ℕ) (i : ℕ) (names : List (List ℕ)) (states : List State) → is_among n names ≡ false → have_task n (rows_from i (zip names states)) ≡ false
 none-named n i [] states h = refl
 none-named n i (m ∷ names) [] h = refl
 none-named n i (m ∷ names) (state ∷ states) h = by (bytes_eq m n) h (none-named n (suc i) names states)
   where
-    by : (b : Bool) → b || is_among n names ≡ false → (is_among n names ≡ false → have_task n (rows_from (suc i) names states) ≡ false) → (b && is_task (kind_of state)) || have_task n (rows_from (suc i) names states) ≡ false
+    by : (b : Bool) → b || is_among n names ≡ false → (is_among n names ≡ false → have_task n (rows_from (suc i) (zip names states)) ≡ false) → (b && is_task (kind_of state)) || have_task n (rows_from (suc i) (zip names states)) ≡ false
     by true g below = absurd (cc)
     by false g below = below g
 
-have-from : (n : List ℕ) (i : ℕ) (names : List (List ℕ)) (states : List State) → are_distinct names ≡ true → have_task n (rows_from i names states) ≡ is_task_at states (position (bytes_eq n) names)
+have-from : (n : List ℕ) (i : ℕ) (names : List (List ℕ)) (states : List State) → are_distinct names ≡ true → have_task n (rows_from i (zip names states)) ≡ is_task_at states (position (bytes_eq n) names)
 have-from n i [] states d = refl
 have-from n i (m ∷ names) [] d = sym (no-task (position (bytes_eq n) (m ∷ names)))
 have-from n i (m ∷ names) (state ∷ states) d =
@@ -164,7 +121,7 @@ have-from n i (m ∷ names) (state ∷ states) d =
     ∙ ap (is_task_at (state ∷ states)) (ap (λ b. cond b (Some 0) (option_map suc (position (bytes_eq n) names))) (equal-swapped m n) ∙ sym (first-position (bytes_eq n) m names))
   where
     others : Bool
-    others = have_task n (rows_from (suc i) names states)
+    others = have_task n (rows_from (suc i) (zip names states))
 
     further : (o : Option ℕ) → is_task_at states o ≡ is_task_at (state ∷ states) (option_map suc o)
     further None = refl
@@ -179,4 +136,4 @@ have-from n i (m ∷ names) (state ∷ states) d =
 
 -- where no name stands twice, as it is looked up by position
 pub have-named : (table : Table) (n : List ℕ) → are_distinct table.names ≡ true → have_task n (rows_of table) ≡ names_task_in table n
-have-named table n d = have-ordered n (rows_from 0 table.names table.states) ∙ have-from n 0 table.names table.states d
+have-named table n d = have-ordered n (rows_from 0 (zip table.names table.states)) ∙ have-from n 0 table.names table.states d

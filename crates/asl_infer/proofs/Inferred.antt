@@ -1,5 +1,5 @@
 -- What is inferred of a machine.
-use Rattle.std.proofs.Common.{◌≡◌, ◌≤◌, ◌*◌, ℕ, List, [], true, None, refl, sym, ap, ◌∙◌, subst}
+use Rattle.std.proofs.Common.{◌≡◌, ℕ, List, true, None, sym, ap, ◌∙◌, subst}
 use Rattle.asl_model.specs.Certificate as model
 use Rattle.asl_model.specs.Certificate.{IsClosed}
 use Rattle.asl_model.specs.Finding.{Finding}
@@ -7,7 +7,8 @@ use Rattle.asl_model.specs.Machine.{Scope}
 use Rattle.asl_model.specs.Numbering.{IsWellNamed, Table, standing, table_of}
 use Rattle.asl_model.specs.ShapeSpelling.{are_distinct}
 use Rattle.asl_model.proofs.Numbering.{names_of_standing, outlined_names}
-use Rattle.asl_drafts.specs.Drafts.{Draft, IsInferred, IsTold, Settles, certificate_of, of_flow, of_names}
+use Rattle.asl_drafts.specs.Drafts.{Draft, IsInferred, IsTold, Settles, certificate_of, misnamed}
+use Rattle.asl_drafts.proofs.CertifiedRows.{Among}
 use Rattle.asl_model.specs.Shape.{Shape}
 use Rattle.asl_records.specs.View.{declared_view}
 use Rattle.asl_records.specs.declared.records.Declared as code
@@ -24,6 +25,7 @@ use Rattle.asl_infer.specs.declared.inferring.InferRefusal.{InferRefusal}
 use Rattle.asl_infer.specs.declared.inferring.InferRefusal.TheVariants as refusal
 use Rattle.asl_infer.proofs.FirstNames.{have-named}
 use Rattle.asl_infer.proofs.MisnamedFindings.{BrokenStands, misnamed-stands}
+use Rattle.asl_infer.proofs.TakenRounds.{told-first}
 use Rattle.asl_infer.proofs.ToldFindings.{StandsInTable, WalkBreaks, in-rounds}
 
 -- ---- by a table
@@ -32,7 +34,7 @@ module _ (table : Table) (declared : model.Declared) (rounds : ℕ) where
   -- the certificate of the draft on which the rounds settle
   pub infers : (draft : Draft) (certificate : model.Certificate) → AreNamed table declared → SettlesWhereNamed table declared rounds draft → (are_distinct table.names ≡ true → certificate ≡ certificate_of table draft) → Infers table declared rounds certificate
   infers draft certificate named settles same = record {
-    inferred = λ d. record { draft = draft; settles = settles.settles d (named.named d); same = same d };
+    inferred = λ d. (draft, settles.settles d (named.named d), same d);
   }
 
   -- a refusal by the names of tasks
@@ -40,7 +42,7 @@ module _ (table : Table) (declared : model.Declared) (rounds : ℕ) where
   names-refuse why tells = record { refuses = λ d. by why d tells }
     where
       by : (r : InferRefusal) → are_distinct table.names ≡ true → NamesTell table declared r → IsEndOf table declared rounds r
-      by (refusal.Finding found) d h = of_names (h.tells d)
+      by (refusal.Finding found) d h = told-first table declared rounds (finding_view found) (h.tells d)
       by refusal.NotSettled d h = absurd (h.tells d)
       by refusal.OutOfMemory d h = tt
 
@@ -67,7 +69,7 @@ module _ (shown : Machine) (declared : model.Declared) (rounds : ℕ) where
   pub closed-of : ((machine : Scope) (declared : model.Declared) (rounds : ℕ) (draft : Draft) → IsWellNamed machine → Settles (table_of machine) declared rounds draft → IsClosed declared (certificate_of (table_of machine) draft) machine) → (certificate : model.Certificate) → Infers (table_view shown) declared rounds certificate → (machine : Scope) → Shows shown machine → IsClosed declared certificate machine
   closed-of law certificate infers machine shows =
       let is = inferred-of certificate infers machine shows in
-      subst (λ c. IsClosed declared c machine) (sym is.same) (law machine declared rounds is.draft shows.well_named is.settles)
+      subst (λ c. IsClosed declared c machine) (sym is.2) (law machine declared rounds is.0 shows.well_named is.1)
 
   end-of : (why : InferRefusal) → Refuses (table_view shown) declared rounds why → (machine : Scope) → Shows shown machine → IsEndOf (table_of machine) declared rounds why
   end-of why refuses machine shows =
@@ -93,9 +95,10 @@ module _ (shown : Machine) (declared : model.Declared) (rounds : ℕ) where
 -- ---- what is told stands for some certificate
 
 pub told-stands : StandsInTable → WalkBreaks → BrokenStands → (machine : Scope) (declared : model.Declared) (rounds : ℕ) (found : Finding) → IsWellNamed machine → IsTold (table_of machine) declared rounds found → IsOfMachine machine declared found
-told-stands law bridge broken machine declared rounds found well (of_names h) =
-    misnamed-stands broken machine declared found (λ n. have-named (table_of machine) n (well-distinct machine well) ∙ task-named machine n (distinct machine well)) h
-told-stands law bridge broken machine declared rounds found well (of_flow {before = before} named within first h) = in-rounds law bridge machine declared (Rattle.std.proofs.Common.suc before) found h
+told-stands law bridge broken machine declared rounds found well h = in-rounds law bridge machine declared names rounds found h
+  where
+    names : (other : Finding) → Among (misnamed (table_of machine) declared) other → IsOfMachine machine declared other
+    names other among = misnamed-stands broken machine declared other (λ n. have-named (table_of machine) n (well-distinct machine well) ∙ task-named machine n (distinct machine well)) among
 
 -- ---- by what is given
 

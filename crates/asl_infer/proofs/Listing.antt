@@ -1,5 +1,5 @@
 -- What is in two lists, and in the rules that are broken along a walk.
-use Rattle.std.proofs.Common.{◌≡◌, List, [], ◌∷◌, ◌++◌, Bool, true, false, Contains, IsTrue, refl, sym, subst, ◌⊎◌, inl, inr}
+use Rattle.std.proofs.Common.{◌≡◌, List, [], ◌∷◌, ◌++◌, Bool, true, false, Contains, IsTrue, refl, subst, ◌⊎◌, inl, inr}
 use Rattle.std.proofs.lemmas.List.Elements.{Contains-append_left, Contains-append_right}
 use Rattle.std.specs.List.{AllByRecursion}
 use Rattle.asl_model.specs.Edges.{Destination, DestinationShapes, ToInput, ToOutput, ToEnd, ToTask, Walked, Flows, Breaks, breaches_along, breaches_at, stands_at}
@@ -8,7 +8,8 @@ use Rattle.asl_model.specs.Inference.{is_of_machine}
 use Rattle.asl_model.specs.Shape.{Shape}
 use Rattle.asl_model.specs.ShapeOrder.{sub}
 use Rattle.asl_model.proofs.Listed.{first_in, first_or_later, later_in, none_in}
-use Rattle.asl_drafts.specs.Drafts.{own_breaches, own_breaches_at, payload_breaches}
+use Rattle.asl_drafts.specs.Drafts.{own_breaches}
+use Rattle.asl_drafts.proofs.SettledClosed.{own_shapes}
 use Rattle.asl_infer.proofs.BrokenRules.{IsOfMachine}
 
 -- what is in two lists is in one of them
@@ -36,27 +37,27 @@ unless-in false breach b h = go (first_or_later breach b [] h)
 -- ---- the rules that are broken whatever is certified elsewhere
 
 -- are among those that are broken along the walk
-own-at : (standing : DestinationShapes) (step : Walked) (b : Breach) → Contains (own_breaches_at standing.takes step) b → Contains (breaches_at standing step) b
+own-at : (standing : DestinationShapes) (step : Walked) (b : Breach) → Contains (breaches_at (own_shapes standing.takes) step) b → Contains (breaches_at standing step) b
 own-at standing (Breaks breach) b h = h
-own-at standing (Flows edge) b h = by edge.destination refl h
+own-at standing (Flows edge) b h = by edge.destination h
   where
-    by : (to : Destination) → edge.destination ≡ to → Contains (payload_breaches standing.takes edge to) b → Contains (breach_unless_sub edge.field edge.fault edge.flowing (stands_at standing edge.destination)) b
-    by (ToInput next) is k = none_in b k
-    by ToOutput is k = none_in b k
-    by ToEnd is k = none_in b k
-    by ToTask is k = subst (λ to. Contains (breach_unless_sub edge.field edge.fault edge.flowing (stands_at standing to)) b) (sym is) k
+    by : (to : Destination) → Contains (breach_unless_sub edge.field edge.fault edge.flowing (stands_at (own_shapes standing.takes) to)) b → Contains (breach_unless_sub edge.field edge.fault edge.flowing (stands_at standing to)) b
+    by (ToInput next) k = none_in b k
+    by ToOutput k = none_in b k
+    by ToEnd k = none_in b k
+    by ToTask k = k
 
 pub own-along : (standing : DestinationShapes) (steps : List Walked) (b : Breach) → Contains (own_breaches standing.takes steps) b → Contains (breaches_along standing steps) b
 own-along standing [] b h = h
-own-along standing (step ∷ steps) b h = go (either-in (own_breaches_at standing.takes step) (own_breaches standing.takes steps) b h) (own-along standing steps b)
+own-along standing (step ∷ steps) b h = go (either-in (breaches_at (own_shapes standing.takes) step) (own_breaches standing.takes steps) b h) (own-along standing steps b)
   where
-    go : Contains (own_breaches_at standing.takes step) b ⊎ Contains (own_breaches standing.takes steps) b → (Contains (own_breaches standing.takes steps) b → Contains (breaches_along standing steps) b) → Contains (breaches_at standing step ++ breaches_along standing steps) b
+    go : Contains (breaches_at (own_shapes standing.takes) step) b ⊎ Contains (own_breaches standing.takes steps) b → (Contains (own_breaches standing.takes steps) b → Contains (breaches_along standing steps) b) → Contains (breaches_at standing step ++ breaches_along standing steps) b
     go (inl c) further = Contains-append_left (breaches_at standing step) (breaches_along standing steps) b (own-at standing step b c)
     go (inr c) further = Contains-append_right (breaches_at standing step) (breaches_along standing steps) b (further c)
 
 -- ---- the faults of the machine
 
-own-at-machine : (takes : Shape) (step : Walked) (b : Breach) → IsOfMachine step → Contains (own_breaches_at takes step) b → IsTrue (is_of_machine b.fault)
+own-at-machine : (takes : Shape) (step : Walked) (b : Breach) → IsOfMachine step → Contains (breaches_at (own_shapes takes) step) b → IsTrue (is_of_machine b.fault)
 own-at-machine takes (Breaks breach) b is h = go (first_or_later breach b [] h)
   where
     go : (breach ≡ b) ⊎ Contains [] b → IsTrue (is_of_machine b.fault)
@@ -64,7 +65,7 @@ own-at-machine takes (Breaks breach) b is h = go (first_or_later breach b [] h)
     go (inr c) = none_in b c
 own-at-machine takes (Flows edge) b is h = by edge.destination refl h
   where
-    by : (to : Destination) → edge.destination ≡ to → Contains (payload_breaches takes edge to) b → IsTrue (is_of_machine b.fault)
+    by : (to : Destination) → edge.destination ≡ to → Contains (breach_unless_sub edge.field edge.fault edge.flowing (stands_at (own_shapes takes) to)) b → IsTrue (is_of_machine b.fault)
     by (ToInput next) e k = none_in b k
     by ToOutput e k = none_in b k
     by ToEnd e k = none_in b k
@@ -72,8 +73,8 @@ own-at-machine takes (Flows edge) b is h = by edge.destination refl h
 
 pub own-of-machine : (takes : Shape) (steps : List Walked) (b : Breach) → AllByRecursion IsOfMachine steps → Contains (own_breaches takes steps) b → IsTrue (is_of_machine b.fault)
 own-of-machine takes [] b all h = none_in b h
-own-of-machine takes (step ∷ steps) b all h = go (either-in (own_breaches_at takes step) (own_breaches takes steps) b h) (own-of-machine takes steps b all.1)
+own-of-machine takes (step ∷ steps) b all h = go (either-in (breaches_at (own_shapes takes) step) (own_breaches takes steps) b h) (own-of-machine takes steps b all.1)
   where
-    go : Contains (own_breaches_at takes step) b ⊎ Contains (own_breaches takes steps) b → (Contains (own_breaches takes steps) b → IsTrue (is_of_machine b.fault)) → IsTrue (is_of_machine b.fault)
+    go : Contains (breaches_at (own_shapes takes) step) b ⊎ Contains (own_breaches takes steps) b → (Contains (own_breaches takes steps) b → IsTrue (is_of_machine b.fault)) → IsTrue (is_of_machine b.fault)
     go (inl c) further = own-at-machine takes step b all.0 c
     go (inr c) further = further c

@@ -11,9 +11,10 @@ use Rattle.asl_model.specs.Numbering.{kind_outline, outline, table_of}
 use Rattle.asl_model.specs.Shape.{Never}
 use Rattle.asl_model.proofs.Listed.{first_in, first_or_later, none_in}
 use Rattle.asl_model.proofs.StandingStates.{IsNamed, is_named, is_shown}
-use Rattle.asl_drafts.specs.Drafts.{Row, first_by_name, have_task, misnamed, rows_of, undeclared, unknown}
-use Rattle.asl_drafts.proofs.CertifiedRows.{Among, row-known}
-use Rattle.asl_infer.proofs.FirstNames.{first-in}
+use Rattle.asl_drafts.specs.Drafts.{Row, misnamed, rows_of, undeclared, unknown}
+use Rattle.asl_drafts.proofs.CertifiedRows.{Among, ordered-only, row-known}
+use Rattle.asl_drafts.proofs.SettledClosed.{have_task}
+use Rattle.asl_infer.proofs.FirstNames.{state_in}
 use Rattle.asl_infer.proofs.Listing.{either-in}
 use Rattle.asl_infer.specs.Inferring.{IsOfMachine}
 
@@ -144,12 +145,15 @@ unknown-stands machine declared found same is =
 
 -- ---- both
 
-pub misnamed-stands : BrokenStands → (machine : Scope) (declared : Declared) (found : Finding) → ((n : List ℕ) → have_task n (rows_of (table_of machine)) ≡ names_task machine n) → first_by_name (misnamed (table_of machine) declared) ≡ Some found → IsOfMachine machine declared found
-misnamed-stands law machine declared found same h = go (either-in (undeclared declared rows) (unknown rows declared.tasks) found (first-in (misnamed (table_of machine) declared) found h))
-  where
-    rows : List Row
-    rows = rows_of (table_of machine)
+-- what is among the elements is contained
+among-in : {A : Type 0} (xs : List A) (x : A) → Among xs x → Contains xs x
+among-in [] x h = absurd h
+among-in (y ∷ ys) x (inl e) = subst (λ z. Contains (y ∷ ys) z) e (first_in y ys)
+among-in (y ∷ ys) x (inr h) = Rattle.asl_model.proofs.Listed.later_in y x ys (among-in ys x h)
 
-    go : Contains (undeclared declared rows) found ⊎ Contains (unknown rows declared.tasks) found → IsOfMachine machine declared found
-    go (inl c) = undeclared-stands law machine declared found (undeclared-in declared rows found c)
-    go (inr c) = unknown-stands machine declared found same (unknown-in rows declared.tasks found c)
+pub misnamed-stands : BrokenStands → (machine : Scope) (declared : Declared) (found : Finding) → ((n : List ℕ) → have_task n (rows_of (table_of machine)) ≡ names_task machine n) → Among (misnamed (table_of machine) declared) found → IsOfMachine machine declared found
+misnamed-stands law machine declared found same h = go (either-in (undeclared declared (rows_of (table_of machine))) (unknown (rows_of (table_of machine)) declared.tasks) found (among-in (undeclared declared (rows_of (table_of machine)) ++ unknown (rows_of (table_of machine)) declared.tasks) found (ordered-only state_in (undeclared declared (rows_of (table_of machine)) ++ unknown (rows_of (table_of machine)) declared.tasks) found h)))
+  where
+    go : Contains (undeclared declared (rows_of (table_of machine))) found ⊎ Contains (unknown (rows_of (table_of machine)) declared.tasks) found → IsOfMachine machine declared found
+    go (inl c) = undeclared-stands law machine declared found (undeclared-in declared (rows_of (table_of machine)) found c)
+    go (inr c) = unknown-stands machine declared found same (unknown-in (rows_of (table_of machine)) declared.tasks found c)

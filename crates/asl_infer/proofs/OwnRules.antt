@@ -1,11 +1,12 @@
 -- The first rule that is broken along edges whatever is certified elsewhere.
 use Rattle.std.proofs.Common.{◌≡◌, ◌<◌, ◌+◌, ℕ, List, [], ◌∷◌, ◌++◌, length, get_or, drop, slice_get, Bool, Option, Some, None, option_map, refl, sym, ap, ◌∙◌, append_assoc}
 use Rattle.std.proofs.lemmas.List.{append-nil, drop_more}
-use Rattle.asl_model.specs.Edges.{ToTask, Walked, Breaks}
+use Rattle.asl_model.specs.Edges.{ToTask, Walked, Breaks, breaches_at}
 use Rattle.asl_model.specs.Finding.{Breach, breach_unless}
 use Rattle.asl_model.specs.Shape.{Shape}
 use Rattle.asl_model.specs.ShapeOrder.{sub}
-use Rattle.asl_drafts.specs.Drafts.{own_breaches, own_breaches_at}
+use Rattle.asl_drafts.specs.Drafts.{own_breaches}
+use Rattle.asl_drafts.proofs.SettledClosed.{own_shapes}
 use Rattle.asl_numbered.specs.Expansion.{shape_at}
 use Rattle.asl_edges.specs.Entry.{AreEdgesOf, EndsWith}
 use Rattle.asl_edges.specs.View.{broken_view, destination_view, edge_view, finding_fault_view, steps_of}
@@ -15,7 +16,7 @@ use Rattle.asl_edges.specs.declared.found.Edges.{Edges}
 use Rattle.asl_infer.specs.Rounds.{IsFirstBroken}
 
 -- a list without a first element
-first-none : {A : Type 0} (xs : List A) → slice_get xs 0 ≡ None → xs ≡ []
+pub first-none : {A : Type 0} (xs : List A) → slice_get xs 0 ≡ None → xs ≡ []
 first-none [] h = refl
 first-none (x ∷ xs) h = absurd (cc)
 
@@ -29,7 +30,11 @@ first-some (y ∷ ys) x h =
 -- along both
 own-append : (takes : Shape) (xs ys : List Walked) → own_breaches takes (xs ++ ys) ≡ own_breaches takes xs ++ own_breaches takes ys
 own-append takes [] ys = refl
-own-append takes (x ∷ xs) ys = ap (λ bs. own_breaches_at takes x ++ bs) (own-append takes xs ys) ∙ sym (append_assoc (own_breaches_at takes x) (own_breaches takes xs) (own_breaches takes ys))
+own-append takes (x ∷ xs) ys = ap (λ bs. breaches_at (own_shapes takes) x ++ bs) (own-append takes xs ys) ∙ sym (append_assoc (breaches_at (own_shapes takes) x) (own_breaches takes xs) (own_breaches takes ys))
+
+-- at one step
+own-one : (takes : Shape) (step : Walked) → own_breaches takes (step ∷ []) ≡ breaches_at (own_shapes takes) step
+own-one takes step = append-nil (breaches_at (own_shapes takes) step)
 
 -- ---- at the edges
 
@@ -41,18 +46,19 @@ module _ (table : List Shape) (takes : Shape) where
   pub none-passed : (edges : List Edge) → ArePassed edges 0
   none-passed edges = record { passed = λ further. refl }
 
-  next-edge : (edges : List Edge) (place : ℕ) (edge : Edge) → place < length edges → edge ≡ get_or edges place edge → (further : List Walked) → own_breaches takes (steps_of table (drop place edges) ++ further) ≡ own_breaches_at takes (edge_view table edge) ++ own_breaches takes (steps_of table (drop (place + 1) edges) ++ further)
+  next-edge : (edges : List Edge) (place : ℕ) (edge : Edge) → place < length edges → edge ≡ get_or edges place edge → (further : List Walked) → own_breaches takes (steps_of table (drop place edges) ++ further) ≡ own_breaches takes (edge_view table edge ∷ []) ++ own_breaches takes (steps_of table (drop (place + 1) edges) ++ further)
   next-edge edges place edge there is further =
       ap (λ es. own_breaches takes (steps_of table es ++ further)) (drop_more edges place edge there)
-      ∙ ap (λ (e : Edge). own_breaches_at takes (edge_view table e) ++ own_breaches takes (steps_of table (drop (place + 1) edges) ++ further)) (sym is)
+      ∙ own-append takes (edge_view table (get_or edges place edge) ∷ []) (steps_of table (drop (place + 1) edges) ++ further)
+      ∙ ap (λ (e : Edge). own_breaches takes (edge_view table e ∷ []) ++ own_breaches takes (steps_of table (drop (place + 1) edges) ++ further)) (sym is)
 
-  pub one-passed : (edges : List Edge) (place : ℕ) (edge : Edge) → place < length edges → edge ≡ get_or edges place edge → own_breaches_at takes (edge_view table edge) ≡ [] → ArePassed edges place → ArePassed edges (place + 1)
+  pub one-passed : (edges : List Edge) (place : ℕ) (edge : Edge) → place < length edges → edge ≡ get_or edges place edge → own_breaches takes (edge_view table edge ∷ []) ≡ [] → ArePassed edges place → ArePassed edges (place + 1)
   one-passed edges place edge there is whole are = record {
     passed = λ further. are.passed further ∙ (next-edge edges place edge there is further ∙ ap (λ bs. bs ++ own_breaches takes (steps_of table (drop (place + 1) edges) ++ further)) whole);
   }
 
   -- it is broken at the next one
-  pub broken-here : (edges : Edges) (place : ℕ) (edge : Edge) (rule : Broken) → place < length edges.edges.items → edge ≡ get_or edges.edges.items place edge → own_breaches_at takes (edge_view table edge) ≡ broken_view rule ∷ [] → ArePassed edges.edges.items place → IsFirstBroken table takes edges (Some rule)
+  pub broken-here : (edges : Edges) (place : ℕ) (edge : Edge) (rule : Broken) → place < length edges.edges.items → edge ≡ get_or edges.edges.items place edge → own_breaches takes (edge_view table edge ∷ []) ≡ broken_view rule ∷ [] → ArePassed edges.edges.items place → IsFirstBroken table takes edges (Some rule)
   broken-here edges place edge rule there is broken are = record {
     first = λ steps are_edges.
         let further = are_edges.further in
@@ -96,5 +102,5 @@ module _ (table : List Shape) (takes : Shape) where
 -- ---- a payload
 
 -- what is told of one that isn't inside
-pub payload-at : (table : List Shape) (takes : Shape) (edge : Edge) (inside : Bool) → destination_view edge.destination ≡ ToTask → inside ≡ sub (shape_at table edge.flowing) takes → own_breaches_at takes (edge_view table edge) ≡ breach_unless inside edge.field.now (finding_fault_view edge.fault)
-payload-at table takes edge inside to is = rw to (ap (λ holds. breach_unless holds edge.field.now (finding_fault_view edge.fault)) (sym is))
+pub payload-at : (table : List Shape) (takes : Shape) (edge : Edge) (inside : Bool) → destination_view edge.destination ≡ ToTask → inside ≡ sub (shape_at table edge.flowing) takes → own_breaches takes (edge_view table edge ∷ []) ≡ breach_unless inside edge.field.now (finding_fault_view edge.fault)
+payload-at table takes edge inside to is = own-one takes (edge_view table edge) ∙ rw to (ap (λ holds. breach_unless holds edge.field.now (finding_fault_view edge.fault)) (sym is))

@@ -6,7 +6,7 @@ use Rattle.asl_model.specs.Edges.{Walked, walk}
 use Rattle.asl_model.specs.Inference.{finding_of}
 use Rattle.asl_model.specs.Shape.{Shape}
 use Rattle.asl_drafts.specs.Drafts as drafts
-use Rattle.asl_drafts.specs.Drafts.{Draft, entry_of, own_breaches, steps_taken}
+use Rattle.asl_drafts.specs.Drafts.{Draft, own_breaches, steps_taken}
 use Rattle.asl_numbered.specs.declared.node.Node.{Node}
 use Rattle.asl_numbered.specs.Expansion.{expansions, shape_at, AreBelow, Keeps}
 use Rattle.asl_numbered.proofs.Expansions.{as_many, kept_shape}
@@ -17,7 +17,7 @@ use Rattle.asl_edges.specs.declared.faults.Broken.{Broken}
 use Rattle.asl_edges.specs.declared.found.Edge.{Edge}
 use Rattle.asl_edges.specs.declared.found.Edges.{Edges}
 use Rattle.asl_growing.specs.Calm.{IsCalm}
-use Rattle.asl_growing.specs.Drafted.{draft_view, room}
+use Rattle.asl_growing.specs.Drafted.{draft_view, room, shapes_of}
 use Rattle.asl_growing.specs.Entries.{Makes}
 use Rattle.asl_growing.specs.Underway.{IsCalmAfter}
 use Rattle.asl_growing.specs.declared.walker.Walker.{Walker}
@@ -41,7 +41,7 @@ flowing-below bound (e ∷ edges) (suc i) d within below = flowing-below bound e
 pub edges-below : (nodes : List Node) (steps : List Walked) (edges : Edges) → AreEdgesOf (expansions nodes) steps edges → AreBelow (length nodes) (flowing_in edges.edges.items)
 edges-below nodes steps edges are = subst (λ n. AreBelow n (flowing_in edges.edges.items)) (as_many nodes) are.below
 
-module _ (given : Given) (number : ℕ) (row : Row) (before : Draft) (old new : List Shape) (edges : Edges) (task : IsTaskOf (declared_in given) row.name.now old row.task) (keeps : Keeps old new) (walked : AreEdgesOf new (walk (shape_at old row.task.gives) (settings_view row.state.now.settings) (kind_view row.state.now.kind) (entry_of before number (kind_view row.state.now.kind))) edges) (rule : Option Broken) (first : IsFirstBroken new (shape_at new row.task.takes) edges rule) where
+module _ (given : Given) (number : ℕ) (row : Row) (before : Draft) (old new : List Shape) (edges : Edges) (task : IsTaskOf (declared_in given) row.name.now old row.task) (keeps : Keeps old new) (walked : AreEdgesOf new (walk (shape_at old row.task.gives) (settings_view row.state.now.settings) (kind_view row.state.now.kind) (shapes_of before number (kind_view row.state.now.kind))) edges) (rule : Option Broken) (first : IsFirstBroken new (shape_at new row.task.takes) edges rule) where
   abbrev declared : model.Declared
   declared = declared_in given
 
@@ -52,7 +52,7 @@ module _ (given : Given) (number : ℕ) (row : Row) (before : Draft) (old new : 
   steps = drafts.steps_of declared before shown
 
   are : AreEdgesOf new steps edges
-  are = subst (λ s. AreEdgesOf new (walk s (settings_view row.state.now.settings) (kind_view row.state.now.kind) (entry_of before number (kind_view row.state.now.kind))) edges) task.gives.same walked
+  are = subst (λ s. AreEdgesOf new (walk s (settings_view row.state.now.settings) (kind_view row.state.now.kind) (shapes_of before number (kind_view row.state.now.kind))) edges) task.gives.same walked
 
   takes : shape_at new row.task.takes ≡ takes_of declared row.name.now
   takes = kept_shape old new row.task.takes keeps task.takes.within ∙ task.takes.same

@@ -3,11 +3,12 @@ use Rattle.std.proofs.Common.{◌≡◌, ◌≢◌, ◌<◌, ◌≤◌, ◌+◌,
 use Rattle.std.proofs.lemmas.List.{length-map, drop_all}
 use Rattle.std.proofs.lemmas.Option.{slice_get-get_or, slice_get-map}
 use Rattle.asl_model.specs.Certificate as model
+use Rattle.asl_model.specs.Finding.{Finding}
 use Rattle.asl_model.specs.Numbering.{Placement, Table}
 use Rattle.asl_model.specs.Shape.{Shape}
 use Rattle.asl_model.specs.ShapeSpelling.{are_distinct}
 use Rattle.asl_model.proofs.RunOptions.{none_some, some_inj}
-use Rattle.asl_drafts.specs.Drafts.{Draft, PartOf, Row, after_rounds, all_walked, first_draft, input_taken, misnamed, of_flow, round, rows_of, taken_at, unless_told}
+use Rattle.asl_drafts.specs.Drafts.{Draft, Input, Row, after_rounds, all_walked, first_draft, input_taken, misnamed, round, rows_of, taken_at, unless_found, unless_told}
 use Rattle.asl_drafts.proofs.CertifiedRows.{Among, row-known}
 use Rattle.asl_growing.specs.Drafted.{room}
 use Rattle.asl_growing.specs.Entries.{Makes}
@@ -35,15 +36,15 @@ still-changed before between after changed one two = subst (IsChanged before cha
 
 -- ---- the declared input
 
-pub input-made : (table : Table) (declared : model.Declared) (placement : Placement) (s : Shape) (before : Draft) (changed : Bool) (after : Draft) → slice_get table.placements 0 ≡ Some placement → s ≡ declared.input → Makes room (taken_at (Some (PartOf placement.start 0)) s) before changed after → Makes room (input_taken table declared) before changed after
+pub input-made : (table : Table) (declared : model.Declared) (placement : Placement) (s : Shape) (before : Draft) (changed : Bool) (after : Draft) → slice_get table.placements 0 ≡ Some placement → s ≡ declared.input → Makes room (taken_at (Some (Input placement.start)) s) before changed after → Makes room (input_taken table declared) before changed after
 input-made table declared placement s before changed after there same makes = record {
-  made = makes.made ∙ (ap (λ t. taken_at (Some (PartOf placement.start 0)) t before) same ∙ sym (ap (λ o. taken_at (option_map (λ (p : Placement). PartOf p.start 0) o) declared.input before) there));
+  made = makes.made ∙ (ap (λ t. taken_at (Some (Input placement.start)) t before) same ∙ sym (ap (λ o. taken_at (option_map (λ (p : Placement). Input p.start) o) declared.input before) there));
   told = makes.told;
 }
 
 pub no-input : (table : Table) (declared : model.Declared) (before : Draft) → slice_get table.placements 0 ≡ None → Makes room (input_taken table declared) before false before
 no-input table declared before none = record {
-  made = sym (ap (λ o. taken_at (option_map (λ (p : Placement). PartOf p.start 0) o) declared.input before) none);
+  made = sym (ap (λ o. taken_at (option_map (λ (p : Placement). Input p.start) o) declared.input before) none);
   told = refl;
 }
 
@@ -145,22 +146,22 @@ module _ (table : Table) (declared : model.Declared) where
   Changes n = (before after : Draft) × (after_rounds table declared n ≡ Ok before) × (round table declared before ≡ Ok after) × (after ≢ before)
 
   pub record AreTaken (count : ℕ) (now : Draft) : Type 0 where
-    pub comes : are_distinct table.names ≡ true → after_rounds table declared count ≡ Ok now
-    pub changes : are_distinct table.names ≡ true → (n : ℕ) → n < count → Changes n
+    pub comes : are_distinct table.names ≡ true → misnamed table declared ≡ [] → after_rounds table declared count ≡ Ok now
+    pub changes : are_distinct table.names ≡ true → misnamed table declared ≡ [] → (n : ℕ) → n < count → Changes n
     pub spent : room now + count ≤ room (first_draft table)
 
   pub none-taken : (now : Draft) → now ≡ first_draft table → AreTaken 0 now
   none-taken now is = record {
-    comes = λ distinct. ap Ok (sym is);
-    changes = λ distinct n less. absurd (omega (arith, less));
+    comes = λ distinct named. ap (λ findings. unless_found findings (first_draft table)) named ∙ ap Ok (sym is);
+    changes = λ distinct named n less. absurd (omega (arith, less));
     spent = subst (λ (d : Draft). room d + 0 ≤ room (first_draft table)) (sym is) (omega arith);
   }
 
   -- one that changed the draft
   pub one-taken : (count : ℕ) (now next : Draft) → AreTaken count now → TakesRound table declared now next → IsChanged now true next → AreTaken (count + 1) next
   one-taken count now next are takes changed = record {
-    comes = λ distinct. let more : count + 1 ≡ suc count = omega arith in ap (after_rounds table declared) more ∙ (ap (unless_told (round table declared)) (are.comes distinct) ∙ takes.taken distinct);
-    changes = λ distinct n less. by distinct n (Rattle.std.proofs.lemmas.Bool.Decides.eqb_tells n count) less;
+    comes = λ distinct named. let more : count + 1 ≡ suc count = omega arith in ap (after_rounds table declared) more ∙ (ap (unless_told (round table declared)) (are.comes distinct named) ∙ takes.taken distinct);
+    changes = λ distinct named n less. by distinct named n (Rattle.std.proofs.lemmas.Bool.Decides.eqb_tells n count) less;
     spent = omega (arith, are.spent, changed.told);
   }
     where
@@ -169,9 +170,9 @@ module _ (table : Table) (declared : model.Declared) where
           let never : room now < room now = subst (λ (d : Draft). room d < room now) same changed.told in
           omega (arith, never)
 
-      by : are_distinct table.names ≡ true → (n : ℕ) → ((Rattle.std.proofs.Common.eqb n count ≡ true) × (n ≡ count)) ⊎ ((Rattle.std.proofs.Common.eqb n count ≡ false) × (n ≢ count)) → n < count + 1 → Changes n
-      by distinct n (inl here) less = (now, next, ap (after_rounds table declared) here.1 ∙ are.comes distinct, takes.taken distinct, other)
-      by distinct n (inr before) less = are.changes distinct n (omega (arith, less, before.1))
+      by : are_distinct table.names ≡ true → misnamed table declared ≡ [] → (n : ℕ) → ((Rattle.std.proofs.Common.eqb n count ≡ true) × (n ≡ count)) ⊎ ((Rattle.std.proofs.Common.eqb n count ≡ false) × (n ≢ count)) → n < count + 1 → Changes n
+      by distinct named n (inl here) less = (now, next, ap (after_rounds table declared) here.1 ∙ are.comes distinct named, takes.taken distinct, other)
+      by distinct named n (inr before) less = are.changes distinct named n (omega (arith, less, before.1))
 
   -- one that left it as it was
   pub settled : (rounds count : ℕ) (now next : Draft) → AreTaken count now → count < rounds → TakesRound table declared now next → IsChanged now false next → SettlesWhereNamed table declared rounds next
@@ -179,27 +180,43 @@ module _ (table : Table) (declared : model.Declared) where
     settles = λ distinct named.
         let same : next ≡ now = changed.told in
         record {
-          named = named;
           before = count;
           within = within;
-          comes = are.comes distinct ∙ ap Ok (sym same);
+          comes = are.comes distinct named ∙ ap Ok (sym same);
           stays = ap (round table declared) same ∙ takes.taken distinct;
         };
   }
+
+  -- what is told stays so in further rounds
+  told-later : (rounds n : ℕ) (found : Finding) → n ≤ rounds → after_rounds table declared n ≡ Err found → after_rounds table declared rounds ≡ Err found
+  told-later zero n found within h =
+      let none : n ≡ 0 = omega (arith, within) in
+      subst (λ m. after_rounds table declared m ≡ Err found) none h
+  told-later (suc rounds) n found within h = by (Rattle.std.proofs.lemmas.Bool.Decides.eqb_tells n (suc rounds)) (λ less. told-later rounds n found less h)
+    where
+      by : ((Rattle.std.proofs.Common.eqb n (suc rounds) ≡ true) × (n ≡ suc rounds)) ⊎ ((Rattle.std.proofs.Common.eqb n (suc rounds) ≡ false) × (n ≢ suc rounds)) → (n ≤ rounds → after_rounds table declared rounds ≡ Err found) → after_rounds table declared (suc rounds) ≡ Err found
+      by (inl same) below = subst (λ m. after_rounds table declared m ≡ Err found) same.1 h
+      by (inr other) below = ap (unless_told (round table declared)) (below (omega (arith, within, other.1)))
+
+  -- and so is what is told of the names of tasks
+  pub told-first : (rounds : ℕ) (found : Finding) → slice_get (misnamed table declared) 0 ≡ Some found → after_rounds table declared rounds ≡ Err found
+  told-first rounds found h = told-later rounds 0 found (omega arith) (by (misnamed table declared) h)
+    where
+      by : (findings : List Finding) → slice_get findings 0 ≡ Some found → unless_found findings (first_draft table) ≡ Err found
+      by [] e = none_some e
+      by (first ∷ further) e = ap Err (some_inj e)
 
   -- one that tells
   pub told : (rounds count : ℕ) (now : Draft) (why : InferRefusal) → AreTaken count now → count < rounds → RoundTells table declared now why → EndsWhereNamed table declared rounds why
   told rounds count now why are within tells = record { ends = by why tells }
     where
       by : (r : InferRefusal) → RoundTells table declared now r → are_distinct table.names ≡ true → misnamed table declared ≡ [] → IsEndOf table declared rounds r
-      by (refusal.Finding found) h distinct named =
-          let comes = are.comes distinct in
-          of_flow named within (λ err. absurd (let both : Ok now ≡ Err (finding_view found) = sym comes ∙ err in cc)) (ap (unless_told (round table declared)) comes ∙ h.tells distinct)
+      by (refusal.Finding found) h distinct named = told-later rounds (suc count) (finding_view found) (omega (arith, within)) (ap (unless_told (round table declared)) (are.comes distinct named) ∙ h.tells distinct)
       by refusal.NotSettled h distinct named = absurd (h.tells distinct)
       by refusal.OutOfMemory h distinct named = tt
 
   -- all of them
   pub never-settled : (rounds count : ℕ) (now : Draft) → AreTaken count now → rounds ≤ count → EndsWhereNamed table declared rounds refusal.NotSettled
   never-settled rounds count now are past = record {
-    ends = λ distinct named. (record { named = named; changes = λ n less. are.changes distinct n (omega (arith, less, past)) }, omega (arith, are.spent, past, first-room table));
+    ends = λ distinct named. (record { changes = λ n less. are.changes distinct named n (omega (arith, less, past)) }, omega (arith, are.spent, past, first-room table));
   }

@@ -1,23 +1,25 @@
 -- The first name for which a rule about what is declared is broken, as it is looked for.
-use Rattle.std.proofs.Common.{◌≡◌, ◌<◌, ◌≤◌, ◌+◌, ℕ, List, [], ◌∷◌, ◌++◌, codes, length, drop, get_or, Bool, true, false, not, ◌||◌, Option, Some, None, is_some, option_map, String, Global, string_bytes, refl, sym, ap, ◌∙◌, subst}
+use Rattle.std.proofs.Common.{◌≡◌, ◌<◌, ◌≤◌, ◌+◌, ℕ, List, [], ◌∷◌, ◌++◌, codes, length, drop, get_or, Bool, true, false, not, ◌||◌, Option, Some, None, is_some, option_map, slice_get, String, Global, string_bytes, refl, sym, ap, ◌∙◌, subst}
 use Rattle.std.proofs.lemmas.List.{append-nil}
 use Rattle.asl_model.specs.Certificate.{Declared, TaskShapes, under}
 use Rattle.asl_model.specs.Finding.{Finding, TaskUndeclared, TaskUnknown, breach_unless, found_at}
 use Rattle.asl_model.specs.Machine.{kind_of, is_task}
 use Rattle.asl_model.specs.Numbering.{Table}
 use Rattle.asl_model.specs.ShapeSpelling.{are_distinct}
-use Rattle.asl_drafts.specs.Drafts.{Row, first_by_name, have_task, misnamed, rows_of, undeclared, unknown}
+use Rattle.asl_drafts.specs.Drafts.{Row, misnamed, rows_of, undeclared, unknown}
 use Rattle.asl_records.specs.View.{task_view}
 use Rattle.asl_records.specs.declared.records.TaskShapes as code
 use Rattle.asl_check.specs.Rules.{names_task_in}
 use Rattle.asl_check.specs.View.{finding_view}
 use Rattle.asl_growing.specs.Order.{AreOrdered}
-use Rattle.asl_infer.specs.Declarations.{AreNamed, IsFirst, IsFirstAt, IsFirstOf, NamesTell, first_of, misnamed_view}
+use Rattle.asl_infer.specs.Declarations.{AreNamed, IsFirst, IsFirstAt, IsFirstOf, NamesTell, first_by_name, first_of, misnamed_view}
 use Rattle.asl_infer.specs.Rounds.{IsIn, IsNoRow}
 use Rattle.asl_infer.specs.declared.declarations.Misnamed.{Misnamed}
 use Rattle.asl_infer.specs.declared.inferring.InferRefusal.TheVariants as refusal
 use Rattle.asl_check.specs.declared.verdicts.Finding as told
-use Rattle.asl_infer.proofs.FirstNames.{earlier-first, first-append, first-none, have-named}
+use Rattle.asl_drafts.proofs.SettledClosed.{have_task}
+use Rattle.asl_infer.proofs.FirstNames.{earlier-first, first-append, first-ordered, have-named}
+use Rattle.asl_infer.proofs.OwnRules.{first-none}
 use Rattle.asl_infer.proofs.TakenRounds.{next-row, no-row}
 
 -- ---- one after another
@@ -120,12 +122,13 @@ module _ (table : Table) where
 -- ---- both
 
 module _ (table : Table) (declared : Declared) (undeclared_one unknown_one one : Option Misnamed) (first : IsFirst table (undeclared declared (rows_of table)) undeclared_one) (second : IsFirst table (unknown (rows_of table) declared.tasks) unknown_one) (taken : option_map misnamed_view one ≡ first_of (option_map misnamed_view undeclared_one) (option_map misnamed_view unknown_one)) where
-  both : are_distinct table.names ≡ true → option_map misnamed_view one ≡ first_by_name (misnamed table declared)
+  both : are_distinct table.names ≡ true → option_map misnamed_view one ≡ slice_get (misnamed table declared) 0
   both distinct =
       taken
       ∙ (ap (λ o. first_of o (option_map misnamed_view unknown_one)) (first.first distinct)
       ∙ (ap (first_of (first_by_name (undeclared declared (rows_of table)))) (second.first distinct)
-      ∙ sym (first-append (undeclared declared (rows_of table)) (unknown (rows_of table) declared.tasks))))
+      ∙ (sym (first-append (undeclared declared (rows_of table)) (unknown (rows_of table) declared.tasks))
+      ∙ sym (first-ordered (undeclared declared (rows_of table) ++ unknown (rows_of table) declared.tasks)))))
 
   pub are-named : one ≡ None → AreNamed table declared
   are-named none = record { named = λ distinct. first-none (misnamed table declared) (sym (both distinct) ∙ ap (option_map misnamed_view) none) }

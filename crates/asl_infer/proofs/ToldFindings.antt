@@ -2,13 +2,13 @@
 use Rattle.std.proofs.Common.{◌≡◌, ℕ, zero, suc, List, [], ◌∷◌, Contains, slice_get, Some, Result, Ok, Err, refl, sym, ap, ◌∙◌, subst, inl, inr}
 use Rattle.asl_model.specs.Certificate.{Declared, StateShapes, gives_of, takes_of}
 use Rattle.asl_model.specs.Edges.{Walked, breaches_along, destination_shapes, walk}
-use Rattle.asl_model.specs.Finding.{Breach, Finding, Surroundings, surrounded_by, flow_breaches}
+use Rattle.asl_model.specs.Finding.{Breach, Finding, Surroundings, found_at, surrounded_by, flow_breaches}
 use Rattle.asl_model.specs.Inference.{IsBrokenAnyway, StandsForSome, finding_of}
 use Rattle.asl_model.specs.Machine.{Kind, Scope, Settings, State, kind_of, settings_of}
 use Rattle.asl_model.specs.Numbering.{Table, table_of}
 use Rattle.asl_model.specs.Shape.{Shape}
 use Rattle.asl_model.proofs.Listed.{first_in}
-use Rattle.asl_drafts.specs.Drafts.{Draft, Row, after_rounds, all_walked, entry_of, input_taken, own_breaches, round, rows_of, steps_of, steps_taken, unless_broken, unless_told, walked}
+use Rattle.asl_drafts.specs.Drafts.{Draft, Row, after_rounds, all_walked, entry_of, input_taken, own_breaches, round, rows_of, steps_of, steps_taken, first_draft, misnamed, unless_found, unless_told, walked}
 use Rattle.asl_drafts.proofs.CertifiedRows.{Among, row-known}
 use Rattle.asl_infer.proofs.Listing.{own-along, own-of-machine}
 use Rattle.asl_infer.proofs.BrokenRules.{walk_of_machine}
@@ -31,7 +31,7 @@ module _ (law : StandsInTable) (bridge : WalkBreaks) (machine : Scope) (declared
   in-walk row draft found there h = go (own_breaches takes steps) refl h
     where
       entry : StateShapes
-      entry = entry_of draft row.number (kind_of row.state)
+      entry = entry_of draft row
 
       steps : List Walked
       steps = steps_of declared draft row
@@ -47,7 +47,7 @@ module _ (law : StandsInTable) (bridge : WalkBreaks) (machine : Scope) (declared
           let around : Surroundings = surrounded_by declared inputs end row.name entry in
           subst (λ rules. Contains rules b) (bridge around (settings_of row.state) (kind_of row.state)) (own-along (destination_shapes around) steps b among)
 
-      go : (breaches : List Breach) → own_breaches takes steps ≡ breaches → unless_broken row.name breaches (steps_taken table row.number steps draft) ≡ Err found → IsOfMachine machine declared found
+      go : (breaches : List Breach) → own_breaches takes steps ≡ breaches → unless_found (found_at row.name breaches) (steps_taken table row.number steps draft) ≡ Err found → IsOfMachine machine declared found
       go [] is e = absurd (cc)
       go (b ∷ further) is e =
           let told : finding_of row.name b ≡ found = cc in
@@ -72,9 +72,19 @@ module _ (law : StandsInTable) (bridge : WalkBreaks) (machine : Scope) (declared
   in-round : (draft : Draft) (found : Finding) → round table declared draft ≡ Err found → IsOfMachine machine declared found
   in-round draft found h = in-walks (rows_of table) (input_taken table declared draft) found (λ r a. a) h
 
-  pub in-rounds : (n : ℕ) (found : Finding) → after_rounds table declared n ≡ Err found → IsOfMachine machine declared found
-  in-rounds zero found h = absurd (cc)
-  in-rounds (suc n) found h = go (after_rounds table declared n) refl h (in-rounds n found)
+  -- of the names of tasks
+  in-names : ((found : Finding) → Among (misnamed table declared) found → IsOfMachine machine declared found) → (found : Finding) → unless_found (misnamed table declared) (first_draft table) ≡ Err found → IsOfMachine machine declared found
+  in-names names found h = go (misnamed table declared) refl h
+    where
+      go : (findings : List Finding) → misnamed table declared ≡ findings → unless_found findings (first_draft table) ≡ Err found → IsOfMachine machine declared found
+      go [] is e = absurd (cc)
+      go (first ∷ further) is e =
+          let same : first ≡ found = cc in
+          names found (subst (λ fs. Among fs found) (sym is) (inl same))
+
+  pub in-rounds : ((found : Finding) → Among (misnamed table declared) found → IsOfMachine machine declared found) → (n : ℕ) (found : Finding) → after_rounds table declared n ≡ Err found → IsOfMachine machine declared found
+  in-rounds names zero found h = in-names names found h
+  in-rounds names (suc n) found h = go (after_rounds table declared n) refl h (in-rounds names n found)
     where
       go : (r : Result Draft Finding) → after_rounds table declared n ≡ r → unless_told (round table declared) r ≡ Err found → (after_rounds table declared n ≡ Err found → IsOfMachine machine declared found) → IsOfMachine machine declared found
       go (Ok draft) is e further = in-round draft found e

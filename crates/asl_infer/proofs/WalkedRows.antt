@@ -4,11 +4,11 @@ use Rattle.std.proofs.lemmas.Option.{slice_get_within}
 use Rattle.asl_model.specs.Certificate as model
 use Rattle.asl_model.specs.Certificate.{takes_of}
 use Rattle.asl_model.specs.Edges.{Walked}
-use Rattle.asl_model.specs.Finding.{Breach}
+use Rattle.asl_model.specs.Finding.{Breach, found_at}
 use Rattle.asl_model.specs.Inference.{finding_of}
 use Rattle.asl_model.specs.Numbering.{Table}
 use Rattle.asl_model.proofs.RunOptions.{none_some, some_inj}
-use Rattle.asl_drafts.specs.Drafts.{Draft, Row, own_breaches, steps_of, steps_taken, unless_broken, walked}
+use Rattle.asl_drafts.specs.Drafts.{Draft, Row, own_breaches, steps_of, steps_taken, unless_found, walked}
 use Rattle.asl_drafts.proofs.DraftShapes.{there-within}
 use Rattle.asl_infer.specs.Rounds.{IsIn, IsNoRow, Tells, WalkTells, Walks}
 use Rattle.asl_infer.specs.declared.inferring.InferRefusal.{InferRefusal}
@@ -66,15 +66,15 @@ module _ (table : Table) (declared : model.Declared) where
   -- no rule is broken
   pub walked-whole : (row : Row) (steps : List Walked) (before after : Draft) → steps_of declared before row ≡ steps → own_breaches (takes_of declared row.name) steps ≡ [] → after ≡ steps_taken table row.number steps before → walked table declared row before ≡ Ok after
   walked-whole row steps before after seen whole made =
-      ap (λ ss. unless_broken row.name (own_breaches (takes_of declared row.name) ss) (steps_taken table row.number ss before)) seen
-      ∙ (ap (λ bs. unless_broken row.name bs (steps_taken table row.number steps before)) whole
+      ap (λ ss. unless_found (found_at row.name (own_breaches (takes_of declared row.name) ss)) (steps_taken table row.number ss before)) seen
+      ∙ (ap (λ bs. unless_found (found_at row.name bs) (steps_taken table row.number steps before)) whole
       ∙ ap Ok (sym made))
 
   -- one is
   pub walked-broken : (row : Row) (before : Draft) (breach : Breach) → slice_get (own_breaches (takes_of declared row.name) (steps_of declared before row)) 0 ≡ Some breach → walked table declared row before ≡ Err (finding_of row.name breach)
   walked-broken row before breach h = by (own_breaches (takes_of declared row.name) (steps_of declared before row)) h
     where
-      by : (breaches : List Breach) → slice_get breaches 0 ≡ Some breach → unless_broken row.name breaches (steps_taken table row.number (steps_of declared before row) before) ≡ Err (finding_of row.name breach)
+      by : (breaches : List Breach) → slice_get breaches 0 ≡ Some breach → unless_found (found_at row.name breaches) (steps_taken table row.number (steps_of declared before row) before) ≡ Err (finding_of row.name breach)
       by [] e = absurd (cc)
       by (b ∷ further) e =
           let same : b ≡ breach = cc in

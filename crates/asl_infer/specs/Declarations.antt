@@ -1,11 +1,12 @@
 -- What is wrong with the names of declared tasks. No public clause cites this module.
-use Rattle.std.specs.Prelude.{◌≡◌, ℕ, List, [], ◌∷◌, true, Option, Some, None, option_map, ⊤}
+use Rattle.std.specs.Prelude.{◌≡◌, ℕ, List, [], ◌∷◌, true, Option, Some, None, option_map, slice_get, if◌then◌else◌, ⊤}
 use Rattle.asl_model.specs.Certificate.{Declared, TaskShapes}
 use Rattle.asl_model.specs.Finding as finding
 use Rattle.asl_model.specs.Inference.{finding_of}
 use Rattle.asl_model.specs.Numbering.{Table}
 use Rattle.asl_model.specs.ShapeSpelling.{are_distinct}
-use Rattle.asl_drafts.specs.Drafts.{Row, earlier, first_by_name, misnamed, rows_of, undeclared, unknown}
+use Rattle.asl_model.specs.Tree.{comes_before}
+use Rattle.asl_drafts.specs.Drafts.{Row, misnamed, rows_of, undeclared, unknown}
 use Rattle.asl_check.specs.View.{finding_view}
 use Rattle.asl_edges.specs.View.{broken_view}
 use Rattle.asl_infer.specs.Rounds.{IsIn}
@@ -16,6 +17,15 @@ use Rattle.asl_infer.specs.declared.inferring.InferRefusal.TheVariants.{Finding,
 -- as a finding
 abbrev pub misnamed_view : Misnamed → finding.Finding
 misnamed_view m = finding_of m.name.now (broken_view m.rule)
+
+-- the finding whose name comes first in byte order
+abbrev pub earlier : finding.Finding → Option finding.Finding → finding.Finding
+earlier found None = found
+earlier found (Some other) = if comes_before other.state found.state then other else found
+
+abbrev pub first_by_name : List finding.Finding → Option finding.Finding
+first_by_name [] = None
+first_by_name (found ∷ others) = Some (earlier found (first_by_name others))
 
 -- the one whose name comes first, where both may be there
 abbrev pub first_of : Option finding.Finding → Option finding.Finding → Option finding.Finding
@@ -42,7 +52,7 @@ pub record AreNamed (table : Table) (declared : Declared) : Type 0 where
 
 -- the finding is the first by name of what is wrong with them
 abbrev pub IsFirstRefusal : Table → Declared → InferRefusal → Type 0
-IsFirstRefusal table declared (Finding found) = first_by_name (misnamed table declared) ≡ Some (finding_view found)
+IsFirstRefusal table declared (Finding found) = slice_get (misnamed table declared) 0 ≡ Some (finding_view found)
 IsFirstRefusal table declared NotSettled = ⊥
 IsFirstRefusal table declared OutOfMemory = ⊤
 

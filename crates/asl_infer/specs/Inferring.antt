@@ -1,18 +1,18 @@
 -- What the inferrer of certificates answers.
-use Rattle.std.specs.Prelude.{◌*◌, ◌≤◌, ℕ, suc, sum_by, IsTrue, ⊤}
+use Rattle.std.specs.Prelude.{◌+◌, ◌*◌, ◌≤◌, ℕ, suc, sum_by, IsTrue, ⊤}
 use Rattle.asl_model.specs.Certificate as model
 use Rattle.asl_model.specs.Finding as finding
 use Rattle.asl_model.specs.Inference.{StandsForSome, is_of_machine}
 use Rattle.asl_model.specs.Machine.{Scope, kind_of}
 use Rattle.asl_model.specs.Numbering.{Table, table_of}
-use Rattle.asl_drafts.specs.Drafts.{IsTold, NeverSettles, entry_shapes}
+use Rattle.asl_drafts.specs.Drafts.{IsTold, NeverSettles, children_in}
 use Rattle.asl_check.specs.View.{finding_view}
 use Rattle.asl_infer.specs.declared.inferring.InferRefusal.{InferRefusal}
 use Rattle.asl_infer.specs.declared.inferring.InferRefusal.TheVariants.{Finding, NotSettled, OutOfMemory}
 
--- how many shapes the entries have of the states of that table
+-- how many shapes the entries have of the states of that table: of inputs, of outputs, and of the ends of children
 abbrev pub states_shapes : Table → ℕ
-states_shapes table = sum_by (λ state. entry_shapes (kind_of state)) table.states
+states_shapes table = sum_by (λ state. 2 + children_in (kind_of state)) table.states
 
 -- how many shapes a certificate has of a machine with that table: of the output, and in the entries of its states
 abbrev pub certified_shapes : Table → ℕ

@@ -1,7 +1,7 @@
 // The rounds of an inference: the states are walked, and what flows out of them is taken in.
 
-ghost use Rattle.std.specs.Prelude.{◌≡◌, ◌<◌, length, not, IfErr, IfNone, IfOk, IfSome, OnOk};
-ghost use Rattle.asl_drafts.specs.Drafts.{first_draft, input_taken, own_breaches_at};
+ghost use Rattle.std.specs.Prelude.{◌≡◌, ◌<◌, [], ◌∷◌, length, not, IfErr, IfNone, IfOk, IfSome, OnOk};
+ghost use Rattle.asl_drafts.specs.Drafts.{first_draft, input_taken, own_breaches};
 ghost use Rattle.asl_model.specs.Finding.{breach_unless};
 ghost use Rattle.asl_model.specs.Inference.{finding_of};
 ghost use Rattle.asl_states.specs.Table.{table_view};
@@ -138,13 +138,7 @@ impl<'m> Given<'m> {
             (expansions walker.new.draft.store) }
     {
         match self.machine.scope_of(0) {
-            Some(scope) => {
-                let target = Target::Part {
-                    state: scope.start,
-                    place: 0,
-                };
-                walker.take(target, self.input)
-            }
+            Some(scope) => walker.take(Target::Input(scope.start), self.input),
             None => Ok(false),
         }
     }
@@ -276,8 +270,8 @@ fn breaks_payload(draft: &mut Draft, edge: &Edge, takes: usize) -> Result<bool, 
     requires flowing { edge.now.flowing < length draft.old.store }
     requires takes { takes < length draft.old.store }
     ensures broken { IfOk result
-        (λ broken. own_breaches_at (shape_at (expansions draft.old.store) takes)
-        (edge_view (expansions draft.old.store) edge.now)
+        (λ broken. own_breaches (shape_at (expansions draft.old.store) takes)
+        (edge_view (expansions draft.old.store) edge.now ∷ [])
         ≡ breach_unless (not broken) edge.now.field.now (finding_fault_view edge.now.fault)) }
     ensures kept { draft.new.store ≡ draft.old.store }
     ensures same { draft_view draft.new ≡ draft_view draft.old }

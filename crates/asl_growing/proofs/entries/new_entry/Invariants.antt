@@ -1,5 +1,5 @@
-use Rattle.std.proofs.Common.{◌≡◌, ◌+◌, replicate}
+use Rattle.std.proofs.Common.{◌≡◌, replicate}
 use Rattle.asl_growing.proofs.entries.new_entry.Given as goal
 
 abbrev pub invariant-loop : goal.invariant-loop
-invariant-loop l = l.entry.items ≡ replicate (2 + l.counter) l.never
+invariant-loop l = l.ends.items ≡ replicate l.counter l.never

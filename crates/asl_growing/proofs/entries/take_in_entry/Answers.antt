@@ -1,30 +1,34 @@
-use Rattle.std.proofs.Common.{length, sym}
-use borrow.Author.Tests.{ltb-false}
-use Rattle.std.proofs.lemmas.List.{length-map}
-use Rattle.asl_drafts.specs.Drafts.{taken_in}
 use Rattle.asl_numbered.specs.Expansion.{expansions, shape_at}
-use Rattle.asl_growing.specs.Growing.{growth_view}
-use Rattle.asl_growing.proofs.EntryViews.{growths-kept, makes-at, makes-past, takes-made}
-use Rattle.asl_growing.proofs.Grown.{entry_changed}
+use Rattle.asl_growing.proofs.EntryViews.{end-made, input-made, output-made}
+use Rattle.asl_growing.proofs.Grown.{ends_kept, grown_kept}
 use Rattle.asl_growing.proofs.entries.take_in_entry.Goals as goal
 
-pub returns-in-Some-clause-takes : goal.returns-in-Some-clause-takes
-returns-in-Some-clause-takes c =
-    let a = c.args.store.now in
-    let b = c.take.new.store in
-    let gs = c.args.entry.now.items in
-    let s = shape_at (expansions a) c.args.flowing in
-    let old = growth_view (expansions a) in
-    let new = growth_view (expansions b) in
-    let g = c.in-Some.growing.now in
-    let takes = takes-made s (old g) (new c.take.new.self) c.take.result c.take.ensures.takes in
-    makes-at old new (taken_in s) (λ growth. growth.changes_left) gs c.args.place g c.take.new.self c.take.result c.in-Some.ensures.item.3.0 c.in-Some.ensures.item.1 (growths-kept a b gs c.take.ensures.keeps c.requires.grown) takes
+pub returns-in-Input-clause-takes : goal.returns-in-Input-clause-takes
+returns-in-Input-clause-takes c =
+    rw c.in-Input.is (input-made (shape_at (expansions c.args.store.now) c.args.flowing) c.args.store.now c.take.new.store c.args.entry.now c.take.ensures.keeps c.requires.grown c.take.result c.take.new.self c.take.ensures.takes)
 
-pub returns-in-Some-clause-grown : goal.returns-in-Some-clause-grown
-returns-in-Some-clause-grown c = entry_changed c.args.store.now c.take.new.store c.args.entry.now.items c.args.place c.take.new.self c.take.ensures.keeps c.requires.grown c.take.ensures.grown
+pub returns-in-Input-clause-grown : goal.returns-in-Input-clause-grown
+returns-in-Input-clause-grown c =
+    let was = c.requires.grown in
+    let keeps = c.take.ensures.keeps in
+    record { input = c.take.ensures.grown; output = grown_kept c.args.store.now c.take.new.store c.args.entry.now.output keeps was.output; ends = ends_kept c.args.store.now c.take.new.store c.args.entry.now.ends keeps was.ends }
 
-pub returns-in-None-clause-takes : goal.returns-in-None-clause-takes
-returns-in-None-clause-takes c =
-    let table = expansions c.args.store.now in
-    let gs = c.args.entry.now.items in
-    makes-past (growth_view table) (growth_view table) (taken_in (shape_at table c.args.flowing)) (λ growth. growth.changes_left) gs c.args.place (rw (length-map gs (growth_view table)) (ltb-false c.args.place (length gs) (sym c.in-None.ensures.item.0)))
+pub returns-in-Output-clause-takes : goal.returns-in-Output-clause-takes
+returns-in-Output-clause-takes c =
+    rw c.in-Output.is (output-made (shape_at (expansions c.args.store.now) c.args.flowing) c.args.store.now c.take-in-Output.new.store c.args.entry.now c.take-in-Output.ensures.keeps c.requires.grown c.take-in-Output.result c.take-in-Output.new.self c.take-in-Output.ensures.takes)
+
+pub returns-in-Output-clause-grown : goal.returns-in-Output-clause-grown
+returns-in-Output-clause-grown c =
+    let was = c.requires.grown in
+    let keeps = c.take-in-Output.ensures.keeps in
+    record { input = grown_kept c.args.store.now c.take-in-Output.new.store c.args.entry.now.input keeps was.input; output = c.take-in-Output.ensures.grown; ends = ends_kept c.args.store.now c.take-in-Output.new.store c.args.entry.now.ends keeps was.ends }
+
+pub returns-in-End-clause-takes : goal.returns-in-End-clause-takes
+returns-in-End-clause-takes c =
+    rw c.in-End.is (end-made (shape_at (expansions c.args.store.now) c.args.flowing) c.args.store.now c.take_in_ends.new.store c.args.entry.now c.take_in_ends.ensures.keeps c.requires.grown c.in-End.child c.take_in_ends.result c.take_in_ends.new.ends c.take_in_ends.ensures.takes)
+
+pub returns-in-End-clause-grown : goal.returns-in-End-clause-grown
+returns-in-End-clause-grown c =
+    let was = c.requires.grown in
+    let keeps = c.take_in_ends.ensures.keeps in
+    record { input = grown_kept c.args.store.now c.take_in_ends.new.store c.args.entry.now.input keeps was.input; output = grown_kept c.args.store.now c.take_in_ends.new.store c.args.entry.now.output keeps was.output; ends = c.take_in_ends.ensures.grown }

@@ -1,8 +1,15 @@
 use Rattle.std.proofs.lemmas.Result.{err_from_is_err_and}
 use Rattle.asl_records.specs.Numbered.{numbered_view}
+use Rattle.asl_records.specs.View.{declared_view}
+use Rattle.asl_states.specs.Table.{table_view}
 use Rattle.asl_growing.specs.Drafted.{draft_view}
-use Rattle.asl_infer.proofs.Inferred.{given-infers, given-refuses}
+use Rattle.asl_infer.proofs.Inferred.{given-infers, given-refuses, names-refuse}
 use Rattle.asl_infer.proofs.inferring.settle.Goals as goal
+
+pub returns-in_err-check_tasks-clause-told : goal.returns-in_err-check_tasks-clause-told
+returns-in_err-check_tasks-clause-told c =
+    let p = err_from_is_err_and c.from_residual-in_err-check_tasks.result c.from_residual-in_err-check_tasks.ensures.1 in
+    rw (p.1, p.2) (names-refuse (table_view c.args.machine.now) (declared_view c.args.declared.now) c.args.max_rounds c.in_err-check_tasks.field-0.0 c.in_err-check_tasks.ensures.told)
 
 pub returns-in_err-take_rounds-clause-told : goal.returns-in_err-take_rounds-clause-told
 returns-in_err-take_rounds-clause-told c =

@@ -1,7 +1,7 @@
 use Rattle.asl_numbered.specs.Expansion.{expansions, shape_at}
 use Rattle.asl_growing.specs.Entries.{entries_view}
 use Rattle.asl_growing.specs.Growing.{growth_view}
-use Rattle.asl_growing.proofs.DraftViews.{output-made, part-made}
+use Rattle.asl_growing.proofs.DraftViews.{entry-told, output-told}
 use Rattle.asl_growing.proofs.EntryViews.{all-entries-same, growth-kept}
 use Rattle.asl_growing.proofs.Grown.{entries_kept, grown_kept}
 use Rattle.asl_growing.proofs.draft.Draft.take.Goals as goal
@@ -14,24 +14,24 @@ invariant_of-self c =
       entries_grown = entries_kept before.store c.take.new.store before.entries.items c.take.ensures.keeps before.entries_grown;
     }
 
-pub invariant_of-self-in-Part : goal.invariant_of-self-in-Part
-invariant_of-self-in-Part c =
+pub invariant_of-self-in-Some : goal.invariant_of-self-in-Some
+invariant_of-self-in-Some c =
     let before = c.args.self.now in
     record {
       output_grown = grown_kept before.store c.take_in_entries.new.store before.output c.take_in_entries.ensures.keeps before.output_grown;
       entries_grown = c.take_in_entries.ensures.grown;
     }
 
-pub returns-in-MachineOutput-clause-takes : goal.returns-in-MachineOutput-clause-takes
-returns-in-MachineOutput-clause-takes c =
+pub returns-in-None-clause-takes : goal.returns-in-None-clause-takes
+returns-in-None-clause-takes c =
     let before = c.args.self.now in
     let a = before.store in
     let b = c.take.new.store in
-    rw c.in-MachineOutput.is (output-made (shape_at (expansions a) c.args.flowing) (growth_view (expansions a) before.output) (growth_view (expansions b) c.take.new.self) (entries_view (expansions a) before.entries.items) (entries_view (expansions b) before.entries.items) c.take.result (all-entries-same a b before.entries.items c.take.ensures.keeps before.entries_grown) c.take.ensures.takes)
+    output-told c.args.target (shape_at (expansions a) c.args.flowing) c.part.result c.part.ensures (growth_view (expansions a) before.output) (growth_view (expansions b) c.take.new.self) (entries_view (expansions a) before.entries.items) (entries_view (expansions b) before.entries.items) c.take.result c.in-None.is (all-entries-same a b before.entries.items c.take.ensures.keeps before.entries_grown) c.take.ensures.takes
 
-pub returns-in-Part-clause-takes : goal.returns-in-Part-clause-takes
-returns-in-Part-clause-takes c =
+pub returns-in-Some-clause-takes : goal.returns-in-Some-clause-takes
+returns-in-Some-clause-takes c =
     let before = c.args.self.now in
     let a = before.store in
     let b = c.take_in_entries.new.store in
-    rw c.in-Part.is (part-made (shape_at (expansions a) c.args.flowing) c.in-Part.state c.in-Part.place (growth_view (expansions a) before.output) (growth_view (expansions b) before.output) (entries_view (expansions a) before.entries.items) (entries_view (expansions b) c.take_in_entries.new.entries.items) c.take_in_entries.result (growth-kept a b before.output c.take_in_entries.ensures.keeps before.output_grown) c.take_in_entries.ensures.takes)
+    entry-told c.args.target (shape_at (expansions a) c.args.flowing) c.part.result c.part.ensures (c.in-Some.state, c.in-Some.part) (growth_view (expansions a) before.output) (growth_view (expansions b) before.output) (entries_view (expansions a) before.entries.items) (entries_view (expansions b) c.take_in_entries.new.entries.items) c.take_in_entries.result c.in-Some.is (growth-kept a b before.output c.take_in_entries.ensures.keeps before.output_grown) c.take_in_entries.ensures.takes

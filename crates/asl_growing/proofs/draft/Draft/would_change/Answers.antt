@@ -1,6 +1,6 @@
 use Rattle.std.proofs.Common.{◌<◌, length}
 use Rattle.asl_numbered.specs.Expansion.{expansions, shape_at}
-use Rattle.asl_growing.proofs.DraftViews.{draft-same, none-stays, unchanged-stays}
+use Rattle.asl_growing.proofs.DraftViews.{changed-changes, draft-same, none-stays, unchanged-stays}
 use Rattle.asl_growing.proofs.Grown.{entries_kept, grown_kept}
 use Rattle.asl_growing.proofs.draft.Draft.would_change.Goals as goal
 
@@ -19,6 +19,12 @@ returns-in_default-clause-stays c = λ e within.
 pub returns-clause-stays : goal.returns-clause-stays
 returns-clause-stays c =
     unchanged-stays (c.args.flowing < length c.args.self.now.store) c.args.self.now c.args.target (shape_at (expansions c.args.self.now.store) c.args.flowing) c.in-Some.growing c.take.new.self c.take.new.store c.growing.result c.take.result c.growing.ensures.there c.in-Some.is c.take.ensures.takes
+
+pub returns-clause-changes : goal.returns-clause-changes
+returns-clause-changes c =
+    let draft = c.args.self.now in
+    let within : c.args.flowing < length draft.store = c.has.ensures.0 c.if-not-has.false in
+    changed-changes (c.args.flowing < length draft.store) draft c.args.target (shape_at (expansions draft.store) c.args.flowing) c.in-Some.growing c.take.new.self c.take.new.store c.growing.result c.take.result within c.growing.ensures.there c.in-Some.is c.take.ensures.takes
 
 pub returns-clause-same : goal.returns-clause-same
 returns-clause-same c =

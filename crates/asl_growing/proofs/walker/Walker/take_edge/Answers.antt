@@ -23,7 +23,7 @@ returns-in_ok-add-in-Some-clause-walked c =
     let shapes = expansions before.draft.store in
     let edge = c.args.edge.now in
     let one : Walker = record { draft = before.draft; waiting = before.waiting; predecessors = c.add.new.self } in
-    let leads : Some (target_view c.in-Some.target) ≡ model.target_of table n (destination_view edge.destination) = ap (option_map target_view) (sym c.in-Some.is) ∙ c.in_ok-target.ensures in
+    let leads : Some (target_view c.in-Some.target) ≡ model.target_of table n (destination_view edge.destination) = ap (option_map target_view) (sym c.in-Some.is) ∙ c.target_of.ensures in
     steps-told c.take.result before one c.take.new.self c.in-Some.target c.args.origin refl refl c.in_ok-add-in-Some.ensures.elsewhere table edge.flowing (edge_view shapes edge) c.take.ensures.keeps c.take.ensures.predecessors c.take.ensures.waits c.requires c.in_ok-add-in-Some.ensures.here
     (edge-rests table n shapes edge (target_view c.in-Some.target) leads) c.take.ensures.takes c.take.ensures.woken
 
@@ -34,5 +34,5 @@ returns-in-None-clause-walked c =
     let n = c.args.origin.state in
     let shapes = expansions before.draft.store in
     let edge = c.args.edge.now in
-    let leads : None ≡ model.target_of table n (destination_view edge.destination) = ap (option_map target_view) (sym c.in-None.is) ∙ c.in_ok-target.ensures in
+    let leads : None ≡ model.target_of table n (destination_view edge.destination) = ap (option_map target_view) (sym c.in-None.is) ∙ c.target_of.ensures in
     nothing-taken table c.args.origin (edge_view shapes edge) before (none-rests table n shapes edge leads)
