@@ -13,6 +13,7 @@ pub mod OwnFields
 pub mod OwnRules
 pub mod Rates
 pub mod Refused
+pub mod Rules
 pub mod Starts
 pub mod Templates
 pub mod Troubles

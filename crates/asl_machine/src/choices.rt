@@ -1,22 +1,19 @@
 // Reading the rules of a Choice (States Language, "Choice State").
 
-ghost use Rattle.std.specs.Prelude.{◌≡◌, ◌++◌, Some, IfOk, is_some, map, option_map, option_and_then};
+ghost use Rattle.std.specs.Prelude.{◌≡◌, ◌++◌, Some, IfOk, map, option_and_then};
 ghost use Rattle.serde_json.specs.View.{view, items_view};
 ghost use Rattle.asl_model.specs.DefinitionTable as model;
 ghost use Rattle.asl_model.specs.Json.{tree_of};
 ghost use Rattle.asl_model.specs.RuleSpelling.{rule_of};
 ghost use Rattle.asl_model.specs.StandsFor.{items_in, rules_of};
 ghost use Rattle.asl_choice.specs.View.{rule_view};
-ghost use Rattle.asl_tree.specs.View as trees;
 ghost use Rattle.asl_machine.specs.Definition.{IsMisfit, IsVerdict, place_view};
 ghost use Rattle.asl_machine.specs.Reading.{rules_told, fields_of, rules_among, wrong_rules};
 
-use crate::fields::read_tree;
 use crate::places::{Complaint, Place};
 use crate::refusals::DefFault;
 use crate::value_checking::{check_some, wrong_kind};
 use asl_choice::{Rule, RuleRefusal};
-use asl_tree::{OutOfMemory, Tree};
 use serde_json::Value;
 use std::alloc::Global;
 
@@ -77,44 +74,24 @@ fn read_each(alloc: Global, elements: &[Value]) -> Result<Vec<Rule>, DefFault>
 }
 
 /// The rule that a value spells.
+#[tactic(auto, using(crate::proofs::Rules::rule_spelled, crate::proofs::Rules::rule_right, crate::proofs::Rules::rule_wrong))]
 fn read_rule(alloc: Global, value: &Value) -> Result<Rule, DefFault>
     ensures rule { IfOk result (λ rule. option_and_then rule_of (tree_of (view value.now))
         ≡ Some (rule_view rule)) }
     ensures faults { IsMisfit (model.rule_misfits (tree_of (view value.now))) result }
 {
-    match read_tree(alloc, value)? {
-        Some(tree) => rule_from(alloc, &tree),
-        None => Err(DefFault::NotWhole),
-    }
-}
-
-/// The rule that a tree spells.
-fn rule_from(alloc: Global, tree: &Tree) -> Result<Rule, DefFault>
-    ensures rule { IfOk result (λ rule. rule_of (trees.view tree.now) ≡ Some (rule_view rule)) }
-    ensures faults { IsMisfit
-        (model.unless (is_some (rule_of (trees.view tree.now))) model.BadRule) result }
-{
-    match rule_spelled(alloc, tree)? {
-        Some(rule) => Ok(rule),
-        None => Err(DefFault::BadRule),
-    }
-}
-
-/// The rule that a tree spells, where it spells one.
-fn rule_spelled(alloc: Global, tree: &Tree) -> Result<Option<Rule>, OutOfMemory>
-    ensures { IfOk result (λ rule. option_map rule_view rule ≡ rule_of (trees.view tree.now)) }
-{
-    match asl_choice::from_tree(alloc, tree) {
-        Ok(rule) => Ok(Some(rule)),
+    match asl_choice::from_value(alloc, value) {
+        Ok(rule) => Ok(rule),
         Err(refusal) => match refusal {
-            RuleRefusal::OutOfMemory => Err(OutOfMemory),
+            RuleRefusal::OutOfMemory => Err(DefFault::OutOfMemory),
+            RuleRefusal::NotWhole => Err(DefFault::NotWhole),
             RuleRefusal::NotARule
             | RuleRefusal::UnknownOperator
             | RuleRefusal::BadOperand
             | RuleRefusal::BadPath
             | RuleRefusal::BadPattern
             | RuleRefusal::EmptyList
-            | RuleRefusal::NextInside => Ok(None),
+            | RuleRefusal::NextInside => Err(DefFault::BadRule),
         },
     }
 }

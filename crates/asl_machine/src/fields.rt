@@ -193,7 +193,7 @@ pub(crate) fn build_tree(
 }
 
 /// The tree that a value is, where it is one.
-pub(crate) fn read_tree(alloc: Global, value: &Value) -> Result<Option<Tree>, OutOfMemory>
+fn read_tree(alloc: Global, value: &Value) -> Result<Option<Tree>, OutOfMemory>
     ensures { IfOk result (λ tree. option_map trees.view tree ≡ tree_of (view value.now)) }
 {
     match asl_tree::from_value(alloc, value) {
