@@ -10,9 +10,11 @@ use std::alloc::Global;
 
 /// The pattern that the text spells: `*` is a star, and a backslash stands before a star or a backslash that is itself.
 pub(crate) fn read_pattern(alloc: Global, text: &[u8]) -> Result<Vec<PatternPart>, RuleRefusal>
-    ensures pattern { IfOk result (λ parts. model.pattern_of text.now ≡ Some (pattern_view parts.items)) }
+    ensures pattern { IfOk result
+        (λ parts. model.pattern_of text.now ≡ Some (pattern_view parts.items)) }
     ensures of_text { ¬ (result ≡ Err RuleRefusal.NotWhole) }
-    ensures refused { IfErr result (λ e. Tells e (missing model.BadPattern (model.pattern_of text.now))) }
+    ensures refused { IfErr result
+        (λ e. Tells e (missing model.BadPattern (model.pattern_of text.now))) }
 {
     let mut parts = Vec::new(alloc);
     let mut rest = text;

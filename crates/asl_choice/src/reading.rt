@@ -57,14 +57,22 @@ pub fn from_value(alloc: Global, value: &Value) -> Result<Rule, RuleRefusal>
 ///
 /// Where several refusals stand in a tree, the answer is one of them.
 pub fn from_tree(alloc: Global, tree: &Tree) -> Result<Rule, RuleRefusal>
-    ensures spelled { IfOk result (λ rule. model.SpellsRule (trees.view tree.now) (rule_view rule)) }
-    ensures not_a_rule { result ≡ Err RuleRefusal.NotARule → model.HasRuleFault (trees.view tree.now) model.NotARule }
-    ensures unknown_operator { result ≡ Err RuleRefusal.UnknownOperator → model.HasRuleFault (trees.view tree.now) model.UnknownOperator }
-    ensures bad_operand { result ≡ Err RuleRefusal.BadOperand → model.HasRuleFault (trees.view tree.now) model.BadOperand }
-    ensures bad_path { result ≡ Err RuleRefusal.BadPath → model.HasRuleFault (trees.view tree.now) model.BadPath }
-    ensures bad_pattern { result ≡ Err RuleRefusal.BadPattern → model.HasRuleFault (trees.view tree.now) model.BadPattern }
-    ensures empty_list { result ≡ Err RuleRefusal.EmptyList → model.HasRuleFault (trees.view tree.now) model.EmptyList }
-    ensures next_inside { result ≡ Err RuleRefusal.NextInside → model.HasRuleFault (trees.view tree.now) model.NextInside }
+    ensures spelled { IfOk result
+        (λ rule. model.SpellsRule (trees.view tree.now) (rule_view rule)) }
+    ensures not_a_rule { result ≡ Err RuleRefusal.NotARule
+        → model.HasRuleFault (trees.view tree.now) model.NotARule }
+    ensures unknown_operator { result ≡ Err RuleRefusal.UnknownOperator
+        → model.HasRuleFault (trees.view tree.now) model.UnknownOperator }
+    ensures bad_operand { result ≡ Err RuleRefusal.BadOperand
+        → model.HasRuleFault (trees.view tree.now) model.BadOperand }
+    ensures bad_path { result ≡ Err RuleRefusal.BadPath
+        → model.HasRuleFault (trees.view tree.now) model.BadPath }
+    ensures bad_pattern { result ≡ Err RuleRefusal.BadPattern
+        → model.HasRuleFault (trees.view tree.now) model.BadPattern }
+    ensures empty_list { result ≡ Err RuleRefusal.EmptyList
+        → model.HasRuleFault (trees.view tree.now) model.EmptyList }
+    ensures next_inside { result ≡ Err RuleRefusal.NextInside
+        → model.HasRuleFault (trees.view tree.now) model.NextInside }
     ensures of_tree { ¬ (result ≡ Err RuleRefusal.NotWhole) }
 {
     let value = to_value(alloc, tree)?;
