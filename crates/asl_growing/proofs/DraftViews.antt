@@ -29,7 +29,7 @@ use Rattle.asl_growing.specs.declared.entries.EntryNumbers.{EntryNumbers}
 use Rattle.asl_growing.specs.declared.entries.Part.{Part}
 use Rattle.asl_growing.specs.declared.entries.Part.TheVariants as part
 use Rattle.asl_growing.specs.declared.growing.Growing.{Growing}
-use Rattle.asl_growing.proofs.Kept.{among, shown}
+use Rattle.asl_edges.proofs.Kept.{among, shown}
 use Rattle.asl_growing.proofs.EntryViews.{all-entries-same, growth-kept, parts, parts-same}
 
 -- ---- what is made of a draft

@@ -18,7 +18,7 @@ use Rattle.asl_growing.specs.Growing.{AreEndsGrown, AreGrown, IsEntryGrown, IsGr
 use Rattle.asl_growing.specs.declared.entries.DraftEntry as code
 use Rattle.asl_growing.specs.declared.entries.Part.TheVariants as part
 use Rattle.asl_growing.specs.declared.growing.Growing.{Growing}
-use Rattle.asl_growing.proofs.Kept.{shown}
+use Rattle.asl_edges.proofs.Kept.{shown}
 
 -- ---- one element of a list
 

@@ -15,7 +15,7 @@ use Rattle.asl_edges.specs.declared.found.Destination.TheVariants as to
 use Rattle.asl_edges.specs.declared.found.Edge.{Edge}
 use Rattle.asl_growing.specs.Drafted.{room}
 use Rattle.asl_growing.specs.Entries.{Makes}
-use Rattle.asl_growing.proofs.Kept.{shown}
+use Rattle.asl_edges.proofs.Kept.{shown}
 
 module _ (table : Table) (n : ℕ) (shapes : List Shape) (edge : Edge) where
   -- an edge that leads to a shape of the draft

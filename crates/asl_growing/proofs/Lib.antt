@@ -5,7 +5,6 @@ pub mod DraftViews
 pub mod EntryViews
 pub mod Grown
 pub mod Inflows
-pub mod Kept
 pub mod Known
 pub mod Leading
 pub mod Levels

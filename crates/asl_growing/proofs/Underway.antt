@@ -22,7 +22,7 @@ use Rattle.asl_growing.specs.declared.draft.Target.{Target}
 use Rattle.asl_growing.specs.declared.predecessors.Origin.{Origin}
 use Rattle.asl_growing.specs.declared.walker.Walker.{Walker}
 use Rattle.asl_growing.proofs.Calm.{meant-same, recalls, remembered, taken-again}
-use Rattle.asl_growing.proofs.Kept.{among_shapes, shown, within}
+use Rattle.asl_edges.proofs.Kept.{among_shapes, shown, within}
 
 -- what a walker remembers
 abbrev pub known_to : Walker → Memory

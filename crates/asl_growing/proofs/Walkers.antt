@@ -16,7 +16,7 @@ use Rattle.asl_growing.specs.declared.draft.Target.{Target}
 use Rattle.asl_growing.specs.declared.predecessors.Inflow.{Inflow}
 use Rattle.asl_growing.specs.declared.predecessors.Origin.{Origin}
 use Rattle.asl_growing.specs.declared.predecessors.Predecessors.{Predecessors}
-use Rattle.asl_growing.proofs.Kept.{shown, within}
+use Rattle.asl_edges.proofs.Kept.{shown, within}
 
 -- ---- one more waits
 

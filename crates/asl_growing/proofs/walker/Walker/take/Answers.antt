@@ -9,7 +9,7 @@ use Rattle.asl_growing.specs.Walker.{StaysWaiting}
 use Rattle.asl_growing.specs.declared.walker.Walker.{Walker}
 use Rattle.asl_growing.proofs.Calm.{calm-by}
 use Rattle.asl_growing.specs.declared.draft.Draft.{Draft}
-use Rattle.asl_growing.proofs.Kept.{longer}
+use Rattle.asl_edges.proofs.Kept.{longer}
 use Rattle.asl_growing.proofs.Walkers.{woken}
 use Rattle.asl_growing.proofs.walker.Walker.take.Goals as goal
 

@@ -8,7 +8,7 @@ use Rattle.asl_growing.specs.Drafted.{draft_view, room}
 use Rattle.asl_growing.specs.Entries.{Makes}
 use Rattle.asl_growing.specs.Underway.{StepsOn}
 use Rattle.asl_growing.specs.declared.predecessors.Origin.{Origin}
-use Rattle.asl_growing.proofs.Kept.{within}
+use Rattle.asl_edges.proofs.Kept.{within}
 use Rattle.asl_growing.proofs.Leading.{edge-kept, first_steps, flowing-below, no_edge, steps-many, steps-more}
 use Rattle.asl_growing.proofs.Underway.{HasWalked, changed-now, unchanged-now, walked-more}
 use Rattle.asl_growing.proofs.walker.Walker.take_edges.Goals as goal

@@ -1,6 +1,6 @@
 use Rattle.asl_numbered.specs.Expansion.{expansions}
 use Rattle.asl_growing.specs.Drafted.{draft_view}
-use Rattle.asl_growing.proofs.Kept.{among, within}
+use Rattle.asl_edges.proofs.Kept.{among, within}
 use Rattle.asl_infer.proofs.Declared.{task_of_row}
 use Rattle.asl_infer.proofs.StateEdges.{edges-below, row-tells, whole-row}
 use Rattle.asl_infer.proofs.rounds.Given.edges.Goals as goal
