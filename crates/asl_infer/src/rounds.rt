@@ -11,7 +11,7 @@ ghost use Rattle.asl_growing.specs.Drafted.{draft_view, room};
 ghost use Rattle.asl_growing.specs.Entries.{Makes};
 ghost use Rattle.asl_growing.specs.Order.{AreOrdered};
 ghost use Rattle.asl_check.specs.View.{finding_view};
-ghost use Rattle.asl_infer.specs.Rounds.{AreCalm, AreOthersCalm, AreWhole, EndsWhereNamed, IsChanged};
+ghost use Rattle.asl_infer.specs.Rounds.{AreCalm, AreWhole, EndsWhereNamed, IsChanged};
 ghost use Rattle.asl_infer.specs.Rounds.{IsFirstBroken, IsGiven, IsGivenOf, IsNoRow, IsRowOf, RoundTells};
 ghost use Rattle.asl_infer.specs.Rounds.{SettlesWhereNamed, TakesRound, Walks, WalkTells};
 ghost use Rattle.asl_infer.specs.Rounds.{declared_in, row_view, table_in};
@@ -162,32 +162,9 @@ impl<'m> Given<'m> {
         ensures keeps { Keeps (expansions walker.old.draft.store)
             (expansions walker.new.draft.store) }
     {
-        if walker.waiting.stop(number) {
-            self.walk(number, walker)
-        } else {
-            Ok(false)
+        if !walker.waiting.stop(number) {
+            return Ok(false);
         }
-    }
-
-    // Takes in what flows out of the state of that number, and says whether a shape was changed.
-    fn walk(&self, number: usize, walker: &mut Walker) -> Result<bool, InferRefusal>
-        requires given { IsGiven (expansions walker.old.draft.store) self.now }
-        requires calm { AreOthersCalm (table_in self.now) (declared_in self.now) number
-            walker.old }
-        ensures walks { OnOk result
-            (Walks (table_in self.now) (declared_in self.now) number
-            (draft_view walker.old.draft) (draft_view walker.new.draft)) }
-        ensures changed { IfOk result
-            (λ changed. IsChanged (draft_view walker.old.draft) changed
-            (draft_view walker.new.draft)) }
-        ensures told { IfErr result
-            (WalkTells (table_in self.now) (declared_in self.now) number
-            (draft_view walker.old.draft)) }
-        ensures calm { OnOk result
-            (AreCalm (table_in self.now) (declared_in self.now) walker.new) }
-        ensures keeps { Keeps (expansions walker.old.draft.store)
-            (expansions walker.new.draft.store) }
-    {
         let Some(row) = self.row(number) else {
             return Ok(false);
         };

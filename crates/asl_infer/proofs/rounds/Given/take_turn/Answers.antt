@@ -1,12 +1,51 @@
-use Rattle.std.proofs.Common.{refl, sym, ◌∙◌}
+use Rattle.std.proofs.Common.{refl, sym, subst, ◌∙◌}
 use Rattle.asl_numbered.specs.Expansion.{expansions}
 use Rattle.asl_numbered.proofs.Expansions.{keeps_same}
+use Rattle.asl_edges.specs.View.{steps_of}
+use Rattle.asl_drafts.specs.Drafts.{steps_taken}
+use Rattle.asl_growing.specs.Drafted.{draft_view, room}
+use Rattle.asl_growing.specs.Entries.{Makes}
+use Rattle.asl_growing.specs.Underway.{IsCalmAfter}
+use Rattle.asl_growing.specs.declared.walker.Walker.{Walker}
 use Rattle.asl_infer.specs.Rounds.{declared_in, table_in}
-use Rattle.asl_infer.proofs.CalmStates.{pass-calm, pass-walks}
+use Rattle.asl_infer.proofs.CalmStates.{none-calm, pass-calm, pass-walks, stop-calm, walked-calm}
+use Rattle.asl_infer.proofs.StateEdges.{state-calm, state-walks}
 use Rattle.asl_infer.proofs.rounds.Given.take_turn.Goals as goal
 
-pub returns-else-stop-clause-walks : goal.returns-else-stop-clause-walks
-returns-else-stop-clause-walks c = pass-walks (table_in c.args.self.now) (declared_in c.args.self.now) c.args.walker.now c.args.number (sym c.stop.ensures.told ∙ c.if-stop.false) c.requires.calm
+pub returns-then-not-stop-clause-walks : goal.returns-then-not-stop-clause-walks
+returns-then-not-stop-clause-walks c = pass-walks (table_in c.args.self.now) (declared_in c.args.self.now) c.args.walker.now c.args.number (sym c.stop.ensures.told ∙ c.if-not-stop.true) c.requires.calm
 
-pub returns-else-stop-clause-calm : goal.returns-else-stop-clause-calm
-returns-else-stop-clause-calm c = pass-calm (table_in c.args.self.now) (declared_in c.args.self.now) c.args.walker.now _ c.args.number c.stop.ensures.stops (sym c.stop.ensures.told ∙ c.if-stop.false) refl refl (keeps_same (expansions c.args.walker.now.draft.store)) c.requires.calm
+pub returns-then-not-stop-clause-calm : goal.returns-then-not-stop-clause-calm
+returns-then-not-stop-clause-calm c = pass-calm (table_in c.args.self.now) (declared_in c.args.self.now) c.args.walker.now _ c.args.number c.stop.ensures.stops (sym c.stop.ensures.told ∙ c.if-not-stop.true) refl refl (keeps_same (expansions c.args.walker.now.draft.store)) c.requires.calm
+
+pub returns-in_default-clause-calm : goal.returns-in_default-clause-calm
+returns-in_default-clause-calm c =
+    let given = c.args.self.now in
+    let n = c.args.number in
+    let first = c.args.walker.now in
+    let one : Walker = record { draft = first.draft; waiting = c.stop.new.self; predecessors = first.predecessors } in
+    none-calm (table_in given) (declared_in given) one n c.in_default.ensures.none (stop-calm (table_in given) (declared_in given) first one n c.stop.ensures.stops refl refl (keeps_same (expansions first.draft.store)) c.requires.calm)
+
+pub returns-clause-walks : goal.returns-clause-walks
+returns-clause-walks c =
+    let given = c.args.self.now in
+    let n = c.args.number in
+    let first = c.args.walker.now in
+    let one : Walker = record { draft = first.draft; waiting = c.stop.new.self; predecessors = first.predecessors } in
+    let two = c.take_edges.new.self in
+    let made : Walker = record { draft = c.edges.new.draft; waiting = one.waiting; predecessors = one.predecessors } in
+    state-walks given n c.in-Some.row one made two c.in_ok-edges.edges c.in-Some.ensures.there c.in_ok-edges.ensures.whole c.in_ok-edges.ensures.same c.in_ok-take_edges.field-0
+    (subst (λ es. Makes room (steps_taken (table_in given) n (steps_of (expansions made.draft.store) es)) (draft_view made.draft) c.in_ok-take_edges.field-0 (draft_view two.draft)) c.deref.ensures.value c.in_ok-take_edges.ensures.takes)
+
+pub returns-clause-calm : goal.returns-clause-calm
+returns-clause-calm c =
+    let given = c.args.self.now in
+    let n = c.args.number in
+    let first = c.args.walker.now in
+    let one : Walker = record { draft = first.draft; waiting = c.stop.new.self; predecessors = first.predecessors } in
+    let two = c.take_edges.new.self in
+    let made : Walker = record { draft = c.edges.new.draft; waiting = one.waiting; predecessors = one.predecessors } in
+    let after = subst (λ es. IsCalmAfter (table_in given) n (steps_of (expansions made.draft.store) es) made two) c.deref.ensures.value c.in_ok-take_edges.ensures.walked in
+    walked-calm (table_in given) (declared_in given) one made two n refl refl c.in_ok-edges.ensures.same c.in_ok-edges.ensures.keeps c.in_ok-take_edges.ensures.waits c.in_ok-take_edges.ensures.others
+    (state-calm given n c.in-Some.row one made two c.in_ok-edges.edges c.in-Some.ensures.there c.in_ok-edges.ensures.whole c.in_ok-edges.ensures.same after)
+    (stop-calm (table_in given) (declared_in given) first one n c.stop.ensures.stops refl refl (keeps_same (expansions first.draft.store)) c.requires.calm)
