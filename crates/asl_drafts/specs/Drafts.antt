@@ -1,5 +1,5 @@
--- Drafts of certificates (the profile's own): what the rounds of an inference come to. At first no tree has any shape of
--- a draft. In each round the declared input flows into the input of the machine's start state; then the states are
+-- Drafts of certificates (the profile's own): what the rounds of an inference come to. At first no tree has any shape
+-- of a draft. In each round the declared input flows into the input of the machine's start state; then the states are
 -- walked in byte order of their names, and what flows along their edges is joined into the shapes that it would be
 -- compared with. Each state is walked with the shapes that it has when its turn comes.
 use Rattle.std.specs.Prelude.{◌≡◌, ◌≢◌, ◌<◌, ◌+◌, ◌-◌, ◌==◌, ℕ, zero, suc, List, [], ◌∷◌, ◌++◌, map, not, ◌&&◌, ◌||◌}
@@ -32,8 +32,8 @@ pub record Growth : Type 0 where
 abbrev pub ungrown : Growth
 ungrown = record { shape = Never; changes_left = 33 }
 
--- Where a shape flows in, their join is cut to so many levels. Where that is the same shape, or no change is left,
--- nothing changes; the last change makes it Any.
+-- where a shape flows in, their join is cut: nothing changes where that is the same shape, or no change is left; the
+-- last change makes it Any
 abbrev pub taken_in : Shape → Growth → Growth
 taken_in flowing g =
     let joined = cut (join g.shape flowing) in
@@ -126,16 +126,17 @@ pub record Row : Type 0 where
 abbrev pub entry_of : Draft → Row → StateShapes
 entry_of draft row = entry_with (kind_of row.state) (unwrap_or (slice_get draft.entries row.number) (first_entry 0))
 
--- the rules that are broken along a walk whatever is certified: what flows is stopped on its way, or a payload isn't
--- inside what the task takes
+-- A state's own rules, which are broken along a walk whatever is certified: what flows is stopped on its way, or a
+-- payload isn't inside what the task takes.
 abbrev pub own_breaches : Shape → List Walked → List Breach
 own_breaches takes = breaches_along (record { inputs = λ n. None; output = Any; end = None; takes = takes })
 
--- the draft after a step of the state of that number, and after several: what flows along an edge is taken in
+-- the draft after a step of the state of that number: what flows along an edge is taken in
 abbrev pub step_taken : Table → ℕ → Walked → Draft → Draft
 step_taken table n (Flows edge) draft = taken_at (target_of table n edge.destination) edge.flowing draft
 step_taken table n (Breaks breach) draft = draft
 
+-- the draft after several steps
 abbrev pub steps_taken : Table → ℕ → List Walked → Draft → Draft
 steps_taken table n steps draft = fold (λ taken step. step_taken table n step taken) draft steps
 
@@ -144,11 +145,12 @@ abbrev pub unless_found : List Finding → Draft → Result Draft Finding
 unless_found [] draft = Ok draft
 unless_found (found ∷ further) draft = Err found
 
--- the steps of a row's state, and the draft after the walk through it, unless it breaks such a rule
+-- the steps of a state, with the shapes that it has in the draft
 abbrev pub steps_of : Declared → Draft → Row → List Walked
 steps_of declared draft row =
     walk (gives_of declared row.name) (settings_of row.state) (kind_of row.state) (entry_of draft row)
 
+-- the draft after the walk through a state, unless a rule of its own is broken
 abbrev pub walked : Table → Declared → Row → Draft → Result Draft Finding
 walked table declared row draft =
     unless_found (found_at row.name (own_breaches (takes_of declared row.name) (steps_of declared draft row)))
@@ -156,35 +158,39 @@ walked table declared row draft =
 
 -- ---- byte order of names
 
--- what has a name, in byte order of the names: with one more, so all of it
+-- what stands in byte order of its names, with one more
 abbrev pub with_named : {A : Type 0} → (A → StateName) → A → List A → List A
 with_named name x [] = x ∷ []
 with_named name x (other ∷ others) =
     if comes_before (name other) (name x) then other ∷ with_named name x others else x ∷ (other ∷ others)
 
+-- what has a name, in byte order of the names; where two are the same, in its own order
 abbrev pub in_name_order : {A : Type 0} → (A → StateName) → List A → List A
 in_name_order name [] = []
 in_name_order name (x ∷ xs) = with_named name x (in_name_order name xs)
 
--- the rows of named states from that number on, and those of a table in byte order of their names
+-- the rows of named states, which have numbers from that one on
 abbrev pub rows_from : ℕ → List (StateName × State) → List Row
 rows_from i [] = []
 rows_from i (named ∷ others) = record { number = i; name = named.0; state = named.1 } ∷ rows_from (suc i) others
 
+-- the rows of a table, in byte order of the names of states
 abbrev pub rows_of : Table → List Row
 rows_of table = in_name_order (λ row. row.name) (rows_from 0 (zip table.names table.states))
 
--- Tasks that aren't declared, declared tasks that are none, and both in byte order of their names
+-- the Tasks among the rows that aren't declared
 abbrev pub undeclared : Declared → List Row → List Finding
 undeclared declared rows =
     flat_map (λ row. found_at row.name (breach_unless (not (is_task (kind_of row.state))
     || is_some (under row.name declared.tasks)) (codes "Resource") TaskUndeclared)) rows
 
+-- the declared tasks whose name no Task among the rows has
 abbrev pub unknown : List Row → List (StateName × TaskShapes) → List Finding
 unknown rows tasks =
     flat_map (λ task. found_at task.0 (breach_unless (list_any (λ row. bytes_eq row.name task.0
     && is_task (kind_of row.state)) rows) (codes "tasks") TaskUnknown)) tasks
 
+-- what is wrong with the names of tasks, in byte order of the names
 abbrev pub misnamed : Table → Declared → List Finding
 misnamed table declared =
     in_name_order (λ found. found.state) (undeclared declared (rows_of table) ++ unknown (rows_of table) declared.tasks)
@@ -211,7 +217,8 @@ input_taken table declared draft =
 abbrev pub round : Table → Declared → Draft → Result Draft Finding
 round table declared draft = all_walked table declared (rows_of table) (input_taken table declared draft)
 
--- the draft after so many rounds, unless the names of tasks are wrong, or such a rule is broken in one of the rounds
+-- The draft after so many rounds: unless something is wrong with the names of tasks, which is told before the first, or
+-- a state breaks a rule of its own in one of them.
 abbrev pub after_rounds : Table → Declared → ℕ → Result Draft Finding
 after_rounds table declared zero = unless_found (misnamed table declared) (first_draft table)
 after_rounds table declared (suc n) = unless_told (round table declared) (after_rounds table declared n)
@@ -235,7 +242,7 @@ abbrev pub IsInferred : Table → Declared → ℕ → Certificate → Type 0
 IsInferred table declared rounds certificate =
     (draft : Draft) × Settles table declared rounds draft × (certificate ≡ certificate_of table draft)
 
--- the finding is told in so many rounds, or before the first
+-- the finding is told in one of so many rounds, or before the first
 abbrev pub IsTold : Table → Declared → ℕ → Finding → Type 0
 IsTold table declared rounds found = after_rounds table declared rounds ≡ Err found
 
