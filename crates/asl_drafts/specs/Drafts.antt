@@ -80,8 +80,7 @@ entry_with kind entry = record {
 -- children, by their numbers
 pub data Target : Type 0 where
   MachineOutput : Target
-  Input : ℕ → Target
-  Output : ℕ → Target
+  Input Output : ℕ → Target
   End : ℕ → ℕ → Target
 
 -- the list with that made of the element at a position, if there is one
@@ -238,9 +237,10 @@ pub record Settles (table : Table) (declared : Declared) (rounds : ℕ) (draft :
   pub stays : round table declared draft ≡ Ok draft
 
 -- the certificate is that of the draft on which the rounds settle
-abbrev pub IsInferred : Table → Declared → ℕ → Certificate → Type 0
-IsInferred table declared rounds certificate =
-    (draft : Draft) × Settles table declared rounds draft × (certificate ≡ certificate_of table draft)
+pub record IsInferred (table : Table) (declared : Declared) (rounds : ℕ) (certificate : Certificate) : Type 0 where
+  pub draft : Draft
+  pub settles : Settles table declared rounds draft
+  pub same : certificate ≡ certificate_of table draft
 
 -- the finding is told in one of so many rounds, or before the first
 abbrev pub IsTold : Table → Declared → ℕ → Finding → Type 0

@@ -34,7 +34,7 @@ module _ (table : Table) (declared : model.Declared) (rounds : ℕ) where
   -- the certificate of the draft on which the rounds settle
   pub infers : (draft : Draft) (certificate : model.Certificate) → AreNamed table declared → SettlesWhereNamed table declared rounds draft → (are_distinct table.names ≡ true → certificate ≡ certificate_of table draft) → Infers table declared rounds certificate
   infers draft certificate named settles same = record {
-    inferred = λ d. (draft, settles.settles d (named.named d), same d);
+    inferred = λ d. record { draft = draft; settles = settles.settles d (named.named d); same = same d };
   }
 
   -- a refusal by the names of tasks
@@ -69,7 +69,7 @@ module _ (shown : Machine) (declared : model.Declared) (rounds : ℕ) where
   pub closed-of : ((machine : Scope) (declared : model.Declared) (rounds : ℕ) (draft : Draft) → IsWellNamed machine → Settles (table_of machine) declared rounds draft → IsClosed declared (certificate_of (table_of machine) draft) machine) → (certificate : model.Certificate) → Infers (table_view shown) declared rounds certificate → (machine : Scope) → Shows shown machine → IsClosed declared certificate machine
   closed-of law certificate infers machine shows =
       let is = inferred-of certificate infers machine shows in
-      subst (λ c. IsClosed declared c machine) (sym is.2) (law machine declared rounds is.0 shows.well_named is.1)
+      subst (λ c. IsClosed declared c machine) (sym is.same) (law machine declared rounds is.draft shows.well_named is.settles)
 
   end-of : (why : InferRefusal) → Refuses (table_view shown) declared rounds why → (machine : Scope) → Shows shown machine → IsEndOf (table_of machine) declared rounds why
   end-of why refuses machine shows =
