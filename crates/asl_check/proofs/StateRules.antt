@@ -1,8 +1,5 @@
 -- What is told of one state's rules, part by part.
-use Rattle.std.proofs.Common.{◌≡◌, suc, List, [], ◌∷◌, ◌++◌, Contains, Bool, true, false, not, ◌||◌, length, String, Option, Some, option_to_list, codes, refl, sym, ap, subst}
-use Rattle.std.specs.declared.alloc.Global.{Global}
-use Rattle.asl_states.specs.Machine.{branches_view}
-use Rattle.asl_model.specs.Machine.{how_many}
+use Rattle.std.proofs.Common.{◌≡◌, List, [], ◌∷◌, ◌++◌, Contains, Bool, true, false, not, ◌||◌, Option, Some, option_to_list, codes, sym, subst}
 use Rattle.asl_model.specs.Finding.{Breach, NotCertified, TaskUndeclared, breach_unless}
 use Rattle.asl_check.specs.Checking.{Told}
 use Rattle.asl_check.proofs.Members.{first}
@@ -21,11 +18,6 @@ uncertified_told false declared b e is = record { one = subst (λ c. Contains (r
 pub certified_told : (certified declared : Bool) (told : Option Breach) → certified ≡ true → option_to_list told ≡ breach_unless declared (codes "Resource") TaskUndeclared → Told (rules_by certified declared) told
 certified_told true declared told e is = one_told (breach_unless declared (codes "Resource") TaskUndeclared) told is
 certified_told false declared told e is = absurd (cc)
-
--- as many branches as starts
-pub one_each : (starts : List (String Global)) → how_many (branches_view starts) ≡ length starts
-one_each [] = refl
-one_each (start ∷ starts) = ap suc (one_each starts)
 
 -- what isn't a Task needs no declaration
 pub undeclared_passed : (task known declared : Bool) → task ≡ false → declared ≡ true → declared ≡ (not task || known)

@@ -1,9 +1,9 @@
 -- The steps of a walk on shapes of a table that has grown.
-use Rattle.std.proofs.Common.{◌≡◌, ◌<◌, ◌+◌, ℕ, List, ◌∷◌, ◌++◌, length, get_or, drop, map, Option, option_map, String, string_bytes, refl, ap, ◌∙◌, drop-cons, add-one}
-use Rattle.std.specs.declared.alloc.Global.{Global}
+use Rattle.std.proofs.Common.{◌≡◌, ◌<◌, ◌+◌, ℕ, List, ◌∷◌, ◌++◌, length, get_or, drop, map, Option, option_map, refl, ap, ◌∙◌, drop-cons, add-one}
 use Rattle.asl_choice.specs.View.{view as test_view}
-use Rattle.asl_choice.specs.declared.rule.Rule.{Rule}
-use Rattle.asl_states.specs.Machine.{catcher_view}
+use Rattle.asl_states.specs.Machine.{catcher_view, target_name}
+use Rattle.asl_states.specs.declared.states.ChoiceRule.{ChoiceRule}
+use Rattle.asl_states.specs.declared.target.Target.{Target}
 use Rattle.asl_states.specs.declared.states.Catcher.{Catcher}
 use Rattle.asl_model.specs.Edges.{walk_catchers, walk_caught, walk_chosen, walk_default, walk_result, walk_rule, walk_settled, walk_work}
 use Rattle.asl_model.specs.Finding.{error_placed_shape}
@@ -29,19 +29,19 @@ module _ (a b : List Node) (walk : Walk) (keeps : Keeps (expansions a) (expansio
         ap (λ s. walk_chosen (settings_of walk) (kind_of walk) s field next (shape_at (expansions b) n)) (shown a b walk.entry.input keeps input)
         ∙ ap (walk_chosen (settings_of walk) (kind_of walk) (input_of (expansions a) walk) field next) (shown a b n keeps number)
 
-    pub rule_kept : (rule : Rule) → rule_steps (expansions b) walk rule n ≡ rule_steps (expansions a) walk rule n
+    pub rule_kept : (rule : ChoiceRule) → rule_steps (expansions b) walk rule n ≡ rule_steps (expansions a) walk rule n
     rule_kept rule =
-        ap (λ s. walk_rule (settings_of walk) (kind_of walk) s (string_bytes rule.next) (rule_shape (test_view rule.test) (shape_at (expansions b) n))) (shown a b walk.entry.input keeps input)
-        ∙ ap (λ s. walk_rule (settings_of walk) (kind_of walk) (input_of (expansions a) walk) (string_bytes rule.next) (rule_shape (test_view rule.test) s)) (shown a b n keeps number)
+        ap (λ s. walk_rule (settings_of walk) (kind_of walk) s (target_name rule.next) (rule_shape (test_view rule.test) (shape_at (expansions b) n))) (shown a b walk.entry.input keeps input)
+        ∙ ap (λ s. walk_rule (settings_of walk) (kind_of walk) (input_of (expansions a) walk) (target_name rule.next) (rule_shape (test_view rule.test) s)) (shown a b n keeps number)
 
-    pub default_kept : (default : Option (String Global)) → default_steps (expansions b) walk default n ≡ default_steps (expansions a) walk default n
+    pub default_kept : (default : Option Target) → default_steps (expansions b) walk default n ≡ default_steps (expansions a) walk default n
     default_kept default =
-        ap (λ s. walk_default (settings_of walk) (kind_of walk) s (option_map string_bytes default) (shape_at (expansions b) n)) (shown a b walk.entry.input keeps input)
-        ∙ ap (walk_default (settings_of walk) (kind_of walk) (input_of (expansions a) walk) (option_map string_bytes default)) (shown a b n keeps number)
+        ap (λ s. walk_default (settings_of walk) (kind_of walk) s (option_map target_name default) (shape_at (expansions b) n)) (shown a b walk.entry.input keeps input)
+        ∙ ap (walk_default (settings_of walk) (kind_of walk) (input_of (expansions a) walk) (option_map target_name default)) (shown a b n keeps number)
 
   -- on the input alone
   pub catcher_kept : (catcher : Catcher) → walk.entry.input < length a → catcher_steps (expansions b) walk catcher ≡ catcher_steps (expansions a) walk catcher
-  catcher_kept catcher input = ap (λ s. walk_caught (string_bytes catcher.next) (error_placed_shape catcher.result_path s)) (shown a b walk.entry.input keeps input)
+  catcher_kept catcher input = ap (λ s. walk_caught (target_name catcher.next) (error_placed_shape catcher.result_path s)) (shown a b walk.entry.input keeps input)
 
   pub catchers_kept : (catchers : List Catcher) → walk.entry.input < length a → catchers_steps (expansions b) walk catchers ≡ catchers_steps (expansions a) walk catchers
   catchers_kept catchers input = ap (λ s. walk_catchers s (map catcher_view catchers)) (shown a b walk.entry.input keeps input)
@@ -58,7 +58,7 @@ module _ (a b : List Node) (walk : Walk) (keeps : Keeps (expansions a) (expansio
 -- ---- what is left
 
 -- the rule at hand, and those behind it
-pub rule_left : (table : List Shape) (walk : Walk) (rules : List Rule) (i : ℕ) (rule : Rule) (n : ℕ) → i < length rules → rule ≡ get_or rules i rule → rules_steps table walk (drop i rules) n ≡ rule_steps table walk rule n ++ rules_steps table walk (drop (i + 1) rules) n
+pub rule_left : (table : List Shape) (walk : Walk) (rules : List ChoiceRule) (i : ℕ) (rule : ChoiceRule) (n : ℕ) → i < length rules → rule ≡ get_or rules i rule → rules_steps table walk (drop i rules) n ≡ rule_steps table walk rule n ++ rules_steps table walk (drop (i + 1) rules) n
 rule_left table walk rules i rule n within is =
     let split : drop i rules ≡ rule ∷ drop (i + 1) rules = drop-cons rules i rule within ∙ rw (← is, add-one) refl in
     ap (λ rs. rules_steps table walk rs n) split

@@ -1,8 +1,8 @@
 -- Edges of one shape, as the walk adds them.
-use Rattle.std.proofs.Common.{◌≡◌, ◌<◌, ◌≤◌, ◌+◌, ℕ, List, [], ◌∷◌, ◌++◌, length, get_or, drop, codes, Option, Some, None, option_map, String, string_bytes, refl, ◌∙◌, subst, drop-cons, add-one}
+use Rattle.std.proofs.Common.{◌≡◌, ◌<◌, ◌≤◌, ◌+◌, ℕ, List, [], ◌∷◌, ◌++◌, length, get_or, drop, codes, Option, Some, None, option_map, refl, ◌∙◌, subst, drop-cons, add-one}
 use Rattle.std.proofs.lemmas.List.{drop_all}
-use Rattle.std.specs.declared.alloc.Global.{Global}
-use Rattle.asl_states.specs.Machine.{branches_view}
+use Rattle.asl_states.specs.Machine.{branches_view, target_name}
+use Rattle.asl_states.specs.declared.target.Target.{Target}
 use Rattle.asl_model.specs.Edges.{Walked, onward, to_branches, to_child, to_next, to_end}
 use Rattle.asl_model.specs.Machine.{ScopeOf, NoStates}
 use Rattle.asl_model.specs.Shape.{Shape}
@@ -18,24 +18,24 @@ then_pushed before middle after e n first behind p whole flowing seen =
     pushed_then before middle after n (λ s. first s ++ behind s) behind none_left (pushed_before before middle n first none_left behind p) (one_pushed middle after e n behind none_left whole flowing seen)
 
 -- by `Next` or `End`
-pub onward_next : (before after : List Edge) (n : ℕ) (next : Option (String Global)) (name : String Global) → next ≡ Some name → Pushes before after n (to_next (codes "Next") (string_bytes name)) none_left → Pushes before after n (onward (option_map string_bytes next)) none_left
+pub onward_next : (before after : List Edge) (n : ℕ) (next : Option Target) (name : Target) → next ≡ Some name → Pushes before after n (to_next (codes "Next") (target_name name)) none_left → Pushes before after n (onward (option_map target_name next)) none_left
 onward_next before after n next name is p = rw is p
 
-pub onward_end : (before after : List Edge) (n : ℕ) (next : Option (String Global)) → next ≡ None → Pushes before after n (to_end (codes "End")) none_left → Pushes before after n (onward (option_map string_bytes next)) none_left
+pub onward_end : (before after : List Edge) (n : ℕ) (next : Option Target) → next ≡ None → Pushes before after n (to_end (codes "End")) none_left → Pushes before after n (onward (option_map target_name next)) none_left
 onward_end before after n next is p = rw is p
 
 -- ---- branches
 
-module _ (before middle after : List Edge) (n : ℕ) (all : Shape → List Walked) (branches : List (String Global)) (i : ℕ) where
+module _ (before middle after : List Edge) (n : ℕ) (all : Shape → List Walked) (branches : List Target) (i : ℕ) where
   -- one more
-  pub branch_pushed : (start : String Global) → i < length branches → start ≡ get_or branches i start → Pushes before middle n all (to_branches (branches_view (drop i branches))) → Pushes middle after n (to_child (codes "Branches") (ScopeOf (string_bytes start) NoStates)) none_left
+  pub branch_pushed : (start : Target) → i < length branches → start ≡ get_or branches i start → Pushes before middle n all (to_branches (branches_view (drop i branches))) → Pushes middle after n (to_child (codes "Branches") (ScopeOf (target_name start) NoStates)) none_left
       → Pushes before after n all (to_branches (branches_view (drop (i + 1) branches)))
   branch_pushed start within is p q =
       let split : drop i branches ≡ start ∷ drop (i + 1) branches = drop-cons branches i start within ∙ rw (← is, add-one) refl in
       let left : Pushes before middle n all (to_branches (branches_view (start ∷ drop (i + 1) branches))) = subst (λ bs. Pushes before middle n all (to_branches (branches_view bs))) split p in
       pushed_then before middle after n all (to_branches (branches_view (start ∷ drop (i + 1) branches))) (to_branches (branches_view (drop (i + 1) branches))) left
-      (pushed_before middle after n (to_child (codes "Branches") (ScopeOf (string_bytes start) NoStates)) none_left (to_branches (branches_view (drop (i + 1) branches))) q)
+      (pushed_before middle after n (to_child (codes "Branches") (ScopeOf (target_name start) NoStates)) none_left (to_branches (branches_view (drop (i + 1) branches))) q)
 
 -- none is left
-pub branches_pushed : (before after : List Edge) (n : ℕ) (all : Shape → List Walked) (branches : List (String Global)) (i : ℕ) → length branches ≤ i → Pushes before after n all (to_branches (branches_view (drop i branches))) → Pushes before after n all none_left
+pub branches_pushed : (before after : List Edge) (n : ℕ) (all : Shape → List Walked) (branches : List Target) (i : ℕ) → length branches ≤ i → Pushes before after n all (to_branches (branches_view (drop i branches))) → Pushes before after n all none_left
 branches_pushed before after n all branches i end p = subst (λ bs. Pushes before after n all (to_branches (branches_view bs))) (drop_all i branches end) p

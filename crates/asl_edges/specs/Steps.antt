@@ -1,14 +1,14 @@
 -- The steps of the parts of a walk, on shapes of a table.
-use Rattle.std.specs.Prelude.{ℕ, List, ◌++◌, map, codes, option_map, string_bytes, Option, String}
-use Rattle.std.specs.declared.alloc.Global.{Global}
+use Rattle.std.specs.Prelude.{ℕ, List, ◌++◌, map, codes, option_map, Option}
 use Rattle.asl_model.specs.Edges as model
 use Rattle.asl_model.specs.Finding.{effective_flow, error_placed_shape}
 use Rattle.asl_model.specs.Machine.{Kind, Settings}
 use Rattle.asl_model.specs.Shape.{Shape}
 use Rattle.asl_model.specs.ShapeFlow.{leave, rule_shape}
-use Rattle.asl_choice.specs.View.{rule_view, view as test_view}
-use Rattle.asl_choice.specs.declared.rule.Rule.{Rule}
-use Rattle.asl_states.specs.Machine.{catcher_view, kind_view, settings_view}
+use Rattle.asl_choice.specs.View.{view as test_view}
+use Rattle.asl_states.specs.Machine.{catcher_view, choice_rule_view, kind_view, settings_view, target_name}
+use Rattle.asl_states.specs.declared.states.ChoiceRule.{ChoiceRule}
+use Rattle.asl_states.specs.declared.target.Target.{Target}
 use Rattle.asl_states.specs.declared.states.Catcher.{Catcher}
 use Rattle.asl_numbered.specs.Expansion.{shape_at}
 use Rattle.asl_edges.specs.Entry.{entry_view}
@@ -58,19 +58,19 @@ settled_steps table walk gives =
     model.walk_settled (shape_at table gives) (settings_of walk) (kind_of walk) (entry_view table walk.entry)
 
 -- the rules of a Choice, one of them, and `Default`
-abbrev pub rules_steps : List Shape → Walk → List Rule → ℕ → List model.Walked
+abbrev pub rules_steps : List Shape → Walk → List ChoiceRule → ℕ → List model.Walked
 rules_steps table walk rules effective =
-    model.walk_rules (settings_of walk) (kind_of walk) (input_of table walk) (map rule_view rules)
+    model.walk_rules (settings_of walk) (kind_of walk) (input_of table walk) (map choice_rule_view rules)
     (shape_at table effective)
 
-abbrev pub rule_steps : List Shape → Walk → Rule → ℕ → List model.Walked
+abbrev pub rule_steps : List Shape → Walk → ChoiceRule → ℕ → List model.Walked
 rule_steps table walk rule effective =
-    model.walk_rule (settings_of walk) (kind_of walk) (input_of table walk) (string_bytes rule.next)
+    model.walk_rule (settings_of walk) (kind_of walk) (input_of table walk) (target_name rule.next)
     (rule_shape (test_view rule.test) (shape_at table effective))
 
-abbrev pub default_steps : List Shape → Walk → Option (String Global) → ℕ → List model.Walked
+abbrev pub default_steps : List Shape → Walk → Option Target → ℕ → List model.Walked
 default_steps table walk default effective =
-    model.walk_default (settings_of walk) (kind_of walk) (input_of table walk) (option_map string_bytes default)
+    model.walk_default (settings_of walk) (kind_of walk) (input_of table walk) (option_map target_name default)
     (shape_at table effective)
 
 -- the catchers
@@ -80,7 +80,7 @@ catchers_steps table walk catchers = model.walk_catchers (input_of table walk) (
 -- one of them
 abbrev pub catcher_steps : List Shape → Walk → Catcher → List model.Walked
 catcher_steps table walk catcher =
-    model.walk_caught (string_bytes catcher.next) (error_placed_shape catcher.result_path (input_of table walk))
+    model.walk_caught (target_name catcher.next) (error_placed_shape catcher.result_path (input_of table walk))
 
 -- all of the walk, for what the task gives
 abbrev pub steps : List Shape → Walk → ℕ → List model.Walked

@@ -54,12 +54,12 @@ impl<'m> Walk<'_, 'm> {
     {
         match &catcher.result_path {
             None => {
-                push_caught(edges, &catcher.next, self.entry.input)?;
+                push_caught(edges, &catcher.next.name, self.entry.input)?;
                 Ok(())
             }
             Some(path) => match put_at(self.alloc, shapes, self.entry.input, path, error) {
                 Ok(placed) => {
-                    push_caught(edges, &catcher.next, placed)?;
+                    push_caught(edges, &catcher.next.name, placed)?;
                     Ok(())
                 }
                 Err(PutRefusal::MayNotFit(_)) => {

@@ -8,9 +8,9 @@ ghost use Rattle.asl_numbered.specs.Expansion.{expansions};
 use crate::faults::{FindingFault, Stopped, broken_at};
 use crate::found::Edge;
 use crate::walking::Walk;
-use asl_choice::Rule;
 use asl_flow::{RuleShapeRefusal, rule_shape_at};
 use asl_numbered::Shapes;
+use asl_states::{ChoiceRule, Target};
 
 impl<'m> Walk<'_, 'm> {
     /// Walks over each rule of a Choice, and over `Default`.
@@ -18,8 +18,8 @@ impl<'m> Walk<'_, 'm> {
         &self,
         shapes: &mut Shapes,
         edges: &mut Vec<Edge<'m>>,
-        rules: &'m [Rule],
-        default: &'m Option<String>,
+        rules: &'m [ChoiceRule],
+        default: &'m Option<Target>,
         effective: usize,
     ) -> Result<(), Stopped>
         requires input { self.now.entry.input < length shapes.old }
@@ -38,7 +38,7 @@ impl<'m> Walk<'_, 'm> {
         &self,
         shapes: &mut Shapes,
         edges: &mut Vec<Edge<'m>>,
-        rules: &'m [Rule],
+        rules: &'m [ChoiceRule],
         effective: usize,
     ) -> Result<(), Stopped>
         requires input { self.now.entry.input < length shapes.old }
@@ -58,7 +58,7 @@ impl<'m> Walk<'_, 'm> {
         &self,
         shapes: &mut Shapes,
         edges: &mut Vec<Edge<'m>>,
-        rule: &'m Rule,
+        rule: &'m ChoiceRule,
         effective: usize,
     ) -> Result<(), Stopped>
         requires input { self.now.entry.input < length shapes.old }
@@ -68,7 +68,7 @@ impl<'m> Walk<'_, 'm> {
             (rule_steps (expansions shapes.old) self.now rule.now effective) result }
     {
         match rule_shape_at(self.alloc, shapes, &rule.test, effective) {
-            Ok(shape) => self.walk_chosen(shapes, edges, "Choices", &rule.next, shape),
+            Ok(shape) => self.walk_chosen(shapes, edges, "Choices", &rule.next.name, shape),
             Err(RuleShapeRefusal::MayBeMissing) => {
                 Err(broken_at("Choices", FindingFault::PathMayBeMissing))
             }
@@ -81,7 +81,7 @@ impl<'m> Walk<'_, 'm> {
         &self,
         shapes: &mut Shapes,
         edges: &mut Vec<Edge<'m>>,
-        default: &'m Option<String>,
+        default: &'m Option<Target>,
         effective: usize,
     ) -> Result<(), Stopped>
         requires input { self.now.entry.input < length shapes.old }
@@ -91,7 +91,7 @@ impl<'m> Walk<'_, 'm> {
             (default_steps (expansions shapes.old) self.now default.now effective) result }
     {
         match default {
-            Some(next) => self.walk_chosen(shapes, edges, "Default", next, effective),
+            Some(next) => self.walk_chosen(shapes, edges, "Default", &next.name, effective),
             None => Ok(()),
         }
     }

@@ -1,26 +1,27 @@
 // Edges of one shape, which are added to those so far.
 
-ghost use Rattle.std.specs.Prelude.{OnOk, option_map, string_bytes};
+ghost use Rattle.std.specs.Prelude.{OnOk, option_map};
 ghost use Rattle.asl_edges.specs.Walks.{caught_step, none_left, output_step, payload_step, Pushes};
-ghost use Rattle.asl_states.specs.Machine.{branches_view};
+ghost use Rattle.asl_states.specs.Machine.{branches_view, target_name};
 ghost use Rattle.asl_model.specs.Edges as model;
 ghost use Rattle.asl_model.specs.Machine.{ScopeOf, NoStates};
 
 use crate::faults::FindingFault;
 use crate::found::{Destination, Edge};
+use asl_states::Target;
 use asl_tree::OutOfMemory;
 
 /// An output flows into the state's own, and on by `Next` or `End`.
 pub(crate) fn push_onward<'m>(
     edges: &mut Vec<Edge<'m>>,
-    next: &'m Option<String>,
+    next: &'m Option<Target>,
     output: usize,
 ) -> Result<(), OutOfMemory>
     ensures { OnOk result (Pushes edges.old.items edges.new.items output
-        (model.onward (option_map string_bytes next.now)) none_left) }
+        (model.onward (option_map target_name next.now)) none_left) }
 {
     match next {
-        Some(next) => push_next(edges, "Next", next, output),
+        Some(next) => push_next(edges, "Next", &next.name, output),
         None => push_end(edges, "End", output),
     }
 }
@@ -131,14 +132,14 @@ pub(crate) fn push_child<'m>(
 /// The branches' input flows into that of the start state of each.
 pub(crate) fn push_branches<'m>(
     edges: &mut Vec<Edge<'m>>,
-    branches: &'m [String],
+    branches: &'m [Target],
     input: usize,
 ) -> Result<(), OutOfMemory>
     ensures { OnOk result (Pushes edges.old.items edges.new.items input
         (model.to_branches (branches_view branches.now)) none_left) }
 {
     for start in branches {
-        push_child(edges, "Branches", start, input)?;
+        push_child(edges, "Branches", &start.name, input)?;
     }
     Ok(())
 }

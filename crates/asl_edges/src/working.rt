@@ -59,7 +59,7 @@ impl<'m> Walk<'_, 'm> {
             } => {
                 let children = Children {
                     selector: item_selector,
-                    processor,
+                    processor: &processor.name,
                     effective,
                 };
                 self.walk_map(shapes, edges, items_path, children)

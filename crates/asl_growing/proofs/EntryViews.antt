@@ -1,14 +1,14 @@
 -- Entries of a draft in which one shape has changed.
-use Rattle.std.proofs.Common.{◌≡◌, ◌<◌, ◌≤◌, ◌+◌, ℕ, zero, suc, List, [], ◌∷◌, ◌++◌, length, get_or, map, slice_get, slice_set, sum_by, take, Bool, Bor, Vec, String, Option, Some, option_map, true, false, Result, Ok, Err, IfOk, refl, sym, ap, ap₂, ◌∙◌, subst, arith}
+use Rattle.std.proofs.Common.{◌≡◌, ◌<◌, ◌≤◌, ◌+◌, ℕ, zero, suc, List, [], ◌∷◌, ◌++◌, length, get_or, map, slice_get, slice_set, sum_by, take, Bool, Bor, Vec, Option, Some, option_map, true, false, Result, Ok, Err, IfOk, refl, sym, ap, ap₂, ◌∙◌, subst, arith}
 use Rattle.std.specs.List.{All}
 use Rattle.std.specs.declared.alloc.Global.{Global}
 use Rattle.std.proofs.lemmas.List.Elements.{All-head, All-tail, All-weaker}
 use Rattle.std.proofs.lemmas.List.Sums.{sum_by-cons}
 use Rattle.std.proofs.lemmas.List.{map-append}
-use Rattle.asl_model.specs.Machine.{State, how_many}
+use Rattle.asl_model.specs.Machine.{State}
 use Rattle.asl_model.specs.Shape.{Shape}
 use Rattle.asl_model.proofs.RunOptions.{none_some, some_inj}
-use Rattle.asl_states.specs.Machine.{branches_view, state_view}
+use Rattle.asl_states.specs.Machine.{state_view}
 use Rattle.asl_states.specs.declared.states.State as states
 use Rattle.asl_drafts.specs.Drafts.{DraftEntry, Growth, taken_in, with_element}
 use Rattle.asl_numbered.specs.declared.node.Node.{Node}
@@ -159,11 +159,6 @@ module _ (s : Shape) (a b : List Node) (entry : code.DraftEntry) (keeps : Keeps 
   end-made child (Err e) after makes = tt
 
 -- ---- new entries
-
--- as many branches as starts
-pub one_each : (starts : List (String Global)) → how_many (branches_view starts) ≡ length starts
-one_each [] = refl
-one_each (start ∷ starts) = ap suc (one_each starts)
 
 take-next : {A : Type 0} (xs : List A) (i : ℕ) (x : A) → slice_get xs i ≡ Some x → take (i + 1) xs ≡ take i xs ++ x ∷ []
 take-next [] i x h = none_some h

@@ -11,7 +11,7 @@ use Rattle.asl_machine.specs.declared.refusals.DefRefusal.{DefRefusal}
 use Rattle.asl_machine.specs.Definition.{IsAmong}
 use Rattle.asl_machine.specs.Numbered.{names_of_all}
 use Rattle.asl_machine.specs.Refusal.{IsRefused, without_memory, for_broken_rule}
-use Rattle.asl_states.specs.Table.{table_view, Shows}
+use Rattle.asl_states.specs.Table.{table_view, Shows, StatesAreNumbered}
 use Rattle.asl_machine.specs.View.{refusal_view}
 use Rattle.asl_machine.proofs.Checks.{among_first, among_second}
 
@@ -59,9 +59,9 @@ stands_numbered v built (Ok machine) e rules distinct few = stands v built e rul
 stands_numbered v built (Err refusal) e rules distinct few = tt
 
 -- and the machine that is built shows that one
-pub shown_numbered : (v : Data) (built : List Standing) (result : Result Machine DefRefusal) → built ≡ map outlined (standing_in None (scope_of v)) → rules_broken v ≡ [] → IfOk result (λ machine. table_view machine ≡ table_among built) → IfOk result (λ _. duplicate_complaints (names_of_all built) ≡ []) → IfOk result (λ _. number_complaints (names_of_all built) ≡ []) → IfOk result (λ machine. Shows machine (scope_of v))
-shown_numbered v built (Ok machine) e rules table distinct few = record { table = table ∙ ap table_among e; well_named = well_named v (scope_of v) (stands v built e rules distinct few) }
-shown_numbered v built (Err refusal) e rules table distinct few = tt
+pub shown_numbered : (v : Data) (built : List Standing) (result : Result Machine DefRefusal) → built ≡ map outlined (standing_in None (scope_of v)) → rules_broken v ≡ [] → IfOk result (λ machine. table_view machine ≡ table_among built) → IfOk result StatesAreNumbered → IfOk result (λ _. duplicate_complaints (names_of_all built) ≡ []) → IfOk result (λ _. number_complaints (names_of_all built) ≡ []) → IfOk result (λ machine. Shows machine (scope_of v))
+shown_numbered v built (Ok machine) e rules table numbered distinct few = record { table = table ∙ ap table_among e; well_named = well_named v (scope_of v) (stands v built e rules distinct few); numbered = numbered }
+shown_numbered v built (Err refusal) e rules table numbered distinct few = tt
 
 -- where they aren't numbered that is a reason to refuse
 pub refused_numbered : (v : Data) (built : List Standing) (result : Result Machine DefRefusal) → built ≡ map outlined (standing_in None (scope_of v)) → IfErr result (λ refusal. IsAmong (names_broken (names_of_all built)) (refusal_view refusal)) → IfErr result (λ refusal. IsRefused v (refusal_view refusal))

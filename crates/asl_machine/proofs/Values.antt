@@ -1,13 +1,13 @@
 -- What is told of values one after another.
-use Rattle.std.proofs.Common.{◌≡◌, ℕ, ◌+◌, ◌<◌, List, [], ◌∷◌, length, drop, drop-cons, get_or, add-one, map, ◌++◌, codes, string_bytes, Some, Ok, Err, refl, arith, sym, ap, ◌∙◌}
+use Rattle.std.proofs.Common.{◌≡◌, ℕ, ◌+◌, ◌<◌, List, [], ◌∷◌, length, drop, drop-cons, get_or, add-one, map, ◌++◌, codes, Some, Ok, Err, refl, arith, sym, ap, ◌∙◌}
 use Rattle.serde_json.specs.Data as json
 use Rattle.serde_json.specs.Data.{Data, Items}
 use Rattle.serde_json.specs.View.{view, items_view}
 use Rattle.serde_json.specs.declared.value.Value.{Value}
 use Rattle.asl_model.specs.DefinitionTable as model
 use Rattle.asl_model.specs.StandsFor.{Complaint, Place, target_complaints, rules_complaints}
-use Rattle.asl_choice.specs.View.{rule_view}
-use Rattle.asl_choice.specs.declared.rule.Rule.{Rule}
+use Rattle.asl_states.specs.Machine.{choice_rule_view, target_name}
+use Rattle.asl_states.specs.declared.states.ChoiceRule.{ChoiceRule}
 use Rattle.asl_machine.specs.declared.refusals.DefFault.{DefFault}
 use Rattle.asl_machine.specs.Definition.{IsMisfit}
 use Rattle.asl_machine.proofs.Checks.{told_of_left}
@@ -30,6 +30,6 @@ each_told of vs i x fault h e all told =
     told_of_left (model.wrong_with_each of (items_view vs)) (of (view x)) (model.wrong_with_each of (items_view (drop (i + 1) vs))) fault (items_parts (model.wrong_with_each of) (model.wrong_with_each of (items_view vs)) vs i x h e all) told
 
 -- what is left of the rules of a Choice is the first and those behind it
-pub rules_parts : (place : Place) (names : List (List ℕ)) (wrong : List Complaint) (rules : List Rule) (i : ℕ) (x : Rule) → i < length rules → x ≡ get_or rules i x → wrong ≡ rules_complaints place names (map rule_view (drop i rules))
-    → wrong ≡ target_complaints place names (codes "Choices") (Some (string_bytes x.next)) ++ rules_complaints place names (map rule_view (drop (i + 1) rules))
-rules_parts place names wrong rules i x h e all = all ∙ ap (λ left. rules_complaints place names (map rule_view left)) (drop-cons rules i x h) ∙ (rw (add-one, sym e) refl)
+pub rules_parts : (place : Place) (names : List (List ℕ)) (wrong : List Complaint) (rules : List ChoiceRule) (i : ℕ) (x : ChoiceRule) → i < length rules → x ≡ get_or rules i x → wrong ≡ rules_complaints place names (map choice_rule_view (drop i rules))
+    → wrong ≡ target_complaints place names (codes "Choices") (Some (target_name x.next)) ++ rules_complaints place names (map choice_rule_view (drop (i + 1) rules))
+rules_parts place names wrong rules i x h e all = all ∙ ap (λ left. rules_complaints place names (map choice_rule_view left)) (drop-cons rules i x h) ∙ (rw (add-one, sym e) refl)

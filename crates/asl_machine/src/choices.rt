@@ -6,14 +6,15 @@ ghost use Rattle.asl_model.specs.DefinitionTable as model;
 ghost use Rattle.asl_model.specs.Json.{tree_of};
 ghost use Rattle.asl_model.specs.RuleSpelling.{rule_of};
 ghost use Rattle.asl_model.specs.StandsFor.{items_in, rules_of};
-ghost use Rattle.asl_choice.specs.View.{rule_view};
+ghost use Rattle.asl_states.specs.Machine.{choice_rule_view};
 ghost use Rattle.asl_machine.specs.Definition.{IsMisfit, IsVerdict, place_view};
 ghost use Rattle.asl_machine.specs.Reading.{rules_told, fields_of, rules_among, wrong_rules};
 
 use crate::places::{Complaint, Place};
 use crate::refusals::DefFault;
 use crate::value_checking::{check_some, wrong_kind};
-use asl_choice::{Rule, RuleRefusal};
+use asl_choice::RuleRefusal;
+use asl_states::{ChoiceRule, Target};
 use serde_json::Value;
 use std::alloc::Global;
 
@@ -22,9 +23,9 @@ pub(crate) fn read_choices<'a>(
     alloc: Global,
     place: &Place<'a>,
     state: &Value,
-) -> Result<Vec<Rule>, Complaint<'a>>
+) -> Result<Vec<ChoiceRule>, Complaint<'a>>
     ensures rules { IfOk result
-        (λ rules. map rule_view rules.items ≡ rules_of (fields_of state.now)) }
+        (λ rules. map choice_rule_view rules.items ≡ rules_of (fields_of state.now)) }
     ensures told { IsVerdict (rules_told (place_view place.now) (fields_of state.now)) result }
 {
     match state.get("Choices") {
@@ -37,9 +38,9 @@ pub(crate) fn read_choices<'a>(
 }
 
 /// The rules that a value spells: a list of them, not empty.
-fn read_rules(alloc: Global, value: &Value) -> Result<Vec<Rule>, DefFault>
+fn read_rules(alloc: Global, value: &Value) -> Result<Vec<ChoiceRule>, DefFault>
     ensures rules { IfOk result
-        (λ rules. map rule_view rules.items ≡ rules_among (items_in (view value.now))) }
+        (λ rules. map choice_rule_view rules.items ≡ rules_among (items_in (view value.now))) }
     ensures faults { IsMisfit (model.misfits model.RulesValue (view value.now)) result }
 {
     match value.as_array() {
@@ -49,9 +50,9 @@ fn read_rules(alloc: Global, value: &Value) -> Result<Vec<Rule>, DefFault>
 }
 
 /// The rules that the elements spell, of which there have to be some.
-fn read_some(alloc: Global, elements: &[Value]) -> Result<Vec<Rule>, DefFault>
+fn read_some(alloc: Global, elements: &[Value]) -> Result<Vec<ChoiceRule>, DefFault>
     ensures rules { IfOk result
-        (λ rules. map rule_view rules.items ≡ rules_among (items_view elements.now)) }
+        (λ rules. map choice_rule_view rules.items ≡ rules_among (items_view elements.now)) }
     ensures faults { IsMisfit
         (model.some_elements (items_view elements.now)
         ++ wrong_rules (items_view elements.now)) result }
@@ -61,9 +62,9 @@ fn read_some(alloc: Global, elements: &[Value]) -> Result<Vec<Rule>, DefFault>
 }
 
 /// The rules that the elements spell.
-fn read_each(alloc: Global, elements: &[Value]) -> Result<Vec<Rule>, DefFault>
+fn read_each(alloc: Global, elements: &[Value]) -> Result<Vec<ChoiceRule>, DefFault>
     ensures rules { IfOk result
-        (λ rules. map rule_view rules.items ≡ rules_among (items_view elements.now)) }
+        (λ rules. map choice_rule_view rules.items ≡ rules_among (items_view elements.now)) }
     ensures faults { IsMisfit (wrong_rules (items_view elements.now)) result }
 {
     let mut rules = Vec::new(alloc);
@@ -75,13 +76,16 @@ fn read_each(alloc: Global, elements: &[Value]) -> Result<Vec<Rule>, DefFault>
 
 /// The rule that a value spells.
 #[tactic(auto, using(crate::proofs::Rules::rule_spelled, crate::proofs::Rules::rule_right, crate::proofs::Rules::rule_wrong))]
-fn read_rule(alloc: Global, value: &Value) -> Result<Rule, DefFault>
+fn read_rule(alloc: Global, value: &Value) -> Result<ChoiceRule, DefFault>
     ensures rule { IfOk result (λ rule. option_and_then rule_of (tree_of (view value.now))
-        ≡ Some (rule_view rule)) }
+        ≡ Some (choice_rule_view rule)) }
     ensures faults { IsMisfit (model.rule_misfits (tree_of (view value.now))) result }
 {
     match asl_choice::from_value(alloc, value) {
-        Ok(rule) => Ok(rule),
+        Ok(rule) => Ok(ChoiceRule {
+            test: rule.test,
+            next: Target::new(rule.next),
+        }),
         Err(refusal) => match refusal {
             RuleRefusal::OutOfMemory => Err(DefFault::OutOfMemory),
             RuleRefusal::NotWhole => Err(DefFault::NotWhole),

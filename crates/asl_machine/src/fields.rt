@@ -9,6 +9,7 @@ ghost use Rattle.asl_model.specs.PathSpelling.{path_of as model_path_of};
 ghost use Rattle.asl_model.specs.StandsFor.{items_at, text_at, path_at, path_in, path_or_null_at, natural_at, optional_natural_at, number_at, template_at, is_given as model_is_given};
 ghost use Rattle.asl_model.specs.TemplateSpelling.{template_of as model_template_of};
 ghost use Rattle.asl_template.specs.View as templates;
+ghost use Rattle.asl_states.specs.Machine.{target_name};
 ghost use Rattle.asl_tree.specs.View as trees;
 ghost use Rattle.asl_machine.specs.Definition.{IsMisfit, IsVerdict, place_view};
 ghost use Rattle.asl_machine.specs.Reading.{told_at, template_wanted, fields_of, text_or, text_or_none};
@@ -17,6 +18,7 @@ use crate::places::{Complaint, Place};
 use crate::refusals::DefFault;
 use crate::value_checking::wrong_kind;
 use asl_path::{PathRefusal, RefPath};
+use asl_states::Target;
 use asl_template::{SpellingRefusal, Template};
 use asl_tree::{OutOfMemory, Tree, TreeRefusal};
 use serde_json::{Number, Value};
@@ -57,6 +59,21 @@ pub(crate) fn build_text(
 {
     match text_of(object, field) {
         Some(text) => Ok(Some(String::from_str(alloc, text)?)),
+        None => Ok(None),
+    }
+}
+
+/// The state whose name is the text of a field, where it has one.
+pub(crate) fn build_target(
+    alloc: Global,
+    object: &Value,
+    field: &'static str,
+) -> Result<Option<Target>, OutOfMemory>
+    ensures { IfOk result
+        (λ state. option_map target_name state ≡ text_at field.now (fields_of object.now)) }
+{
+    match build_text(alloc, object, field)? {
+        Some(name) => Ok(Some(Target::new(name))),
         None => Ok(None),
     }
 }

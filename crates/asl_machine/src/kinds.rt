@@ -6,9 +6,8 @@ ghost use Rattle.asl_model.specs.Json.{tree_of};
 ghost use Rattle.asl_model.specs.Machine.{Pass, Task, Choice, Wait, Fail, Parallel, Map, settings_of, kind_of};
 ghost use Rattle.asl_model.specs.Numbering.{kind_outline, scopes_outline};
 ghost use Rattle.asl_model.specs.StandsFor.{type_of as model_type_of, text_at, path_at, rules_of, delay_of, selector_of, branches_under, processor_under};
-ghost use Rattle.asl_choice.specs.View.{rule_view};
 ghost use Rattle.asl_template.specs.View as templates;
-ghost use Rattle.asl_states.specs.Machine.{delay_view, kind_view};
+ghost use Rattle.asl_states.specs.Machine.{choice_rule_view, delay_view, kind_view};
 ghost use Rattle.asl_machine.specs.Definition.{IsVerdict, place_view};
 ghost use Rattle.asl_machine.specs.Reading.{parameters_told, delay_told, selector_told, fields_of, names_in, text_or_none, choices_told, map_told, kind_told_with_targets};
 ghost use Rattle.asl_machine.specs.Rows.{type_view};
@@ -16,16 +15,15 @@ ghost use Rattle.asl_machine.specs.Built.{state_as};
 
 use crate::choices::read_choices;
 use crate::fields::{
-    build_text, build_text_or_empty, build_tree, is_given, natural_of, path_of, template_of,
+    build_target, build_text_or_empty, build_tree, is_given, natural_of, path_of, template_of,
     text_of,
 };
 use crate::places::{Complaint, Place};
 use crate::rows::StateType;
 use crate::scopes::{build_branch_starts, build_processor_start};
 use crate::state_checking::check_rule_targets;
-use asl_choice::Rule;
 use asl_path::RefPath;
-use asl_states::{Delay, Kind};
+use asl_states::{ChoiceRule, Delay, Kind, Target};
 use asl_template::Template;
 use asl_tree::OutOfMemory;
 use serde_json::Value;
@@ -129,7 +127,7 @@ fn read_choice<'a>(
     ensures told { IsVerdict
         (choices_told (place_view place.now) (names_in scope.now) (fields_of state.now)) result }
 {
-    let default = place.or_out_of_memory("Default", build_text(alloc, state, "Default"))?;
+    let default = place.or_out_of_memory("Default", build_target(alloc, state, "Default"))?;
     let choices = read_rules_with_targets(alloc, place, state, scope)?;
     Ok(Kind::Choice { choices, default })
 }
@@ -140,9 +138,9 @@ fn read_rules_with_targets<'a>(
     place: &Place<'a>,
     state: &Value,
     scope: &Value,
-) -> Result<Vec<Rule>, Complaint<'a>>
+) -> Result<Vec<ChoiceRule>, Complaint<'a>>
     ensures rules { IfOk result
-        (λ rules. map rule_view rules.items ≡ rules_of (fields_of state.now)) }
+        (λ rules. map choice_rule_view rules.items ≡ rules_of (fields_of state.now)) }
     ensures told { IsVerdict
         (choices_told (place_view place.now) (names_in scope.now) (fields_of state.now)) result }
 {
@@ -198,7 +196,7 @@ fn read_map<'a>(alloc: Global, place: &Place<'a>, state: &Value) -> Result<Kind,
     let item_selector = read_selector(alloc, place, state)?;
     Ok(Kind::Map {
         items_path,
-        processor,
+        processor: Target::new(processor),
         item_selector,
     })
 }

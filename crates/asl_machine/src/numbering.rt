@@ -8,7 +8,7 @@ ghost use Rattle.asl_machine.specs.Definition.{IsAmong};
 ghost use Rattle.asl_machine.specs.Numbered.{home_view, number_in, placed_in, names_of_all, Holds, names_of_rows};
 ghost use Rattle.asl_states.specs.Machine.{scope_view};
 ghost use Rattle.asl_machine.specs.Built.{built_view};
-ghost use Rattle.asl_states.specs.Table.{table_view};
+ghost use Rattle.asl_states.specs.Table.{StatesAreNumbered, table_view};
 ghost use Rattle.asl_machine.specs.View.{refusal_view};
 
 use crate::building::{BuiltState, Home};
@@ -33,6 +33,7 @@ pub(crate) struct Numbered<'a> {
 pub(crate) fn number(alloc: Global, rows: Vec<BuiltState>) -> Result<Machine, DefRefusal>
     ensures table { IfOk result
         (λ m. table_view m ≡ table_among (map built_view rows.entry.items)) }
+    ensures numbered { IfOk result StatesAreNumbered }
     ensures distinct { IfOk result
         (λ _. duplicate_complaints (names_of_rows rows.entry.items) ≡ []) }
     ensures few { IfOk result (λ _. number_complaints (names_of_rows rows.entry.items) ≡ []) }

@@ -11,26 +11,27 @@ ghost use Rattle.asl_states.specs.Machine.{branches_view};
 ghost use Rattle.asl_machine.specs.Reading.{fields_of};
 
 use crate::fields::{build_text_or_empty, elements_of};
+use asl_states::Target;
 use asl_tree::OutOfMemory;
 use serde_json::{Map, Value};
 use std::alloc::Global;
 
-/// The names of the start states of a Parallel's branches.
-pub(crate) fn build_branch_starts(alloc: Global, state: &Value) -> Result<Vec<String>, OutOfMemory>
+/// The start states of a Parallel's branches.
+pub(crate) fn build_branch_starts(alloc: Global, state: &Value) -> Result<Vec<Target>, OutOfMemory>
     ensures { IfOk result (λ starts. branches_view starts.items
         ≡ scopes_outline (branches_under (fields_of state.now))) }
 {
     build_starts(alloc, elements_of(state, "Branches"))
 }
 
-/// The names of the start states of scopes.
-fn build_starts(alloc: Global, scopes: &[Value]) -> Result<Vec<String>, OutOfMemory>
+/// The start states of scopes.
+fn build_starts(alloc: Global, scopes: &[Value]) -> Result<Vec<Target>, OutOfMemory>
     ensures { IfOk result (λ starts. branches_view starts.items
         ≡ scopes_outline (each_scope (items_view scopes.now))) }
 {
     let mut starts = Vec::with_capacity(alloc, scopes.len())?;
     for scope in scopes {
-        starts.push(build_start(alloc, scope)?)?;
+        starts.push(Target::new(build_start(alloc, scope)?))?;
     }
     Ok(starts)
 }

@@ -10,7 +10,7 @@ ghost use Rattle.asl_machine.specs.Reading.{processing_told, settings_told, fiel
 ghost use Rattle.asl_machine.specs.Rows.{type_view};
 ghost use Rattle.asl_machine.specs.Built.{state_as};
 
-use crate::fields::{build_text, natural_of, optional_natural_of, path_or_null_of, template_of};
+use crate::fields::{build_target, build_text, natural_of, optional_natural_of, path_or_null_of, template_of};
 use crate::kinds::read_parameters;
 use crate::places::{Complaint, Place};
 use crate::rows::StateType;
@@ -51,7 +51,7 @@ pub(crate) fn read_settings<'a>(
         state: name,
         within: None,
     };
-    let next = place.or_out_of_memory("Next", build_text(alloc, state, "Next"))?;
+    let next = place.or_out_of_memory("Next", build_target(alloc, state, "Next"))?;
     let comment = place.or_out_of_memory("Comment", build_text(alloc, state, "Comment"))?;
     let trouble = read_trouble(alloc, name, state, scope)?;
     let processing = read_processing(alloc, &place, state)?;

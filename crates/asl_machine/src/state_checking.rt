@@ -6,15 +6,15 @@ ghost use Rattle.asl_model.specs.DefinitionTable.{as_whole};
 ghost use Rattle.asl_model.specs.ShapeSpelling.{is_among};
 ghost use Rattle.asl_model.specs.StandsFor as model;
 ghost use Rattle.asl_machine.specs.Rows.{type_view};
+ghost use Rattle.asl_states.specs.Machine.{choice_rule_view, target_name};
 ghost use Rattle.asl_machine.specs.Definition.{IsVerdict, place_view};
 ghost use Rattle.asl_machine.specs.Reading.{rules_of_type, fields_of, names_in, ends_at, task_told, wait_told, map_rules_told};
-ghost use Rattle.asl_choice.specs.View.{rule_view};
 
 use crate::fields::{is_given, text_of};
 use crate::places::{Complaint, Place};
 use crate::refusals::DefFault;
 use crate::rows::StateType;
-use asl_choice::Rule;
+use asl_states::ChoiceRule;
 use serde_json::Value;
 
 /// What a Wait may wait for.
@@ -60,11 +60,11 @@ fn check_task<'a>(place: &Place<'a>, state: &Value, scope: &Value) -> Result<(),
 /// Checks that each rule of a Choice goes on to a state of the scope.
 pub(crate) fn check_rule_targets<'a>(
     place: &Place<'a>,
-    rules: &[Rule],
+    rules: &[ChoiceRule],
     scope: &Value,
 ) -> Result<(), Complaint<'a>>
     ensures { IsVerdict (model.rules_complaints (place_view place.now)
-        (names_in scope.now) (map rule_view rules.now)) result }
+        (names_in scope.now) (map choice_rule_view rules.now)) result }
 {
     for rule in rules {
         check_rule_target(place, rule, scope)?;
@@ -73,13 +73,13 @@ pub(crate) fn check_rule_targets<'a>(
 }
 
 /// Checks that a rule of a Choice goes on to a state of the scope.
-fn check_rule_target<'a>(place: &Place<'a>, rule: &Rule, scope: &Value) -> Result<(), Complaint<'a>>
+fn check_rule_target<'a>(place: &Place<'a>, rule: &ChoiceRule, scope: &Value) -> Result<(), Complaint<'a>>
     ensures { IsVerdict (model.target_complaints
         (place_view place.now) (names_in scope.now)
-        (codes "Choices") (Some (string_bytes rule.now.next))) result }
+        (codes "Choices") (Some (target_name rule.now.next))) result }
 {
     place.complain_unless(
-        has_state(scope, &rule.next),
+        has_state(scope, &rule.next.name),
         "Choices",
         DefFault::NoSuchState,
     )

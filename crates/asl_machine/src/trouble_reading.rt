@@ -22,7 +22,7 @@ use crate::refusals::DefFault;
 use crate::rows::{self, Row};
 use crate::state_checking::check_target;
 use crate::value_checking::wrong_kind;
-use asl_states::{Catcher, Retrier};
+use asl_states::{Catcher, Retrier, Target};
 use asl_tree::OutOfMemory;
 use serde_json::{Number, Value};
 use std::alloc::Global;
@@ -201,7 +201,7 @@ fn read_catcher<'a>(
     Ok(Catcher {
         error_equals,
         result_path,
-        next,
+        next: Target::new(next),
         comment,
     })
 }

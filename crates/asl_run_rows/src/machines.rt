@@ -1,6 +1,6 @@
 //! Definitions and what they are read as, each call once with ample memory.
-use asl_machine::{DefFault, read};
-use asl_tree::read_value;
+use asl_machine::{DefFault, Kind, State, Target, read};
+use asl_tree::{OutOfMemory, read_value};
 use std::alloc::Global;
 use std::process::Abort;
 
@@ -49,6 +49,81 @@ fn retrier(rt: &impl Abort, alloc: Global, definition: &str) -> String {
     let delay = retrier.max_delay_seconds.unwrap_or(0);
     let jitter = retrier.jitter_strategy.as_str();
     format!(in alloc; "{interval} {attempts} {rate} {delay} {jitter}").expect(rt, "memory")
+}
+
+/// The states that the fields of a state name, each with its number: `Next`, those of its catchers, and those of its type.
+fn targets<'m>(alloc: Global, state: &'m State) -> Result<Vec<&'m Target>, OutOfMemory> {
+    let mut named = Vec::new(alloc);
+    if let Some(next) = &state.settings.next {
+        named.push(next)?;
+    }
+    for catcher in &state.settings.catchers {
+        named.push(&catcher.next)?;
+    }
+    match &state.kind {
+        Kind::Choice { choices, default } => {
+            for choice in choices {
+                named.push(&choice.next)?;
+            }
+            if let Some(default) = default {
+                named.push(default)?;
+            }
+        }
+        Kind::Parallel { branches } => {
+            for start in branches {
+                named.push(start)?;
+            }
+        }
+        Kind::Map { processor, .. } => named.push(processor)?,
+        Kind::Pass { .. }
+        | Kind::Task { .. }
+        | Kind::Wait { .. }
+        | Kind::Succeed
+        | Kind::Fail { .. } => {}
+    }
+    Ok(named)
+}
+
+#[test]
+fn numbers_of_targets(rt: HostRuntime) {
+    let alloc = rt.alloc();
+    let value = read_value(
+        alloc,
+        br#"{"StartAt":"C","States":{
+            "C":{"Type":"Choice","Default":"M","Choices":[
+                {"Variable":"$","IsNull":true,"Next":"P"},
+                {"Variable":"$","IsBoolean":true,"Next":"C"}]},
+            "M":{"Type":"Map","Next":"P","ItemProcessor":{
+                "StartAt":"I","States":{"I":{"Type":"Pass","End":true}}}},
+            "P":{"Type":"Parallel","End":true,
+                "Catch":[{"ErrorEquals":["E"],"Next":"M"},{"ErrorEquals":["States.ALL"],"Next":"C"}],
+                "Branches":[
+                    {"StartAt":"X","States":{"X":{"Type":"Pass","End":true}}},
+                    {"StartAt":"Z","States":{
+                        "Y":{"Type":"Pass","End":true},
+                        "Z":{"Type":"Pass","Next":"Y"}}}]}}}"#,
+    )
+    .expect(&rt, "a value");
+    let machine = read(alloc, &value).expect(&rt, "a machine");
+    for (number, wanted) in [
+        (0, "P 3, C 0, M 1, "),
+        (1, "P 3, I 2, "),
+        (2, ""),
+        (3, "M 1, C 0, X 4, Z 6, "),
+        (4, ""),
+        (5, ""),
+        (6, "Y 5, "),
+    ] {
+        let state = machine.state(number).expect(&rt, "a state");
+        let mut told = String::new(alloc);
+        for target in targets(alloc, state).expect(&rt, "memory") {
+            let name = target.name.as_str();
+            let number = target.number;
+            let one = format!(in alloc; "{name} {number}, ").expect(&rt, "memory");
+            told.push_str(&one).expect(&rt, "memory");
+        }
+        assert_eq!(rt; told.as_str(), wanted);
+    }
 }
 
 #[test]

@@ -1,1 +1,4 @@
+pub mod Branches
+mod Found
 pub mod Positions
+mod Rewritten

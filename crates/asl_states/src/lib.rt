@@ -2,8 +2,11 @@
 //! "State Types").
 #![tactic(auto)]
 
+mod finding;
 mod machine;
 mod states;
+mod target;
 
 pub use machine::Machine;
-pub use states::{Catcher, Delay, Kind, Retrier, Scope, Settings, State};
+pub use states::{Catcher, ChoiceRule, Delay, Kind, Retrier, Scope, Settings, State};
+pub use target::Target;

@@ -2,6 +2,7 @@
 
 ghost use Rattle.std.specs.Prelude.{◌≡◌, length, option_map, slice_get, position, bytes_eq, map, string_bytes};
 
+use crate::finding::find_all;
 use crate::states::{Scope, State};
 use indexmap::IndexSet;
 
@@ -18,12 +19,20 @@ pub struct Machine {
 
 impl Machine {
     ghost use Rattle.asl_states.specs.Machine.{state_view, scope_view};
-    ghost use Rattle.asl_states.specs.Table.{table_view};
+    ghost use Rattle.asl_states.specs.Table.{StatesAreNumbered, states_in, table_view};
 
-    /// A machine of those names and states by number, each with the scope that it stands in.
+    /// A machine of those names and states by number, each with the scope that it stands in. The states that fields
+    /// name get their numbers.
     pub fn new(names: IndexSet<String>, states: Vec<State>, scopes: Vec<Scope>) -> Machine
-        ensures { table_view result ≡ record { names = map string_bytes names.keys; states = map state_view states.items; placements = map scope_view scopes.items } }
+        ensures table { table_view result ≡ record {
+          names = map string_bytes names.keys;
+          states = map state_view states.items;
+          placements = map scope_view scopes.items;
+        } }
+        ensures numbered { StatesAreNumbered result }
     {
+        let mut states = states;
+        find_all(&mut states, &names);
         Machine {
             names,
             states,
@@ -47,14 +56,18 @@ impl Machine {
 
     /// The state of that number, without the states of its scopes, which have numbers of their own.
     pub fn state(&self, number: usize) -> Option<&State>
-        ensures state { option_map (λ s. state_view s.now) result ≡ slice_get (table_view self.now).states number }
+        ensures state { option_map (λ s. state_view s.now) result
+            ≡ slice_get (table_view self.now).states number }
+        ensures stored { option_map (λ s. s.now) result
+            ≡ slice_get (states_in self.now) number }
     {
         self.states.get(number)
     }
 
     /// The name of the state of that number.
     pub fn name(&self, number: usize) -> Option<&str>
-        ensures name { option_map (λ n. n.now) result ≡ slice_get (table_view self.now).names number }
+        ensures name { option_map (λ n. n.now) result
+            ≡ slice_get (table_view self.now).names number }
     {
         match self.names.get_index(number) {
             Some(name) => Some(name),
@@ -64,7 +77,8 @@ impl Machine {
 
     /// The scope in which the state of that number stands.
     pub fn scope_of(&self, number: usize) -> Option<&Scope>
-        ensures scope { option_map (λ s. scope_view s.now) result ≡ slice_get (table_view self.now).placements number }
+        ensures scope { option_map (λ s. scope_view s.now) result
+            ≡ slice_get (table_view self.now).placements number }
     {
         self.scopes.get(number)
     }

@@ -1,6 +1,7 @@
 //! The types of a machine's states (States Language, "State Types").
 
-use asl_choice::Rule;
+use crate::target::Target;
+use asl_choice::Test;
 use asl_path::RefPath;
 use asl_template::Template;
 use asl_tree::Tree;
@@ -26,8 +27,8 @@ pub struct Settings {
     pub result_path: Option<RefPath>,
     /// `OutputPath`, `$` where it is absent, none where it is null.
     pub output_path: Option<RefPath>,
-    /// The name in `Next`; none where the state ends its scope.
-    pub next: Option<String>,
+    /// `Next`; none where the state ends its scope.
+    pub next: Option<Target>,
     /// `Retry`.
     pub retriers: Vec<Retrier>,
     /// `Catch`.
@@ -68,10 +69,18 @@ pub struct Catcher {
     pub error_equals: Vec<String>,
     /// Where the error output is placed, `$` where it is absent, none where it is null.
     pub result_path: Option<RefPath>,
-    /// The name of the state that follows.
-    pub next: String,
+    /// The state that follows.
+    pub next: Target,
     /// `Comment`, where it is given.
     pub comment: Option<String>,
+}
+
+/// An element of `Choices` (States Language, "Choice State"): where its test is true, the state that follows.
+#[derive(Drop)]
+pub struct ChoiceRule {
+    pub test: Test,
+    /// The state that follows.
+    pub next: Target,
 }
 
 /// The eight types of states, each with the fields that it alone has.
@@ -87,8 +96,8 @@ pub enum Kind {
     },
     /// `Choices`, and `Default` where it is given.
     Choice {
-        choices: Vec<Rule>,
-        default: Option<String>,
+        choices: Vec<ChoiceRule>,
+        default: Option<Target>,
     },
     Wait {
         delay: Delay,
@@ -99,15 +108,15 @@ pub enum Kind {
         error: String,
         cause: String,
     },
-    /// The name of the start state of each of `Branches`.
+    /// The start state of each of `Branches`.
     Parallel {
-        branches: Vec<String>,
+        branches: Vec<Target>,
     },
-    /// `ItemsPath`, `ItemSelector` where it is given, and the name of the start state of `ItemProcessor`.
+    /// `ItemsPath`, `ItemSelector` where it is given, and the start state of `ItemProcessor`.
     Map {
         items_path: RefPath,
         item_selector: Option<Template>,
-        processor: String,
+        processor: Target,
     },
 }
 

@@ -1,7 +1,7 @@
 use Rattle.std.proofs.Common.{sym, ap, ◌∙◌}
 use Rattle.asl_model.specs.Certificate.{branches_in}
 use Rattle.asl_states.specs.Machine.{kind_view}
-use Rattle.asl_check.proofs.StateRules.{one_each}
+use Rattle.asl_states.proofs.Branches.{one_each}
 use Rattle.asl_check.proofs.states.branches_in.Goals as goal
 
 pub returns-in-Parallel : goal.returns-in-Parallel

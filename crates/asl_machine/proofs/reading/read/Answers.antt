@@ -21,7 +21,7 @@ returns-in-Ok-clause-machine c =
 pub returns-in-Ok-clause-shown : goal.returns-in-Ok-clause-shown
 returns-in-Ok-clause-shown c =
     let built = c.read_states.new.built.items in
-    shown_numbered (view c.args.value.now) (map built_view built) c.number.result (c.in-Ok.ensures.added.holds ∙ ap (λ items. map built_view items ++ map outlined (standing_in None (scope_of (view c.args.value.now)))) c.new-built.ensures.items) c.in-Ok.ensures.rules.holds c.number.ensures.table c.number.ensures.distinct c.number.ensures.few
+    shown_numbered (view c.args.value.now) (map built_view built) c.number.result (c.in-Ok.ensures.added.holds ∙ ap (λ items. map built_view items ++ map outlined (standing_in None (scope_of (view c.args.value.now)))) c.new-built.ensures.items) c.in-Ok.ensures.rules.holds c.number.ensures.table c.number.ensures.numbered c.number.ensures.distinct c.number.ensures.few
 
 pub returns-in-Ok-clause-refused : goal.returns-in-Ok-clause-refused
 returns-in-Ok-clause-refused c =

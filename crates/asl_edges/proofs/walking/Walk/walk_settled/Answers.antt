@@ -1,6 +1,5 @@
 use Rattle.std.proofs.Common.{◌≡◌, None, Some, codes, map, string_bytes, ap, rules}
-use Rattle.asl_choice.specs.View.{rule_view}
-use Rattle.asl_states.specs.Machine.{branches_view, kind_view}
+use Rattle.asl_states.specs.Machine.{branches_view, choice_rule_view, kind_view}
 use Rattle.asl_model.specs.Finding.{NoDefault}
 use Rattle.asl_model.specs.Machine.{Choice, Pass}
 use Rattle.asl_model.specs.ShapeFlow.{literal}
@@ -54,5 +53,5 @@ pub returns-in-Choice-default-None : goal.returns-in-Choice-default-None
 returns-in-Choice-default-None c =
     let walk = c.args.self.now in
     let table = expansions c.args.shapes.now in
-    let is : kind_of walk ≡ Choice (map rule_view c.in-Choice-default-None.choices.items) None = search rules in
-    walks_broken table table _ _ _ (record { field = codes "Default"; fault = NoDefault }) (keeps_same table) c.broken_at.ensures (choice_without_default (settings_of walk) (kind_of walk) (entry_view table walk.entry) (map rule_view c.in-Choice-default-None.choices.items) (shape_at table c.args.gives) is)
+    let is : kind_of walk ≡ Choice (map choice_rule_view c.in-Choice-default-None.choices.items) None = search rules in
+    walks_broken table table _ _ _ (record { field = codes "Default"; fault = NoDefault }) (keeps_same table) c.broken_at.ensures (choice_without_default (settings_of walk) (kind_of walk) (entry_view table walk.entry) (map choice_rule_view c.in-Choice-default-None.choices.items) (shape_at table c.args.gives) is)

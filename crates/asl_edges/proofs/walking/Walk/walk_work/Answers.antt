@@ -1,6 +1,5 @@
 use Rattle.std.proofs.Common.{◌++◌, map, option_map, string_bytes, ap, ◌∙◌}
-use Rattle.asl_choice.specs.View.{rule_view}
-use Rattle.asl_states.specs.Machine.{branches_view, delay_view, kind_view, started_at}
+use Rattle.asl_states.specs.Machine.{branches_view, choice_rule_view, delay_view, kind_view, started_at, target_name}
 use Rattle.asl_model.specs.Edges.{to_branches}
 use Rattle.asl_numbered.specs.Expansion.{expansions, shape_at}
 use Rattle.asl_numbered.proofs.Expansions.{keeps_same}
@@ -24,7 +23,7 @@ pub returns-in-Choice : goal.returns-in-Choice
 returns-in-Choice c =
     let walk = c.args.self.now in
     let table = expansions c.args.shapes.now in
-    let same = choice_steps (settings_of walk) (kind_of walk) (entry_view table walk.entry) (map rule_view c.in-Choice.choices.items) (option_map string_bytes c.in-Choice.default) (shape_at table c.args.effective) (ap kind_view c.in-Choice.is) in
+    let same = choice_steps (settings_of walk) (kind_of walk) (entry_view table walk.entry) (map choice_rule_view c.in-Choice.choices.items) (option_map target_name c.in-Choice.default) (shape_at table c.args.effective) (ap kind_view c.in-Choice.is) in
     walks_same _ _ _ _ _ _ _ (ap (λ rules. rules_steps table walk rules c.args.effective ++ default_steps table walk c.in-Choice.default c.args.effective) c.deref.ensures.value ∙ same) c.walk_choice.ensures
 
 pub returns-in-Wait : goal.returns-in-Wait
