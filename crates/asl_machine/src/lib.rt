@@ -22,6 +22,8 @@ mod state_checking;
 mod trouble_reading;
 mod value_checking;
 
-pub use asl_states::{Catcher, ChoiceRule, Delay, Kind, Machine, Retrier, Scope, Settings, State, Target};
+pub use asl_states::{
+    Catcher, ChoiceRule, Delay, Kind, Machine, Retrier, Scope, Settings, State, Target,
+};
 pub use reading::read;
 pub use refusals::{DefFault, DefRefusal};

@@ -10,7 +10,9 @@ ghost use Rattle.asl_machine.specs.Reading.{processing_told, settings_told, fiel
 ghost use Rattle.asl_machine.specs.Rows.{type_view};
 ghost use Rattle.asl_machine.specs.Built.{state_as};
 
-use crate::fields::{build_target, build_text, natural_of, optional_natural_of, path_or_null_of, template_of};
+use crate::fields::{
+    build_target, build_text, natural_of, optional_natural_of, path_or_null_of, template_of,
+};
 use crate::kinds::read_parameters;
 use crate::places::{Complaint, Place};
 use crate::rows::StateType;

@@ -73,7 +73,11 @@ pub(crate) fn check_rule_targets<'a>(
 }
 
 /// Checks that a rule of a Choice goes on to a state of the scope.
-fn check_rule_target<'a>(place: &Place<'a>, rule: &ChoiceRule, scope: &Value) -> Result<(), Complaint<'a>>
+fn check_rule_target<'a>(
+    place: &Place<'a>,
+    rule: &ChoiceRule,
+    scope: &Value,
+) -> Result<(), Complaint<'a>>
     ensures { IsVerdict (model.target_complaints
         (place_view place.now) (names_in scope.now)
         (codes "Choices") (Some (target_name rule.now.next))) result }
