@@ -9,7 +9,8 @@ use Rattle.asl_tree.specs.View.{view}
 use Rattle.asl_run.specs.Acting.{Acts, Does, DoesNothing, IsAt, IsFoundBy, IsVisitOf, Plans, PlansAs, StandsAt, by_state, moves, moves_as, moves_at, names_at, state_at}
 use Rattle.asl_run.specs.Changing.{visit_in}
 use Rattle.asl_run.specs.Nodes.{AreHeads, shown_over}
-use Rattle.asl_run.specs.Standing.{children_of, name_in, LeadsOn}
+use Rattle.asl_run.specs.Leading.{LeadsOn}
+use Rattle.asl_run.specs.Standing.{children_of, name_in}
 use Rattle.asl_run.specs.Troubles.{CanRise}
 use Rattle.asl_run.specs.declared.activities.Visit.{Visit}
 use Rattle.asl_run.specs.declared.nodes.Node.{Node}
@@ -35,7 +36,7 @@ found_state machine place node here state found stands = some_inj (sym found.sta
 found_at : (machine : Machine) (place : List ℕ) (node : Node) (here : Here) (state : State) → IsFoundBy machine place node here → StandsAt machine here.visit.now state → IsAt here
 found_at machine place node here state found stands = record {
   named = found_name machine place node here state found stands ∙ ap (λ (m : Machine). name_in (table_view m).names here.visit.now.state) (sym found.same_machine);
-  leads = subst (λ (m : Machine). LeadsOn (table_view m).names (state_at here)) (sym found.same_machine) (subst (LeadsOn (table_view machine).names) (sym (found_state machine place node here state found stands)) stands.leads);
+  leads = subst (λ (m : Machine). LeadsOn (table_view m).names here.state.now) (sym found.same_machine) (stands.leads here.state.now found.stored);
 }
 
 does_there : (machine : Machine) (place : List ℕ) (node : Node) (here : Here) (plan : Plan) (step : model.Step) → IsFoundBy machine place node here → IsAt here → Plans here plan step → Does (table_view machine).names place here.visit.now plan step

@@ -1,88 +1,113 @@
--- Children that start, by the numbers of their states and by their names.
-use Rattle.std.proofs.Common.{◌≡◌, ◌<◌, ◌≤◌, refl, sym, ap, ◌∙◌, arith, ℕ, zero, suc, ◌+◌, List, [], ◌∷◌, ◌++◌, map, length, append_assoc, append-nil, slice_index_or, String, string_bytes}
-use Rattle.std.proofs.lemmas.List.{length-append, map-append}
+-- Children that start, each at the state of its target's number.
+use Rattle.std.proofs.Common.{◌≡◌, ◌<◌, ◌≤◌, refl, sym, ap, ◌∙◌, subst, arith, ℕ, zero, suc, ◌+◌, List, [], ◌∷◌, ◌++◌, map, take, length, get_or}
+use Rattle.std.proofs.Math.Seq.{take-suc}
+use Rattle.std.proofs.lemmas.List.{map-append, take_all}
+use Rattle.std.proofs.lemmas.List.Elements.{All-append}
+use Rattle.std.specs.List.{All}
 use Rattle.std.specs.declared.alloc.Global.{Global}
 use Rattle.std.specs.declared.rc.Rc.{Rc}
-use Rattle.asl_states.specs.Machine.{branches_view}
-use Rattle.asl_model.specs.Machine.{Scope, scope_at, start_of}
-use Rattle.asl_model.specs.Run.{Activity, AndActivity, Ready, started}
-use Rattle.asl_model.specs.Tree.{Tree, trees_of}
-use Rattle.asl_run.specs.Data.{data_of, datum_view}
+use Rattle.asl_states.specs.Machine.{branches_view, started_at, target_name}
+use Rattle.asl_states.specs.declared.target.Target.{Target}
+use Rattle.asl_model.specs.Flow.{branch_inputs}
+use Rattle.asl_model.specs.Machine.{scope_at}
+use Rattle.asl_model.specs.Run.{AndActivity, Ready, started}
+use Rattle.asl_model.specs.Tree.{Tree, AndTree, trees_of}
+use Rattle.asl_run.specs.Activities.{Begins, StartIn, given, inputs_of, ready_view, ready_children}
+use Rattle.asl_run.specs.Data.{datum_view}
+use Rattle.asl_run.specs.Leading.{BranchesLead, Leads}
+use Rattle.asl_run.specs.Standing.{name_in}
+use Rattle.asl_run.specs.declared.activities.Visit.{Visit}
 use Rattle.asl_tree.specs.declared.Tree as trees
-use Rattle.asl_run.specs.Activities.{ready_view, ready_children}
-use Rattle.asl_run.specs.Standing.{name_in, number_in, children_of, EachIsNamed}
-use Rattle.asl_run.specs.declared.activities.Visit as code
-
--- a child for each input, from number k on, with its state's name as it is found by its number
-abbrev pub children_from : List (List ℕ) → (ℕ → Scope) → ℕ → List Tree → List Activity
-children_from names scopes k [] = []
-children_from names scopes k (input ∷ inputs) = Ready (name_in names (number_in names (start_of (scopes k)))) input [] ∷ children_from names scopes (suc k) inputs
-
-further : (scopes below : ℕ → Scope) (k : ℕ) → ((j : ℕ) → below j ≡ scopes (k + j)) → (j : ℕ) → below (suc j) ≡ scopes (suc k + j)
-further scopes below k same j = let e : k + suc j ≡ suc k + j = omega arith in same (suc j) ∙ ap scopes e
-
-from_none : (scopes : ℕ → Scope) (j : ℕ) → scopes j ≡ scopes (0 + j)
-from_none scopes j = let e : j ≡ 0 + j = omega arith in ap scopes e
-
--- where each is found again, they are those of the definitions
-pub all_started : (names : List (List ℕ)) (scopes below : ℕ → Scope) (k : ℕ) (inputs : List Tree) → ((j : ℕ) → below j ≡ scopes (k + j)) → EachIsNamed names (started below (trees_of inputs))
-    → children_of (children_from names scopes k inputs) ≡ started below (trees_of inputs)
-all_started names scopes below k [] same each = refl
-all_started names scopes below k (input ∷ inputs) same each =
-    let e : k + 0 ≡ k = omega arith in
-    let start : scopes k ≡ below 0 = sym (same 0 ∙ ap scopes e) in
-    let named = each.0 in
-    ap (λ (scope : Scope). AndActivity (Ready (name_in names (number_in names (start_of scope))) input []) (children_of (children_from names scopes (suc k) inputs))) start
-    ∙ ap (λ n. AndActivity (Ready n input []) (children_of (children_from names scopes (suc k) inputs))) named.again
-    ∙ ap (AndActivity (Ready (start_of (below 0)) input [])) (all_started names scopes (λ j. below (suc j)) (suc k) inputs (further scopes below k same) each.1)
 
 -- nothing is left of an iterator without length
 pub nothing_left : {X : Type 0} (l : List X) → length l ≡ 0 → l ≡ []
 nothing_left [] h = refl
 nothing_left (x ∷ xs) h = absurd (omega arith)
 
--- one more child
-pub one_started : (names : List (List ℕ)) (scopes : ℕ → Scope) (made longer : List code.Visit) (visit : code.Visit) (input : Rc trees.Tree Global) (left inputs : List (Rc trees.Tree Global)) (all : List Activity) (start : List ℕ) (k : ℕ)
-    → left ≡ input ∷ inputs → longer ≡ made ++ visit ∷ [] → k ≡ length made
-    → ready_view names visit ≡ Ready (name_in names (number_in names start)) (datum_view input) [] → start ≡ start_of (scopes k)
-    → map (ready_view names) made ++ children_from names scopes (length made) (map datum_view left) ≡ all
-    → map (ready_view names) longer ++ children_from names scopes (length longer) (map datum_view inputs) ≡ all
-one_started names scopes made longer visit input left inputs all start k steps pushed at seen starts before =
-    let here : start ≡ start_of (scopes (length made)) = starts ∙ ap (λ i. start_of (scopes i)) at in
-    let child : ready_view names visit ≡ Ready (name_in names (number_in names (start_of (scopes (length made))))) (datum_view input) [] = seen ∙ ap (λ n. Ready (name_in names (number_in names n)) (datum_view input) []) here in
-    let next : length (made ++ visit ∷ []) ≡ suc (length made) = omega (arith, length-append made (visit ∷ [])) in
-    let rest = map datum_view inputs in
-    ap (λ (v : List code.Visit). map (ready_view names) v ++ children_from names scopes (length v) rest) pushed
-    ∙ ap (λ xs. xs ++ children_from names scopes (length (made ++ visit ∷ [])) rest) (map-append (ready_view names) made (visit ∷ []))
-    ∙ append_assoc (map (ready_view names) made) (ready_view names visit ∷ []) (children_from names scopes (length (made ++ visit ∷ [])) rest)
-    ∙ ap (λ i. map (ready_view names) made ++ ready_view names visit ∷ children_from names scopes i rest) next
-    ∙ ap (λ c. map (ready_view names) made ++ c ∷ children_from names scopes (suc (length made)) rest) child
-    ∙ ap (λ (ts : List (Rc trees.Tree Global)). map (ready_view names) made ++ children_from names scopes (length made) (map datum_view ts)) (sym steps)
-    ∙ before
+-- an execution that begins at a target that leads is that of the target's name
+pub ready_at : (names : List (List ℕ)) (start : Target) (visit : Visit) → Leads names start → Begins start.number visit → ready_view names visit ≡ Ready (target_name start) (given visit) []
+ready_at names start visit leads begins =
+    ap (λ i. Ready (name_in names i) (given visit) visit.counts.items) begins.state ∙ ap (λ n. Ready n (given visit) visit.counts.items) leads.named ∙ ap (Ready (target_name start) (given visit)) begins.uncounted
 
--- all children
-pub all_there : (names : List (List ℕ)) (scopes : ℕ → Scope) (made : List code.Visit) (left given inputs : List (Rc trees.Tree Global)) → left ≡ [] → given ≡ inputs
-    → map (ready_view names) made ++ children_from names scopes (length made) (map datum_view left) ≡ children_from names scopes 0 (map datum_view given)
-    → EachIsNamed names (started scopes (data_of inputs)) → ready_children names made ≡ started scopes (data_of inputs)
-all_there names scopes made left given inputs empty same before each =
-    let whole : map (ready_view names) made ≡ children_from names scopes 0 (map datum_view inputs) =
-    sym (append-nil (map (ready_view names) made)) ∙ ap (λ (ts : List (Rc trees.Tree Global)). map (ready_view names) made ++ children_from names scopes (length made) (map datum_view ts)) (sym empty)
-    ∙ before ∙ ap (λ (ts : List (Rc trees.Tree Global)). children_from names scopes 0 (map datum_view ts)) same in
-    ap children_of whole ∙ all_started names scopes scopes 0 (map datum_view inputs) (from_none scopes) each
+-- ---- a child for each branch
 
--- the start of a branch, and that of none
-within : (starts : List (String Global)) (i : ℕ) (d : String Global) → i < length starts → string_bytes (slice_index_or starts i d) ≡ start_of (scope_at i (branches_view starts))
-within [] i d h = absurd (omega arith)
-within (start ∷ starts) zero d h = refl
-within (start ∷ starts) (suc i) d h = within starts i d (omega arith)
+-- the number of an execution's state, its input and its counts
+abbrev seen : Visit → ℕ × Tree × List ℕ
+seen visit = (visit.state, given visit, visit.counts.items)
 
-past : (starts : List (String Global)) (i : ℕ) → length starts ≤ i → [] ≡ start_of (scope_at i (branches_view starts))
-past [] i h = refl
-past (start ∷ starts) zero h = absurd (omega arith)
-past (start ∷ starts) (suc i) h = past starts i (omega arith)
+-- those of one that begins at a start with that input
+abbrev begun : Tree → Target → ℕ × Tree × List ℕ
+begun v start = (start.number, v, [])
 
-pub start_found : (slice starts : List (String Global)) (i : ℕ) (s : String Global) → slice ≡ starts → i < length slice → s ≡ slice_index_or slice i s → string_bytes s ≡ start_of (scope_at i (branches_view starts))
-start_found slice starts i s same h is = ap string_bytes is ∙ within slice i s h ∙ ap (λ (l : List (String Global)). start_of (scope_at i (branches_view l))) same
+-- the children begin at these starts, in order, with that input
+pub record BeginAt (v : Tree) (starts : List Target) (visits : List Visit) : Type 0 where
+  are : map seen visits ≡ map (begun v) starts
 
-pub start_missing : (slice starts : List (String Global)) (i : ℕ) → slice ≡ starts → length slice ≤ i → [] ≡ start_of (scope_at i (branches_view starts))
-start_missing slice starts i same h = past slice i h ∙ ap (λ (l : List (String Global)). start_of (scope_at i (branches_view l))) same
+pub none_begun : (v : Tree) (branches : List Target) (visits : List Visit) → visits ≡ [] → BeginAt v (take 0 branches) visits
+none_begun v branches visits none = record { are = ap (map seen) none }
+
+-- one more begins
+pub one_begun : (branches : List Target) (i : ℕ) (start : Target) (input own : Rc trees.Tree Global) (visit : Visit) (done longer : List Visit) → i < length branches → start ≡ get_or branches i start → longer ≡ done ++ visit ∷ [] → Begins start.number visit → visit.raw ≡ own → datum_view own ≡ datum_view input
+    → BeginAt (datum_view input) (take i branches) done → BeginAt (datum_view input) (take (i + 1) branches) longer
+one_begun branches i start input own visit done longer within is grown begins raw same before =
+    let v = datum_view input in
+    let next : suc i ≡ i + 1 = omega arith in
+    let front : take (i + 1) branches ≡ take i branches ++ start ∷ [] = ap (λ k. take k branches) (sym next) ∙ take-suc branches i start within ∙ ap (λ b. take i branches ++ b ∷ []) (sym is) in
+    let last : seen visit ≡ begun v start =
+    ap (λ k. (k, given visit, visit.counts.items)) begins.state ∙ ap (λ (d : Rc trees.Tree Global). (start.number, datum_view d, visit.counts.items)) raw ∙ ap (λ t. (start.number, t, visit.counts.items)) same ∙ ap (λ cs. (start.number, v, cs)) begins.uncounted in
+    record {
+      are = ap (map seen) grown ∙ map-append seen done (visit ∷ []) ∙ ap (λ xs. xs ++ seen visit ∷ []) before.are ∙ ap (λ x. map (begun v) (take i branches) ++ x ∷ []) last
+          ∙ sym (map-append (begun v) (take i branches) (start ∷ [])) ∙ ap (map (begun v)) (sym front);
+    }
+
+-- where all have begun
+pub all_begun : (v : Tree) (branches : List Target) (i : ℕ) (visits : List Visit) → length branches ≤ i → BeginAt v (take i branches) visits → BeginAt v branches visits
+all_begun v branches i visits end h = subst (λ bs. BeginAt v bs visits) (take_all i branches end) h
+
+-- their inputs are those of the branches
+inputs_seen : (v : Tree) (branches : List Target) (visits : List Visit) → map seen visits ≡ map (begun v) branches → inputs_of visits ≡ branch_inputs (branches_view branches) v
+inputs_seen v [] [] e = refl
+inputs_seen v (b ∷ bs) [] e = absurd (cc)
+inputs_seen v [] (x ∷ xs) e = absurd (cc)
+inputs_seen v (b ∷ bs) (x ∷ xs) e =
+    let first : seen x ≡ begun v b = cc in
+    let rest : map seen xs ≡ map (begun v) bs = cc in
+    ap (λ t. AndTree t (trees_of (map given xs))) (ap (λ (p : ℕ × Tree × List ℕ). p.1) first) ∙ ap (AndTree v) (inputs_seen v bs xs rest)
+
+pub inputs_begun : (v : Tree) (branches : List Target) (visits : List Visit) → BeginAt v branches visits → inputs_of visits ≡ branch_inputs (branches_view branches) v
+inputs_begun v branches visits h = inputs_seen v branches visits h.are
+
+-- and they start in the branches
+start_seen : (names : List (List ℕ)) (v : Tree) (branches : List Target) (visits : List Visit) → BranchesLead names branches → map seen visits ≡ map (begun v) branches → ready_children names visits ≡ started (λ i. scope_at i (branches_view branches)) (inputs_of visits)
+start_seen names v [] [] leads e = refl
+start_seen names v (b ∷ bs) [] leads e = absurd (cc)
+start_seen names v [] (x ∷ xs) leads e = absurd (cc)
+start_seen names v (b ∷ bs) (x ∷ xs) leads e =
+    let first : seen x ≡ begun v b = cc in
+    let rest : map seen xs ≡ map (begun v) bs = cc in
+    let begins : Begins b.number x = record { state = ap (λ (p : ℕ × Tree × List ℕ). p.0) first; uncounted = ap (λ (p : ℕ × Tree × List ℕ). p.2) first } in
+    ap (λ a. AndActivity a (ready_children names xs)) (ready_at names b x (leads 0 b (omega arith)) begins)
+    ∙ ap (AndActivity (Ready (target_name b) (given x) [])) (start_seen names v bs xs (λ k d less. leads (suc k) d (omega (arith, less))) rest)
+
+pub start_begun : (names : List (List ℕ)) (v : Tree) (branches : List Target) (visits : List Visit) → BeginAt v branches visits → BranchesLead names branches → StartIn names (λ i. scope_at i (branches_view branches)) visits
+start_begun names v branches visits h leads = record { started = start_seen names v branches visits leads h.are }
+
+-- ---- children that all begin at one start
+
+alone_begins : (number : ℕ) (visit : Visit) → Begins number visit → All (Begins number) (visit ∷ [])
+alone_begins number visit begins zero d less = begins
+alone_begins number visit begins (suc k) d less = absurd (omega (arith, less))
+
+-- one more
+pub one_begins : (number : ℕ) (visit : Visit) (done longer : List Visit) → longer ≡ done ++ visit ∷ [] → Begins number visit → All (Begins number) done → All (Begins number) longer
+one_begins number visit done longer grown begins before = subst (All (Begins number)) (sym grown) (All-append (Begins number) done (visit ∷ []) before (alone_begins number visit begins))
+
+all_start : (names : List (List ℕ)) (start : Target) → Leads names start → (visits : List Visit) → All (Begins start.number) visits → ready_children names visits ≡ started (λ i. started_at start) (inputs_of visits)
+all_start names start leads [] begin = refl
+all_start names start leads (x ∷ xs) begin =
+    ap (λ a. AndActivity a (ready_children names xs)) (ready_at names start x leads (begin 0 x (omega arith)))
+    ∙ ap (AndActivity (Ready (target_name start) (given x) [])) (all_start names start leads xs (λ k d less. begin (suc k) d (omega (arith, less))))
+
+-- they start there
+pub start_alike : (names : List (List ℕ)) (start : Target) (visits : List Visit) → All (Begins start.number) visits → Leads names start → StartIn names (λ i. started_at start) visits
+start_alike names start visits begin leads = record { started = all_start names start leads visits begin }

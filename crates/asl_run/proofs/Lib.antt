@@ -1,7 +1,6 @@
 pub mod Counts
 pub mod Driven
 pub mod FewEntries
-pub mod Following
 pub mod GoingOn
 pub mod Inputs
 pub mod Leading

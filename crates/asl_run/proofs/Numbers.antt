@@ -1,19 +1,15 @@
--- Names of states and their numbers: a name is found by its number, and a number by its name.
-use Rattle.std.proofs.Common.{◌≡◌, refl, sym, ap, ◌∙◌, ℕ, zero, suc, ◌<◌, length, List, [], ◌∷◌, bytes_eq, position, slice_get, Option, Some, None, arith}
+-- Names of states by their numbers.
+use Rattle.std.proofs.Common.{◌≡◌, refl, sym, ap, ◌∙◌, ℕ, zero, suc, ◌<◌, length, List, [], ◌∷◌, slice_get, Option, Some, None, arith}
 use Rattle.std.specs.Option.{unwrap_or}
 use Rattle.std.proofs.lemmas.List.{length-append}
 use Rattle.asl_model.proofs.RunOptions.{some_inj, none_some}
-use Rattle.asl_run.specs.Standing.{no_name, name_in, IsNamed}
+use Rattle.asl_run.specs.Standing.{no_name, name_in}
 
 -- each name is shorter than that which is none of them
 shorter : (names : List (List ℕ)) (i : ℕ) (n : List ℕ) → slice_get names i ≡ Some n → length n < length (no_name names)
 shorter [] i n e = none_some e
 shorter (m ∷ names) zero n e = let same : m ≡ n = some_inj e in omega (arith, ap length same, length-append m (no_name names))
 shorter (m ∷ names) (suc i) n e = omega (arith, shorter names i n e, length-append m (no_name names))
-
--- where a name is found, its state is found again by its number
-pub found_again : (names : List (List ℕ)) (n : List ℕ) (number : ℕ) → position (bytes_eq n) names ≡ Some number → slice_get names number ≡ Some n → IsNamed names n
-found_again names n number found named = record { again = ap (λ o. name_in names (unwrap_or o 0)) found ∙ ap (λ o. unwrap_or o (no_name names)) named }
 
 -- a number whose name is that of a state is a state's
 pub stands_at : (names : List (List ℕ)) (i number : ℕ) → slice_get names number ≡ Some (name_in names i) → slice_get names i ≡ Some (name_in names i)

@@ -1,28 +1,29 @@
 -- Plans from their parts.
-use Rattle.std.proofs.Common.{◌≡◌, refl, ap, ◌∙◌, ℕ, List, Vec, Global, [], ◌∷◌, map, subst, sym, Option, Some, None, option_map, string_bytes, Result, Ok, Err, IfOk, IsOkAnd, codes}
+use Rattle.std.proofs.Common.{◌≡◌, refl, ap, ◌∙◌, Bor, ℕ, List, Vec, Global, [], ◌∷◌, map, subst, sym, Option, Some, None, IfSome, option_map, Result, Ok, Err, IfOk, IsOkAnd, codes}
 use Rattle.std.specs.declared.rc.Rc.{Rc}
-use Rattle.asl_states.specs.Machine.{kind_view, settings_view}
+use Rattle.asl_states.specs.Machine.{kind_view, settings_view, target_name}
+use Rattle.asl_states.specs.declared.target.Target.{Target}
 use Rattle.asl_model.specs.Faults as faults
 use Rattle.asl_model.specs.Faults.{ResultPathMatchFailure, error_name}
 use Rattle.asl_model.specs.Flow as flow
 use Rattle.asl_model.specs.Flow.{output_of}
 use Rattle.asl_model.specs.Machine.{child_scope}
 use Rattle.asl_model.specs.Run as model
-use Rattle.asl_model.specs.Tree.{Tree, Trees}
+use Rattle.asl_model.specs.Tree.{Tree}
 use Rattle.asl_tree.specs.View.{view}
 use Rattle.asl_tree.specs.declared.Tree as code
-use Rattle.asl_run.specs.Acting.{IsAt, Plans, by_settings, by_state, by_trouble_at, names_at, state_at, told_at}
-use Rattle.asl_run.specs.Activities.{ended_view, ready_view}
+use Rattle.asl_run.specs.Acting.{IsAt, MayCome, MayFollow, Plans, by_settings, by_state, by_trouble_at, names_at, state_at, told_at}
+use Rattle.asl_run.specs.Activities.{Begins, StartIn, ended_view, inputs_of, ready_children}
 use Rattle.asl_run.specs.Changing.{changed}
 use Rattle.asl_run.specs.Data.{datum_view}
 use Rattle.asl_run.specs.Entries.{entry_view}
 use Rattle.asl_run.specs.Faults.{error_view, fault_view}
 use Rattle.asl_run.specs.Flowing.{Flows}
-use Rattle.asl_run.specs.Standing.{EachIsNamed, MayFollow, name_in, number_in}
+use Rattle.asl_run.specs.Leading.{Leads}
 use Rattle.asl_run.specs.Troubles.{CanRise, trouble_view}
 use Rattle.asl_run.specs.declared.activities.Visit.{Visit}
 use Rattle.asl_run.specs.declared.changing.Change.{Change}
-use Rattle.asl_run.specs.declared.changing.Change.TheVariants.{Ask, End, Enter, Retry}
+use Rattle.asl_run.specs.declared.changing.Change.TheVariants.{Ask, End, Enter, Retry, SplitInto}
 use Rattle.asl_run.specs.declared.entries.Entry.{Entry}
 use Rattle.asl_run.specs.declared.entries.Outcome.{Outcome}
 use Rattle.asl_run.specs.declared.entries.Outcome.TheVariants as outcomes
@@ -32,7 +33,8 @@ use Rattle.asl_run.specs.declared.faults.Stop.TheVariants as stops
 use Rattle.asl_run.specs.declared.planning.Here.{Here}
 use Rattle.asl_run.specs.declared.planning.Plan.{Plan}
 use Rattle.asl_run.specs.declared.troubles.Trouble.{Trouble}
-use Rattle.asl_run.proofs.Following.{caught_follows, leaving_follows, next_follows}
+use Rattle.asl_run.specs.declared.working.Work.TheVariants as works
+use Rattle.asl_run.proofs.Children.{ready_at}
 
 -- a change leaves that, and a count that is to rise can
 pub record Leaves (here : Here) (change : Change) (after : model.Activity) : Type 0 where
@@ -66,9 +68,17 @@ pub told_once : (here : Here) (plan before : Plan) (made : Entry) (entry : model
 told_once here plan before made entry change after none is first same told leaves =
     preceded here plan before made entry (record { entries = []; after = after }) first same told (begun here before change after none is leaves)
 
--- the execution goes on at a state that may follow
-pub moves_on : (here : Here) (visit : Visit) (next : List ℕ) (input : Tree) → ready_view (names_at here) visit ≡ model.Ready (name_in (names_at here) (number_in (names_at here) next)) input [] → MayFollow (state_at here) (Some next) → Leaves here (Enter visit) (model.Ready next input [])
-moves_on here visit next input is follows = becomes here visit (model.Ready next input []) (λ stands. let named = stands.leads.targets next follows in is ∙ ap (λ n. model.Ready n input []) named.again)
+-- the execution goes on at a target that may follow
+pub moves_on : (here : Here) (visit : Visit) (next : Target) (input : Rc code.Tree Global) → Begins next.number visit → visit.raw ≡ input → MayFollow here next → Leaves here (Enter visit) (model.Ready (target_name next) (view input.value) [])
+moves_on here visit next input begins given follows = becomes here visit (model.Ready (target_name next) (view input.value) [])
+    (λ stands. ready_at (names_at here) next visit (follows.leads stands) begins ∙ ap (λ (r : Rc code.Tree Global). model.Ready (target_name next) (view r.value) []) given)
+
+-- what `Next` names may follow
+pub next_follows : (here : Here) (next : Option (Bor Target)) → option_map (λ (t : Bor Target). t.now) next ≡ here.state.now.settings.next → IfSome next (λ t. MayFollow here t.now)
+next_follows here None is = tt
+next_follows here (Some t) is = record {
+  leads = λ stands. let leads = stands.leads.settings.next in subst (λ (o : Option Target). IfSome o (Leads (names_at here))) (sym is) leads;
+}
 
 -- ---- what comes of what may want memory
 
@@ -121,23 +131,20 @@ retried_so here (Ok p) before (Err x) i rises none is first same told = absurd f
 retried_so here (Err x) before made i rises none is first same told = tt
 
 -- a catcher hands on to a state that may follow
-pub handed_on : {E F : Type 0} (here : Here) (r : Result Plan E) (before : Plan) (made : Result Entry F) (visit : Visit) (i : ℕ) (next : List ℕ) (input : Tree) → before.entries.items ≡ [] → before.change ≡ Enter visit
-    → IfOk r (λ p. IsOkAnd made (λ m. p.entries.items ≡ m ∷ before.entries.items)) → IfOk r (λ p. p.change ≡ before.change) → IfOk made (λ m. entry_view m ≡ told_at here.at.now (model.Caught here.name.now i next))
-    → ready_view (names_at here) visit ≡ model.Ready (name_in (names_at here) (number_in (names_at here) next)) input []
-    → IfOk r (λ p. MayFollow (state_at here) (Some next) → (e k : List ℕ) → Plans here p (by_trouble_at here e k (model.Catches i next input)))
-handed_on here (Ok p) before (Ok made) visit i next input none is first same told seen = λ follows e k. told_once here p before made (model.Caught here.name.now i next) (Enter visit) (model.Ready next input []) none is first same told (moves_on here visit next input seen follows)
-handed_on here (Ok p) before (Err x) visit i next input none is first same told seen = absurd first
-handed_on here (Err x) before made visit i next input none is first same told seen = tt
+pub handed_on : {E F : Type 0} (here : Here) (r : Result Plan E) (before : Plan) (made : Result Entry F) (visit : Visit) (i : ℕ) (next : Target) (input : Rc code.Tree Global) → before.entries.items ≡ [] → before.change ≡ Enter visit
+    → IfOk r (λ p. IsOkAnd made (λ m. p.entries.items ≡ m ∷ before.entries.items)) → IfOk r (λ p. p.change ≡ before.change) → IfOk made (λ m. entry_view m ≡ told_at here.at.now (model.Caught here.name.now i (target_name next)))
+    → Begins next.number visit → visit.raw ≡ input → IfOk r (λ p. MayFollow here next → (e k : List ℕ) → Plans here p (by_trouble_at here e k (model.Catches i (target_name next) (view input.value))))
+handed_on here (Ok p) before (Ok made) visit i next input none is first same told begins given = λ follows e k.
+    told_once here p before made (model.Caught here.name.now i (target_name next)) (Enter visit) (model.Ready (target_name next) (view input.value) []) none is first same told (moves_on here visit next input begins given follows)
+handed_on here (Ok p) before (Err x) visit i next input none is first same told begins given = absurd first
+handed_on here (Err x) before made visit i next input none is first same told begins given = tt
 
 -- so it does where it takes the error
-pub caught_so : {E : Type 0} (here : Here) (r : Result Plan E) (error cause counts : List ℕ) (met : Trouble) (i : ℕ) (next : List ℕ) (input : Tree) → trouble_view met ≡ model.Catches i next input → counts ≡ here.visit.now.counts.items
-    → trouble_view met ≡ model.trouble_of (settings_view here.state.now.settings) (view here.visit.now.raw.value) counts error cause → IfOk r (λ p. MayFollow (state_at here) (Some next) → (e k : List ℕ) → Plans here p (by_trouble_at here e k (model.Catches i next input)))
+pub caught_so : {E : Type 0} (here : Here) (r : Result Plan E) (error cause counts : List ℕ) (met : Trouble) (trouble : model.Trouble) (next : Target) → trouble_view met ≡ trouble → counts ≡ here.visit.now.counts.items
+    → trouble_view met ≡ model.trouble_of (settings_view here.state.now.settings) (view here.visit.now.raw.value) counts error cause → (IsAt here → Leads (names_at here) next) → IfOk r (λ p. MayFollow here next → (e k : List ℕ) → Plans here p (by_trouble_at here e k trouble))
     → IfOk r (λ p. Plans here p (by_settings model.troubled here error cause))
-caught_so here (Ok p) error cause counts met i next input seen same is plans =
-    let so : model.Catches i next input ≡ model.trouble_of (settings_view here.state.now.settings) (view here.visit.now.raw.value) here.visit.now.counts.items error cause = sym seen ∙ is ∙ ap (λ cs. model.trouble_of (settings_view here.state.now.settings) (view here.visit.now.raw.value) cs error cause) same in
-    let follows : MayFollow (state_at here) (Some next) = caught_follows (state_at here) (view here.visit.now.raw.value) here.visit.now.counts.items error cause i next input (sym so) in
-    subst (λ t. Plans here p (by_trouble_at here error cause t)) so (plans follows error cause)
-caught_so here (Err e) error cause counts met i next input seen same is plans = tt
+caught_so {E = E} here (Ok p) error cause counts met trouble next seen same is follows plans = troubled_so {E = E} here (Ok p) error cause counts met trouble seen same is (plans (record { leads = follows }))
+caught_so here (Err e) error cause counts met trouble next seen same is follows plans = tt
 
 -- its output can't be placed
 pub misfitted : {E F : Type 0} (here : Here) (r : Result Plan E) (before : Plan) (made : Result Entry F) (name : List ℕ) → name ≡ error_name ResultPathMatchFailure → Plans here before (model.ends_failing name (codes "Catch"))
@@ -159,13 +166,13 @@ raised_so here r before made fault name is plans first same told =
 -- ---- leaving
 
 -- for the next state
-pub left_on : {E F : Type 0} (here : Here) (r : Result Plan E) (before : Plan) (made : Result Entry F) (visit : Visit) (next : List ℕ) (output : Tree) → before.entries.items ≡ [] → before.change ≡ Enter visit
-    → IfOk r (λ p. IsOkAnd made (λ m. p.entries.items ≡ m ∷ before.entries.items)) → IfOk r (λ p. p.change ≡ before.change) → IfOk made (λ m. entry_view m ≡ told_at here.at.now (model.Left here.name.now output))
-    → ready_view (names_at here) visit ≡ model.Ready (name_in (names_at here) (number_in (names_at here) next)) output []
-    → IfOk r (λ p. MayFollow (state_at here) (Some next) → Plans here p (model.leaves_for here.name.now (Some next) output))
-left_on here (Ok p) before (Ok made) visit next output none is first same told seen = λ follows. told_once here p before made (model.Left here.name.now output) (Enter visit) (model.Ready next output []) none is first same told (moves_on here visit next output seen follows)
-left_on here (Ok p) before (Err x) visit next output none is first same told seen = absurd first
-left_on here (Err e) before made visit next output none is first same told seen = tt
+pub left_on : {E F : Type 0} (here : Here) (r : Result Plan E) (before : Plan) (made : Result Entry F) (visit : Visit) (next : Target) (output : Rc code.Tree Global) → before.entries.items ≡ [] → before.change ≡ Enter visit
+    → IfOk r (λ p. IsOkAnd made (λ m. p.entries.items ≡ m ∷ before.entries.items)) → IfOk r (λ p. p.change ≡ before.change) → IfOk made (λ m. entry_view m ≡ told_at here.at.now (model.Left here.name.now (view output.value)))
+    → Begins next.number visit → visit.raw ≡ output → IfOk r (λ p. MayFollow here next → Plans here p (model.leaves_for here.name.now (Some (target_name next)) (view output.value)))
+left_on here (Ok p) before (Ok made) visit next output none is first same told begins given = λ follows.
+    told_once here p before made (model.Left here.name.now (view output.value)) (Enter visit) (model.Ready (target_name next) (view output.value) []) none is first same told (moves_on here visit next output begins given follows)
+left_on here (Ok p) before (Err x) visit next output none is first same told begins given = absurd first
+left_on here (Err e) before made visit next output none is first same told begins given = tt
 
 -- for the end of its scope
 pub left_last : (here : Here) (entries : Vec Entry Global) (output : Rc code.Tree Global) → map entry_view entries.items ≡ map (told_at here.at.now) (model.Left here.name.now (view output.value) ∷ model.Ended (model.Output (view output.value)) ∷ [])
@@ -183,44 +190,53 @@ left_and_ended place (Ok all) (Err e) left none behind last first empty ends tol
 left_and_ended place (Err e) ended left none behind last first empty ends told_last leaves told_first = tt
 
 -- with an output
-pub left_with : {E : Type 0} (here : Here) (r : Result Plan E) (next : Option (List ℕ)) (t : Rc code.Tree Global) → IfOk r (λ p. MayFollow (state_at here) next → Plans here p (model.leaves_for here.name.now next (view t.value)))
-    → IfOk r (λ p. (defined : Result Tree faults.Fault) → Flows datum_view (Ok t) defined → MayFollow (state_at here) next → Plans here p (by_settings model.leaves_with here next defined))
-left_with here (Ok p) next t plans = λ defined flows follows. let is : defined ≡ Ok (view t.value) = flows.gives in subst (λ d. Plans here p (by_settings model.leaves_with here next d)) (sym is) (plans follows)
-left_with here (Err e) next t plans = tt
+pub left_with : {E : Type 0} (here : Here) (r : Result Plan E) (follows : Type 0) (next : Option (List ℕ)) (t : Rc code.Tree Global) → IfOk r (λ p. follows → Plans here p (model.leaves_for here.name.now next (view t.value)))
+    → IfOk r (λ p. (defined : Result Tree faults.Fault) → Flows datum_view (Ok t) defined → follows → Plans here p (by_settings model.leaves_with here next defined))
+left_with here (Ok p) follows next t plans = λ defined flows may. let is : defined ≡ Ok (view t.value) = flows.gives in subst (λ d. Plans here p (by_settings model.leaves_with here next d)) (sym is) (plans may)
+left_with here (Err e) follows next t plans = tt
 
 -- with a fault in its place
-pub left_raising : {E : Type 0} (here : Here) (r : Result Plan E) (next : Option (List ℕ)) (output : Result (Rc code.Tree Global) Stop) (fault : Fault) → output ≡ Err (stops.Fault fault) → IfOk r (λ p. Plans here p (by_settings model.faulted here (fault_view fault)))
-    → IfOk r (λ p. (defined : Result Tree faults.Fault) → Flows datum_view output defined → MayFollow (state_at here) next → Plans here p (by_settings model.leaves_with here next defined))
-left_raising here (Ok p) next output fault met plans = λ defined flows follows. let is : defined ≡ Err (fault_view fault) = flows.fails fault met in subst (λ d. Plans here p (by_settings model.leaves_with here next d)) (sym is) plans
-left_raising here (Err e) next output fault met plans = tt
+pub left_raising : {E : Type 0} (here : Here) (r : Result Plan E) (follows : Type 0) (next : Option (List ℕ)) (output : Result (Rc code.Tree Global) Stop) (fault : Fault) → output ≡ Err (stops.Fault fault) → IfOk r (λ p. Plans here p (by_settings model.faulted here (fault_view fault)))
+    → IfOk r (λ p. (defined : Result Tree faults.Fault) → Flows datum_view output defined → follows → Plans here p (by_settings model.leaves_with here next defined))
+left_raising here (Ok p) follows next output fault met plans = λ defined flows may. let is : defined ≡ Err (fault_view fault) = flows.fails fault met in subst (λ d. Plans here p (by_settings model.leaves_with here next d)) (sym is) plans
+left_raising here (Err e) follows next output fault met plans = tt
+
+-- the name of a target that is lent
+seen_lent : (next : Option (Bor Target)) → option_map (λ (t : Bor Target). target_name t.now) next ≡ option_map target_name (option_map (λ (t : Bor Target). t.now) next)
+seen_lent None = refl
+seen_lent (Some t) = refl
 
 -- with what comes of its result
-pub finished_so : {E : Type 0} (here : Here) (r : Result Plan E) (next : Option (List ℕ)) (output : Result (Rc code.Tree Global) Stop) (result : Tree) → next ≡ option_map string_bytes here.state.now.settings.next
+pub finished_so : {E : Type 0} (here : Here) (r : Result Plan E) (next : Option (Bor Target)) (output : Result (Rc code.Tree Global) Stop) (result : Tree) → option_map (λ (t : Bor Target). t.now) next ≡ here.state.now.settings.next
     → Flows datum_view output (output_of (settings_view here.state.now.settings) (view here.visit.now.raw.value) result)
-    → IfOk r (λ p. (defined : Result Tree faults.Fault) → Flows datum_view output defined → MayFollow (state_at here) next → Plans here p (by_settings model.leaves_with here next defined)) → IfOk r (λ p. Plans here p (by_settings model.finishes here result))
+    → IfOk r (λ p. (defined : Result Tree faults.Fault) → Flows datum_view output defined → IfSome next (λ t. MayFollow here t.now) → Plans here p (by_settings model.leaves_with here (option_map (λ (t : Bor Target). target_name t.now) next) defined))
+    → IfOk r (λ p. Plans here p (by_settings model.finishes here result))
 finished_so here (Ok p) next output result is flows plans =
     let defined = output_of (settings_view here.state.now.settings) (view here.visit.now.raw.value) result in
-    let follows : MayFollow (state_at here) next = subst (MayFollow (state_at here)) (sym is) (next_follows (state_at here)) in
-    subst (λ o. Plans here p (by_settings model.leaves_with here o defined)) is (plans defined flows follows)
+    subst (λ o. Plans here p (by_settings model.leaves_with here o defined)) (seen_lent next ∙ ap (option_map target_name) is) (plans defined flows (next_follows here next is))
 finished_so here (Err e) next output result is flows plans = tt
 
 -- ---- entering
 
 -- its first move
-pub entered_so : {E F : Type 0} (here : Here) (r : Result Plan E) (before : Plan) (made : Result Entry F) (work : flow.Work) → work ≡ flow.first_move (state_at here) (view here.visit.now.raw.value)
-    → (flow.first_move (state_at here) (view here.visit.now.raw.value) ≡ work → Plans here before (by_state model.by_work here work))
+pub entered_so : {E F : Type 0} (here : Here) (r : Result Plan E) (before : Plan) (made : Result Entry F) (work : flow.Work) → work ≡ flow.first_move (state_at here) (view here.visit.now.raw.value) → Plans here before (by_state model.by_work here work)
     → IfOk r (λ p. IsOkAnd made (λ m. p.entries.items ≡ m ∷ before.entries.items)) → IfOk r (λ p. p.change ≡ before.change) → IfOk made (λ m. entry_view m ≡ told_at here.at.now (model.Entered here.name.now (view here.visit.now.raw.value)))
     → IfOk r (λ p. Plans here p (by_state model.enters here))
 entered_so here r before made work is plans first same told =
     preceded_so here r before made (model.Entered here.name.now (view here.visit.now.raw.value)) (by_state model.by_work here (flow.first_move (state_at here) (view here.visit.now.raw.value))) first same told
-    (subst (λ w. Plans here before (by_state model.by_work here w)) is (plans (sym is)))
+    (subst (λ w. Plans here before (by_state model.by_work here w)) is plans)
 
--- a first move that leaves
-pub carried_off : {E : Type 0} (here : Here) (r : Result Plan E) (next : Option (List ℕ)) (output : Result (Rc code.Tree Global) Stop) (v : Tree) → Flows datum_view output (flow.at_output_path (settings_view here.state.now.settings) v)
-    → IfOk r (λ p. (defined : Result Tree faults.Fault) → Flows datum_view output defined → MayFollow (state_at here) next → Plans here p (by_settings model.leaves_with here next defined))
-    → IfOk r (λ p. flow.first_move (state_at here) (view here.visit.now.raw.value) ≡ flow.Leaves next v → Plans here p (by_state model.by_work here (flow.Leaves next v)))
-carried_off here (Ok p) next output v flows plans = λ move. plans (flow.at_output_path (settings_view here.state.now.settings) v) flows (leaving_follows (state_at here) (view here.visit.now.raw.value) next v move)
-carried_off here (Err e) next output v flows plans = tt
+-- a first move that leaves for that target may follow
+may_leave : (here : Here) (next : Option (Bor Target)) (input : _) → MayCome here (works.Leaves next input) → IfSome next (λ t. MayFollow here t.now)
+may_leave here None input may = tt
+may_leave here (Some t) input may = record { leads = may.leads }
+
+-- it leaves so
+pub carried_off : {E : Type 0} (here : Here) (r : Result Plan E) (next : Option (Bor Target)) (input : _) (output : Result (Rc code.Tree Global) Stop) (v : Tree) → Flows datum_view output (flow.at_output_path (settings_view here.state.now.settings) v)
+    → IfOk r (λ p. (defined : Result Tree faults.Fault) → Flows datum_view output defined → IfSome next (λ t. MayFollow here t.now) → Plans here p (by_settings model.leaves_with here (option_map (λ (t : Bor Target). target_name t.now) next) defined))
+    → IfOk r (λ p. MayCome here (works.Leaves next input) → Plans here p (by_state model.by_work here (flow.Leaves (option_map (λ (t : Bor Target). target_name t.now) next) v)))
+carried_off here (Ok p) next input output v flows plans = λ may. plans (flow.at_output_path (settings_view here.state.now.settings) v) flows (may_leave here next input may)
+carried_off here (Err e) next input output v flows plans = tt
 
 -- it waits for the answer to its payload
 pub waits_so : {E F : Type 0} (here : Here) (r : Result Plan E) (before : Plan) (made : Result Entry F) (payload : Rc code.Tree Global) → before.entries.items ≡ [] → before.change ≡ Ask payload
@@ -238,13 +254,14 @@ asked_so here (Ok p) t v is plans = subst (λ u. Plans here p (by_state model.by
 asked_so here (Err e) t v is plans = tt
 
 -- one that splits
-pub split_so : (here : Here) (plan : Plan) (change : Change) (children : model.Activities) (inputs : Trees) → plan.entries.items ≡ [] → plan.change ≡ change
-    → changed (names_at here) here.visit.now change ≡ model.Split (name_in (names_at here) here.visit.now.state) (view here.visit.now.raw.value) here.visit.now.counts.items children → ((i : ℕ) → change ≡ Retry i → ⊥)
-    → (EachIsNamed (names_at here) (model.started (child_scope (kind_view here.state.now.kind)) inputs) → children ≡ model.started (child_scope (kind_view here.state.now.kind)) inputs)
-    → flow.first_move (state_at here) (view here.visit.now.raw.value) ≡ flow.Splits inputs → Plans here plan (by_state model.by_work here (flow.Splits inputs))
-split_so here plan change children inputs none is split no_retry alike move =
-    begun here plan change (model.Split here.name.now (view here.visit.now.raw.value) here.visit.now.counts.items (model.started (child_scope (kind_view here.state.now.kind)) inputs)) none is (record {
-      left = λ stands. split ∙ ap (model.Split (name_in (names_at here) here.visit.now.state) (view here.visit.now.raw.value) here.visit.now.counts.items) (alike (stands.leads.starts (view here.visit.now.raw.value) inputs move))
-          ∙ ap (λ n. model.Split n (view here.visit.now.raw.value) here.visit.now.counts.items (model.started (child_scope (kind_view here.state.now.kind)) inputs)) (sym stands.named);
-      rises = λ i e. absurd (no_retry i e);
+pub split_so : (here : Here) (plan : Plan) (children : Vec Visit Global) → plan.entries.items ≡ [] → plan.change ≡ SplitInto children → (IsAt here → StartIn (names_at here) (child_scope (kind_view here.state.now.kind)) children.items)
+    → Plans here plan (by_state model.by_work here (flow.Splits (inputs_of children.items)))
+split_so here plan children none is starts =
+    let inputs = inputs_of children.items in
+    let scopes = child_scope (kind_view here.state.now.kind) in
+    let raw = view here.visit.now.raw.value in
+    let counts = here.visit.now.counts.items in
+    begun here plan (SplitInto children) (model.Split here.name.now raw counts (model.started scopes inputs)) none is (record {
+      left = λ stands. let start = starts stands in ap (λ n. model.Split n raw counts (ready_children (names_at here) children.items)) (sym stands.named) ∙ ap (model.Split here.name.now raw counts) start.started;
+      rises = λ i e. absurd (cc);
     })

@@ -1,5 +1,6 @@
 -- A run's start, in the machine's table.
-use Rattle.std.proofs.Common.{◌≡◌, refl, sym, ap, ◌∙◌, subst, ℕ, List, [], ◌∷◌, slice_get, Option, Some, None, option_map}
+use Rattle.std.proofs.Common.{◌≡◌, refl, sym, ap, ◌∙◌, subst, ℕ, List, [], ◌∷◌, bytes_eq, position, slice_get, Option, Some, None, option_map}
+use Rattle.std.specs.Option.{unwrap_or}
 use Rattle.asl_states.specs.Table.{Shows, table_view}
 use Rattle.asl_states.specs.declared.machine.Machine.{Machine}
 use Rattle.asl_model.specs.Machine.{Scope, ScopeOf, NoStates, AndState, start_of}
@@ -8,14 +9,14 @@ use Rattle.asl_model.specs.Run as model
 use Rattle.asl_model.specs.Tree.{Tree}
 use Rattle.asl_model.proofs.RunOptions.{some_inj, none_some}
 use Rattle.asl_run.specs.Enabling.{Adds, AddsPlaces, open_in}
-use Rattle.asl_run.specs.Standing.{name_in, number_in, StandsIn}
+use Rattle.asl_run.specs.Standing.{name_in, no_name, StandsIn}
 use Rattle.asl_run.specs.Nodes.{shown_at}
 use Rattle.asl_run.specs.declared.activities.Visit.{Visit}
 use Rattle.asl_run.specs.declared.nodes.Node.{Node}
 use Rattle.asl_run.specs.declared.nodes.Node.TheVariants.{Ready}
 use Rattle.asl_tree.specs.View.{view}
 use Rattle.asl_model.proofs.RunStands.{start_stands}
-use Rattle.asl_run.proofs.Leading.{is_named}
+use Rattle.asl_run.proofs.Leading.{HasNumber, has_number}
 use Rattle.asl_run.proofs.OpenPlaces.{adds_to_none, enabled_is_open}
 
 -- the start of the scope in which the first state of a table stands
@@ -23,7 +24,7 @@ abbrev first_start : Table → Option ℕ
 first_start table = option_map (λ (p : Placement). p.start) (slice_get table.placements 0)
 
 -- the first state stands in the machine's own scope
-first_placed : (machine : Scope) → HasNamed machine (start_of machine) → first_start (table_of machine) ≡ Some (number_in (table_of machine).names (start_of machine))
+first_placed : (machine : Scope) → HasNamed machine (start_of machine) → first_start (table_of machine) ≡ Some (unwrap_or (position (bytes_eq (start_of machine)) (table_of machine).names) 0)
 first_placed (ScopeOf start NoStates) h = absurd (cc)
 first_placed (ScopeOf start (AndState n state others)) h = refl
 
@@ -31,8 +32,9 @@ first_placed (ScopeOf start (AndState n state others)) h = refl
 start_named : (machine : Scope) → IsWellNamed machine → (i : ℕ) → first_start (table_of machine) ≡ Some i → name_in (table_of machine).names i ≡ start_of machine
 start_named machine well i e =
     let names = (table_of machine).names in
-    let number : number_in names (start_of machine) ≡ i = some_inj (sym (first_placed machine well.leads.start) ∙ e) in
-    ap (name_in names) (sym number) ∙ (is_named machine machine well own_scope (start_of machine) well.leads.start).again
+    let has : HasNumber names (start_of machine) = has_number machine machine well own_scope (start_of machine) well.leads.start in
+    let number : has.number ≡ i = sym (ap (λ o. unwrap_or o 0) has.found) ∙ some_inj (sym (first_placed machine well.leads.start) ∙ e) in
+    ap (name_in names) (sym number) ∙ ap (λ o. unwrap_or o (no_name names)) has.named
 
 -- the machine's table has that start
 pub start_found : (machine : Machine) (m : Scope) → Shows machine m → (p : Placement) → slice_get (table_view machine).placements 0 ≡ Some p → name_in (table_view machine).names p.start ≡ start_of m

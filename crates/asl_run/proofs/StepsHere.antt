@@ -1,7 +1,11 @@
 -- The step of an activity itself, from what is planned there.
 use Rattle.std.proofs.Common.{◌≡◌, ◌≢◌, ◌↔◌, Bool, true, false, Bor, IsTrue, is_some, not, option_map, refl, sym, ap, ◌∙◌, subst, ℕ, List, [], map, slice_get, IfSome, Option, Some, None, option_and_then, Result, Ok, Err, IfOk, Vec, Global}
 use Rattle.std.specs.Option.{unwrap_or}
-use Rattle.asl_states.specs.Table.{Shows, table_view}
+use Rattle.std.proofs.lemmas.Option.{get_or_from_slice_get, slice_get-map, slice_get_within}
+use Rattle.asl_states.specs.Machine.{state_view}
+use Rattle.asl_states.specs.Numbered.{AreNumbered}
+use Rattle.asl_states.specs.Table.{Shows, states_in, table_view}
+use Rattle.asl_states.specs.declared.states.State as code
 use Rattle.asl_states.specs.declared.machine.Machine.{Machine}
 use Rattle.asl_model.specs.Machine.{Scope, State, state_named}
 use Rattle.asl_model.specs.Numbering.{HasNamed, IsScopeOf, Table, outline, table_of}
@@ -12,7 +16,8 @@ use Rattle.asl_run.specs.Acting.{Acts, ActsSo, StandsAt, moves}
 use Rattle.asl_run.specs.Changing.{changed, visit_in}
 use Rattle.asl_run.specs.Enabling.{wanted_by}
 use Rattle.asl_run.specs.Entries.{answer_view, entry_view}
-use Rattle.asl_run.specs.Standing.{StandsIn, LeadsOn, name_in}
+use Rattle.asl_run.specs.Leading.{LeadsOn}
+use Rattle.asl_run.specs.Standing.{StandsIn, name_in}
 use Rattle.asl_run.specs.Nodes.{shown_over}
 use Rattle.asl_run.specs.Stepping.{RefusesThere, Steps, names_for, action_of}
 use Rattle.asl_run.specs.declared.activities.Visit.{Visit}
@@ -25,7 +30,7 @@ use Rattle.asl_run.specs.declared.planning.Plan.{Plan}
 use Rattle.asl_run.specs.declared.stepping.Happening.{Happening}
 use Rattle.asl_run.specs.declared.stepping.StepRefusal.{StepRefusal}
 use Rattle.asl_run.specs.declared.stepping.StepRefusal.TheVariants.{NotEnabled, OutOfMemory}
-use Rattle.asl_run.proofs.Leading.{IsFound, is_found}
+use Rattle.asl_run.proofs.Leading.{IsFound, NamesNumbered, is_found, leads_on}
 use Rattle.asl_run.proofs.OpenPlaces.{acts_as_wanted}
 
 -- ---- the state's execution that stands there
@@ -102,8 +107,8 @@ acts_by machine m scope a action visit shown inside is stands = record {
   state = outline found.state;
   stands = record {
     name = subst (λ (t : Table). slice_get t.names i ≡ Some (name_in t.names i)) back found.name;
-    shown = subst (λ (t : Table). slice_get t.states i ≡ Some (outline found.state)) back found.shown;
-    leads = subst (λ (t : Table). LeadsOn t.names (outline found.state)) back found.leads;
+    shown = by_number;
+    leads = λ stored at. lead_on stored at;
   };
   acts = acts_by_state (name_in (table_of m).names i) a scope action found.state is_there found.named ∙ sym (moves_outlined a action found.state);
 }
@@ -119,6 +124,16 @@ acts_by machine m scope a action visit shown inside is stands = record {
 
     found : IsFound m scope i
     found = is_found m scope shown.well_named inside i (has_named (name_in (table_of m).names i) a scope is_there stands)
+
+    by_number : slice_get (table_view machine).states i ≡ Some (outline found.state)
+    by_number = subst (λ (t : Table). slice_get t.states i ≡ Some (outline found.state)) back found.shown
+
+    lead_on : (stored : code.State) → slice_get (states_in machine) i ≡ Some stored → LeadsOn (table_view machine).names stored
+    lead_on stored at =
+        let seen : outline found.state ≡ state_view stored = some_inj (sym by_number ∙ slice_get-map state_view (states_in machine) i ∙ ap (option_map state_view) at) in
+        let numbered : AreNumbered (table_view machine).names stored =
+        subst (AreNumbered (table_view machine).names) (get_or_from_slice_get (states_in machine) i stored stored at) (shown.numbered i stored (slice_get_within (states_in machine) i stored at)) in
+        leads_on (table_view machine).names stored numbered (subst (NamesNumbered (table_view machine).names) seen (subst (λ (t : Table). NamesNumbered t.names (outline found.state)) back found.numbered))
 
 -- ---- the answers
 

@@ -1,22 +1,27 @@
 -- What is to be done in one step at one place.
 use Rattle.std.specs.Prelude.{◌≡◌, ℕ, List, map, Option, Some, None, IfSome, slice_get}
-use Rattle.asl_states.specs.Machine.{settings_view, state_view}
-use Rattle.asl_states.specs.Table.{table_view}
+use Rattle.asl_states.specs.Machine.{kind_view, settings_view, state_view}
+use Rattle.asl_states.specs.Table.{states_in, table_view}
 use Rattle.asl_states.specs.declared.machine.Machine.{Machine}
+use Rattle.asl_states.specs.declared.states.State as code
+use Rattle.asl_states.specs.declared.target.Target.{Target}
 use Rattle.asl_model.specs.Machine.{State, Settings}
 use Rattle.asl_model.specs.Run as model
 use Rattle.asl_model.specs.Tree.{Tree}
 use Rattle.asl_tree.specs.View.{view}
 use Rattle.asl_run.specs.Changing.{CanApply, changed, visit_in}
 use Rattle.asl_run.specs.Entries.{entry_view}
+use Rattle.asl_run.specs.Leading.{Leads, LeadsOn}
 use Rattle.asl_run.specs.Nodes.{shown_over}
-use Rattle.asl_run.specs.Standing.{name_in, LeadsOn}
+use Rattle.asl_run.specs.Standing.{name_in}
 use Rattle.asl_run.specs.Troubles.{CanRise}
+use Rattle.asl_run.specs.Working.{WorkLeads}
 use Rattle.asl_run.specs.declared.activities.Visit.{Visit}
 use Rattle.asl_run.specs.declared.changing.Change.TheVariants.{Retry}
 use Rattle.asl_run.specs.declared.nodes.Node.{Node}
 use Rattle.asl_run.specs.declared.planning.Here.{Here}
 use Rattle.asl_run.specs.declared.planning.Plan.{Plan}
+use Rattle.asl_run.specs.declared.working.Work.{Work}
 
 -- ---- one execution of a state, where it stands
 
@@ -43,10 +48,18 @@ abbrev pub by_trouble_at : Here → List ℕ → List ℕ → model.Trouble → 
 by_trouble_at here error cause trouble = model.by_trouble here.name.now
     (view here.visit.now.raw.value) here.visit.now.counts.items error cause trouble
 
--- the name is that of the execution's state, and its names lead on
+-- the name is that of the execution's state, and what its fields name leads on
 pub record IsAt (here : Here) : Type 0 where
   pub named : here.name.now ≡ name_in (names_at here) here.visit.now.state
-  pub leads : LeadsOn (names_at here) (state_at here)
+  pub leads : LeadsOn (names_at here) here.state.now
+
+-- where that is so, the target leads to the state of its name
+pub record MayFollow (here : Here) (target : Target) : Type 0 where
+  pub leads : IsAt here → Leads (names_at here) target
+
+-- and so does what the first move comes to
+pub record MayCome (here : Here) (work : Work) : Type 0 where
+  pub leads : IsAt here → WorkLeads (names_at here) (kind_view here.state.now.kind) work
 
 -- ---- plans
 
@@ -74,12 +87,14 @@ pub record PlansAs (here : Here) (plan : Option Plan) (step : Option model.Step)
 
 -- ---- at an activity
 
--- the execution's state, found by its number in the machine's table, and its names lead on
+-- the execution's state, found by its number in the machine's table; what the fields of the code's state of that number
+-- name leads on
 pub record StandsAt (machine : Machine) (visit : Visit) (state : State) : Type 0 where
   pub name : slice_get (table_view machine).names visit.state
       ≡ Some (name_in (table_view machine).names visit.state)
   pub shown : slice_get (table_view machine).states visit.state ≡ Some state
-  pub leads : LeadsOn (table_view machine).names state
+  pub leads : (stored : code.State) → slice_get (states_in machine) visit.state ≡ Some stored
+      → LeadsOn (table_view machine).names stored
 
 -- what an action does at an activity of that state
 abbrev pub moves : model.Activity → model.Action → State → Option model.Step
@@ -132,6 +147,7 @@ pub record IsFoundBy (machine : Machine) (place : List ℕ) (node : Node) (here 
   pub visit : IsVisitOf node here.visit.now
   pub name : slice_get (table_view machine).names here.visit.now.state ≡ Some here.name.now
   pub state : slice_get (table_view machine).states here.visit.now.state ≡ Some (state_at here)
+  pub stored : slice_get (states_in machine) here.visit.now.state ≡ Some here.state.now
 
 -- no action does anything at the node
 pub record DoesNothing (machine : Machine) (node : Node) : Type 0 where

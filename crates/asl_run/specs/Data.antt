@@ -1,5 +1,4 @@
 -- The trees of the definitions that data of a run stand for.
-use Rattle.std.specs.Prelude.{List, map}
 use Rattle.std.specs.declared.alloc.Global.{Global}
 use Rattle.std.specs.declared.rc.Rc.{Rc}
 use Rattle.asl_model.specs.Tree as model
@@ -11,10 +10,6 @@ use Rattle.asl_run.specs.declared.data.Data.TheVariants.{Lent, Shared, Made}
 -- a tree that parts of a run share
 abbrev pub datum_view : Rc Tree Global → model.Tree
 datum_view d = view d.value
-
--- those of a list, as elements
-abbrev pub data_of : List (Rc Tree Global) → model.Trees
-data_of ds = model.trees_of (map datum_view ds)
 
 -- a tree on its way through a state
 abbrev pub data_view : Data → model.Tree

@@ -9,6 +9,7 @@ pub mod Enabling
 pub mod Counting
 pub mod Answering
 pub mod Activities
+pub mod Leading
 pub mod Standing
 pub mod Nodes
 pub mod Changing

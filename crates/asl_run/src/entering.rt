@@ -1,14 +1,13 @@
 //! Entering a state (States Language, "State Types").
 
-ghost use Rattle.std.specs.Prelude.{◌≡◌, IfOk};
+ghost use Rattle.std.specs.Prelude.{IfOk};
 ghost use Rattle.asl_states.specs.Machine.{kind_view};
 ghost use Rattle.asl_model.specs.Flow as flow;
 ghost use Rattle.asl_model.specs.Machine as machine;
 ghost use Rattle.asl_model.specs.Run as model;
-ghost use Rattle.asl_run.specs.Acting.{Plans, by_state, names_at, state_at};
-ghost use Rattle.asl_run.specs.Activities.{ready_children};
-ghost use Rattle.asl_run.specs.Data.{data_of, data_view};
-ghost use Rattle.asl_run.specs.Standing.{EachIsNamed};
+ghost use Rattle.asl_run.specs.Acting.{IsAt, MayCome, Plans, by_state, names_at};
+ghost use Rattle.asl_run.specs.Activities.{StartIn, inputs_of};
+ghost use Rattle.asl_run.specs.Data.{data_view};
 ghost use Rattle.asl_run.specs.Working.{work_view};
 ghost use Rattle.asl_tree.specs.View.{view};
 
@@ -21,7 +20,6 @@ use crate::leaving::{finish, leave_with};
 use crate::planning::{Here, Plan};
 use crate::troubling::raise;
 use crate::working::{Work, first_move};
-use asl_states::Kind;
 use asl_tree::OutOfMemory;
 
 /// The state is entered.
@@ -35,8 +33,7 @@ pub(crate) fn enter(here: &Here) -> Result<Plan, OutOfMemory>
 
 /// What its first move comes to is done.
 fn carry_out(here: &Here, work: Work) -> Result<Plan, OutOfMemory>
-    ensures { IfOk result (λ plan.
-        flow.first_move (state_at here.now) (view here.now.visit.now.raw.value) ≡ work_view work.entry
+    ensures { IfOk result (λ plan. MayCome here.now work.entry
         → Plans here.now plan (by_state model.by_work here.now (work_view work.entry))) }
 {
     match work {
@@ -47,7 +44,7 @@ fn carry_out(here: &Here, work: Work) -> Result<Plan, OutOfMemory>
         }
         Work::Fails { error, cause } => here.ends_failing(error, cause),
         Work::Asks(payload) => ask(here, payload),
-        Work::Splits(inputs) => split(here, inputs),
+        Work::Splits(children) => Ok(split(here, children)),
         Work::Raises(fault) => raise(here, fault),
     }
 }
@@ -70,48 +67,12 @@ fn wait_for(here: &Here, payload: Datum) -> Result<Plan, OutOfMemory>
     Plan::new(here.alloc, Change::Ask(payload)).after(told)
 }
 
-/// It starts a child for each of these inputs.
-fn split(here: &Here, inputs: Vec<Datum>) -> Result<Plan, OutOfMemory>
-    ensures { IfOk result (λ plan.
-        flow.first_move (state_at here.now) (view here.now.visit.now.raw.value)
-        ≡ flow.Splits (data_of inputs.items)
-        → Plans here.now plan (by_state model.by_work here.now (flow.Splits (data_of inputs.items)))) }
+/// It starts these children.
+fn split(here: &Here, children: Vec<Visit>) -> Plan
+    ensures { (IsAt here.now → StartIn (names_at here.now)
+        (machine.child_scope (kind_view here.now.state.now.kind)) children.items)
+        → Plans here.now result
+        (by_state model.by_work here.now (flow.Splits (inputs_of children.items))) }
 {
-    let children = start_children(here, inputs)?;
-    Ok(Plan::new(here.alloc, Change::SplitInto(children)))
-}
-
-/// A child for each input, about to enter the start of its scope.
-fn start_children(here: &Here, inputs: Vec<Datum>) -> Result<Vec<Visit>, OutOfMemory>
-    ensures { let scopes = machine.child_scope (kind_view here.now.state.now.kind) in
-        IfOk result (λ children.
-        EachIsNamed (names_at here.now) (model.started scopes (data_of inputs.items))
-        → ready_children (names_at here.now) children.items
-        ≡ model.started scopes (data_of inputs.items)) }
-{
-    let mut children = Vec::with_capacity(here.alloc, inputs.len())?;
-    for input in inputs {
-        let start = start_of_child(&here.state.kind, children.len());
-        children.push(here.ready(start, input))?;
-    }
-    Ok(children)
-}
-
-/// The name of the start state of the child of that number of a state of that type; an empty one where it has none.
-fn start_of_child(kind: &Kind, child: usize) -> &str
-    ensures { result.now ≡ machine.start_of (machine.child_scope (kind_view kind.now) child) }
-{
-    match kind {
-        Kind::Parallel { branches } => match branches.get(child) {
-            Some(start) => start,
-            None => "",
-        },
-        Kind::Map { processor, .. } => processor,
-        Kind::Pass { .. }
-        | Kind::Task { .. }
-        | Kind::Choice { .. }
-        | Kind::Wait { .. }
-        | Kind::Succeed
-        | Kind::Fail { .. } => "",
-    }
+    Plan::new(here.alloc, Change::SplitInto(children))
 }

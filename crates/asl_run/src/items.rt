@@ -1,37 +1,44 @@
-//! The inputs of the children of a Parallel and of a Map (States Language, "Parallel State", "Map State").
+//! The children of a Parallel and of a Map (States Language, "Parallel State", "Map State").
 
-ghost use Rattle.std.specs.Prelude.{◌≡◌, ◌<◌, ◌^◌, IfOk, option_map};
-ghost use Rattle.asl_states.specs.Machine.{branches_view};
+ghost use Rattle.std.specs.Prelude.{◌≡◌, ◌<◌, ◌^◌, IfOk, List, option_map, ℕ};
+ghost use Rattle.asl_states.specs.Machine.{branches_view, started_at};
 ghost use Rattle.asl_model.specs.Flow as model;
-ghost use Rattle.asl_run.specs.Data.{data_of, datum_view};
+ghost use Rattle.asl_model.specs.Machine.{scope_at};
+ghost use Rattle.asl_run.specs.Activities.{StartIn, inputs_of};
+ghost use Rattle.asl_run.specs.Data.{datum_view};
 ghost use Rattle.asl_run.specs.Flowing.{Finds, Flows};
+ghost use Rattle.asl_run.specs.Leading.{BranchesLead, Leads};
 ghost use Rattle.asl_template.specs.View as templates;
 ghost use Rattle.asl_tree.specs.View.{view, elements_view};
 
+use crate::activities::Visit;
 use crate::entries::Datum;
 use crate::faults::{DataFlowError, Fault, Stop};
 use crate::flowing::{by_template, named_in};
 use asl_intrinsic::Item;
 use asl_path::RefPath;
+use asl_states::Target;
 use asl_template::Template;
 use asl_tree::{OutOfMemory, Tree, copy};
 use std::alloc::Global;
 use std::rc::Rc;
 
-/// The input for each branch: all share it.
-pub(crate) fn branch_inputs(
+/// A child for each branch, about to enter the branch's start with the input, which all share.
+pub(crate) fn start_branches(
     alloc: Global,
-    branches: &[String],
+    branches: &[Target],
     input: &Datum,
-) -> Result<Vec<Datum>, OutOfMemory>
-    ensures { IfOk result (λ v.
-        data_of v.items ≡ model.branch_inputs (branches_view branches.now) (view input.now.value)) }
+) -> Result<Vec<Visit>, OutOfMemory>
+    ensures inputs { IfOk result (λ v. inputs_of v.items
+        ≡ model.branch_inputs (branches_view branches.now) (view input.now.value)) }
+    ensures starts { (names : List (List ℕ)) → BranchesLead names branches.now
+        → IfOk result (λ v. StartIn names (λ i. scope_at i (branches_view branches.now)) v.items) }
 {
-    let mut inputs = Vec::with_capacity(alloc, branches.len())?;
-    for _branch in branches {
-        inputs.push(input.clone()?)?;
+    let mut children = Vec::with_capacity(alloc, branches.len())?;
+    for start in branches {
+        children.push(Visit::new(alloc, start.number, input.clone()?))?;
     }
-    Ok(inputs)
+    Ok(children)
 }
 
 /// The items of a Map: the list that `ItemsPath` names in its effective input.
@@ -49,21 +56,25 @@ pub(crate) fn find_items<'t>(path: &RefPath, input: &'t Tree) -> Result<&'t [Tre
     }
 }
 
-/// The inputs of a Map's children, one for each item; the first fault counts.
-pub(crate) fn item_inputs(
+/// A Map's child for each item, about to enter the start with the item's input; the first fault counts.
+pub(crate) fn start_items(
     alloc: Global,
+    start: &Target,
     selector: &Option<Template>,
     input: &Tree,
     items: &[Tree],
-) -> Result<Vec<Datum>, Stop>
-    ensures { Flows (λ v. data_of v.items) result (model.item_inputs
+) -> Result<Vec<Visit>, Stop>
+    ensures inputs { Flows (λ v. inputs_of v.items) result (model.item_inputs
         (option_map templates.view selector.now) (view input.now) 0 (elements_view items.now)) }
+    ensures starts { (names : List (List ℕ)) → Leads names start.now
+        → IfOk result (λ v. StartIn names (λ i. started_at start.now) v.items) }
 {
-    let mut inputs = Vec::with_capacity(alloc, items.len())?;
+    let mut children = Vec::with_capacity(alloc, items.len())?;
     for (index, item) in items.iter().enumerate() {
-        inputs.push(item_input(alloc, selector, input, index, item)?)?;
+        let own = item_input(alloc, selector, input, index, item)?;
+        children.push(Visit::new(alloc, start.number, own))?;
     }
-    Ok(inputs)
+    Ok(children)
 }
 
 /// The input of a Map's child: the item of that number, or the value of `ItemSelector` for it.

@@ -1,15 +1,16 @@
 //! Leaving a state (States Language, "Transitions", "Input and Output Processing").
 
-ghost use Rattle.std.specs.Prelude.{IfOk, None, Result, Some, option_map};
+ghost use Rattle.std.specs.Prelude.{IfOk, IfSome, None, Result, Some, option_map};
+ghost use Rattle.asl_states.specs.Machine.{target_name};
 ghost use Rattle.asl_model.specs.Faults as faults;
 ghost use Rattle.asl_model.specs.Run as model;
 ghost use Rattle.asl_model.specs.Tree as trees;
-ghost use Rattle.asl_run.specs.Acting.{Plans, by_settings, state_at};
+ghost use Rattle.asl_run.specs.Acting.{MayFollow, Plans, by_settings};
 ghost use Rattle.asl_run.specs.Data.{data_view, datum_view};
 ghost use Rattle.asl_run.specs.Flowing.{Flows};
-ghost use Rattle.asl_run.specs.Standing.{MayFollow};
 ghost use Rattle.asl_tree.specs.View.{view};
 
+use crate::activities::Visit;
 use crate::changing::Change;
 use crate::data::Data;
 use crate::entries::{Datum, Outcome};
@@ -17,28 +18,29 @@ use crate::faults::Stop;
 use crate::flowing::output_of;
 use crate::planning::{Here, Plan};
 use crate::troubling::raise;
+use asl_states::Target;
 use asl_tree::OutOfMemory;
 
 /// The state leaves with an output, for that next state or for the end of its scope.
-fn leave(here: &Here, next: Option<&str>, output: Datum) -> Result<Plan, OutOfMemory>
-    ensures { let target = option_map (λ n. n.now) next.entry in
-        IfOk result (λ plan. MayFollow (state_at here.now) target
-        → Plans here.now plan (model.leaves_for here.now.name.now target (view output.value))) }
+fn leave(here: &Here, next: Option<&Target>, output: Datum) -> Result<Plan, OutOfMemory>
+    ensures { IfOk result (λ plan. IfSome next.entry (λ target. MayFollow here.now target.now)
+        → Plans here.now plan (model.leaves_for here.now.name.now
+        (option_map (λ target. target_name target.now) next.entry) (view output.value))) }
 {
     match next {
-        Some(name) => leave_for(here, name, output),
+        Some(target) => leave_for(here, target, output),
         None => leave_scope(here, output),
     }
 }
 
 /// So for that next state.
-fn leave_for(here: &Here, next: &str, output: Datum) -> Result<Plan, OutOfMemory>
-    ensures { IfOk result (λ plan. MayFollow (state_at here.now) (Some next.now)
-        → Plans here.now plan
-        (model.leaves_for here.now.name.now (Some next.now) (view output.value))) }
+fn leave_for(here: &Here, next: &Target, output: Datum) -> Result<Plan, OutOfMemory>
+    ensures { IfOk result (λ plan. MayFollow here.now next.now → Plans here.now plan
+        (model.leaves_for here.now.name.now (Some (target_name next.now)) (view output.value))) }
 {
     let told = here.left(&output);
-    Plan::new(here.alloc, Change::Enter(here.ready(next, output))).after(told)
+    let entered = Visit::new(here.alloc, next.number, output);
+    Plan::new(here.alloc, Change::Enter(entered)).after(told)
 }
 
 /// So for the end of its scope.
@@ -57,13 +59,14 @@ fn leave_scope(here: &Here, output: Datum) -> Result<Plan, OutOfMemory>
 /// The same where the output may have met a fault.
 pub(crate) fn leave_with(
     here: &Here,
-    next: Option<&str>,
+    next: Option<&Target>,
     output: Result<Datum, Stop>,
 ) -> Result<Plan, OutOfMemory>
-    ensures { let target = option_map (λ n. n.now) next.entry in
-        IfOk result (λ plan. (defined : Result trees.Tree faults.Fault)
-        → Flows datum_view output defined → MayFollow (state_at here.now) target
-        → Plans here.now plan (by_settings model.leaves_with here.now target defined)) }
+    ensures { IfOk result (λ plan. (defined : Result trees.Tree faults.Fault)
+        → Flows datum_view output defined
+        → IfSome next.entry (λ target. MayFollow here.now target.now)
+        → Plans here.now plan (by_settings model.leaves_with here.now
+        (option_map (λ target. target_name target.now) next.entry) defined)) }
 {
     match output {
         Ok(output) => leave(here, next, output),
@@ -81,5 +84,5 @@ pub(crate) fn finish(here: &Here, value: Data) -> Result<Plan, OutOfMemory>
 {
     let settings = &here.state.settings;
     let output = output_of(here.alloc, settings, &here.visit.raw, value);
-    leave_with(here, settings.next.as_deref(), output)
+    leave_with(here, settings.next.as_ref(), output)
 }

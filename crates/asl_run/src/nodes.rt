@@ -74,8 +74,8 @@ impl Nodes {
             Ok(raw) => raw,
             Err(AllocFailed { value }) => return Err(value),
         };
-        let counts = Vec::new(alloc);
-        nodes.push_reserved(Node::Ready(Visit { state, raw, counts }));
+        let visit = Visit::new(alloc, state, raw);
+        nodes.push_reserved(Node::Ready(visit));
         Ok(Nodes { nodes })
     }
 

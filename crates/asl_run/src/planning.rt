@@ -1,19 +1,19 @@
 //! Plans: what a step is to do, made before anything is changed.
 
 ghost use Rattle.std.specs.Prelude.{◌≡◌, ◌∷◌, [], IfOk, IsOkAnd, map, string_bytes};
+ghost use Rattle.asl_states.specs.Machine.{target_name};
 ghost use Rattle.asl_model.specs.Run as model;
-ghost use Rattle.asl_run.specs.Acting.{Plans, names_at, told_at};
-ghost use Rattle.asl_run.specs.Activities.{ended_view, ready_view};
+ghost use Rattle.asl_run.specs.Acting.{Plans, told_at};
+ghost use Rattle.asl_run.specs.Activities.{ended_view};
 ghost use Rattle.asl_run.specs.Entries.{entry_view, outcome_view};
 ghost use Rattle.asl_run.specs.Faults.{fault_view};
-ghost use Rattle.asl_run.specs.Standing.{name_in, number_in};
 ghost use Rattle.asl_tree.specs.View.{view};
 
 use crate::activities::Visit;
 use crate::changing::Change;
 use crate::entries::{Datum, Entry, Outcome, Place};
 use crate::faults::Fault;
-use asl_states::{Machine, State};
+use asl_states::{Machine, State, Target};
 use asl_tree::OutOfMemory;
 use std::alloc::Global;
 
@@ -198,12 +198,12 @@ impl<'m> Here<'m> {
     }
 
     /// The entry that its catcher of that number hands on to that state.
-    pub(crate) fn caught(&self, catcher: usize, next: &str) -> Result<Entry, OutOfMemory>
-        ensures { IfOk result (λ entry. entry_view entry
-            ≡ told_at self.now.at.now (model.Caught self.now.name.now catcher next.now)) }
+    pub(crate) fn caught(&self, catcher: usize, next: &Target) -> Result<Entry, OutOfMemory>
+        ensures { IfOk result (λ entry. entry_view entry ≡ told_at self.now.at.now
+            (model.Caught self.now.name.now catcher (target_name next.now))) }
     {
         let (at, state) = self.place_and_name()?;
-        let next = self.text(next)?;
+        let next = self.text(&next.name)?;
         Ok(Entry::Caught {
             at,
             state,
@@ -249,19 +249,6 @@ impl<'m> Here<'m> {
     {
         let (error, cause) = self.two_texts(error, cause)?;
         Ok(Outcome::Failed { error, cause })
-    }
-
-    /// The execution of the state of that name that is about to be entered with that raw input. It is found by its
-    /// number; a name that is no state's counts as that of the state 0.
-    pub(crate) fn ready(&self, name: &str, raw: Datum) -> Visit
-        ensures { ready_view (names_at self.now) result ≡ model.Ready (name_in (names_at self.now)
-            (number_in (names_at self.now) name.now)) (view raw.value) [] }
-    {
-        Visit {
-            state: self.machine.state_named(name).unwrap_or(0),
-            raw,
-            counts: Vec::new(self.alloc),
-        }
     }
 
     /// The scope ends with an error and a cause.

@@ -1,16 +1,17 @@
 //! What comes of an error in a state (States Language, "Retrying after error", "Fallback States").
 
-ghost use Rattle.std.specs.Prelude.{◌≡◌, ◌<◌, ◌+◌, ◌^◌, ℕ, Ok, IfOk, IfErr, IfSome, Some, map, string_bytes, option_map};
-ghost use Rattle.asl_states.specs.Machine.{catcher_view, retrier_view, settings_view};
+ghost use Rattle.std.specs.Prelude.{◌≡◌, ◌<◌, ◌+◌, ◌^◌, ℕ, List, Ok, IfOk, IfErr, IfSome, Some, map, string_bytes, option_map};
+ghost use Rattle.asl_states.specs.Machine.{catcher_view, retrier_view, settings_view, target_name};
 ghost use Rattle.asl_model.specs.Run as model;
 ghost use Rattle.asl_run.specs.Data.{datum_view};
-ghost use Rattle.asl_run.specs.Troubles.{CanRise, Reaches, trouble_view};
+ghost use Rattle.asl_run.specs.Leading.{CatchersLead, Leads, SettingsLead};
+ghost use Rattle.asl_run.specs.Troubles.{CanRise, Reaches, TroubleLeads, trouble_view};
 ghost use Rattle.asl_run.specs.declared.troubles.Trouble.TheVariants.{Retries};
 ghost use Rattle.asl_tree.specs.View.{view};
 
 use crate::entries::Datum;
 use asl_path::{PlaceRefusal, RefPath, place};
-use asl_states::{Catcher, Retrier, Settings};
+use asl_states::{Catcher, Retrier, Settings, Target};
 use asl_tree::{OutOfMemory, Tree, copy};
 use std::alloc::Global;
 use std::collections::BTreeMap;
@@ -24,7 +25,7 @@ pub(crate) enum Trouble<'m> {
     /// The catcher of that number hands this input to that state.
     Catches {
         catcher: usize,
-        next: &'m str,
+        next: &'m Target,
         input: Datum,
     },
     /// A catcher takes the error, and its output can't be placed.
@@ -46,6 +47,8 @@ pub(crate) fn trouble_of<'m>(
     ensures rises { (i : ℕ) → result ≡ Ok (Retries i) → CanRise counts.now i }
     ensures exact { IfOk result (λ t. trouble_view t ≡ model.trouble_of (settings_view settings.now)
         (view raw.now.value) counts.now error.now cause.now) }
+    ensures leads { (names : List (List ℕ)) → SettingsLead names settings.now
+        → IfOk result (TroubleLeads names) }
 {
     if let Some(retrier) = retrying(&settings.retriers, counts, error) {
         return Ok(Trouble::Retries(retrier));
@@ -98,8 +101,10 @@ fn count_at(counts: &[u64], retrier: usize) -> u64
 
 /// The first catcher that takes the error, with its number.
 fn catching<'m>(catchers: &'m [Catcher], error: &str) -> Option<(usize, &'m Catcher)>
-    ensures { option_map (λ f. (f.0, catcher_view f.1.now)) result
+    ensures exact { option_map (λ f. (f.0, catcher_view f.1.now)) result
         ≡ model.catching 0 (map catcher_view catchers.now) error.now }
+    ensures leads { (names : List (List ℕ)) → CatchersLead names catchers.now
+        → IfSome result (λ f. Leads names f.1.now.next) }
 {
     for (number, catcher) in catchers.iter().enumerate() {
         if takes_error(&catcher.error_equals, error) {
@@ -118,9 +123,11 @@ fn caught<'m>(
     error: &str,
     cause: &str,
 ) -> Result<Trouble<'m>, OutOfMemory>
-    ensures { IfOk result
-        (λ t. trouble_view t ≡ model.caught_as number (string_bytes catcher.now.next)
+    ensures exact { IfOk result
+        (λ t. trouble_view t ≡ model.caught_as number (target_name catcher.now.next)
         (model.caught_input (catcher_view catcher.now) (view raw.now.value) error.now cause.now)) }
+    ensures leads { (names : List (List ℕ)) → Leads names catcher.now.next
+        → IfOk result (TroubleLeads names) }
 {
     match caught_input(alloc, catcher, raw, error, cause)? {
         Some(input) => Ok(Trouble::Catches {

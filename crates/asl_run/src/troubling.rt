@@ -1,18 +1,20 @@
 //! The steps that an error leads to (States Language, "Retrying after error", "Fallback States").
 
-ghost use Rattle.std.specs.Prelude.{IfOk, List, Some, ℕ};
+ghost use Rattle.std.specs.Prelude.{IfOk, List, ℕ};
+ghost use Rattle.asl_states.specs.Machine.{target_name};
 ghost use Rattle.asl_model.specs.Run as model;
-ghost use Rattle.asl_run.specs.Acting.{Plans, by_settings, by_trouble_at, state_at};
+ghost use Rattle.asl_run.specs.Acting.{MayFollow, Plans, by_settings, by_trouble_at};
 ghost use Rattle.asl_run.specs.Faults.{fault_view};
-ghost use Rattle.asl_run.specs.Standing.{MayFollow};
 ghost use Rattle.asl_run.specs.Troubles.{CanRise};
 ghost use Rattle.asl_tree.specs.View.{view};
 
+use crate::activities::Visit;
 use crate::changing::Change;
 use crate::entries::Datum;
 use crate::faults::{DataFlowError, Fault};
 use crate::planning::{Here, Plan};
 use crate::troubles::{Trouble, trouble_of};
+use asl_states::Target;
 use asl_tree::OutOfMemory;
 
 /// The state is in trouble with an error and a cause.
@@ -51,13 +53,14 @@ fn retry(here: &Here, retrier: usize) -> Result<Plan, OutOfMemory>
 }
 
 /// The catcher of that number hands this input to that state.
-fn hand_on(here: &Here, catcher: usize, next: &str, input: Datum) -> Result<Plan, OutOfMemory>
-    ensures { IfOk result (λ plan. MayFollow (state_at here.now) (Some next.now)
-        → (error cause : List ℕ) → Plans here.now plan
-        (by_trouble_at here.now error cause (model.Catches catcher next.now (view input.value)))) }
+fn hand_on(here: &Here, catcher: usize, next: &Target, input: Datum) -> Result<Plan, OutOfMemory>
+    ensures { IfOk result (λ plan. MayFollow here.now next.now
+        → (error cause : List ℕ) → Plans here.now plan (by_trouble_at here.now error cause
+        (model.Catches catcher (target_name next.now) (view input.value)))) }
 {
     let told = here.caught(catcher, next);
-    Plan::new(here.alloc, Change::Enter(here.ready(next, input))).after(told)
+    let entered = Visit::new(here.alloc, next.number, input);
+    Plan::new(here.alloc, Change::Enter(entered)).after(told)
 }
 
 /// A catcher's output can't be placed: that is a fault, which nothing takes.

@@ -1,24 +1,24 @@
 //! What a state's first move comes to (States Language, "State Types").
 
-ghost use Rattle.std.specs.Prelude.{◌≡◌, IfOk, map, option_map, string_bytes};
-ghost use Rattle.asl_choice.specs.View.{rule_view};
-ghost use Rattle.asl_states.specs.Machine.{branches_view, delay_view, kind_view, settings_view, state_view};
+ghost use Rattle.std.specs.Prelude.{◌≡◌, IfOk, IfSome, List, map, option_map, ℕ};
+ghost use Rattle.asl_states.specs.Machine.{branches_view, choice_rule_view, delay_view, kind_view, settings_view, started_at, state_view, target_name};
 ghost use Rattle.asl_model.specs.Flow as model;
 ghost use Rattle.asl_model.specs.Machine as machine;
-ghost use Rattle.asl_run.specs.Working.{Works, work_view};
+ghost use Rattle.asl_run.specs.Leading.{BranchesLead, ChoicesLead, Leads, LeadsOn, SettingsLead};
+ghost use Rattle.asl_run.specs.Working.{WorkLeads, Works, work_view};
 ghost use Rattle.asl_template.specs.View as templates;
 ghost use Rattle.asl_tree.specs.View.{view};
 
+use crate::activities::Visit;
 use crate::choosing::choose;
 use crate::data::Data;
 use crate::delays::find_delay;
 use crate::entries::Datum;
 use crate::faults::{Fault, Stop};
 use crate::flowing::effective_input;
-use crate::items::{branch_inputs, find_items, item_inputs};
-use asl_choice::Rule;
+use crate::items::{find_items, start_branches, start_items};
 use asl_path::RefPath;
-use asl_states::{Delay, Kind, Settings, State};
+use asl_states::{ChoiceRule, Delay, Kind, Settings, State, Target};
 use asl_template::Template;
 use asl_tree::{OutOfMemory, Tree};
 use std::alloc::Global;
@@ -30,7 +30,7 @@ pub(crate) enum Work<'m> {
     Finishes(Data<'m>),
     /// It leaves with its effective input, for that next state or for the end of its scope.
     Leaves {
-        next: Option<&'m str>,
+        next: Option<&'m Target>,
         input: Data<'m>,
     },
     /// It fails, with an error and a cause.
@@ -40,8 +40,8 @@ pub(crate) enum Work<'m> {
     },
     /// It asks its task, with a payload.
     Asks(Data<'m>),
-    /// It starts a child for each of these inputs.
-    Splits(Vec<Datum>),
+    /// It starts these children.
+    Splits(Vec<Visit>),
     /// A data-flow fault.
     Raises(Fault),
 }
@@ -52,8 +52,10 @@ pub(crate) fn first_move<'m>(
     state: &'m State,
     raw: &'m Datum,
 ) -> Result<Work<'m>, OutOfMemory>
-    ensures { IfOk result
+    ensures exact { IfOk result
         (λ w. work_view w ≡ model.first_move (state_view state.now) (view raw.now.value)) }
+    ensures leads { (names : List (List ℕ)) → LeadsOn names state.now
+        → IfOk result (WorkLeads names (kind_view state.now.kind)) }
 {
     match work_of(alloc, state, raw) {
         Ok(work) => Ok(work),
@@ -64,8 +66,10 @@ pub(crate) fn first_move<'m>(
 
 /// The same by the state's type.
 fn work_of<'m>(alloc: Global, state: &'m State, raw: &'m Datum) -> Result<Work<'m>, Stop>
-    ensures { Works result (model.work_of (kind_view state.now.kind)
+    ensures exact { Works result (model.work_of (kind_view state.now.kind)
         (settings_view state.now.settings) (view raw.now.value)) }
+    ensures leads { (names : List (List ℕ)) → LeadsOn names state.now
+        → IfOk result (WorkLeads names (kind_view state.now.kind)) }
 {
     let settings = &state.settings;
     match &state.kind {
@@ -82,8 +86,8 @@ fn work_of<'m>(alloc: Global, state: &'m State, raw: &'m Datum) -> Result<Work<'
         Kind::Map {
             items_path,
             item_selector,
-            processor: _,
-        } => map(alloc, settings, items_path, item_selector, raw),
+            processor,
+        } => map(alloc, settings, items_path, item_selector, processor, raw),
     }
 }
 
@@ -94,8 +98,10 @@ fn pass<'m>(
     value: &'m Option<Tree>,
     raw: &'m Datum,
 ) -> Result<Work<'m>, Stop>
-    ensures { Works result (model.work_of (machine.Pass (option_map view value.now))
+    ensures exact { Works result (model.work_of (machine.Pass (option_map view value.now))
         (settings_view settings.now) (view raw.now.value)) }
+    ensures leads { (names : List (List ℕ)) (kind : machine.Kind)
+        → IfOk result (WorkLeads names kind) }
 {
     let input = effective_input(alloc, settings, raw)?;
     match value {
@@ -108,12 +114,14 @@ fn pass<'m>(
 fn choice<'m>(
     alloc: Global,
     settings: &Settings,
-    rules: &'m [Rule],
-    default: &'m Option<String>,
+    rules: &'m [ChoiceRule],
+    default: &'m Option<Target>,
     raw: &'m Datum,
 ) -> Result<Work<'m>, Stop>
-    ensures { Works result (model.work_of (machine.Choice (map rule_view rules.now)
-        (option_map string_bytes default.now)) (settings_view settings.now) (view raw.now.value)) }
+    ensures exact { Works result (model.work_of (machine.Choice (map choice_rule_view rules.now)
+        (option_map target_name default.now)) (settings_view settings.now) (view raw.now.value)) }
+    ensures leads { (names : List (List ℕ)) (kind : machine.Kind) → ChoicesLead names rules.now
+        → IfSome default.now (Leads names) → IfOk result (WorkLeads names kind) }
 {
     let input = effective_input(alloc, settings, raw)?;
     let next = choose(rules, default, input.as_tree())?;
@@ -130,13 +138,15 @@ fn wait<'m>(
     delay: &Delay,
     raw: &'m Datum,
 ) -> Result<Work<'m>, Stop>
-    ensures { Works result (model.work_of (machine.Wait (delay_view delay.now))
+    ensures exact { Works result (model.work_of (machine.Wait (delay_view delay.now))
         (settings_view settings.now) (view raw.now.value)) }
+    ensures leads { (names : List (List ℕ)) (kind : machine.Kind) → SettingsLead names settings.now
+        → IfOk result (WorkLeads names kind) }
 {
     let input = effective_input(alloc, settings, raw)?;
     find_delay(delay, input.as_tree())?;
     Ok(Work::Leaves {
-        next: settings.next.as_deref(),
+        next: settings.next.as_ref(),
         input,
     })
 }
@@ -145,15 +155,17 @@ fn wait<'m>(
 fn parallel<'m>(
     alloc: Global,
     settings: &Settings,
-    branches: &[String],
+    branches: &[Target],
     raw: &Datum,
 ) -> Result<Work<'m>, Stop>
-    ensures { Works result (model.work_of (machine.Parallel (branches_view branches.now))
+    ensures exact { Works result (model.work_of (machine.Parallel (branches_view branches.now))
         (settings_view settings.now) (view raw.now.value)) }
+    ensures leads { (names : List (List ℕ)) → BranchesLead names branches.now
+        → IfOk result (WorkLeads names (machine.Parallel (branches_view branches.now))) }
 {
     let input = effective_input(alloc, settings, raw)?;
     let shared = input.into_datum(alloc)?;
-    Ok(Work::Splits(branch_inputs(alloc, branches, &shared)?))
+    Ok(Work::Splits(start_branches(alloc, branches, &shared)?))
 }
 
 /// A Map splits into a child for each of its items.
@@ -162,13 +174,18 @@ fn map<'m>(
     settings: &Settings,
     items_path: &RefPath,
     item_selector: &Option<Template>,
+    processor: &Target,
     raw: &Datum,
 ) -> Result<Work<'m>, Stop>
-    ensures { (processor : machine.Scope) → Works result (model.work_of
-        (machine.Map items_path.now (option_map templates.view item_selector.now) processor)
+    ensures exact { Works result (model.work_of (machine.Map items_path.now
+        (option_map templates.view item_selector.now) (started_at processor.now))
         (settings_view settings.now) (view raw.now.value)) }
+    ensures leads { (names : List (List ℕ)) → Leads names processor.now
+        → IfOk result (WorkLeads names (machine.Map items_path.now
+        (option_map templates.view item_selector.now) (started_at processor.now))) }
 {
     let input = effective_input(alloc, settings, raw)?;
     let items = find_items(items_path, input.as_tree())?;
-    Ok(Work::Splits(item_inputs(alloc, item_selector, input.as_tree(), items)?))
+    let children = start_items(alloc, processor, item_selector, input.as_tree(), items)?;
+    Ok(Work::Splits(children))
 }

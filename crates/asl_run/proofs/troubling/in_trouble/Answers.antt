@@ -1,8 +1,7 @@
 use Rattle.std.proofs.Common.{◌≡◌, List, ℕ, Ok, ap, subst}
 use Rattle.asl_model.specs.Run as model
-use Rattle.asl_tree.specs.View.{view}
-use Rattle.asl_run.specs.Troubles.{CanRise, trouble_view}
-use Rattle.asl_run.specs.declared.troubles.Trouble.TheVariants.{Retries}
+use Rattle.asl_run.specs.Troubles.{CanRise, TroubleLeads, trouble_view}
+use Rattle.asl_run.specs.declared.troubles.Trouble.TheVariants.{Catches, Retries}
 use Rattle.asl_run.proofs.Planned.{caught_so, troubled_so}
 use Rattle.asl_run.proofs.troubling.in_trouble.Goals as goal
 
@@ -20,7 +19,9 @@ returns-in-Retries c =
 pub returns-in-Catches : goal.returns-in-Catches
 returns-in-Catches c =
     let caught = c.in-Catches in
-    caught_so c.args.here.now c.hand_on.result c.args.error.now c.args.cause.now c.deref.result.now c.in_ok-retrier.field-0 caught.catcher caught.next.now (view caught.input.value) (ap trouble_view caught.is) c.deref.ensures.value c.in_ok-retrier.ensures.exact c.hand_on.ensures
+    let met = c.in_ok-retrier.field-0 in
+    caught_so c.args.here.now c.hand_on.result c.args.error.now c.args.cause.now c.deref.result.now met (trouble_view (Catches caught.catcher caught.next caught.input)) caught.next.now (ap trouble_view caught.is) c.deref.ensures.value c.in_ok-retrier.ensures.exact
+    (λ stands. subst (TroubleLeads _) caught.is (c.in_ok-retrier.ensures.leads _ stands.leads.settings)) c.hand_on.ensures
 
 pub returns-in-Misfits : goal.returns-in-Misfits
 returns-in-Misfits c =

@@ -1,5 +1,12 @@
-use Rattle.asl_states.specs.Machine.{started_at}
+use Rattle.std.proofs.Common.{subst, sym}
+use Rattle.asl_states.specs.Machine.{kind_view}
+use Rattle.asl_run.specs.Leading.{ChoicesLead, KindLeads}
 use Rattle.asl_run.proofs.working.work_of.Goals as goal
 
-pub returns-in-Map : goal.returns-in-Map
-returns-in-Map c = rw c.in-Map.is (c.map.ensures (started_at c.in-Map.processor))
+pub returns-in-Choice-clause-leads : goal.returns-in-Choice-clause-leads
+returns-in-Choice-clause-leads c = λ names leads.
+    let kind = subst (KindLeads names) c.in-Choice.is leads.kind in
+    c.choice.ensures.leads names (kind_view c.args.state.now.kind) (subst (ChoicesLead names) (sym c.deref.ensures.value) kind.0) kind.1
+
+pub returns-in-Wait-clause-leads : goal.returns-in-Wait-clause-leads
+returns-in-Wait-clause-leads c = λ names leads. c.wait.ensures.leads names (kind_view c.args.state.now.kind) leads.settings
