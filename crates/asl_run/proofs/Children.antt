@@ -14,7 +14,7 @@ use Rattle.asl_model.specs.Run.{AndActivity, Ready, started}
 use Rattle.asl_model.specs.Tree.{Tree, AndTree, trees_of}
 use Rattle.asl_run.specs.Activities.{Begins, StartIn, given, inputs_of, ready_view, ready_children}
 use Rattle.asl_run.specs.Data.{datum_view}
-use Rattle.asl_run.specs.Leading.{BranchesLead, Leads}
+use Rattle.asl_run.specs.Leading.{Leads}
 use Rattle.asl_run.specs.Standing.{name_in}
 use Rattle.asl_run.specs.declared.activities.Visit.{Visit}
 use Rattle.asl_tree.specs.declared.Tree as trees
@@ -78,7 +78,7 @@ pub inputs_begun : (v : Tree) (branches : List Target) (visits : List Visit) →
 inputs_begun v branches visits h = inputs_seen v branches visits h.are
 
 -- and they start in the branches
-start_seen : (names : List (List ℕ)) (v : Tree) (branches : List Target) (visits : List Visit) → BranchesLead names branches → map seen visits ≡ map (begun v) branches → ready_children names visits ≡ started (λ i. scope_at i (branches_view branches)) (inputs_of visits)
+start_seen : (names : List (List ℕ)) (v : Tree) (branches : List Target) (visits : List Visit) → All (Leads names) branches → map seen visits ≡ map (begun v) branches → ready_children names visits ≡ started (λ i. scope_at i (branches_view branches)) (inputs_of visits)
 start_seen names v [] [] leads e = refl
 start_seen names v (b ∷ bs) [] leads e = absurd (cc)
 start_seen names v [] (x ∷ xs) leads e = absurd (cc)
@@ -89,7 +89,7 @@ start_seen names v (b ∷ bs) (x ∷ xs) leads e =
     ap (λ a. AndActivity a (ready_children names xs)) (ready_at names b x (leads 0 b (omega arith)) begins)
     ∙ ap (AndActivity (Ready (target_name b) (given x) [])) (start_seen names v bs xs (λ k d less. leads (suc k) d (omega (arith, less))) rest)
 
-pub start_begun : (names : List (List ℕ)) (v : Tree) (branches : List Target) (visits : List Visit) → BeginAt v branches visits → BranchesLead names branches → StartIn names (λ i. scope_at i (branches_view branches)) visits
+pub start_begun : (names : List (List ℕ)) (v : Tree) (branches : List Target) (visits : List Visit) → BeginAt v branches visits → All (Leads names) branches → StartIn names (λ i. scope_at i (branches_view branches)) visits
 start_begun names v branches visits h leads = record { started = start_seen names v branches visits leads h.are }
 
 -- ---- children that all begin at one start

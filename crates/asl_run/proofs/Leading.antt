@@ -3,7 +3,8 @@ use Rattle.std.proofs.Common.{◌≡◌, refl, ap, ◌∙◌, subst, ℕ, zero, 
 use Rattle.std.specs.Option.{unwrap_or}
 use Rattle.std.proofs.lemmas.List.Elements.{Contains-append_left, Contains-append_right}
 use Rattle.asl_states.specs.Machine.{branches_view, catcher_view, choice_rule_view, kind_view, state_view, target_name}
-use Rattle.asl_states.specs.Numbered.{AreNumbered, IsNumbered, KindIsNumbered}
+use Rattle.asl_states.specs.Numbered.{AreNumbered, IsNumbered}
+use Rattle.asl_states.specs.Targets.{EachKindTarget}
 use Rattle.asl_states.specs.declared.states.Kind as code_kind
 use Rattle.asl_states.specs.declared.states.Kind.TheVariants as kinds
 use Rattle.asl_states.specs.declared.states.State as code
@@ -13,7 +14,7 @@ use Rattle.asl_model.specs.Machine.{Scope, Scopes, NoScopes, AndScope, Catcher, 
 use Rattle.asl_model.specs.Numbering.{outline, scopes_outline, targets_by, targets_of, table_of, IsScopeOf, scope_of_child, HasNamed, IsWellNamed}
 use Rattle.asl_model.specs.Test.{Rule}
 use Rattle.asl_model.proofs.NumberedRows.{LeadsToRow, leads_to_row, ShowsState, shows_state}
-use Rattle.asl_run.specs.Leading.{Leads, LeadsOn, KindLeads}
+use Rattle.asl_run.specs.Leading.{Leads, LeadsOn}
 use Rattle.asl_run.specs.Standing.{no_name, name_in}
 use Rattle.asl_run.proofs.Numbers.{stands_at}
 
@@ -105,7 +106,7 @@ branch_named [] k d less = absurd (omega (arith, less))
 branch_named (start ∷ starts) zero d less = refl
 branch_named (start ∷ starts) (suc k) d less = branch_named starts k d (omega (arith, less))
 
-kind_leads : (names : List (List ℕ)) (kind : code_kind.Kind) → KindIsNumbered names kind → ((n : List ℕ) → Contains (targets_by (kind_view kind)) n → HasNumber names n) → StartsNumbered names (kind_view kind) → KindLeads names kind
+kind_leads : (names : List (List ℕ)) (kind : code_kind.Kind) → EachKindTarget (IsNumbered names) kind → ((n : List ℕ) → Contains (targets_by (kind_view kind)) n → HasNumber names n) → StartsNumbered names (kind_view kind) → EachKindTarget (Leads names) kind
 kind_leads names (kinds.Pass result) is has starts = tt
 kind_leads names (kinds.Task resource) is has starts = tt
 kind_leads names (kinds.Choice choices default) is has starts =

@@ -4,7 +4,8 @@ ghost use Rattle.std.specs.Prelude.{IfOk, IfSome, List, map, option_map, ℕ};
 ghost use Rattle.asl_states.specs.Machine.{choice_rule_view, target_name};
 ghost use Rattle.asl_model.specs.Flow as model;
 ghost use Rattle.asl_run.specs.Flowing.{Finds};
-ghost use Rattle.asl_run.specs.Leading.{ChoicesLead, Leads};
+ghost use Rattle.asl_run.specs.Leading.{Leads};
+ghost use Rattle.asl_states.specs.Targets.{EachChoiceTarget};
 ghost use Rattle.asl_tree.specs.View.{view};
 
 use crate::faults::{DataFlowError, Fault};
@@ -20,7 +21,7 @@ pub(crate) fn choose<'m>(
 ) -> Result<&'m Target, Fault>
     ensures exact { Finds (λ next. target_name next.now) result (model.chosen
         (map choice_rule_view rules.now) (option_map target_name default.now) (view input.now)) }
-    ensures leads { (names : List (List ℕ)) → ChoicesLead names rules.now
+    ensures leads { (names : List (List ℕ)) → EachChoiceTarget (Leads names) rules.now
         → IfSome default.now (Leads names) → IfOk result (λ next. Leads names next.now) }
 {
     for rule in rules {

@@ -1,13 +1,14 @@
 //! The children of a Parallel and of a Map (States Language, "Parallel State", "Map State").
 
 ghost use Rattle.std.specs.Prelude.{◌≡◌, ◌<◌, ◌^◌, IfOk, List, option_map, ℕ};
+ghost use Rattle.std.specs.List.{All};
 ghost use Rattle.asl_states.specs.Machine.{branches_view, started_at};
 ghost use Rattle.asl_model.specs.Flow as model;
 ghost use Rattle.asl_model.specs.Machine.{scope_at};
 ghost use Rattle.asl_run.specs.Activities.{StartIn, inputs_of};
 ghost use Rattle.asl_run.specs.Data.{datum_view};
 ghost use Rattle.asl_run.specs.Flowing.{Finds, Flows};
-ghost use Rattle.asl_run.specs.Leading.{BranchesLead, Leads};
+ghost use Rattle.asl_run.specs.Leading.{Leads};
 ghost use Rattle.asl_template.specs.View as templates;
 ghost use Rattle.asl_tree.specs.View.{view, elements_view};
 
@@ -31,7 +32,7 @@ pub(crate) fn start_branches(
 ) -> Result<Vec<Visit>, OutOfMemory>
     ensures inputs { IfOk result (λ v. inputs_of v.items
         ≡ model.branch_inputs (branches_view branches.now) (view input.now.value)) }
-    ensures starts { (names : List (List ℕ)) → BranchesLead names branches.now
+    ensures starts { (names : List (List ℕ)) → All (Leads names) branches.now
         → IfOk result (λ v. StartIn names (λ i. scope_at i (branches_view branches.now)) v.items) }
 {
     let mut children = Vec::with_capacity(alloc, branches.len())?;

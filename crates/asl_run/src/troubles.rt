@@ -4,7 +4,8 @@ ghost use Rattle.std.specs.Prelude.{◌≡◌, ◌<◌, ◌+◌, ◌^◌, ℕ, L
 ghost use Rattle.asl_states.specs.Machine.{catcher_view, retrier_view, settings_view, target_name};
 ghost use Rattle.asl_model.specs.Run as model;
 ghost use Rattle.asl_run.specs.Data.{datum_view};
-ghost use Rattle.asl_run.specs.Leading.{CatchersLead, Leads, SettingsLead};
+ghost use Rattle.asl_run.specs.Leading.{Leads};
+ghost use Rattle.asl_states.specs.Targets.{EachCatcherTarget, EachSettingsTarget};
 ghost use Rattle.asl_run.specs.Troubles.{CanRise, Reaches, TroubleLeads, trouble_view};
 ghost use Rattle.asl_run.specs.declared.troubles.Trouble.TheVariants.{Retries};
 ghost use Rattle.asl_tree.specs.View.{view};
@@ -47,7 +48,7 @@ pub(crate) fn trouble_of<'m>(
     ensures rises { (i : ℕ) → result ≡ Ok (Retries i) → CanRise counts.now i }
     ensures exact { IfOk result (λ t. trouble_view t ≡ model.trouble_of (settings_view settings.now)
         (view raw.now.value) counts.now error.now cause.now) }
-    ensures leads { (names : List (List ℕ)) → SettingsLead names settings.now
+    ensures leads { (names : List (List ℕ)) → EachSettingsTarget (Leads names) settings.now
         → IfOk result (TroubleLeads names) }
 {
     if let Some(retrier) = retrying(&settings.retriers, counts, error) {
@@ -103,7 +104,7 @@ fn count_at(counts: &[u64], retrier: usize) -> u64
 fn catching<'m>(catchers: &'m [Catcher], error: &str) -> Option<(usize, &'m Catcher)>
     ensures exact { option_map (λ f. (f.0, catcher_view f.1.now)) result
         ≡ model.catching 0 (map catcher_view catchers.now) error.now }
-    ensures leads { (names : List (List ℕ)) → CatchersLead names catchers.now
+    ensures leads { (names : List (List ℕ)) → EachCatcherTarget (Leads names) catchers.now
         → IfSome result (λ f. Leads names f.1.now.next) }
 {
     for (number, catcher) in catchers.iter().enumerate() {

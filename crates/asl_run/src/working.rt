@@ -1,10 +1,12 @@
 //! What a state's first move comes to (States Language, "State Types").
 
 ghost use Rattle.std.specs.Prelude.{◌≡◌, IfOk, IfSome, List, map, option_map, ℕ};
+ghost use Rattle.std.specs.List.{All};
 ghost use Rattle.asl_states.specs.Machine.{branches_view, choice_rule_view, delay_view, kind_view, settings_view, started_at, state_view, target_name};
 ghost use Rattle.asl_model.specs.Flow as model;
 ghost use Rattle.asl_model.specs.Machine as machine;
-ghost use Rattle.asl_run.specs.Leading.{BranchesLead, ChoicesLead, Leads, LeadsOn, SettingsLead};
+ghost use Rattle.asl_run.specs.Leading.{Leads, LeadsOn};
+ghost use Rattle.asl_states.specs.Targets.{EachChoiceTarget, EachSettingsTarget};
 ghost use Rattle.asl_run.specs.Working.{WorkLeads, Works, work_view};
 ghost use Rattle.asl_template.specs.View as templates;
 ghost use Rattle.asl_tree.specs.View.{view};
@@ -120,8 +122,9 @@ fn choice<'m>(
 ) -> Result<Work<'m>, Stop>
     ensures exact { Works result (model.work_of (machine.Choice (map choice_rule_view rules.now)
         (option_map target_name default.now)) (settings_view settings.now) (view raw.now.value)) }
-    ensures leads { (names : List (List ℕ)) (kind : machine.Kind) → ChoicesLead names rules.now
-        → IfSome default.now (Leads names) → IfOk result (WorkLeads names kind) }
+    ensures leads { (names : List (List ℕ)) (kind : machine.Kind)
+        → EachChoiceTarget (Leads names) rules.now → IfSome default.now (Leads names)
+        → IfOk result (WorkLeads names kind) }
 {
     let input = effective_input(alloc, settings, raw)?;
     let next = choose(rules, default, input.as_tree())?;
@@ -140,7 +143,8 @@ fn wait<'m>(
 ) -> Result<Work<'m>, Stop>
     ensures exact { Works result (model.work_of (machine.Wait (delay_view delay.now))
         (settings_view settings.now) (view raw.now.value)) }
-    ensures leads { (names : List (List ℕ)) (kind : machine.Kind) → SettingsLead names settings.now
+    ensures leads { (names : List (List ℕ)) (kind : machine.Kind)
+        → EachSettingsTarget (Leads names) settings.now
         → IfOk result (WorkLeads names kind) }
 {
     let input = effective_input(alloc, settings, raw)?;
@@ -160,7 +164,7 @@ fn parallel<'m>(
 ) -> Result<Work<'m>, Stop>
     ensures exact { Works result (model.work_of (machine.Parallel (branches_view branches.now))
         (settings_view settings.now) (view raw.now.value)) }
-    ensures leads { (names : List (List ℕ)) → BranchesLead names branches.now
+    ensures leads { (names : List (List ℕ)) → All (Leads names) branches.now
         → IfOk result (WorkLeads names (machine.Parallel (branches_view branches.now))) }
 {
     let input = effective_input(alloc, settings, raw)?;

@@ -3,7 +3,8 @@
 ghost use Rattle.std.specs.Prelude.{◌≡◌, map, string_bytes};
 ghost use Rattle.std.specs.List.{All};
 ghost use Rattle.asl_states.specs.Machine.{branches_view, catcher_view, choice_rule_view, kind_view, settings_view, state_view};
-ghost use Rattle.asl_states.specs.Numbered.{AreNumbered, BranchesAreNumbered, CatchersAreNumbered, ChoicesAreNumbered, KindIsNumbered, SettingsAreNumbered};
+ghost use Rattle.asl_states.specs.Numbered.{AreNumbered, IsNumbered};
+ghost use Rattle.asl_states.specs.Targets.{EachCatcherTarget, EachChoiceTarget, EachKindTarget, EachSettingsTarget};
 
 use crate::states::{Catcher, ChoiceRule, Kind, Settings, State};
 use crate::target::Target;
@@ -31,7 +32,8 @@ fn find_targets(state: &mut State, names: &IndexSet<String>)
 /// So in what states of several types have.
 fn find_in_settings(settings: &mut Settings, names: &IndexSet<String>)
     ensures same { settings_view settings.new ≡ settings_view settings.old }
-    ensures numbered { SettingsAreNumbered (map string_bytes names.now.keys) settings.new }
+    ensures numbered { EachSettingsTarget (IsNumbered (map string_bytes names.now.keys))
+        settings.new }
 {
     if let Some(next) = &mut settings.next {
         next.find(names);
@@ -42,7 +44,8 @@ fn find_in_settings(settings: &mut Settings, names: &IndexSet<String>)
 /// So in catchers.
 fn find_in_catchers(catchers: &mut Vec<Catcher>, names: &IndexSet<String>)
     ensures same { map catcher_view catchers.new.items ≡ map catcher_view catchers.old.items }
-    ensures numbered { CatchersAreNumbered (map string_bytes names.now.keys) catchers.new.items }
+    ensures numbered { EachCatcherTarget (IsNumbered (map string_bytes names.now.keys))
+        catchers.new.items }
 {
     for catcher in catchers.iter_mut() {
         catcher.next.find(names);
@@ -52,7 +55,7 @@ fn find_in_catchers(catchers: &mut Vec<Catcher>, names: &IndexSet<String>)
 /// So in what a type adds.
 fn find_in_kind(kind: &mut Kind, names: &IndexSet<String>)
     ensures same { kind_view kind.new ≡ kind_view kind.old }
-    ensures numbered { KindIsNumbered (map string_bytes names.now.keys) kind.new }
+    ensures numbered { EachKindTarget (IsNumbered (map string_bytes names.now.keys)) kind.new }
 {
     match kind {
         Kind::Choice { choices, default } => {
@@ -74,7 +77,8 @@ fn find_in_kind(kind: &mut Kind, names: &IndexSet<String>)
 /// So in the rules of a Choice.
 fn find_in_choices(choices: &mut Vec<ChoiceRule>, names: &IndexSet<String>)
     ensures same { map choice_rule_view choices.new.items ≡ map choice_rule_view choices.old.items }
-    ensures numbered { ChoicesAreNumbered (map string_bytes names.now.keys) choices.new.items }
+    ensures numbered { EachChoiceTarget (IsNumbered (map string_bytes names.now.keys))
+        choices.new.items }
 {
     for choice in choices.iter_mut() {
         choice.next.find(names);
@@ -84,7 +88,7 @@ fn find_in_choices(choices: &mut Vec<ChoiceRule>, names: &IndexSet<String>)
 /// So of the start states of branches.
 fn find_in_branches(branches: &mut Vec<Target>, names: &IndexSet<String>)
     ensures same { branches_view branches.new.items ≡ branches_view branches.old.items }
-    ensures numbered { BranchesAreNumbered (map string_bytes names.now.keys) branches.new.items }
+    ensures numbered { All (IsNumbered (map string_bytes names.now.keys)) branches.new.items }
 {
     for start in branches.iter_mut() {
         start.find(names);

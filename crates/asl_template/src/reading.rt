@@ -1,5 +1,5 @@
 //! Reading templates from JSON values.
-ghost use Rattle.std.specs.Prelude.{◌≡◌, ◌-◌, [], true, false, Err, IfOk, IfErr, OnOk, MatchOption, None, length, take, string_bytes};
+ghost use Rattle.std.specs.Prelude.{◌≡◌, ◌-◌, [], true, false, Err, IfOk, IfErr, OnOk, MatchOption, None, is_some, length, take, string_bytes};
 ghost use Rattle.serde_json.specs.View.{view as json_view, items_view, members_view};
 ghost use Rattle.asl_model.specs.CallSpelling.{call_from};
 ghost use Rattle.asl_model.specs.Json.{tree_of, elements_of, members_of};
@@ -48,10 +48,11 @@ pub fn from_value(alloc: Global, value: &Value, item: bool) -> Result<Template, 
     ensures left_out_context { result ≡ Err LeftOutContext
         → ValueHasFault item (json_view value.now) model.LeftOutContext }
 {
-    if !is_whole(value) {
-        return Err(SpellingRefusal::NotWhole);
+    match read_top(alloc, value, item) {
+        Ok(template) => Ok(template),
+        Err(refusal) if is_whole(value) => Err(refusal),
+        Err(_) => Err(SpellingRefusal::NotWhole),
     }
-    read_top(alloc, value, item)
 }
 
 /// The template that a tree spells: [`from_value`], of the JSON value that the tree is.
@@ -81,6 +82,7 @@ pub fn from_tree(alloc: Global, tree: &Tree, item: bool) -> Result<Template, Spe
 /// The template that a value at the top spells.
 fn read_top(alloc: Global, value: &Value, item: bool) -> Result<Template, SpellingRefusal>
     ensures spelled { IfOk result (λ t. model.SpellsTemplate item (tree_in value.now) (view t)) }
+    ensures whole { OnOk result (is_some (tree_of (json_view value.now)) ≡ true) }
     ensures not_whole { result ≡ Err NotWhole → tree_of (json_view value.now) ≡ None }
     ensures refused { IfErr result (λ e. Tells e (model.template_faults item (tree_in value.now))) }
 {
@@ -97,6 +99,7 @@ fn read_top(alloc: Global, value: &Value, item: bool) -> Result<Template, Spelli
 fn read_part(alloc: Global, value: &Value, item: bool) -> Result<Template, SpellingRefusal>
     ensures right { OnOk result (model.part_faults item (tree_in value.now) ≡ []) }
     ensures template { IfOk result (λ t. view t ≡ model.part_of item (tree_in value.now)) }
+    ensures whole { OnOk result (is_some (tree_of (json_view value.now)) ≡ true) }
     ensures not_whole { result ≡ Err NotWhole → tree_of (json_view value.now) ≡ None }
     ensures refused { IfErr result (λ e. Tells e (model.part_faults item (tree_in value.now))) }
 {
@@ -112,6 +115,7 @@ fn read_part(alloc: Global, value: &Value, item: bool) -> Result<Template, Spell
 /// The template of a value that stands for itself.
 fn read_literal(alloc: Global, value: &Value) -> Result<Template, SpellingRefusal>
     ensures template { IfOk result (λ t. view t ≡ Literal (tree_in value.now)) }
+    ensures whole { OnOk result (is_some (tree_of (json_view value.now)) ≡ true) }
     ensures not_whole { result ≡ Err NotWhole → tree_of (json_view value.now) ≡ None }
     ensures refused { IfErr result (λ e. Tells e []) }
 {
@@ -135,6 +139,7 @@ fn read_elements(
     ensures right { OnOk result (model.parts_faults item (elements_in elements.now) ≡ []) }
     ensures templates { IfOk result
         (λ v. elements_view v.items ≡ model.parts_of item (elements_in elements.now)) }
+    ensures whole { OnOk result (is_some (elements_of (items_view elements.now)) ≡ true) }
     ensures not_whole { result ≡ Err NotWhole → elements_of (items_view elements.now) ≡ None }
     ensures refused { IfErr result
         (λ e. Tells e (model.parts_faults item (elements_in elements.now))) }
@@ -157,6 +162,8 @@ fn read_fields(
         (model.part_faults item (json.Object (fields_in members.now.entries)) ≡ []) }
     ensures templates { IfOk result (λ m. entries_view m.entries
         ≡ model.field_templates_of item (fields_in members.now.entries)) }
+    ensures whole { OnOk result
+        (is_some (members_of (members_view members.now.entries)) ≡ true) }
     ensures not_whole { result ≡ Err NotWhole
         → members_of (members_view members.now.entries) ≡ None }
     ensures refused { IfErr result
@@ -184,6 +191,7 @@ fn read_field(
     ensures name { IfOk result (λ f. string_bytes f.0 ≡ model.renamed name.now) }
     ensures template { IfOk result
         (λ f. view f.1 ≡ field_template item name.now (tree_in value.now)) }
+    ensures whole { OnOk result (is_some (tree_of (json_view value.now)) ≡ true) }
     ensures not_whole { result ≡ Err NotWhole → tree_of (json_view value.now) ≡ None }
     ensures refused { IfErr result (λ e. Tells e (field_faults item name.now (tree_in value.now))) }
 {
@@ -211,6 +219,7 @@ fn unmarked(name: &str) -> Option<&str>
 fn read_marked(alloc: Global, value: &Value, item: bool) -> Result<Template, SpellingRefusal>
     ensures right { OnOk result (model.marked_faults item (tree_in value.now) ≡ []) }
     ensures template { IfOk result (λ t. view t ≡ model.marked_value item (tree_in value.now)) }
+    ensures whole { OnOk result (is_some (tree_of (json_view value.now)) ≡ true) }
     ensures of_text { ¬ (result ≡ Err NotWhole) }
     ensures refused { IfErr result (λ e. Tells e (model.marked_faults item (tree_in value.now))) }
 {

@@ -1,55 +1,49 @@
-use Rattle.std.proofs.Common.{◌≡◌, true, is_some, refl, rules}
+use Rattle.std.proofs.Common.{◌≡◌, true, is_some, Result, Ok, Err, refl, rules}
 use Rattle.serde_json.specs.View.{view as json_view}
 use Rattle.asl_model.specs.Json.{tree_of}
 use Rattle.asl_model.specs.TemplateSpelling as model
+use Rattle.asl_template.specs.declared.refusal.SpellingRefusal.{SpellingRefusal}
 use Rattle.asl_template.specs.declared.refusal.SpellingRefusal.TheVariants.{NotObject, NotText, BadPath, BadIntrinsic, DuplicateAfterStrip, LeftOutContext}
+use Rattle.asl_template.specs.declared.template.Template.{Template}
 use Rattle.asl_template.proofs.Wholes.{spelled_whole, stands_whole, told_whole}
 use Rattle.asl_template.proofs.reading.from_value.Goals as goal
 
-pub returns-clause-spelled : goal.returns-clause-spelled
-returns-clause-spelled c =
-    let v = json_view c.args.value.now in
-    let there : is_some (tree_of v) ≡ true = search rules in
-    spelled_whole c.args.item c.read_top.result v there c.read_top.ensures.spelled
+pub returns-in-Ok-clause-spelled : goal.returns-in-Ok-clause-spelled
+returns-in-Ok-clause-spelled c =
+    let read : Result Template SpellingRefusal = Ok c.in-Ok.template in
+    spelled_whole c.args.item read (json_view c.args.value.now) c.in-Ok.ensures.whole c.in-Ok.ensures.spelled
 
-pub returns-clause-stands_for : goal.returns-clause-stands_for
-returns-clause-stands_for c =
-    let v = json_view c.args.value.now in
-    let there : is_some (tree_of v) ≡ true = search rules in
-    stands_whole c.args.item c.read_top.result v there c.read_top.ensures.spelled
+pub returns-in-Ok-clause-stands_for : goal.returns-in-Ok-clause-stands_for
+returns-in-Ok-clause-stands_for c =
+    let read : Result Template SpellingRefusal = Ok c.in-Ok.template in
+    stands_whole c.args.item read (json_view c.args.value.now) c.in-Ok.ensures.whole c.in-Ok.ensures.spelled
 
-pub returns-clause-not_object : goal.returns-clause-not_object
-returns-clause-not_object c =
-    let v = json_view c.args.value.now in
-    let there : is_some (tree_of v) ≡ true = search rules in
-    told_whole c.args.item c.read_top.result v NotObject model.NotObject there c.read_top.ensures.refused refl
+pub returns-in-Err-clause-not_object : goal.returns-in-Err-clause-not_object
+returns-in-Err-clause-not_object c =
+    let there : is_some (tree_of (json_view c.args.value.now)) ≡ true = search rules in
+    told_whole c.args.item (Err c.in-Err.refusal) (json_view c.args.value.now) NotObject model.NotObject there c.in-Err.ensures.refused refl
 
-pub returns-clause-not_text : goal.returns-clause-not_text
-returns-clause-not_text c =
-    let v = json_view c.args.value.now in
-    let there : is_some (tree_of v) ≡ true = search rules in
-    told_whole c.args.item c.read_top.result v NotText model.NotText there c.read_top.ensures.refused refl
+pub returns-in-Err-clause-not_text : goal.returns-in-Err-clause-not_text
+returns-in-Err-clause-not_text c =
+    let there : is_some (tree_of (json_view c.args.value.now)) ≡ true = search rules in
+    told_whole c.args.item (Err c.in-Err.refusal) (json_view c.args.value.now) NotText model.NotText there c.in-Err.ensures.refused refl
 
-pub returns-clause-bad_path : goal.returns-clause-bad_path
-returns-clause-bad_path c =
-    let v = json_view c.args.value.now in
-    let there : is_some (tree_of v) ≡ true = search rules in
-    told_whole c.args.item c.read_top.result v BadPath model.BadPath there c.read_top.ensures.refused refl
+pub returns-in-Err-clause-bad_path : goal.returns-in-Err-clause-bad_path
+returns-in-Err-clause-bad_path c =
+    let there : is_some (tree_of (json_view c.args.value.now)) ≡ true = search rules in
+    told_whole c.args.item (Err c.in-Err.refusal) (json_view c.args.value.now) BadPath model.BadPath there c.in-Err.ensures.refused refl
 
-pub returns-clause-bad_intrinsic : goal.returns-clause-bad_intrinsic
-returns-clause-bad_intrinsic c =
-    let v = json_view c.args.value.now in
-    let there : is_some (tree_of v) ≡ true = search rules in
-    told_whole c.args.item c.read_top.result v BadIntrinsic model.BadIntrinsic there c.read_top.ensures.refused refl
+pub returns-in-Err-clause-bad_intrinsic : goal.returns-in-Err-clause-bad_intrinsic
+returns-in-Err-clause-bad_intrinsic c =
+    let there : is_some (tree_of (json_view c.args.value.now)) ≡ true = search rules in
+    told_whole c.args.item (Err c.in-Err.refusal) (json_view c.args.value.now) BadIntrinsic model.BadIntrinsic there c.in-Err.ensures.refused refl
 
-pub returns-clause-duplicate_after_strip : goal.returns-clause-duplicate_after_strip
-returns-clause-duplicate_after_strip c =
-    let v = json_view c.args.value.now in
-    let there : is_some (tree_of v) ≡ true = search rules in
-    told_whole c.args.item c.read_top.result v DuplicateAfterStrip model.DuplicateAfterStrip there c.read_top.ensures.refused refl
+pub returns-in-Err-clause-duplicate_after_strip : goal.returns-in-Err-clause-duplicate_after_strip
+returns-in-Err-clause-duplicate_after_strip c =
+    let there : is_some (tree_of (json_view c.args.value.now)) ≡ true = search rules in
+    told_whole c.args.item (Err c.in-Err.refusal) (json_view c.args.value.now) DuplicateAfterStrip model.DuplicateAfterStrip there c.in-Err.ensures.refused refl
 
-pub returns-clause-left_out_context : goal.returns-clause-left_out_context
-returns-clause-left_out_context c =
-    let v = json_view c.args.value.now in
-    let there : is_some (tree_of v) ≡ true = search rules in
-    told_whole c.args.item c.read_top.result v LeftOutContext model.LeftOutContext there c.read_top.ensures.refused refl
+pub returns-in-Err-clause-left_out_context : goal.returns-in-Err-clause-left_out_context
+returns-in-Err-clause-left_out_context c =
+    let there : is_some (tree_of (json_view c.args.value.now)) ≡ true = search rules in
+    told_whole c.args.item (Err c.in-Err.refusal) (json_view c.args.value.now) LeftOutContext model.LeftOutContext there c.in-Err.ensures.refused refl
