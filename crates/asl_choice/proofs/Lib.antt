@@ -6,4 +6,5 @@ pub mod Operands
 pub mod Telling
 pub mod VariableTests
 pub mod Walks
+pub mod Wholeness
 pub mod Wholes

@@ -1,3 +1,4 @@
+pub mod Members
 pub mod Operators
 pub mod Refusal
 pub mod Single

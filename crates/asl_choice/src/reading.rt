@@ -1,11 +1,14 @@
 //! Reading rules from JSON values.
-ghost use Rattle.std.specs.Prelude.{◌≡◌, [], ◌∷◌, true, false, Err, IfErr, IfOk, IfSome, IsUtf8, MatchOption, None, OnOk, Some, codes, string_bytes};
+ghost use Rattle.std.specs.Prelude.{◌≡◌, [], ◌∷◌, true, false, Err, IfErr, IfOk, IfSome, IsUtf8, MatchOption, None, OnOk, Some, codes, is_some, string_bytes, string_cmp};
 ghost use Rattle.std.specs.List.{Contains};
+ghost use Rattle.std.specs.List.Sorted.{IsStrictlySortedBy};
+ghost use Rattle.std.specs.Map.{keys_of};
 ghost use Rattle.serde_json.specs.View.{view as json_view, items_view, members_view};
 ghost use Rattle.asl_model.specs.Json.{tree_of, elements_of, members_of};
 ghost use Rattle.asl_model.specs.RuleSpelling as model;
 ghost use Rattle.asl_model.specs.Tree as json;
 ghost use Rattle.asl_model.specs.Tree.{field_named};
+ghost use Rattle.asl_choice.specs.Members.{AreWholeBesideTexts};
 ghost use Rattle.asl_choice.specs.Refusal.{Tells};
 ghost use Rattle.asl_choice.specs.Single.{is_beside as beside, joined_test, one_joined_faults};
 ghost use Rattle.asl_choice.specs.View.{rule_view, tests_view, view};
@@ -47,10 +50,12 @@ pub fn from_value(alloc: Global, value: &Value) -> Result<Rule, RuleRefusal>
     ensures next_inside { result ≡ Err RuleRefusal.NextInside
         → ValueHasFault (json_view value.now) model.NextInside }
 {
-    if !is_whole(value) {
-        return Err(RuleRefusal::NotWhole);
+    // What spells a rule is whole, so numbers are looked at only where something is refused.
+    match read_top(alloc, value) {
+        Ok(rule) => Ok(rule),
+        Err(refusal) if is_whole(value) => Err(refusal),
+        Err(_) => Err(RuleRefusal::NotWhole),
     }
-    read_top(alloc, value)
 }
 
 /// The rule that a tree spells: [`from_value`], of the JSON value that the tree is.
@@ -82,6 +87,7 @@ pub fn from_tree(alloc: Global, tree: &Tree) -> Result<Rule, RuleRefusal>
 /// The rule that a value at the top spells.
 fn read_top(alloc: Global, value: &Value) -> Result<Rule, RuleRefusal>
     ensures spelled { IfOk result (λ rule. model.SpellsRule (tree_in value.now) (rule_view rule)) }
+    ensures whole { OnOk result (is_some (tree_of (json_view value.now)) ≡ true) }
     ensures not_whole { result ≡ Err RuleRefusal.NotWhole → tree_of (json_view value.now) ≡ None }
     ensures refused { IfErr result (λ e. Tells e (model.rule_faults (tree_in value.now))) }
 {
@@ -98,6 +104,8 @@ fn read_top(alloc: Global, value: &Value) -> Result<Rule, RuleRefusal>
 fn read_rule(alloc: Global, members: &Map<String, Value>) -> Result<Rule, RuleRefusal>
     ensures spelled { IfOk result (λ rule. model.SpellsRule
         (json.Object (fields_in members.now.entries)) (rule_view rule)) }
+    ensures whole { OnOk result
+        (is_some (members_of (members_view members.now.entries)) ≡ true) }
     ensures not_whole { result ≡ Err RuleRefusal.NotWhole
         → members_of (members_view members.now.entries) ≡ None }
     ensures refused { IfErr result
@@ -167,6 +175,7 @@ fn read_test(alloc: Global, members: &Map<String, Value>) -> Result<Test, RuleRe
     ensures right { OnOk result (model.object_faults (fields_in members.now.entries) ≡ []) }
     ensures test { IfOk result
         (λ test. view test ≡ model.test_of (json.Object (fields_in members.now.entries))) }
+    ensures whole { OnOk result (AreWholeBesideTexts members.now.entries) }
     ensures not_whole { result ≡ Err RuleRefusal.NotWhole
         → members_of (members_view members.now.entries) ≡ None }
     ensures refused { IfErr result
@@ -186,6 +195,7 @@ fn read_test(alloc: Global, members: &Map<String, Value>) -> Result<Test, RuleRe
 fn read_joined(alloc: Global, name: &str, value: &Value) -> Result<Test, RuleRefusal>
     ensures right { OnOk result (one_joined_faults name.now (tree_in value.now) ≡ []) }
     ensures test { IfOk result (λ test. view test ≡ joined_test name.now (tree_in value.now)) }
+    ensures whole { OnOk result (is_some (tree_of (json_view value.now)) ≡ true) }
     ensures not_whole { result ≡ Err RuleRefusal.NotWhole → tree_of (json_view value.now) ≡ None }
     ensures refused { IfErr result (λ e. Tells e (one_joined_faults name.now (tree_in value.now))) }
 {
@@ -203,6 +213,7 @@ fn read_list(alloc: Global, value: &Value) -> Result<Vec<Test>, RuleRefusal>
     ensures right { OnOk result (model.list_faults (tree_in value.now) ≡ []) }
     ensures tests { IfOk result
         (λ tests. tests_view tests.items ≡ model.tests_of (tree_in value.now)) }
+    ensures whole { OnOk result (is_some (tree_of (json_view value.now)) ≡ true) }
     ensures not_whole { result ≡ Err RuleRefusal.NotWhole → tree_of (json_view value.now) ≡ None }
     ensures refused { IfErr result (λ e. Tells e (model.list_faults (tree_in value.now))) }
 {
@@ -225,6 +236,7 @@ fn read_elements(alloc: Global, elements: &[Value]) -> Result<Vec<Test>, RuleRef
     ensures right { OnOk result (model.each_faults (elements_in elements.now) ≡ []) }
     ensures tests { IfOk result
         (λ tests. tests_view tests.items ≡ model.each_test (elements_in elements.now)) }
+    ensures whole { OnOk result (is_some (elements_of (items_view elements.now)) ≡ true) }
     ensures not_whole { result ≡ Err RuleRefusal.NotWhole
         → elements_of (items_view elements.now) ≡ None }
     ensures refused { IfErr result (λ e. Tells e (model.each_faults (elements_in elements.now))) }
@@ -241,6 +253,7 @@ fn read_elements(alloc: Global, elements: &[Value]) -> Result<Vec<Test>, RuleRef
 fn read_nested(alloc: Global, value: &Value) -> Result<Test, RuleRefusal>
     ensures right { OnOk result (model.nested_faults (tree_in value.now) ≡ []) }
     ensures test { IfOk result (λ test. view test ≡ model.test_of (tree_in value.now)) }
+    ensures whole { OnOk result (is_some (tree_of (json_view value.now)) ≡ true) }
     ensures not_whole { result ≡ Err RuleRefusal.NotWhole → tree_of (json_view value.now) ≡ None }
     ensures refused { IfErr result (λ e. Tells e (model.nested_faults (tree_in value.now))) }
 {
@@ -279,6 +292,7 @@ fn only_field(members: &Map<String, Value>) -> Option<(&String, &Value)>
         (λ f. model.main_fields (fields_in members.now.entries)
         ≡ (string_bytes f.0.now, tree_in f.1.now) ∷ []) }
     ensures among { IfSome result (λ f. Contains members.now.entries (f.0.now, f.1.now)) }
+    ensures ordered { IsStrictlySortedBy string_cmp (keys_of members.now.entries) }
 {
     let mut only = None;
     for (name, value) in members.iter() {
