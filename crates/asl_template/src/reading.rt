@@ -48,6 +48,7 @@ pub fn from_value(alloc: Global, value: &Value, item: bool) -> Result<Template, 
     ensures left_out_context { result ≡ Err LeftOutContext
         → ValueHasFault item (json_view value.now) model.LeftOutContext }
 {
+    // What spells a template is whole, so numbers are looked at only where something is refused.
     match read_top(alloc, value, item) {
         Ok(template) => Ok(template),
         Err(refusal) if is_whole(value) => Err(refusal),
