@@ -1,3 +1,4 @@
+pub mod CertificateTokens
 pub mod Failures
 pub mod Fronts
 pub mod LineSteps

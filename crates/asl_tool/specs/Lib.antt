@@ -1,4 +1,5 @@
 pub mod Answers
+pub mod CertificateTokens
 pub mod Chunk
 pub mod Fronts
 pub mod Inferred

@@ -12,15 +12,14 @@ ghost use Rattle.asl_records.specs.Numbered.{AreWithin, numbered_view};
 ghost use Rattle.asl_tool.specs.Inferred.{AreFewRounds, InferFaultStands, IsFindingOn, IsWrittenFor, WhereCertificate, WhereFinding, WhereNotSettled, written_as};
 ghost use Rattle.asl_tool.specs.VerifiedInference.{Describes, IsVerdictOnInferred, NeverFaultsAsInferred, Tells, WhereVerdict};
 
+use crate::certificate_text::plain_text;
 use crate::reading::{declared_text, machine_text};
 use crate::refusals::{RunFault, TextRefusal, Which};
 use asl_check::{Finding, Verdict, check_numbered};
 use asl_infer::{InferRefusal, infer_numbered};
 use asl_machine::Machine;
 use asl_model::run_laws::{closed_runs_never_fault, closed_runs_tell_no_fault};
-use asl_records::{
-    Declared, NumberedCertificate, expand_certificate, write_certificate, write_numbered,
-};
+use asl_records::{Declared, NumberedCertificate, write_numbered};
 use asl_tree::{OutOfMemory, to_text};
 use std::alloc::Global;
 
@@ -183,19 +182,5 @@ fn numbered_text(alloc: Global, certificate: &NumberedCertificate) -> Result<Str
 {
     certificate.shapes.are_proper();
     let tree = write_numbered(alloc, certificate)?;
-    to_text(alloc, &tree)
-}
-
-/// The one without.
-fn plain_text(alloc: Global, certificate: &NumberedCertificate) -> Result<String, OutOfMemory>
-    requires within { AreWithin certificate.now }
-    requires shallow { depth (value_of (written_certificate (numbered_view certificate.now))) ≤ max_depth }
-    ensures text { IfOk result (λ text. string_bytes text
-        ≡ compact_text (written_certificate (numbered_view certificate.now))) }
-    ensures reads_back { IfOk result
-        (λ text. ReadsAsCertificate (string_bytes text) (numbered_view certificate.now)) }
-{
-    let certificate = expand_certificate(alloc, certificate)?;
-    let tree = write_certificate(alloc, &certificate)?;
     to_text(alloc, &tree)
 }

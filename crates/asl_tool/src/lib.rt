@@ -8,6 +8,7 @@
 #![tactic(auto)]
 
 mod answering;
+mod certificate_text;
 mod chunks;
 mod declared_answers;
 mod endings;
