@@ -1,5 +1,5 @@
 -- What is written of a certificate reads back where each of its parts does.
-use Rattle.std.proofs.Common.{◌≡◌, ℕ, pos, List, [], ◌∷◌, ◌++◌, Option, Some, None, option_map, option_and_then, map, codes, string_bytes, string_cmp, refl, sym, ap, ◌∙◌, subst, append_assoc, append-nil, arith}
+use Rattle.std.proofs.Common.{◌≡◌, ℕ, pos, List, [], ◌∷◌, ◌++◌, Option, Some, None, option_map, option_and_then, Bor, map, codes, string_bytes, string_cmp, refl, sym, ap, ◌∙◌, subst, append_assoc, append-nil, arith}
 use Rattle.std.specs.List.Sorted.{IsStrictlySortedBy}
 use Rattle.std.specs.Map.{keys_of}
 use Rattle.serde_json.specs.Data as json
@@ -12,6 +12,7 @@ use Rattle.asl_model.specs.Tree.{Tree, Integer, Array, Object, Fields, NoFields,
 use Rattle.asl_model.specs.Written.{written_shape, written_list, written_entries, with_branches, with_item, written_state, written_certificate}
 use Rattle.asl_model.proofs.RecordsBack.{proper_certificate_back}
 use Rattle.asl_numbered.specs.Expansion.{expansions, shape_at}
+use Rattle.asl_numbered.specs.declared.shapes.Shapes.{Shapes}
 use Rattle.asl_records.specs.Numbered.{numbered_entries, numbered_view}
 use Rattle.asl_records.specs.declared.records.NumberedCertificate.{NumberedCertificate}
 use Rattle.asl_records.specs.declared.records.StateNumbers.{StateNumbers}
@@ -20,7 +21,8 @@ use Rattle.asl_records.proofs.References.{certificate_proper}
 use Rattle.asl_tree.specs.Written.{ReadsBack}
 use Rattle.asl_tree.proofs.Texts.{after_first}
 use Rattle.asl_tree.proofs.Tokens.{integer_back}
-use Rattle.asl_tool.specs.CertificateTokens.{shape_tree, state_tree, NumbersReadBack, ItemReadsBack, StatesReadBack}
+use Rattle.asl_tool.specs.CertificateTokens.{shape_tree, shapes_in, state_tree, NumbersReadBack, ItemReadsBack, StatesReadBack, StaysKept}
+use Rattle.asl_tool.specs.declared.spellings.Spellings.{Spellings}
 
 -- ---- objects whose names come in order
 
@@ -43,6 +45,10 @@ four_back branches input item output b i m o = record { value = rw (b.value, i.v
 -- a certificate
 whole_back : (output states version : Tree) → ReadsBack output → ReadsBack states → ReadsBack version → ReadsBack (Object (AndField (codes "output") output (AndField (codes "states") states (AndField (codes "version") version NoFields))))
 whole_back output states version o s v = record { value = rw (o.value, s.value, v.value) refl; tree = rw (o.tree, s.tree, v.tree) refl }
+
+-- the table stays the same while its shapes are written
+pub shapes_stay : (before after : Spellings) → StaysKept before after → shapes_in after ≡ shapes_in before
+shapes_stay before after stays = ap (λ (s : Bor Shapes). expansions s.now) stays.shapes
 
 module _ (table : List Shape) where
   -- the values of a list of shapes

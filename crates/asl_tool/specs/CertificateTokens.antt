@@ -1,5 +1,5 @@
 -- The tokens that are written for the parts of a certificate, and which parts read back. No public clause cites this module.
-use Rattle.std.specs.Prelude.{ℕ, List, [], ◌∷◌, Option, None, Some, String, codes, map, IfSome}
+use Rattle.std.specs.Prelude.{◌≡◌, ℕ, List, [], ◌∷◌, Option, None, Some, String, codes, map, IfSome}
 use Rattle.std.specs.declared.alloc.Global.{Global}
 use Rattle.std.specs.List.{AllByRecursion}
 use Rattle.json.specs.Token.{Token, key, begin_array}
@@ -9,14 +9,30 @@ use Rattle.asl_model.specs.Json.{items_of, members_for}
 use Rattle.asl_model.specs.Shape.{Shape}
 use Rattle.asl_model.specs.Tree.{Tree}
 use Rattle.asl_model.specs.Written.{written_shape, written_list, written_entries, written_state}
-use Rattle.asl_numbered.specs.Expansion.{shape_at}
+use Rattle.asl_numbered.specs.Expansion.{expansions, shape_at}
 use Rattle.asl_records.specs.Numbered.{numbers_view, numbered_entries}
 use Rattle.asl_records.specs.declared.records.StateNumbers.{StateNumbers}
+use Rattle.asl_tree.specs.View.{view}
 use Rattle.asl_tree.specs.Written.{tree_tokens, ReadsBack}
+use Rattle.asl_tool.specs.declared.spellings.Spellings.{Spellings}
 
 -- the tree that is written for the shape of that number
 abbrev pub shape_tree : List Shape → ℕ → Tree
 shape_tree table n = written_shape (shape_at table n)
+
+-- the shapes of the table that are spelled
+abbrev pub shapes_in : Spellings → List Shape
+shapes_in spellings = expansions spellings.shapes.now
+
+-- the tree that is kept is that of the shape of its number
+pub record IsKept (spellings : Spellings) : Type 0 where
+  pub kept : IfSome spellings.last
+      (λ last. view last.tree ≡ shape_tree (shapes_in spellings) last.number)
+
+-- so it is afterwards, and the table is the same
+pub record StaysKept (before after : Spellings) : Type 0 where
+  pub shapes : after.shapes ≡ before.shapes
+  pub kept : IsKept after
 
 -- the one that is written for a state with those numbers
 abbrev pub state_tree : List Shape → StateNumbers → Tree

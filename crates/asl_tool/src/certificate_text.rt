@@ -10,12 +10,12 @@ ghost use Rattle.serde_json.specs.Read.{max_depth};
 ghost use Rattle.asl_model.specs.Json.{compact_text, value_of};
 ghost use Rattle.asl_model.specs.Texts.{ReadsAsCertificate};
 ghost use Rattle.asl_model.specs.Written.{written_certificate};
-ghost use Rattle.asl_numbered.specs.Expansion.{expansions, AreBelow};
+ghost use Rattle.asl_numbered.specs.Expansion.{AreBelow};
 ghost use Rattle.asl_records.specs.Numbered.{AreWithin, AreNumbersBelow, AreEntriesBelow, numbered_view};
 ghost use Rattle.asl_tree.specs.Written.{tree_tokens, ReadsBack};
-ghost use Rattle.asl_tool.specs.CertificateTokens.{NumbersReadBack, ItemReadsBack, StatesReadBack, branches_tokens, item_tokens, list_tokens, shape_tree, state_tree, states_tokens};
+ghost use Rattle.asl_tool.specs.CertificateTokens.{IsKept, StaysKept, NumbersReadBack, ItemReadsBack, StatesReadBack, branches_tokens, item_tokens, list_tokens, shapes_in, state_tree, states_tokens};
 
-use asl_numbered::Shapes;
+use crate::spellings::Spellings;
 use asl_records::{NumberedCertificate, StateNumbers};
 use asl_tree::OutOfMemory;
 use json::Writer;
@@ -23,7 +23,7 @@ use std::alloc::Global;
 use std::collections::BTreeMap;
 
 /// The compact text of what is written of a certificate that lists none of its shapes. A shape of the table is spelled out
-/// where it is to be written, and let go before the next one.
+/// where it is to be written, and let go before another one.
 pub(crate) fn plain_text(
     alloc: Global,
     certificate: &NumberedCertificate,
@@ -58,11 +58,12 @@ fn write_certificate(
     ensures reads_back { OnOk result
         (ReadsBack (written_certificate (numbered_view certificate.now))) }
 {
+    let mut spellings = Spellings::new(alloc, &certificate.shapes);
     writer.begin_object()?;
     writer.key("output")?;
-    write_shape(alloc, writer, &certificate.shapes, certificate.output)?;
+    spellings.write(writer, certificate.output)?;
     writer.key("states")?;
-    write_states(alloc, writer, &certificate.shapes, &certificate.states)?;
+    write_states(writer, &mut spellings, &certificate.states)?;
     writer.key("version")?;
     writer.i64(1)?;
     writer.end_object()?;
@@ -71,23 +72,25 @@ fn write_certificate(
 
 /// The object of the states, each under its name.
 fn write_states(
-    alloc: Global,
     writer: &mut Writer,
-    shapes: &Shapes,
+    spellings: &mut Spellings,
     states: &BTreeMap<String, StateNumbers>,
 ) -> Result<(), OutOfMemory>
-    requires below { AreEntriesBelow (length shapes.now) states.now.entries }
+    requires below { AreEntriesBelow (length spellings.old.shapes.now) states.now.entries }
+    requires kept { IsKept spellings.old }
     ensures before { writer.new.before ≡ writer.old.before }
+    ensures kept { StaysKept spellings.old spellings.new }
     ensures tokens { OnOk result (writer.new.tokens
         ≡ writer.old.tokens
-        ++ begin_object ∷ states_tokens (expansions shapes.now) states.now.entries) }
-    ensures read_back { OnOk result (StatesReadBack (expansions shapes.now) states.now.entries) }
+        ++ begin_object ∷ states_tokens (shapes_in spellings.old) states.now.entries) }
+    ensures read_back { OnOk result
+        (StatesReadBack (shapes_in spellings.old) states.now.entries) }
     ensures in_order { OnOk result (IsStrictlySortedBy string_cmp (keys_of states.now.entries)) }
 {
     writer.begin_object()?;
     for (name, state) in states.iter() {
         writer.key(name)?;
-        write_state(alloc, writer, shapes, state)?;
+        write_state(writer, spellings, state)?;
     }
     writer.end_object()?;
     Ok(())
@@ -95,64 +98,67 @@ fn write_states(
 
 /// The entry of a state.
 fn write_state(
-    alloc: Global,
     writer: &mut Writer,
-    shapes: &Shapes,
+    spellings: &mut Spellings,
     state: &StateNumbers,
 ) -> Result<(), OutOfMemory>
-    requires below { AreNumbersBelow (length shapes.now) state.now }
+    requires below { AreNumbersBelow (length spellings.old.shapes.now) state.now }
+    requires kept { IsKept spellings.old }
     ensures before { writer.new.before ≡ writer.old.before }
+    ensures kept { StaysKept spellings.old spellings.new }
     ensures tokens { OnOk result (writer.new.tokens
-        ≡ writer.old.tokens ++ tree_tokens (state_tree (expansions shapes.now) state.now)) }
-    ensures reads_back { OnOk result (ReadsBack (state_tree (expansions shapes.now) state.now)) }
+        ≡ writer.old.tokens ++ tree_tokens (state_tree (shapes_in spellings.old) state.now)) }
+    ensures reads_back { OnOk result (ReadsBack (state_tree (shapes_in spellings.old) state.now)) }
 {
     writer.begin_object()?;
-    write_branches(alloc, writer, shapes, &state.branches)?;
+    write_branches(writer, spellings, &state.branches)?;
     writer.key("input")?;
-    write_shape(alloc, writer, shapes, state.input)?;
-    write_item(alloc, writer, shapes, state.item)?;
+    spellings.write(writer, state.input)?;
+    write_item(writer, spellings, state.item)?;
     writer.key("output")?;
-    write_shape(alloc, writer, shapes, state.output)?;
+    spellings.write(writer, state.output)?;
     writer.end_object()?;
     Ok(())
 }
 
 /// `branches`, where there are any.
 fn write_branches(
-    alloc: Global,
     writer: &mut Writer,
-    shapes: &Shapes,
+    spellings: &mut Spellings,
     branches: &[usize],
 ) -> Result<(), OutOfMemory>
-    requires below { AreBelow (length shapes.now) branches.now }
+    requires below { AreBelow (length spellings.old.shapes.now) branches.now }
+    requires kept { IsKept spellings.old }
     ensures before { writer.new.before ≡ writer.old.before }
+    ensures kept { StaysKept spellings.old spellings.new }
     ensures tokens { OnOk result (writer.new.tokens
-        ≡ writer.old.tokens ++ branches_tokens (expansions shapes.now) branches.now) }
-    ensures read_back { OnOk result (NumbersReadBack (expansions shapes.now) branches.now) }
+        ≡ writer.old.tokens ++ branches_tokens (shapes_in spellings.old) branches.now) }
+    ensures read_back { OnOk result (NumbersReadBack (shapes_in spellings.old) branches.now) }
 {
     if !branches.is_empty() {
         writer.key("branches")?;
-        write_list(alloc, writer, shapes, branches)?;
+        write_list(writer, spellings, branches)?;
     }
     Ok(())
 }
 
 /// The list of the shapes.
 fn write_list(
-    alloc: Global,
     writer: &mut Writer,
-    shapes: &Shapes,
+    spellings: &mut Spellings,
     numbers: &[usize],
 ) -> Result<(), OutOfMemory>
-    requires below { AreBelow (length shapes.now) numbers.now }
+    requires below { AreBelow (length spellings.old.shapes.now) numbers.now }
+    requires kept { IsKept spellings.old }
     ensures before { writer.new.before ≡ writer.old.before }
+    ensures kept { StaysKept spellings.old spellings.new }
     ensures tokens { OnOk result (writer.new.tokens
-        ≡ writer.old.tokens ++ begin_array ∷ list_tokens (expansions shapes.now) numbers.now) }
-    ensures read_back { OnOk result (NumbersReadBack (expansions shapes.now) numbers.now) }
+        ≡ writer.old.tokens ++ begin_array ∷ list_tokens (shapes_in spellings.old) numbers.now) }
+    ensures read_back { OnOk result (NumbersReadBack (shapes_in spellings.old) numbers.now) }
 {
     writer.begin_array()?;
     for number in numbers {
-        write_shape(alloc, writer, shapes, *number)?;
+        spellings.write(writer, *number)?;
     }
     writer.end_array()?;
     Ok(())
@@ -160,40 +166,21 @@ fn write_list(
 
 /// `item`, where there is one.
 fn write_item(
-    alloc: Global,
     writer: &mut Writer,
-    shapes: &Shapes,
+    spellings: &mut Spellings,
     item: Option<usize>,
 ) -> Result<(), OutOfMemory>
-    requires below { IfSome item (λ n. n < length shapes.now) }
+    requires below { IfSome item (λ n. n < length spellings.old.shapes.now) }
+    requires kept { IsKept spellings.old }
     ensures before { writer.new.before ≡ writer.old.before }
+    ensures kept { StaysKept spellings.old spellings.new }
     ensures tokens { OnOk result (writer.new.tokens
-        ≡ writer.old.tokens ++ item_tokens (expansions shapes.now) item) }
-    ensures read_back { OnOk result (ItemReadsBack (expansions shapes.now) item) }
+        ≡ writer.old.tokens ++ item_tokens (shapes_in spellings.old) item) }
+    ensures read_back { OnOk result (ItemReadsBack (shapes_in spellings.old) item) }
 {
     if let Some(number) = item {
         writer.key("item")?;
-        write_shape(alloc, writer, shapes, number)?;
+        spellings.write(writer, number)?;
     }
     Ok(())
-}
-
-/// The spelling of the shape of that number.
-fn write_shape(
-    alloc: Global,
-    writer: &mut Writer,
-    shapes: &Shapes,
-    number: usize,
-) -> Result<(), OutOfMemory>
-    requires below { number < length shapes.now }
-    ensures before { writer.new.before ≡ writer.old.before }
-    ensures tokens { OnOk result (writer.new.tokens
-        ≡ writer.old.tokens ++ tree_tokens (shape_tree (expansions shapes.now) number)) }
-    ensures reads_back { OnOk result (ReadsBack (shape_tree (expansions shapes.now) number)) }
-{
-    let Some(shape) = shapes.expand(number)? else {
-        unreachable!()
-    };
-    let tree = asl_shape::write(alloc, &shape)?;
-    asl_tree::write(writer, &tree)
 }

@@ -23,6 +23,7 @@ mod running;
 mod runs;
 mod sinks;
 mod sources;
+mod spellings;
 mod texts;
 mod tracing;
 mod verifying;
