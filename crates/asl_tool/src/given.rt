@@ -70,10 +70,7 @@ pub(crate) fn read_given<S: Source>(
             fault,
         })),
     };
-    let answers = match answers_in_source(alloc, answers) {
-        Ok(answers) => answers,
-        Err(fault) => return Err(fault),
-    };
+    let answers = answers_in_source(alloc, answers)?;
     Ok(Given {
         machine,
         declared,
@@ -108,10 +105,7 @@ fn answers_in_source<S: Source>(alloc: Global, source: &mut S) -> Result<VecDequ
         (λ fault. SourceFault (S.remaining source.old) (S.failed source.new) fault) }
     ensures lasting { IsTrue (S.failed source.old) → IsTrue (S.failed source.new) }
 {
-    let text = match read_text(alloc, source) {
-        Ok(text) => text,
-        Err(fault) => return Err(fault),
-    };
+    let text = read_text(alloc, source)?;
     match answers_text(alloc, &text) {
         Ok(answers) => Ok(answers),
         Err(fault) => Err(RunFault::Text(TextRefusal {

@@ -34,18 +34,9 @@ pub(crate) fn read_lines<S: Source>(alloc: Global, source: &mut S) -> Result<Lin
     ensures lasting { IsTrue (S.failed source.old) → IsTrue (S.failed source.new) }
 {
     let mut chunk = Chunk::new();
-    let definition = match next_line(alloc, source, &mut chunk) {
-        Ok(line) => line,
-        Err(fault) => return Err(fault),
-    };
-    let declared = match next_line(alloc, source, &mut chunk) {
-        Ok(line) => line,
-        Err(fault) => return Err(fault),
-    };
-    let certificate = match next_line(alloc, source, &mut chunk) {
-        Ok(line) => line,
-        Err(fault) => return Err(fault),
-    };
+    let definition = next_line(alloc, source, &mut chunk)?;
+    let declared = next_line(alloc, source, &mut chunk)?;
+    let certificate = next_line(alloc, source, &mut chunk)?;
     Ok(Lines {
         definition,
         declared,

@@ -29,10 +29,7 @@ pub(crate) fn machine_text(alloc: Global, text: &[u8]) -> Result<Machine, TextFa
     ensures machine { IfOk result (λ machine. ReadsInto text.now machine) }
     ensures refused { IfErr result (λ fault. RefusesDefinition text.now (text_fault_view fault)) }
 {
-    let value = match json_value(alloc, text) {
-        Ok(value) => value,
-        Err(fault) => return Err(fault),
-    };
+    let value = json_value(alloc, text)?;
     match asl_machine::read(alloc, &value) {
         Ok(machine) => Ok(machine),
         Err(refusal) => match refusal.fault {
@@ -47,10 +44,7 @@ pub(crate) fn declared_text(alloc: Global, text: &[u8]) -> Result<Declared, Text
     ensures declared { IfOk result (λ declared. ReadsAsDeclared text.now (declared_view declared)) }
     ensures refused { IfErr result (λ fault. RefusesDeclared text.now (text_fault_view fault)) }
 {
-    let value = match json_value(alloc, text) {
-        Ok(value) => value,
-        Err(fault) => return Err(fault),
-    };
+    let value = json_value(alloc, text)?;
     match read_declared(alloc, value) {
         Ok(declared) => Ok(declared),
         Err(fault) => Err(record_fault(fault)),
@@ -64,10 +58,7 @@ pub(crate) fn certificate_text(alloc: Global, text: &[u8]) -> Result<NumberedCer
     ensures within { IfOk result AreWithin }
     ensures refused { IfErr result (λ fault. RefusesCertificate text.now (text_fault_view fault)) }
 {
-    let value = match json_value(alloc, text) {
-        Ok(value) => value,
-        Err(fault) => return Err(fault),
-    };
+    let value = json_value(alloc, text)?;
     match read_numbered(alloc, value) {
         Ok(certificate) => Ok(certificate),
         Err(fault) => Err(record_fault(fault)),
@@ -92,10 +83,7 @@ pub(crate) fn answers_text(alloc: Global, text: &[u8]) -> Result<VecDeque<Answer
     ensures answers { IfOk result (λ answers. ReadsAsAnswers text.now (map answer_view answers.items)) }
     ensures refused { IfErr result (λ fault. RefusesAnswers text.now (text_fault_view fault)) }
 {
-    let tree = match tree_text(alloc, text) {
-        Ok(tree) => tree,
-        Err(fault) => return Err(fault),
-    };
+    let tree = tree_text(alloc, text)?;
     match read_answers(alloc, tree) {
         Ok(answers) => Ok(answers),
         Err(refusal) => Err(answers_fault(refusal)),

@@ -73,10 +73,7 @@ pub fn run_texts<R: Source, W: Sink>(
     ensures lasting_read { IsTrue (R.failed answers.old) → IsTrue (R.failed answers.new) }
     ensures lasting_write { IsTrue (W.failed out.old) → IsTrue (W.failed out.new) }
 {
-    let given = match read_given(alloc, definition, declared, input, answers) {
-        Ok(given) => given,
-        Err(fault) => return Err(fault),
-    };
+    let given = read_given(alloc, definition, declared, input, answers)?;
     let told = match run_given(alloc, given, order, max_steps) {
         Ok(told) => told,
         Err(_) => return Err(RunFault::OutOfMemory),

@@ -78,10 +78,8 @@ pub(crate) fn write_all<W: Sink>(sink: &mut W, bytes: &[u8]) -> Result<(), Faile
 {
     let mut rest = bytes;
     'writes: while !rest.is_empty() {
-        match sink.write(rest) {
-            Ok(count) => rest = &rest[count..],
-            Err(failed) => return Err(failed),
-        }
+        let count = sink.write(rest)?;
+        rest = &rest[count..];
     }
     Ok(())
 }

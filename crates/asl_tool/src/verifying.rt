@@ -105,10 +105,7 @@ pub fn check_lines<R: Source, W: Sink>(
     ensures lasting_read { IsTrue (R.failed source.old) → IsTrue (R.failed source.new) }
     ensures lasting_write { IsTrue (W.failed sink.old) → IsTrue (W.failed sink.new) }
 {
-    let lines = match read_lines(alloc, source) {
-        Ok(lines) => lines,
-        Err(fault) => return Err(fault),
-    };
+    let lines = read_lines(alloc, source)?;
     let verdict = match verify_texts(
         alloc,
         &lines.definition,

@@ -13,4 +13,4 @@ returns-clause-endless g c =
     let P : List ℕ → Type 0 = λ p. TakesFrontLine (begins c.args.source.now) (begins first.source) p (pending first.chunk) in
     three_taken (begins c.args.source.now) (begins first.source) (begins second.source) (begins third.source)
     (pending first.chunk) (pending second.chunk) (pending third.chunk)
-    (subst P c.new-chunk.ensures c.in-Ok.ensures.fronts) c.in-Ok-next_line.ensures.fronts c.in-Ok-next_line-2.ensures.fronts
+    (subst P c.new-chunk.ensures c.in_ok-definition.ensures.fronts) c.in_ok-declared.ensures.fronts c.in_ok-certificate.ensures.fronts

@@ -10,9 +10,9 @@ writes-preserved g c =
     let new = g.W.Sink.contents c.write.new.self in
     let bytes = c.args.bytes.now in
     let rest = c.writes.rest.now in
-    let n = c.in-Ok.count in
+    let n = c.in_ok-count.count in
     let P : List ℕ → Type 0 = λ v. LeavesRest old new bytes v in
     record {
-      gone = subst P (sym (take_rest rest n)) (after_write old now new bytes rest n c.writes.invariant.gone c.in-Ok.ensures.appended);
-      lasting = λ h. c.in-Ok.ensures.lasting (c.writes.invariant.lasting h);
+      gone = subst P (sym (take_rest rest n)) (after_write old now new bytes rest n c.writes.invariant.gone c.in_ok-count.ensures.appended);
+      lasting = λ h. c.in_ok-count.ensures.lasting (c.writes.invariant.lasting h);
     }
