@@ -83,7 +83,7 @@ module _ (table : Table) (declared : Declared) (row : Row) (a b : List Node) (p 
 
 -- ---- after something has flowed in
 
-module _ (table : Table) (declared : Declared) (row : Row) (one two : Walker) (t : Target) (s : Shape) (keeps : Keeps (expansions one.draft.store) (expansions two.draft.store)) (same : two.predecessors ≡ one.predecessors) (stays : StaysWaiting one.waiting.waits.items two.waiting.waits.items) (within : row.number < length two.waiting.waits.items) where
+module _ (table : Table) (declared : Declared) (row : Row) (one two : Walker) (t : Target) (s : Shape) (keeps : Keeps (expansions one.draft.store) (expansions two.draft.store)) (same : two.predecessors ≡ one.predecessors) (stays : StaysWaiting one.waiting two.waiting) (within : row.number < length two.waiting.waits.items) where
   -- the row's state is at rest in the second draft
   abbrev RestsNow : Type 0
   RestsNow = Rests table declared row (memory_of (expansions two.draft.store) two.predecessors) (draft_view two.draft)

@@ -11,5 +11,6 @@ pub mod Levels
 pub mod Measured
 pub mod Ordered
 pub mod Rebuilt
+pub mod Turns
 pub mod Underway
 pub mod Walkers

@@ -1,6 +1,7 @@
 -- The rows of a table in byte order of their names, as a map by name holds them.
-use Rattle.std.proofs.Common.{◌≡◌, ◌≢◌, ◌<◌, ◌≤◌, ◌+◌, ◌-◌, ℕ, zero, suc, List, [], ◌∷◌, length, drop, map, zip, Bor, true, if◌then◌else◌, Option, Some, None, option_map, slice_get, Ordering, Less, Equal, Greater, nat_cmp, refl, sym, ap, ap₂, ◌∙◌, subst, inl, inr, arith}
+use Rattle.std.proofs.Common.{◌≡◌, ◌≢◌, ◌<◌, ◌≤◌, ◌+◌, ◌-◌, ℕ, zero, suc, List, [], ◌∷◌, length, drop, map, zip, Bor, Bool, true, false, if◌then◌else◌, Option, Some, None, option_map, slice_get, Ordering, Less, Equal, Greater, nat_cmp, refl, sym, ap, ap₂, ◌∙◌, subst, ◌⊎◌, inl, inr, arith}
 use Rattle.std.specs.BTreeMap.{insert_entry}
+use Rattle.std.specs.Bool.{⊤}
 use Rattle.std.proofs.Math.ListN.{drop_of_length-le}
 use Rattle.std.specs.Ordering.{match_ordering, ordering_reverse, is_eq}
 use Rattle.std.specs.Cmp.Lexicographic.{slice_cmp}
@@ -18,6 +19,7 @@ use Rattle.asl_drafts.specs.Drafts.{Row, in_name_order, rows_from, rows_of, with
 use Rattle.asl_drafts.proofs.CertifiedRows.{Among, IsRowFrom, from-only, name_of, ordered-only}
 use Rattle.asl_drafts.proofs.DraftShapes.{there-within}
 use Rattle.asl_growing.specs.Order.{AreOrdered, IsPlaced, entry_seen, row_seen}
+use Rattle.asl_growing.specs.Waiting.{StandOnce}
 
 module _ {K V W : Type 0} (cmp : K → K → Ordering) (key : K → List ℕ) (seen : V → W) (made : Row → W) where
   -- an entry as it is seen, and what is made of a row
@@ -201,3 +203,77 @@ module _ (table : Table) where
       seconds : (rows : List Row) → map (λ (p : List ℕ × ℕ). p.1) (map row_seen rows) ≡ map (λ (row : Row). row.number) rows
       seconds [] = refl
       seconds (row ∷ rows) = ap (λ ns. row.number ∷ ns) (seconds rows)
+
+-- ---- no number stands twice
+
+-- the rows have different numbers
+abbrev AreApart : List Row → Type 0
+AreApart [] = ⊤
+AreApart (row ∷ rows) = ((other : Row) → Among rows other → other.number ≢ row.number) × AreApart rows
+
+-- those with one row more
+with-among : (x z : Row) (rows : List Row) → Among (with_named name_of x rows) z → (x ≡ z) ⊎ Among rows z
+with-among x z [] h = h
+with-among x z (y ∷ ys) h = by (comes_before y.name x.name) h (with-among x z ys)
+  where
+    front : (x ≡ z) ⊎ Among ys z → (x ≡ z) ⊎ ((y ≡ z) ⊎ Among ys z)
+    front (inl e) = inl e
+    front (inr a) = inr (inr a)
+
+    by : (b : Bool) → Among (if b then y ∷ with_named name_of x ys else x ∷ (y ∷ ys)) z → (Among (with_named name_of x ys) z → (x ≡ z) ⊎ Among ys z) → (x ≡ z) ⊎ ((y ≡ z) ⊎ Among ys z)
+    by true (inl e) further = inr (inl e)
+    by true (inr a) further = front (further a)
+    by false a further = a
+
+with-apart : (x : Row) (rows : List Row) → ((z : Row) → Among rows z → z.number ≢ x.number) → AreApart rows → AreApart (with_named name_of x rows)
+with-apart x [] new apart = (λ z h. absurd h, tt)
+with-apart x (y ∷ ys) new apart = by (comes_before y.name x.name) (with-apart x ys (λ z h. new z (inr h)) apart.1)
+  where
+    front : (z : Row) → (x ≡ z) ⊎ Among ys z → z.number ≢ y.number
+    front z (inl e) same = new y (inl refl) (sym (ap (λ (r : Row). r.number) e ∙ same))
+    front z (inr a) same = apart.0 z a same
+
+    by : (b : Bool) → AreApart (with_named name_of x ys) → AreApart (if b then y ∷ with_named name_of x ys else x ∷ (y ∷ ys))
+    by true further = (λ z h. front z (with-among x z ys h), further)
+    by false further = (new, apart)
+
+order-apart : (rows : List Row) → AreApart rows → AreApart (in_name_order name_of rows)
+order-apart [] apart = tt
+order-apart (x ∷ xs) apart = with-apart x (in_name_order name_of xs) (λ z h. apart.0 z (ordered-only name_of xs z h)) (order-apart xs apart.1)
+
+-- those of a table
+from-apart : (i : ℕ) (names : List (List ℕ)) (states : List State) → AreApart (rows_from i (zip names states))
+from-apart i [] states = tt
+from-apart i (n ∷ names) [] = tt
+from-apart i (n ∷ names) (state ∷ states) = (λ z h. later z (from-only (suc i) names states z h), from-apart (suc i) names states)
+  where
+    later : (z : Row) → IsRowFrom (suc i) names states z → z.number ≢ i
+    later z known same = omega (arith, same, known.number)
+
+-- the row of a number in the list
+numbered-row : (rows : List Row) (i n : ℕ) → slice_get (map (λ (row : Row). row.number) rows) i ≡ Some n → (row : Row) × Among rows row × (row.number ≡ n)
+numbered-row [] i n h = none_some h
+numbered-row (r ∷ rows) zero n h = (r, inl refl, some_inj h)
+numbered-row (r ∷ rows) (suc i) n h =
+    let further = numbered-row rows i n h in
+    (further.0, inr further.1, further.2)
+
+apart-once : (rows : List Row) → AreApart rows → (i j n : ℕ) → slice_get (map (λ (row : Row). row.number) rows) i ≡ Some n → slice_get (map (λ (row : Row). row.number) rows) j ≡ Some n → i ≡ j
+apart-once [] apart i j n a b = none_some a
+apart-once (r ∷ rows) apart zero zero n a b = refl
+apart-once (r ∷ rows) apart zero (suc j) n a b =
+    let other = numbered-row rows j n b in
+    absurd (apart.0 other.0 other.1 (other.2 ∙ sym (some_inj a)))
+apart-once (r ∷ rows) apart (suc i) zero n a b =
+    let other = numbered-row rows i n a in
+    absurd (apart.0 other.0 other.1 (other.2 ∙ sym (some_inj b)))
+apart-once (r ∷ rows) apart (suc i) (suc j) n a b = ap suc (apart-once rows apart.1 i j n a b)
+
+-- the numbers in the order of the names
+pub stand-once : (table : Table) (numbers : List ℕ) → AreOrdered table numbers → are_distinct table.names ≡ true → StandOnce numbers
+stand-once table numbers are distinct = record {
+  once = λ i j n a b. apart-once (rows_of table) (order-apart (rows_from 0 (zip table.names table.states)) (from-apart 0 table.names table.states)) i j n (there i n a) (there j n b);
+}
+  where
+    there : (i n : ℕ) → slice_get numbers i ≡ Some n → slice_get (map (λ (row : Row). row.number) (rows_of table)) i ≡ Some n
+    there i n h = ap (λ ns. slice_get ns i) (sym (are.ordered distinct)) ∙ h

@@ -63,7 +63,7 @@ module _ (one two : Walker) (t : Target) (origin : Origin) (drafts : two.draft �
 
 -- ---- it is taken in
 
-module _ (table : Table) (declared : Declared) (row : Row) (one two : Walker) (t : Target) (f : ℕ) (keeps : Keeps (expansions one.draft.store) (expansions two.draft.store)) (same : two.predecessors ≡ one.predecessors) (stays : StaysWaiting one.waiting.waits.items two.waiting.waits.items) (in_waits : row.number < length two.waiting.waits.items) (below : f < length one.draft.store) (changed : Bool) where
+module _ (table : Table) (declared : Declared) (row : Row) (one two : Walker) (t : Target) (f : ℕ) (keeps : Keeps (expansions one.draft.store) (expansions two.draft.store)) (same : two.predecessors ≡ one.predecessors) (stays : StaysWaiting one.waiting two.waiting) (in_waits : row.number < length two.waiting.waits.items) (below : f < length one.draft.store) (changed : Bool) where
   -- what flows
   abbrev flowing : Shape
   flowing = shape_at (expansions one.draft.store) f
@@ -158,7 +158,7 @@ module _ {E : Type 0} (r : Result Bool E) (zero one two : Walker) (t : Target) (
       by (Err e) told = tt
 
   -- and the one that is walked
-  module _ (table : Table) (f : ℕ) (step : Walked) (keeps : Keeps (expansions one.draft.store) (expansions two.draft.store)) (same : two.predecessors ≡ one.predecessors) (stays : StaysWaiting one.waiting.waits.items two.waiting.waits.items) (below : f < length one.draft.store) (here : flowed one.predecessors t origin ≡ Some f) (leads : (known : Memory) (draft : model.Draft) (place : ℕ) → FlowRests origin.state known draft place (Some (target_view t)) (shape_at (expansions one.draft.store) f) → StepRests table origin.state known draft place step) where
+  module _ (table : Table) (f : ℕ) (step : Walked) (keeps : Keeps (expansions one.draft.store) (expansions two.draft.store)) (same : two.predecessors ≡ one.predecessors) (stays : StaysWaiting one.waiting two.waiting) (below : f < length one.draft.store) (here : flowed one.predecessors t origin ≡ Some f) (leads : (known : Memory) (draft : model.Draft) (place : ℕ) → FlowRests origin.state known draft place (Some (target_view t)) (shape_at (expansions one.draft.store) f) → StepRests table origin.state known draft place step) where
     -- one more step of a row with that number
     step-on : (changed : Bool) → Makes room (taken_at (Some (target_view t)) (shape_at (expansions one.draft.store) f)) (draft_view one.draft) changed (draft_view two.draft) → (changed ≡ true → HaveWoken (length one.draft.store) two.draft two.predecessors t two.waiting.waits.items) → StepsOn table origin step zero two
     step-on changed makes wakes = record {
@@ -206,7 +206,7 @@ steps-push table n (first ∷ done) step d = steps-push table n done step (step_
 
 pub record HasWalked (table : Table) (n : ℕ) (steps done : List Walked) (first : Walker) (changed : Bool) (now : Walker) : Type 0 where
   pub makes : Makes room (steps_taken table n done) (draft_view first.draft) changed (draft_view now.draft)
-  pub waits : StaysWaiting first.waiting.waits.items now.waiting.waits.items
+  pub waits : StaysWaiting first.waiting now.waiting
   pub others : OthersStayCalm n first now
   pub walked : (declared : Declared) (row : Row) → row.number ≡ n → row.number < length now.waiting.waits.items → steps_of declared (draft_view first.draft) row ≡ steps → IsUnderway table declared row steps done now
   pub keeps : Keeps (expansions first.draft.store) (expansions now.draft.store)
@@ -216,7 +216,7 @@ module _ (table : Table) (n : ℕ) (steps : List Walked) (first : Walker) where
   pub walked-none : HasWalked table n steps [] first false first
   walked-none = record {
     makes = record { made = refl; told = refl };
-    waits = record { many = refl; stays = λ m h. h };
+    waits = record { many = refl; order = refl; stays = λ m h. h };
     others = record { calm = λ other declared row apart in_waits was. was };
     walked = λ declared row number in_waits same. record { underway = inr (same, tt) };
     keeps = keeps_same (expansions first.draft.store);
@@ -224,13 +224,13 @@ module _ (table : Table) (n : ℕ) (steps : List Walked) (first : Walker) where
 
   -- along one more
   pub walked-more : (done : List Walked) (step : Walked) (one two : Walker) (origin : Origin) (before changed after : Bool) → HasWalked table n steps done first before one → origin.state ≡ n → length done ≡ origin.place → after ≡ (before || changed)
-      → Makes room (step_taken table origin.state step) (draft_view one.draft) changed (draft_view two.draft) → StaysWaiting one.waiting.waits.items two.waiting.waits.items → OthersStayCalm origin.state one two → StepsOn table origin step one two → Keeps (expansions one.draft.store) (expansions two.draft.store)
+      → Makes room (step_taken table origin.state step) (draft_view one.draft) changed (draft_view two.draft) → StaysWaiting one.waiting two.waiting → OthersStayCalm origin.state one two → StepsOn table origin step one two → Keeps (expansions one.draft.store) (expansions two.draft.store)
       → HasWalked table n steps (done ++ step ∷ []) first after two
   walked-more done step one two origin before changed after h state place either makes waits others further keeps = record {
     makes = subst (λ c. Makes room (steps_taken table n (done ++ step ∷ [])) (draft_view first.draft) c (draft_view two.draft)) (sym either) (
         let twice = makes-twice room (steps_taken table n done) (step_taken table n step) (draft_view first.draft) (draft_view one.draft) (draft_view two.draft) before changed h.makes (subst (λ m. Makes room (step_taken table m step) (draft_view one.draft) changed (draft_view two.draft)) state makes) in
         record { made = twice.made ∙ sym (steps-push table n done step (draft_view first.draft)); told = twice.told });
-    waits = record { many = waits.many ∙ h.waits.many; stays = λ m w. waits.stays m (h.waits.stays m w) };
+    waits = record { many = waits.many ∙ h.waits.many; order = waits.order ∙ h.waits.order; stays = λ m w. waits.stays m (h.waits.stays m w) };
     others = record { calm = λ other declared row apart in_waits was. others.calm other declared row (λ e. apart (e ∙ state)) in_waits (h.others.calm other declared row apart (omega (arith, in_waits, waits.many)) was) };
     walked = λ declared row number in_waits same. further.further declared row steps done (number ∙ sym state) in_waits place (h.walked declared row number (omega (arith, in_waits, waits.many)) same);
     keeps = keeps_trans _ _ _ h.keeps keeps;

@@ -16,6 +16,7 @@ use Rattle.asl_growing.specs.declared.draft.Target.{Target}
 use Rattle.asl_growing.specs.declared.predecessors.Inflow.{Inflow}
 use Rattle.asl_growing.specs.declared.predecessors.Origin.{Origin}
 use Rattle.asl_growing.specs.declared.predecessors.Predecessors.{Predecessors}
+use Rattle.asl_growing.specs.declared.waiting.Waiting.{Waiting}
 use Rattle.asl_edges.proofs.Kept.{shown, within}
 
 -- ---- one more waits
@@ -37,8 +38,9 @@ set-stays (w ∷ ws) zero (suc m) h = h
 set-stays (w ∷ ws) (suc n) zero h = h
 set-stays (w ∷ ws) (suc n) (suc m) h = set-stays ws n m h
 
-pub waits-more : (before ws : List Bool) (n : ℕ) → StaysWaiting before ws → StaysWaiting before (slice_set ws n true)
-waits-more before ws n stays = record { many = set-many ws n ∙ stays.many; stays = λ m h. set-stays ws n m (stays.stays m h) }
+-- one after the other
+pub waits-twice : (before between after : Waiting) → StaysWaiting before between → StaysWaiting between after → StaysWaiting before after
+waits-twice before between after one two = record { many = two.many ∙ one.many; order = two.order ∙ one.order; stays = λ m h. two.stays m (one.stays m h) }
 
 -- ---- what is remembered
 
@@ -101,7 +103,7 @@ again-all draft predecessors target ws items index end found again = record {
 
 -- ---- after a change
 
-pub woken : (bound : ℕ) (d e : Draft) (p q : Predecessors) (target : Target) (ws more : List Bool) → bound ≤ length d.store → Keeps (expansions d.store) (expansions e.store) → draft_view e ≡ draft_view d → q ≡ p → ReaderWaits (target_view target) ws → StaysWaiting ws more → PredecessorsWait d p target more → HaveWoken bound e q target more
+pub woken : (bound : ℕ) (d e : Draft) (p q : Predecessors) (target : Target) (ws more : Waiting) → bound ≤ length d.store → Keeps (expansions d.store) (expansions e.store) → draft_view e ≡ draft_view d → q ≡ p → ReaderWaits (target_view target) ws.waits.items → StaysWaiting ws more → PredecessorsWait d p target more.waits.items → HaveWoken bound e q target more.waits.items
 woken bound d e p q target ws more long keeps same preds reader stays again = record {
   reader = record { reader = λ n within. read n (reader.reader n (omega (arith, within, stays.many))) };
   again = λ origin f is in_ws below.
@@ -109,7 +111,7 @@ woken bound d e p q target ws more long keeps same preds reader stays again = re
       told f there (again.each origin f (subst (λ r. flowed r target origin ≡ Some f) preds is) in_ws there);
 }
   where
-    read : (n : ℕ) → IsPassedBy n (target_view target) ⊎ (waits_in ws n ≡ true) → IsPassedBy n (target_view target) ⊎ (waits_in more n ≡ true)
+    read : (n : ℕ) → IsPassedBy n (target_view target) ⊎ (waits_in ws.waits.items n ≡ true) → IsPassedBy n (target_view target) ⊎ (waits_in more.waits.items n ≡ true)
     read n (inl passed) = inl passed
     read n (inr waits) = inr (stays.stays n waits)
 

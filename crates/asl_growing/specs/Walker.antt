@@ -12,11 +12,13 @@ use Rattle.asl_growing.specs.declared.draft.Draft.{Draft}
 use Rattle.asl_growing.specs.declared.draft.Target.{Target}
 use Rattle.asl_growing.specs.declared.predecessors.Origin.{Origin}
 use Rattle.asl_growing.specs.declared.predecessors.Predecessors.{Predecessors}
+use Rattle.asl_growing.specs.declared.waiting.Waiting.{Waiting}
 
--- there are as many states, and each that waited waits
-pub record StaysWaiting (before after : List Bool) : Type 0 where
-  pub many : length after ≡ length before
-  pub stays : (n : ℕ) → waits_in before n ≡ true → waits_in after n ≡ true
+-- there are as many states in the same order, and each that waited waits
+pub record StaysWaiting (before after : Waiting) : Type 0 where
+  pub many : length after.waits.items ≡ length before.waits.items
+  pub order : after.order ≡ before.order
+  pub stays : (n : ℕ) → waits_in before.waits.items n ≡ true → waits_in after.waits.items n ≡ true
 
 -- the state that looks at the shape waits
 pub record ReaderWaits (target : model.Target) (waits : List Bool) : Type 0 where

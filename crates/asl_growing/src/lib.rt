@@ -19,5 +19,5 @@ pub use draft::{Draft, Target};
 pub use order::order_of;
 pub use predecessors::{Inflow, Origin, Predecessors};
 pub use store::Store;
-pub use waiting::Waiting;
+pub use waiting::{Turn, Waiting};
 pub use walker::Walker;

@@ -46,7 +46,7 @@ impl Walker {
             (steps_taken (table_view machine.now) number
             (steps_of (expansions self.old.draft.store) edges.now))
             (draft_view self.old.draft) changed (draft_view self.new.draft)) }
-        ensures waits { StaysWaiting self.old.waiting.waits.items self.new.waiting.waits.items }
+        ensures waits { StaysWaiting self.old.waiting self.new.waiting }
         ensures others { IfOk result (λ changed. OthersStayCalm number self.old self.new) }
         ensures walked { IfOk result
             (λ changed. IsCalmAfter (table_view machine.now) number
@@ -80,7 +80,7 @@ impl Walker {
             (step_taken (table_view machine.now) origin.state
             (edge_view (expansions self.old.draft.store) edge.now))
             (draft_view self.old.draft) changed (draft_view self.new.draft)) }
-        ensures waits { StaysWaiting self.old.waiting.waits.items self.new.waiting.waits.items }
+        ensures waits { StaysWaiting self.old.waiting self.new.waiting }
         ensures others { IfOk result (λ changed. OthersStayCalm origin.state self.old self.new) }
         ensures walked { IfOk result
             (λ changed. StepsOn (table_view machine.now) origin
@@ -106,7 +106,7 @@ impl Walker {
             (taken_at (Some (target_view target))
             (shape_at (expansions self.old.draft.store) flowing))
             (draft_view self.old.draft) changed (draft_view self.new.draft)) }
-        ensures waits { StaysWaiting self.old.waiting.waits.items self.new.waiting.waits.items }
+        ensures waits { StaysWaiting self.old.waiting self.new.waiting }
         ensures woken { IfOk result
             (λ changed. changed ≡ true
             → HaveWoken (length self.old.draft.store) self.new.draft self.new.predecessors target
@@ -121,21 +121,22 @@ impl Walker {
     {
         let changed = self.draft.take(target, flowing)?;
         if changed {
-            self.wake_reader(target);
+            self.wake_reader(target)?;
             self.wake_predecessors(target)?;
         }
         Ok(changed)
     }
 
     // The state that looks at that shape when it is walked waits: none looks at its own output or at the machine's.
-    fn wake_reader(&mut self, target: Target)
-        ensures waits { StaysWaiting self.old.waiting.waits.items self.new.waiting.waits.items }
-        ensures reader { ReaderWaits (target_view target) self.new.waiting.waits.items }
+    fn wake_reader(&mut self, target: Target) -> Result<(), OutOfMemory>
+        ensures waits { StaysWaiting self.old.waiting self.new.waiting }
+        ensures reader { OnOk result
+            (ReaderWaits (target_view target) self.new.waiting.waits.items) }
         ensures draft { self.new.draft ≡ self.old.draft }
         ensures predecessors { self.new.predecessors ≡ self.old.predecessors }
     {
         match target {
-            Target::MachineOutput | Target::Output(_) => {}
+            Target::MachineOutput | Target::Output(_) => Ok(()),
             Target::Input(state) | Target::End { state, .. } => self.waiting.wake(state),
         }
     }
@@ -143,7 +144,7 @@ impl Walker {
     // The states wait that would change that shape by what flowed out of them when they were walked last: a join may
     // undo what another one did.
     fn wake_predecessors(&mut self, target: Target) -> Result<(), OutOfMemory>
-        ensures waits { StaysWaiting self.old.waiting.waits.items self.new.waiting.waits.items }
+        ensures waits { StaysWaiting self.old.waiting self.new.waiting }
         ensures again { OnOk result
             (PredecessorsWait self.old.draft self.old.predecessors target
             self.new.waiting.waits.items) }
@@ -155,7 +156,7 @@ impl Walker {
         let inflows = self.predecessors.inflows(target)?;
         for inflow in &inflows {
             if self.draft.would_change(target, inflow.flowing)? {
-                self.waiting.wake(inflow.state);
+                self.waiting.wake(inflow.state)?;
             }
         }
         Ok(())

@@ -79,7 +79,6 @@ given_kept a b given keeps is = record {
   tasks = tasks_kept (declared_in given) (table_in given).names a b given.tasks.items keeps is.tasks;
   many = is.many;
   input = shows_kept a b (declared_in given).input given.input keeps is.input;
-  order = is.order;
 }
 
 -- the task of a row

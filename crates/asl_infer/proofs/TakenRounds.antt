@@ -1,5 +1,5 @@
 -- Rounds as they are taken, row by row, and round by round.
-use Rattle.std.proofs.Common.{◌≡◌, ◌≢◌, ◌<◌, ◌≤◌, ◌+◌, ◌*◌, ℕ, zero, suc, List, [], ◌∷◌, length, drop, get_or, map, slice_get, Bool, true, false, Option, Some, None, option_map, Result, Ok, Err, refl, sym, ap, ◌∙◌, subst, ◌⊎◌, inl, inr, arith}
+use Rattle.std.proofs.Common.{◌≡◌, ◌≢◌, ◌<◌, ◌≤◌, ◌+◌, ◌-◌, ◌*◌, ℕ, zero, suc, List, [], ◌∷◌, length, drop, get_or, map, slice_get, Bool, true, false, Option, Some, None, option_map, Result, Ok, Err, refl, sym, ap, ◌∙◌, subst, ◌⊎◌, inl, inr, arith}
 use Rattle.std.proofs.lemmas.List.{length-map, drop_all}
 use Rattle.std.proofs.lemmas.Option.{slice_get-get_or, slice_get-map}
 use Rattle.asl_model.specs.Certificate as model
@@ -10,13 +10,17 @@ use Rattle.asl_model.specs.ShapeSpelling.{are_distinct}
 use Rattle.asl_model.proofs.RunOptions.{none_some, some_inj}
 use Rattle.asl_drafts.specs.Drafts.{Draft, Input, Row, after_rounds, all_walked, first_draft, input_taken, misnamed, round, rows_of, taken_at, unless_found, unless_told}
 use Rattle.asl_drafts.proofs.CertifiedRows.{Among, row-known}
-use Rattle.asl_growing.specs.Drafted.{room}
+use Rattle.asl_growing.specs.Drafted.{draft_view, room}
 use Rattle.asl_growing.specs.Entries.{Makes}
 use Rattle.asl_growing.specs.Order.{AreOrdered}
+use Rattle.asl_growing.specs.Waiting.{NoneWaits}
+use Rattle.asl_growing.specs.declared.walker.Walker.{Walker}
+use Rattle.asl_growing.proofs.Ordered.{stand-once}
 use Rattle.asl_check.specs.View.{finding_view}
-use Rattle.asl_infer.specs.Rounds.{EndsWhereNamed, IsChanged, IsEndOf, IsIn, RoundTells, SettlesWhereNamed, TakesRound, Tells, WalkTells, Walks}
+use Rattle.asl_infer.specs.Rounds.{AreCalm, EndsWhereNamed, IsChanged, IsEndOf, IsIn, RoundTells, SettlesWhereNamed, TakesRound, Tells, WalkTells, Walks}
 use Rattle.asl_infer.specs.declared.inferring.InferRefusal.{InferRefusal}
 use Rattle.asl_infer.specs.declared.inferring.InferRefusal.TheVariants as refusal
+use Rattle.asl_infer.proofs.CalmStates.{pass-walks}
 use Rattle.asl_infer.proofs.FirstRooms.{first-room}
 
 -- ---- changes
@@ -74,9 +78,8 @@ pub record IsNext (table : Table) (place n : ℕ) : Type 0 where
   pub left : drop place (rows_of table) ≡ row ∷ drop (place + 1) (rows_of table)
 
 module _ (table : Table) (numbers : List ℕ) (are : AreOrdered table numbers) (distinct : are_distinct table.names ≡ true) where
-  pub next-row : (place number : ℕ) → place < length numbers → number ≡ get_or numbers place number → IsNext table place number
-  next-row place number within is =
-      let here : slice_get numbers place ≡ Some number = slice_get-get_or numbers place number within ∙ ap Some (sym is) in
+  pub next-row : (place number : ℕ) → slice_get numbers place ≡ Some number → IsNext table place number
+  next-row place number here =
       let seen : option_map (λ (row : Row). row.number) (slice_get (rows_of table) place) ≡ Some number = sym (slice_get-map (λ (row : Row). row.number) (rows_of table) place) ∙ (ap (λ ns. slice_get ns place) (sym (are.ordered distinct)) ∙ here) in
       let there = seen-at (λ (row : Row). row.number) (slice_get (rows_of table) place) number seen in
       let after : suc place ≡ place + 1 = omega arith in
@@ -104,26 +107,58 @@ module _ (table : Table) (declared : model.Declared) where
   pub begin-round : (before : Draft) (changed : Bool) (now : Draft) → Makes room (input_taken table declared) before changed now → IsInRound before 0 changed now
   begin-round before changed now makes = record { walked = λ distinct. ap (all_walked table declared (rows_of table)) makes.made; changed = record { told = makes.told } }
 
-  walk-next : (numbers : List ℕ) (before : Draft) (place number : ℕ) (changed : Bool) (now next : Draft) → AreOrdered table numbers → place < length numbers → number ≡ get_or numbers place number → IsInRound before place changed now → Walks table declared number now next → are_distinct table.names ≡ true → all_walked table declared (drop (place + 1) (rows_of table)) next ≡ round table declared before
-  walk-next numbers before place number changed now next are within is so_far walks distinct =
-      let at = next-row table numbers are distinct place number within is in
-      sym (ap (λ rows. all_walked table declared rows now) at.left ∙ ap (unless_told (all_walked table declared (drop (place + 1) (rows_of table)))) (walks.walks at.row at.among at.number)) ∙ so_far.walked distinct
+  -- rows of states that don't wait are passed over
+  pass-rows : (walker : Walker) → AreCalm table declared walker → are_distinct table.names ≡ true → (count from : ℕ) → from + count ≤ length walker.waiting.order.items → NoneWaits walker.waiting.order.items walker.waiting.waits.items from (from + count) → all_walked table declared (drop from (rows_of table)) (draft_view walker.draft) ≡ all_walked table declared (drop (from + count) (rows_of table)) (draft_view walker.draft)
+  pass-rows walker are distinct zero from within none =
+      let same : from ≡ from + 0 = omega arith in
+      ap (λ i. all_walked table declared (drop i (rows_of table)) (draft_view walker.draft)) same
+  pass-rows walker are distinct (suc count) from within none =
+      let numbers = walker.waiting.order.items in
+      let number = get_or numbers from 0 in
+      let at : slice_get numbers from ≡ Some number = slice_get-get_or numbers from 0 (omega (arith, within)) in
+      let quiet = none.none (stand-once table numbers are.ordered distinct) number from (omega arith) (omega arith) at in
+      let walks = pass-walks table declared walker number quiet are in
+      let next = next-row table numbers are.ordered distinct from number at in
+      let same : (from + 1) + count ≡ from + suc count = omega arith in
+      ap (λ rows. all_walked table declared rows (draft_view walker.draft)) next.left
+      ∙ (ap (unless_told (all_walked table declared (drop (from + 1) (rows_of table)))) (walks.walks next.row next.among next.number)
+      ∙ (pass-rows walker are distinct count (from + 1) (omega (arith, within)) (record { none = λ once n place least below there. none.none once n place (omega (arith, least)) (omega (arith, below)) there })
+      ∙ ap (λ i. all_walked table declared (drop i (rows_of table)) (draft_view walker.draft)) same))
 
-  pub walk-changed : (numbers : List ℕ) (before : Draft) (place number : ℕ) (changed : Bool) (now next : Draft) → AreOrdered table numbers → place < length numbers → number ≡ get_or numbers place number → IsInRound before place changed now → Walks table declared number now next → IsChanged now true next → IsInRound before (place + 1) true next
-  walk-changed numbers before place number changed now next are within is so_far walks more = record {
-    walked = walk-next numbers before place number changed now next are within is so_far walks;
+  pub pass-round : (walker : Walker) (before : Draft) (from place : ℕ) (changed : Bool) → AreCalm table declared walker → from ≤ place → place ≤ length walker.waiting.order.items → NoneWaits walker.waiting.order.items walker.waiting.waits.items from place → IsInRound before from changed (draft_view walker.draft) → IsInRound before place changed (draft_view walker.draft)
+  pass-round walker before from place changed are after within none so_far = record {
+    walked = λ distinct. sym (passed distinct) ∙ so_far.walked distinct;
+    changed = so_far.changed;
+  }
+    where
+      same : from + (place - from) ≡ place
+      same = omega (arith, after)
+
+      passed : are_distinct table.names ≡ true → all_walked table declared (drop from (rows_of table)) (draft_view walker.draft) ≡ all_walked table declared (drop place (rows_of table)) (draft_view walker.draft)
+      passed distinct =
+          pass-rows walker are distinct (place - from) from (omega (arith, same, within)) (subst (NoneWaits walker.waiting.order.items walker.waiting.waits.items from) (sym same) none)
+          ∙ ap (λ i. all_walked table declared (drop i (rows_of table)) (draft_view walker.draft)) same
+
+  walk-next : (numbers : List ℕ) (before : Draft) (place number : ℕ) (changed : Bool) (now next : Draft) → AreOrdered table numbers → slice_get numbers place ≡ Some number → IsInRound before place changed now → Walks table declared number now next → are_distinct table.names ≡ true → all_walked table declared (drop (place + 1) (rows_of table)) next ≡ round table declared before
+  walk-next numbers before place number changed now next are at so_far walks distinct =
+      let next = next-row table numbers are distinct place number at in
+      sym (ap (λ rows. all_walked table declared rows now) next.left ∙ ap (unless_told (all_walked table declared (drop (place + 1) (rows_of table)))) (walks.walks next.row next.among next.number)) ∙ so_far.walked distinct
+
+  pub walk-changed : (numbers : List ℕ) (before : Draft) (place number : ℕ) (changed : Bool) (now next : Draft) → AreOrdered table numbers → slice_get numbers place ≡ Some number → IsInRound before place changed now → Walks table declared number now next → IsChanged now true next → IsInRound before (place + 1) true next
+  walk-changed numbers before place number changed now next are at so_far walks more = record {
+    walked = walk-next numbers before place number changed now next are at so_far walks;
     changed = more-changed before now next changed so_far.changed more;
   }
 
-  pub walk-unchanged : (numbers : List ℕ) (before : Draft) (place number : ℕ) (changed : Bool) (now next : Draft) → AreOrdered table numbers → place < length numbers → number ≡ get_or numbers place number → IsInRound before place changed now → Walks table declared number now next → IsChanged now false next → IsInRound before (place + 1) changed next
-  walk-unchanged numbers before place number changed now next are within is so_far walks more = record {
-    walked = walk-next numbers before place number changed now next are within is so_far walks;
+  pub walk-unchanged : (numbers : List ℕ) (before : Draft) (place number : ℕ) (changed : Bool) (now next : Draft) → AreOrdered table numbers → slice_get numbers place ≡ Some number → IsInRound before place changed now → Walks table declared number now next → IsChanged now false next → IsInRound before (place + 1) changed next
+  walk-unchanged numbers before place number changed now next are at so_far walks more = record {
+    walked = walk-next numbers before place number changed now next are at so_far walks;
     changed = still-changed before now next changed so_far.changed more;
   }
 
   -- a walk tells
-  pub walk-told : (numbers : List ℕ) (before : Draft) (place number : ℕ) (changed : Bool) (now : Draft) (why : InferRefusal) → AreOrdered table numbers → place < length numbers → number ≡ get_or numbers place number → IsInRound before place changed now → WalkTells table declared number now why → RoundTells table declared before why
-  walk-told numbers before place number changed now why are within is so_far tells = record { tells = λ distinct. by why distinct (next-row table numbers are distinct place number within is) tells }
+  pub walk-told : (numbers : List ℕ) (before : Draft) (place number : ℕ) (changed : Bool) (now : Draft) (why : InferRefusal) → AreOrdered table numbers → slice_get numbers place ≡ Some number → IsInRound before place changed now → WalkTells table declared number now why → RoundTells table declared before why
+  walk-told numbers before place number changed now why are at so_far tells = record { tells = λ distinct. by why distinct (next-row table numbers are distinct place number at) tells }
     where
       by : (r : InferRefusal) → are_distinct table.names ≡ true → IsNext table place number → WalkTells table declared number now r → Tells (round table declared before) r
       by (refusal.Finding found) distinct at h =

@@ -1,6 +1,7 @@
 -- The first name for which a rule about what is declared is broken, as it is looked for.
 use Rattle.std.proofs.Common.{◌≡◌, ◌<◌, ◌≤◌, ◌+◌, ℕ, List, [], ◌∷◌, ◌++◌, codes, length, drop, get_or, Bool, true, false, not, ◌||◌, Option, Some, None, is_some, option_map, slice_get, String, Global, string_bytes, refl, sym, ap, ◌∙◌, subst}
 use Rattle.std.proofs.lemmas.List.{append-nil}
+use Rattle.std.proofs.lemmas.Option.{slice_get-get_or}
 use Rattle.asl_model.specs.Certificate.{Declared, TaskShapes, under}
 use Rattle.asl_model.specs.Finding.{Finding, TaskUndeclared, TaskUnknown, breach_unless, found_at}
 use Rattle.asl_model.specs.Machine.{kind_of, is_task}
@@ -52,7 +53,7 @@ module _ (table : Table) (declared : Declared) where
   pub one-less : (numbers : List ℕ) (place number : ℕ) (first this more : Option Misnamed) → AreOrdered table numbers → place < length numbers → number ≡ get_or numbers place number → option_map misnamed_view more ≡ first_of (option_map misnamed_view first) (option_map misnamed_view this) → IsFirstAt table declared number this → UndeclaredLeft place first → UndeclaredLeft (place + 1) more
   one-less numbers place number first this more are within is taken own so_far = record {
     left = λ distinct.
-        let at = next-row table numbers are distinct place number within is in
+        let at = next-row table numbers are distinct place number (slice_get-get_or numbers place number within ∙ ap Some (sym is)) in
         first-next (option_map misnamed_view first) (option_map misnamed_view this) (option_map misnamed_view more) (found_at at.row.name (breach_unless (not (is_task (kind_of at.row.state)) || is_some (under at.row.name declared.tasks)) (codes "Resource") TaskUndeclared)) (undeclared declared (drop (place + 1) (rows_of table))) (first_by_name (undeclared declared (rows_of table))) taken (own.first at.row at.among at.number)
         (sym (ap (λ rows. first_of (option_map misnamed_view first) (first_by_name (undeclared declared rows))) at.left) ∙ so_far.left distinct);
   }

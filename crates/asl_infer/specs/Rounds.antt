@@ -43,12 +43,11 @@ table_in given = table_view given.machine.now
 abbrev pub declared_in : Given → model.Declared
 declared_in given = declared_view given.declared.now
 
--- the numbers are those of what is declared, in that table, and of the states in the order of their names
+-- the numbers are those of what is declared, in that table
 pub record IsGiven (table : List Shape) (given : Given) : Type 0 where
   pub tasks : AreTasks (declared_in given) (table_in given).names table given.tasks.items
   pub many : length given.tasks.items ≡ length (table_in given).states
   pub input : Shows table (declared_in given).input given.input
-  pub order : AreOrdered (table_in given) given.order.items
 
 -- they are those of that machine and of what is declared so
 pub record IsGivenOf (shown : Machine) (declared : Declared) (table : List Shape) (given : Given) : Type 0 where
@@ -77,14 +76,16 @@ pub record IsNoRow (table : Table) (number : ℕ) : Type 0 where
 
 -- ---- states that wait or are at rest
 
--- there are flags for all, and each waits or is at rest
+-- there are flags for all, which stand in the order of their names, and each waits or is at rest
 pub record AreCalm (table : Table) (declared : model.Declared) (walker : Walker) : Type 0 where
   pub many : length walker.waiting.waits.items ≡ length table.states
+  pub ordered : AreOrdered table walker.waiting.order.items
   pub each : (row : drafts.Row) → IsIn table row → IsCalm table declared row walker
 
 -- so does each but that of that number
 pub record AreOthersCalm (table : Table) (declared : model.Declared) (number : ℕ) (walker : Walker) : Type 0 where
   pub many : length walker.waiting.waits.items ≡ length table.states
+  pub ordered : AreOrdered table walker.waiting.order.items
   pub each : (row : drafts.Row) → IsIn table row → row.number ≢ number → IsCalm table declared row walker
 
 -- ---- what the code does of a round

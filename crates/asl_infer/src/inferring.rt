@@ -137,7 +137,7 @@ fn settle(
     Ok(walker.draft.certificate(machine)?)
 }
 
-// What is given, and the draft before the first round, for which all states wait.
+// What is given, and the draft before the first round, for which all states wait. They are walked in that order.
 fn begin<'m>(
     alloc: Global,
     machine: &'m Machine,
@@ -153,9 +153,9 @@ fn begin<'m>(
         AreCalm (table_view machine.now) (declared_view declared.now) begun.1) }
 {
     let mut store = Store::new(alloc);
-    let given = Given::new(alloc, machine, declared, order, &mut store)?;
+    let given = Given::new(alloc, machine, declared, &mut store)?;
     let draft = Draft::new(machine, store)?;
-    let waiting = Waiting::new(alloc, machine.states())?;
+    let waiting = Waiting::new(alloc, machine.states(), order)?;
     let predecessors = Predecessors::new(alloc);
     let walker = Walker {
         draft,

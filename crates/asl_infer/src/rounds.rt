@@ -9,7 +9,6 @@ ghost use Rattle.asl_numbered.specs.Expansion.{expansions, shape_at, AreBelow, K
 ghost use Rattle.asl_edges.specs.View.{broken_view, edge_view, finding_fault_view, flowing_in};
 ghost use Rattle.asl_growing.specs.Drafted.{draft_view, room};
 ghost use Rattle.asl_growing.specs.Entries.{Makes};
-ghost use Rattle.asl_growing.specs.Order.{AreOrdered};
 ghost use Rattle.asl_check.specs.View.{finding_view};
 ghost use Rattle.asl_infer.specs.Rounds.{AreCalm, AreWhole, EndsWhereNamed, IsChanged};
 ghost use Rattle.asl_infer.specs.Rounds.{IsFirstBroken, IsGiven, IsGivenOf, IsNoRow, IsRowOf, RoundTells};
@@ -26,14 +25,12 @@ use asl_states::{Machine, State};
 use asl_tree::OutOfMemory;
 use std::alloc::Global;
 
-/// What is given: the machine and what is declared, with the numbers of the machine's states in the order of their
-/// names, and those of the shapes of the tasks and of the input.
+/// What is given: the machine and what is declared, with the numbers of the shapes of the tasks and of the input.
 #[derive(Drop)]
 pub(crate) struct Given<'m> {
     alloc: Global,
     machine: &'m Machine,
     declared: &'m Declared,
-    order: Vec<usize>,
     tasks: Vec<TaskNumbers>,
     input: usize,
 }
@@ -52,10 +49,8 @@ impl<'m> Given<'m> {
         alloc: Global,
         machine: &'m Machine,
         declared: &'m Declared,
-        order: Vec<usize>,
         store: &mut Store,
     ) -> Result<Given<'m>, OutOfMemory>
-        requires { AreOrdered (table_view machine.now) order.items }
         ensures given { IfOk result
             (IsGivenOf machine.now declared.now (expansions store.new)) }
         ensures keeps { Keeps (expansions store.old) (expansions store.new) }
@@ -66,7 +61,6 @@ impl<'m> Given<'m> {
             alloc,
             machine,
             declared,
-            order,
             tasks,
             input,
         })
@@ -117,10 +111,12 @@ impl<'m> Given<'m> {
             (expansions walker.new.draft.store) }
     {
         let mut changed = self.take_input(walker)?;
-        for number in &self.order {
-            if self.take_turn(*number, walker)? {
+        let mut from = 0;
+        while let Some(turn) = walker.waiting.next(from) {
+            if self.take_turn(turn.number, walker)? {
                 changed = true;
             }
+            from = turn.place + 1;
         }
         Ok(changed)
     }
@@ -159,6 +155,7 @@ impl<'m> Given<'m> {
             (draft_view walker.old.draft)) }
         ensures calm { OnOk result
             (AreCalm (table_in self.now) (declared_in self.now) walker.new) }
+        ensures order { walker.new.waiting.order ≡ walker.old.waiting.order }
         ensures keeps { Keeps (expansions walker.old.draft.store)
             (expansions walker.new.draft.store) }
     {

@@ -1,11 +1,11 @@
 use Rattle.std.proofs.Common.{◌≡◌, Contains, get_or, sym, ◌∙◌, subst}
 use Rattle.std.proofs.lemmas.List.{get_or_default}
-use Rattle.asl_growing.specs.Walker.{StaysWaiting, WaitsOrStays}
+use Rattle.asl_growing.specs.Walker.{WaitsOrStays}
 use Rattle.asl_growing.specs.declared.predecessors.Inflow.{Inflow}
 use Rattle.asl_numbered.proofs.Expansions.{keeps_trans}
-use Rattle.asl_growing.proofs.Walkers.{again-all, again-stays, again-waits, stays-before, waits-more}
+use Rattle.asl_growing.proofs.Walkers.{again-all, again-stays, again-waits, stays-before, waits-twice}
 use Rattle.asl_growing.proofs.walker.Walker.wake_predecessors.Goals as goal
-use Rattle.asl_growing.proofs.walker.Walker.wake_predecessors.Goals.{then-branch, else-branch}
+use Rattle.asl_growing.proofs.walker.Walker.wake_predecessors.Goals.{then-branch+in_ok-wake, else-branch}
 
 pub loop-inflow-preserved : goal.loop-inflow-preserved
 loop-inflow-preserved c =
@@ -16,12 +16,12 @@ loop-inflow-preserved c =
     let inflow : Inflow = get_or items l.inflow-index (record { state = 0; flowing = 0 }) in
     let at : inflow ≡ get_or items l.inflow-index inflow = get_or_default items l.inflow-index (record { state = 0; flowing = 0 }) inflow c.loop-inflow-test.true in
     elim c.if-branch.branch [
-      | then-branch w ↦ rw w.self-is record {
-        waits = subst (StaysWaiting first.waiting.waits.items) (sym w.wake.ensures) (waits-more first.waiting.waits.items ws inflow.state l.invariant.waits);
+      | then-branch+in_ok-wake w ↦ rw w.self-is record {
+        waits = waits-twice first.waiting l.self.waiting w.wake.new.self l.invariant.waits w.in_ok-wake.ensures.stays;
         draft = c.in_ok-would_change.ensures.same ∙ l.invariant.draft;
         predecessors = l.invariant.predecessors;
         keeps = keeps_trans _ _ _ l.invariant.keeps c.in_ok-would_change.ensures.keeps;
-        again = λ i x most found. subst (λ waits. WaitsOrStays first.draft c.args.target waits x.state x.flowing) (sym w.wake.ensures) (again-waits first.draft c.args.target ws items l.inflow-index inflow at c.loop-inflow-test.true l.invariant.again i x most found);
+        again = λ i x most found. subst (λ waits. WaitsOrStays first.draft c.args.target waits x.state x.flowing) (sym w.in_ok-wake.ensures.wakes) (again-waits first.draft c.args.target ws items l.inflow-index inflow at c.loop-inflow-test.true l.invariant.again i x most found);
       }
       | else-branch w ↦ rw w.self-is record {
         waits = l.invariant.waits;

@@ -7,7 +7,7 @@ use Rattle.asl_growing.proofs.walker.Walker.wake_predecessors.Given as goal
 
 abbrev pub invariant-loop-inflow : goal.invariant-loop-inflow
 invariant-loop-inflow l = record {
-  waits : StaysWaiting l.initial.self.waiting.waits.items l.self.waiting.waits.items;
+  waits : StaysWaiting l.initial.self.waiting l.self.waiting;
   draft : draft_view l.self.draft ≡ draft_view l.initial.self.draft;
   predecessors : l.self.predecessors ≡ l.initial.self.predecessors;
   keeps : Keeps (expansions l.initial.self.draft.store) (expansions l.self.draft.store);

@@ -16,7 +16,7 @@ pub returns-then-not-stop-clause-walks : goal.returns-then-not-stop-clause-walks
 returns-then-not-stop-clause-walks c = pass-walks (table_in c.args.self.now) (declared_in c.args.self.now) c.args.walker.now c.args.number (sym c.stop.ensures.told ∙ c.if-not-stop.true) c.requires.calm
 
 pub returns-then-not-stop-clause-calm : goal.returns-then-not-stop-clause-calm
-returns-then-not-stop-clause-calm c = pass-calm (table_in c.args.self.now) (declared_in c.args.self.now) c.args.walker.now _ c.args.number c.stop.ensures.stops (sym c.stop.ensures.told ∙ c.if-not-stop.true) refl refl (keeps_same (expansions c.args.walker.now.draft.store)) c.requires.calm
+returns-then-not-stop-clause-calm c = pass-calm (table_in c.args.self.now) (declared_in c.args.self.now) c.args.walker.now _ c.args.number c.stop.ensures.stops (sym c.stop.ensures.told ∙ c.if-not-stop.true) c.stop.ensures.order refl refl (keeps_same (expansions c.args.walker.now.draft.store)) c.requires.calm
 
 pub returns-in_default-clause-calm : goal.returns-in_default-clause-calm
 returns-in_default-clause-calm c =
@@ -24,7 +24,7 @@ returns-in_default-clause-calm c =
     let n = c.args.number in
     let first = c.args.walker.now in
     let one : Walker = record { draft = first.draft; waiting = c.stop.new.self; predecessors = first.predecessors } in
-    none-calm (table_in given) (declared_in given) one n c.in_default.ensures.none (stop-calm (table_in given) (declared_in given) first one n c.stop.ensures.stops refl refl (keeps_same (expansions first.draft.store)) c.requires.calm)
+    none-calm (table_in given) (declared_in given) one n c.in_default.ensures.none (stop-calm (table_in given) (declared_in given) first one n c.stop.ensures.stops c.stop.ensures.order refl refl (keeps_same (expansions first.draft.store)) c.requires.calm)
 
 pub returns-clause-walks : goal.returns-clause-walks
 returns-clause-walks c =
@@ -48,4 +48,4 @@ returns-clause-calm c =
     let after = subst (λ es. IsCalmAfter (table_in given) n (steps_of (expansions made.draft.store) es) made two) c.deref.ensures.value c.in_ok-take_edges.ensures.walked in
     walked-calm (table_in given) (declared_in given) one made two n refl refl c.in_ok-edges.ensures.same c.in_ok-edges.ensures.keeps c.in_ok-take_edges.ensures.waits c.in_ok-take_edges.ensures.others
     (state-calm given n c.in-Some.row one made two c.in_ok-edges.edges c.in-Some.ensures.there c.in_ok-edges.ensures.whole c.in_ok-edges.ensures.same after)
-    (stop-calm (table_in given) (declared_in given) first one n c.stop.ensures.stops refl refl (keeps_same (expansions first.draft.store)) c.requires.calm)
+    (stop-calm (table_in given) (declared_in given) first one n c.stop.ensures.stops c.stop.ensures.order refl refl (keeps_same (expansions first.draft.store)) c.requires.calm)
