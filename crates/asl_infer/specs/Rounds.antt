@@ -76,7 +76,7 @@ pub record IsNoRow (table : Table) (number : ℕ) : Type 0 where
 
 -- ---- states that wait or are at rest
 
--- there are flags for all, which stand in the order of their names, and each waits or is at rest
+-- there are flags for all, the order is that of their names, and each waits or is at rest
 pub record AreCalm (table : Table) (declared : model.Declared) (walker : Walker) : Type 0 where
   pub many : length walker.waiting.waits.items ≡ length table.states
   pub ordered : AreOrdered table walker.waiting.order.items
