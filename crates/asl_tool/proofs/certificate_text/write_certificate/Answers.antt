@@ -1,5 +1,4 @@
 use Rattle.std.proofs.Common.{◌≡◌, ap, subst, ◌∙◌}
-use Rattle.std.specs.List.Sorted.{IsStrictlySortedBy}
 use Rattle.asl_numbered.specs.Expansion.{expansions}
 use Rattle.asl_tree.specs.Written.{ReadsBack}
 use Rattle.asl_tool.specs.CertificateTokens.{shape_tree, shapes_in, StatesReadBack}
