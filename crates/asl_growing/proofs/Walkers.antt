@@ -9,6 +9,7 @@ use Rattle.asl_numbered.specs.Expansion.{expansions, shape_at, Keeps}
 use Rattle.asl_growing.specs.Drafted.{draft_view, target_view}
 use Rattle.asl_growing.specs.Predecessors.{flowed}
 use Rattle.asl_growing.specs.Waiting.{waits_in}
+use Rattle.asl_growing.proofs.Turns.{set-here, set-many}
 use Rattle.asl_growing.specs.Walker.{HaveWoken, PredecessorsWait, ReaderWaits, StaysWaiting, WaitsOrStays}
 use Rattle.asl_drafts.specs.Resting.{IsPassedBy}
 use Rattle.asl_growing.specs.declared.draft.Draft.{Draft}
@@ -20,16 +21,6 @@ use Rattle.asl_growing.specs.declared.waiting.Waiting.{Waiting}
 use Rattle.asl_edges.proofs.Kept.{shown, within}
 
 -- ---- one more waits
-
-set-many : (ws : List Bool) (n : ℕ) → length (slice_set ws n true) ≡ length ws
-set-many [] n = refl
-set-many (w ∷ ws) zero = refl
-set-many (w ∷ ws) (suc n) = ap suc (set-many ws n)
-
-set-here : (ws : List Bool) (n : ℕ) → n < length ws → waits_in (slice_set ws n true) n ≡ true
-set-here [] n h = absurd (omega (arith, h))
-set-here (w ∷ ws) zero h = refl
-set-here (w ∷ ws) (suc n) h = set-here ws n (omega (arith, h))
 
 set-stays : (ws : List Bool) (n m : ℕ) → waits_in ws m ≡ true → waits_in (slice_set ws n true) m ≡ true
 set-stays [] n m h = h
@@ -66,14 +57,14 @@ module _ (draft : Draft) (target : Target) (ws : List Bool) (items : List Inflow
   again-waits i x most found = go (ltb i index) refl
     where
       still : WaitsOrStays draft target ws x.state x.flowing → WaitsOrStays draft target (slice_set ws inflow.state true) x.state x.flowing
-      still h in_ws in_table = by (h (omega (arith, in_ws, set-many ws inflow.state)) in_table)
+      still h in_ws in_table = by (h (omega (arith, in_ws, set-many ws inflow.state true)) in_table)
         where
           by : (waits_in ws x.state ≡ true) ⊎ (taken_at (Some (target_view target)) (shape_at (expansions draft.store) x.flowing) (draft_view draft) ≡ draft_view draft) → (waits_in (slice_set ws inflow.state true) x.state ≡ true) ⊎ (taken_at (Some (target_view target)) (shape_at (expansions draft.store) x.flowing) (draft_view draft) ≡ draft_view draft)
           by (inl waits) = inl (set-stays ws inflow.state x.state waits)
           by (inr stays) = inr stays
 
       last : inflow ≡ x → WaitsOrStays draft target (slice_set ws inflow.state true) x.state x.flowing
-      last same = λ in_ws in_table. inl (subst (λ (y : Inflow). waits_in (slice_set ws inflow.state true) y.state ≡ true) same (set-here ws inflow.state (subst (λ (y : Inflow). y.state < length ws) (sym same) (omega (arith, in_ws, set-many ws inflow.state)))))
+      last same = λ in_ws in_table. inl (subst (λ (y : Inflow). waits_in (slice_set ws inflow.state true) y.state ≡ true) same (set-here ws inflow.state true (subst (λ (y : Inflow). y.state < length ws) (sym same) (omega (arith, in_ws, set-many ws inflow.state true)))))
 
       go : (b : Bool) → ltb i index ≡ b → WaitsOrStays draft target (slice_set ws inflow.state true) x.state x.flowing
       go true less = still (so_far i x (ltb-true i index less) found)

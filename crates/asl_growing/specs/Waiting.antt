@@ -20,20 +20,30 @@ pub record ArePlaced (order places : List ℕ) : Type 0 where
   pub placed : StandOnce order → (n place : ℕ) → slice_get order place ≡ Some n → n < length places
       → slice_get places n ≡ Some place
 
--- the states that wait have turns, at the places where they stand in the order
+-- the turns are at the first so many of the places
+pub record AreTurnsAt (places : List ℕ) (many : ℕ) (turns : BTreeSet ℕ) : Type 0 where
+  pub each : (n place : ℕ) → n < many → slice_get places n ≡ Some place → contains nat_cmp turns place ≡ true
+  pub only : (place : ℕ) → contains nat_cmp turns place ≡ true → (n : ℕ) × (slice_get places n ≡ Some place)
+
+-- the turns are the places of the states that wait, so far as they are in the order
 pub record AreQueued (order places : List ℕ) (waits : List Bool) (turns : BTreeSet ℕ) : Type 0 where
   pub many : length places ≡ length waits
   pub placed : ArePlaced order places
-  pub queued : StandOnce order → (n place : ℕ) → slice_get order place ≡ Some n → waits_in waits n ≡ true
-      → contains nat_cmp turns place ≡ true
+  pub queued : (n place : ℕ) → slice_get places n ≡ Some place → place < length order
+      → waits_in waits n ≡ true → contains nat_cmp turns place ≡ true
+  pub turn_waits : (n place : ℕ) → contains nat_cmp turns place ≡ true → slice_get order place ≡ Some n
+      → waits_in waits n ≡ true
+  pub turn_placed : (n place : ℕ) → contains nat_cmp turns place ≡ true → slice_get order place ≡ Some n
+      → slice_get places n ≡ Some place
 
 -- none waits of the states that stand from one place on and before the other
 pub record NoneWaits (order : List ℕ) (waits : List Bool) (from to : ℕ) : Type 0 where
   pub none : StandOnce order → (n place : ℕ) → from ≤ place → place < to → slice_get order place ≡ Some n
       → waits_in waits n ≡ false
 
--- the turn is that of a state that stands from that place on, and none before it waits
+-- the turn is that of a state that waits and stands from that place on, and none before it waits
 pub record IsNextTurn (order : List ℕ) (waits : List Bool) (from : ℕ) (turn : Turn) : Type 0 where
   pub after : from ≤ turn.place
   pub stands : slice_get order turn.place ≡ Some turn.number
+  pub turn_waits : waits_in waits turn.number ≡ true
   pub passed : NoneWaits order waits from turn.place

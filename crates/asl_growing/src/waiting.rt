@@ -1,9 +1,7 @@
 // The states that are still to be walked.
 
-ghost use Rattle.std.specs.Prelude.{◌≡◌, ◌<◌, ℕ, IfOk, length, replicate, slice_set, true};
-ghost use Rattle.std.specs.BTreeSet.{contains};
-ghost use Rattle.std.specs.Ordering.{nat_cmp};
-ghost use Rattle.asl_growing.specs.Waiting.{ArePlaced, AreQueued};
+ghost use Rattle.std.specs.Prelude.{◌≡◌, IfOk, length, replicate, slice_set, true};
+ghost use Rattle.asl_growing.specs.Waiting.{ArePlaced, AreQueued, AreTurnsAt};
 
 use asl_tree::OutOfMemory;
 use std::alloc::Global;
@@ -25,13 +23,13 @@ pub struct Waiting {
     order: Vec<usize>,
     /// Where each state stands in that order, by its number.
     places: Vec<usize>,
-    /// Where those stand that wait.
+    /// The places of those that wait.
     turns: BTreeSet<usize>,
     ghost queued: { AreQueued order.items places.items waits.items turns },
 }
 
 impl Waiting {
-    ghost use Rattle.std.specs.Prelude.{false, IfNone, IfSome, OnOk};
+    ghost use Rattle.std.specs.Prelude.{false, IfNone, IfSome, OnErr, OnOk};
     ghost use Rattle.asl_growing.specs.Waiting.{IsNextTurn, NoneWaits, waits_in};
     ghost use Rattle.asl_growing.specs.Walker.{StaysWaiting};
 
@@ -42,7 +40,7 @@ impl Waiting {
     {
         let waits = all_waiting(alloc, count)?;
         let places = places_in(alloc, count, &order)?;
-        let turns = all_turns(alloc, order.len())?;
+        let turns = turns_at(alloc, &places)?;
         Ok(Waiting {
             waits,
             order,
@@ -51,7 +49,8 @@ impl Waiting {
         })
     }
 
-    /// The turn of the first state that waits, from that place of the order on.
+    /// The turn of the first state that waits, of those that stand from that place of the order on, where no number
+    /// stands twice in it.
     pub fn next(&self, from: usize) -> Option<Turn>
         ensures first { IfSome result (IsNextTurn self.now.order.items self.now.waits.items from) }
         ensures none { IfNone result (NoneWaits self.now.order.items self.now.waits.items from
@@ -82,6 +81,7 @@ impl Waiting {
     pub fn wake(&mut self, number: usize) -> Result<(), OutOfMemory>
         ensures wakes { OnOk result
             (self.new.waits.items ≡ slice_set self.old.waits.items number true) }
+        ensures refused { OnErr result (self.new.waits ≡ self.old.waits) }
         ensures stays { StaysWaiting self.old self.new }
     {
         if number >= self.waits.len() || self.waits[number] {
@@ -126,14 +126,13 @@ fn put(places: &mut Vec<usize>, number: usize, place: usize)
     }
 }
 
-// The turns at all of so many places.
-fn all_turns(alloc: Global, count: usize) -> Result<BTreeSet<usize>, OutOfMemory>
-    ensures { IfOk result
-        (λ turns. (place : ℕ) → place < count → contains nat_cmp turns place ≡ true) }
+// The turns at these places.
+fn turns_at(alloc: Global, places: &[usize]) -> Result<BTreeSet<usize>, OutOfMemory>
+    ensures { IfOk result (AreTurnsAt places.now (length places.now)) }
 {
     let mut turns = BTreeSet::new(alloc);
-    for place in 0..count {
-        turns.insert(place)?;
+    for place in places {
+        turns.insert(*place)?;
     }
     Ok(turns)
 }

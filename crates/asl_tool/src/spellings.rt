@@ -17,8 +17,8 @@ struct Spelling {
     tree: Tree,
 }
 
-/// What is written for the shapes of a table. The tree that was written last is kept: in a certificate a shape stands
-/// beside itself most often, as the output of one state and the input of the next.
+/// What is written for the shapes of a table. The tree that was written last is kept: often the input and the output
+/// of a state have one shape, and so have neighbours in the order of the names.
 #[derive(Drop)]
 pub(crate) struct Spellings<'a> {
     alloc: Global,
