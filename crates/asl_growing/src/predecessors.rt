@@ -10,9 +10,10 @@ use crate::draft::Target;
 use asl_tree::OutOfMemory;
 use indexmap::IndexMap;
 use std::alloc::Global;
+use std::collections::BTreeMap;
 
 /// An edge of a state: the state's number, and the edge's place among those of the state.
-#[derive(Clone, Copy, PartialEq, Eq, Hash)]
+#[derive(Clone, Copy, PartialEq, Eq, PartialOrd, Ord)]
 pub struct Origin {
     pub state: usize,
     pub place: usize,
@@ -29,7 +30,7 @@ pub struct Inflow {
 #[derive(Drop)]
 pub struct Predecessors {
     alloc: Global,
-    inflows: IndexMap<Target, IndexMap<Origin, usize>>,
+    inflows: IndexMap<Target, BTreeMap<Origin, usize>>,
 }
 
 impl Predecessors {
@@ -55,7 +56,7 @@ impl Predecessors {
                 drop(inflows.insert(origin, flowing)?);
             }
             None => {
-                let mut inflows = IndexMap::new(self.alloc);
+                let mut inflows = BTreeMap::new(self.alloc);
                 drop(inflows.insert(origin, flowing)?);
                 drop(self.inflows.insert(target, inflows)?);
             }

@@ -112,7 +112,8 @@ impl Store {
         Ok(number.unwrap())
     }
 
-    /// The number of the join of the shapes of two numbers.
+    /// The number of the join of the shapes of two numbers: the second where no tree has the first shape, as when something
+    /// flows into a shape for the first time.
     pub(crate) fn join(&mut self, first: usize, second: usize) -> Result<usize, OutOfMemory>
         requires first { first < length self.old }
         requires second { second < length self.old }
@@ -122,6 +123,9 @@ impl Store {
             (shape_at (expansions self.old) second))) }
         ensures keeps { Keeps (expansions self.old) (expansions self.new) }
     {
+        if !self.shapes.inhabited(first).unwrap() {
+            return Ok(second);
+        }
         let number = self.shapes.join(first, second)?;
         Ok(number.unwrap())
     }

@@ -1,4 +1,4 @@
-use Rattle.std.proofs.Common.{arith, refl}
+use Rattle.std.proofs.Common.{arith}
 use Rattle.std.proofs.lemmas.Grind.{common_steps}
 use Rattle.asl_growing.proofs.Turns.{all-queued}
 use Rattle.asl_growing.proofs.waiting.Waiting.new.Goals as goal
