@@ -1,6 +1,6 @@
 // The table of a draft's shapes, with what is found out about them.
 
-ghost use Rattle.std.specs.Prelude.{◌≡◌, ◌<◌, ◌↔◌, length, map, IfOk, IfSome, IsTrue, OnOk};
+ghost use Rattle.std.specs.Prelude.{◌≡◌, ◌<◌, ◌↔◌, [], length, map, IfOk, IfSome, IsTrue, OnOk};
 ghost use Rattle.asl_model.specs.ShapeOrder as order;
 ghost use Rattle.asl_model.specs.Edges.{walk};
 ghost use Rattle.asl_shape.specs.View.{view};
@@ -62,7 +62,9 @@ impl Model for Store {
 
 impl Store {
     /// A table without shapes.
-    pub fn new(alloc: Global) -> Store {
+    pub fn new(alloc: Global) -> Store
+        ensures none { result ≡ [] }
+    {
         Store {
             alloc,
             shapes: Shapes::new(alloc),
