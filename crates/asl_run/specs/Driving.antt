@@ -114,10 +114,9 @@ pub record Drives (policy : Policy) (machine : Scope) (count : ℕ) (before afte
   pub traced : after.told ≡ before.told ++ map placed_entry (trace (run machine before.activity events))
   pub stands : last_activity before.activity (run machine before.activity events) ≡ after.activity
 
--- a place of that state waits, and no answer may come for it and its payload
-pub record IsUnanswered (MayBeSilent : List ℕ → Tree → Type 0) (state : Option (List ℕ))
-    (a : Activity) : Type 0 where
-  pub place : List ℕ
+-- a task waits at the place, and no answer may come for its payload; that is its state's name
+pub record IsUnanswered (MayBeSilent : List ℕ → Tree → Type 0) (place : List ℕ) (a : Activity)
+    (state : Option (List ℕ)) : Type 0 where
   pub name : List ℕ
   pub raw : Tree
   pub counts : List ℕ
@@ -126,15 +125,22 @@ pub record IsUnanswered (MayBeSilent : List ℕ → Tree → Type 0) (state : Op
   pub waits : activity_at place a ≡ Some (Waiting name raw counts payload)
   pub silent : MayBeSilent name payload
 
--- why driving stops after that many events, of at most so many, where that activity stands; the states have these names
--- by their numbers
-abbrev pub StopsSo : Policy → List (List ℕ) → ℕ → ℕ → Activity → Stop → Type 0
-StopsSo policy names most count a stops.Output = (output : Tree) × (outcome_of a ≡ Some (Output output))
-StopsSo policy names most count a stops.Failed =
+-- a place that may be picked is one where a task waits unanswered, of the state of that name
+pub record TurnIsUnanswered (policy : Policy) (machine : Scope) (a : Activity)
+    (state : Option (List ℕ)) : Type 0 where
+  pub place : List ℕ
+  pub picked : IsPicked policy.may_pick machine a place
+  pub unanswered : IsUnanswered policy.may_be_silent place a state
+
+-- why driving stops after that many events, of at most so many, where that activity stands
+abbrev pub StopsSo : Policy → Scope → ℕ → ℕ → Activity → Stop → Type 0
+StopsSo policy machine most count a stops.Output = (output : Tree) × (outcome_of a ≡ Some (Output output))
+StopsSo policy machine most count a stops.Failed =
     (error : List ℕ) × (cause : List ℕ) × (outcome_of a ≡ Some (FailedWith error cause))
-StopsSo policy names most count a (stops.NoAnswer state) =
-    (outcome_of a ≡ None) × (count < most) × IsUnanswered policy.may_be_silent (slice_get names state) a
-StopsSo policy names most count a stops.StepsSpent = (outcome_of a ≡ None) × (count ≡ most)
+StopsSo policy machine most count a (stops.NoAnswer state) =
+    (outcome_of a ≡ None) × (count < most)
+    × TurnIsUnanswered policy machine a (slice_get (table_of machine).names state)
+StopsSo policy machine most count a stops.StepsSpent = (outcome_of a ≡ None) × (count ≡ most)
 
 -- a run is driven from one stage to another by at most so many events, until it stops so
 pub record Stops (policy : Policy) (machine : Scope) (most : ℕ) (before : Stage) (stop : Stop)
@@ -142,7 +148,7 @@ pub record Stops (policy : Policy) (machine : Scope) (most : ℕ) (before : Stag
   pub count : ℕ
   pub within : count ≤ most
   pub drives : Drives policy machine count before after
-  pub why : StopsSo policy (table_of machine).names most count after.activity stop
+  pub why : StopsSo policy machine most count after.activity stop
 
 -- the answer that is unused, as a list
 abbrev pub unused : Option Answer → List Action
@@ -179,12 +185,12 @@ pub record ComesNext (MayGive : List ℕ → Tree → Action → Type 0) (a : Ac
   pub allowed : MayHappen MayGive (activity_at event.place a) event.action
   pub answered : given ≡ answer_in event.action ++ left
 
--- why a turn has no event, and what that leaves of the answers
-abbrev pub Pauses : (List ℕ → Tree → Type 0) → List (List ℕ) → Activity
+-- why a turn has no event, and what that leaves of the answers; so the state is unanswered, by its name
+abbrev pub Pauses : (Option (List ℕ) → Type 0) → List (List ℕ)
     → List Action → List Action → Pause → Type 0
-Pauses MayBeSilent names a given left (pauses.NoAnswer state) =
-    IsUnanswered MayBeSilent (slice_get names state) a × (left ≡ given)
-Pauses MayBeSilent names a given left (pauses.OutOfMemory answer) = given ≡ unused answer ++ left
+Pauses Unanswered names given left (pauses.NoAnswer state) =
+    Unanswered (slice_get names state) × (left ≡ given)
+Pauses Unanswered names given left (pauses.OutOfMemory answer) = given ≡ unused answer ++ left
 
 -- the event is enabled, and what it leads to is told behind what was told before
 pub record IsTold (machine : Scope) (before : Activity) (event : Event) (told longer : Told)

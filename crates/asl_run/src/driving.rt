@@ -6,7 +6,8 @@ ghost use Rattle.asl_model.specs.Machine.{Scope};
 ghost use Rattle.asl_model.specs.Run as model;
 ghost use Rattle.asl_model.specs.Tree as trees;
 ghost use Rattle.asl_run.specs.Driving.{policy_of, stage_of, Drives, Stops, BreaksOff, answer_in, unused};
-ghost use Rattle.asl_run.specs.Driving.{ComesNext, EndsSo, IsLeft, IsPicked, IsTold, Pauses, Suits};
+ghost use Rattle.asl_run.specs.Driving.{ComesNext, EndsSo, IsLeft, IsPicked, IsTold, IsUnanswered};
+ghost use Rattle.asl_run.specs.Driving.{Pauses, Suits, TurnIsUnanswered};
 ghost use Rattle.asl_run.specs.Entries.{entry_view, event_view};
 ghost use Rattle.asl_run.specs.Nodes.{shown_at};
 ghost use Rattle.asl_run.specs.Running.{run_view, IsRunOf};
@@ -133,9 +134,11 @@ fn turn<O: Order, A: Answers>(
         (stage_of (run_view run.new) (A.content answers.new)
         (map entry_view trace.new.items))) }
     ensures pauses { (m : Scope) → IsRunOf m run.old
-        → IfErr result (λ pause. Pauses (A.may_be_silent answers.old answers.new)
-        (table_view run.old.machine.now).names (run_view run.old) (A.content answers.old)
-        (A.content answers.new) pause) }
+        → let policy = policy_of (O.may_pick order.old) (A.may_give answers.old)
+        (A.may_be_silent answers.old answers.new) in
+        IfErr result (λ pause. Pauses (TurnIsUnanswered policy m (run_view run.old))
+        (table_view run.old.machine.now).names (A.content answers.old) (A.content answers.new)
+        pause) }
     ensures stays { (m : Scope) → IsRunOf m run.old
         → IfErr result (λ _. IsLeft (run_view run.old) (map entry_view trace.old.items)
         (run_view run.new) (map entry_view trace.new.items)) }
@@ -195,8 +198,10 @@ fn next_event<A: Answers>(
         → IfOk result (λ event.
         Suits (model.activity_at (event_view event).place a) (event_view event).action) }
     ensures pauses { let names = (table_view machine.now).names in
-        IfErr result (λ pause. Pauses (A.may_be_silent answers.old answers.new) names
-        (shown_at names nodes.now 0) (A.content answers.old) (A.content answers.new) pause) }
+        let Unanswered = IsUnanswered (A.may_be_silent answers.old answers.new) place.items
+        (shown_at names nodes.now 0) in
+        IfErr result (λ pause.
+        Pauses Unanswered names (A.content answers.old) (A.content answers.new) pause) }
     ensures lasting { (n : List ℕ) (t : trees.Tree) (answer : model.Action)
         → A.may_give answers.new n t answer → A.may_give answers.old n t answer }
     ensures lasting_silent { (later : A) (n : List ℕ) (t : trees.Tree)

@@ -17,6 +17,9 @@ const ONE_PASS: &str = r#"{"StartAt":"A","States":{"A":{"Type":"Pass","End":true
 const LOOP: &str =
     r#"{"StartAt":"A","States":{"A":{"Type":"Pass","Parameters":{"p.$":"$"},"Next":"A"}}}"#;
 
+/// One state, which hands its input on to itself.
+const ENDLESS: &str = r#"{"StartAt":"A","States":{"A":{"Type":"Pass","Next":"A"}}}"#;
+
 /// What is driven, by which answers and how many events at most, and what is wanted then: why driving stops, what it
 /// tells, how the run has ended, and the answer that comes next.
 struct Drive {
@@ -406,4 +409,54 @@ fn broken_off_and_gone_on(rt: HostRuntime) {
     assert_eq!(rt; stop, Stop::Output);
     compare(&rt, alloc, &trace, &AFTER);
     assert_eq!(rt; ending(&rt, alloc, &run).as_str(), r#"[1,"a"]"#);
+}
+
+/// What is told of the first of two tasks, and of the second.
+const FIRST_ASKED: [&str; 3] = [
+    r#"Enter { at: [], state: "P", input: Int(5) }"#,
+    r#"Enter { at: [0], state: "T0", input: Int(5) }"#,
+    r#"Task { at: [0], state: "T0", payload: Int(5) }"#,
+];
+const SECOND_ASKED: [&str; 2] = [
+    r#"Enter { at: [1], state: "T1", input: Int(5) }"#,
+    r#"Task { at: [1], state: "T1", payload: Int(5) }"#,
+];
+
+#[test]
+fn no_answer_at_the_place_whose_turn_it_is(rt: HostRuntime) {
+    let alloc = rt.alloc();
+    let machine = machine(&rt, alloc, TWO_TASKS);
+    let mut run = started(&rt, alloc, &machine, "5");
+    let mut answers = source(&rt, alloc, &[]);
+    let (stop, trace) = drive(&mut run, &mut First, &mut answers, 1000)
+        .ok()
+        .expect(&rt, "the run was broken off");
+    assert_eq!(rt; stop, Stop::NoAnswer(1));
+    compare(&rt, alloc, &trace, &FIRST_ASKED);
+    // The first task still waits, and the second place goes on.
+    let (stop, trace) = drive(&mut run, &mut Last, &mut answers, 1000)
+        .ok()
+        .expect(&rt, "the run was broken off");
+    assert_eq!(rt; stop, Stop::NoAnswer(2));
+    compare(&rt, alloc, &trace, &SECOND_ASKED);
+    let (stop, trace) = drive(&mut run, &mut First, &mut answers, 1000)
+        .ok()
+        .expect(&rt, "the run was broken off");
+    assert_eq!(rt; stop, Stop::NoAnswer(1));
+    compare(&rt, alloc, &trace, &[]);
+}
+
+#[test]
+fn many_steps_in_one_call(rt: HostRuntime) {
+    let alloc = rt.alloc();
+    let machine = machine(&rt, alloc, ENDLESS);
+    let mut run = started(&rt, alloc, &machine, "7");
+    let mut answers = source(&rt, alloc, &[]);
+    let (stop, trace) = drive(&mut run, &mut First, &mut answers, 1000)
+        .ok()
+        .expect(&rt, "the run was broken off");
+    assert_eq!(rt; stop, Stop::StepsSpent);
+    assert_eq!(rt; trace.len(), 2000);
+    let last = format!(in alloc; "{:?}", trace[1999]).expect(&rt, "memory");
+    assert_eq!(rt; last.as_str(), r#"Leave { at: [], state: "A", output: Int(7) }"#);
 }

@@ -1,5 +1,5 @@
 use Rattle.std.proofs.Common.{List, [], map, arith, ap, sym, subst}
-use Rattle.asl_run.specs.Driving.{Drives, policy_of, stage_of}
+use Rattle.asl_run.specs.Driving.{Drives, TurnIsUnanswered, policy_of, stage_of}
 use Rattle.asl_run.specs.Entries.{entry_view}
 use Rattle.asl_run.specs.Running.{run_view}
 use Rattle.asl_run.specs.declared.entries.Entry as code
@@ -46,8 +46,9 @@ pub returns-in-Err-NoAnswer-clause-stops : goal.returns-in-Err-NoAnswer-clause-s
 returns-in-Err-NoAnswer-clause-stops g c = λ m h.
     let here = c.turns.invariant.run m h in
     let pause = c.in-Err-NoAnswer in
-    stopped_unanswered (g.A.Answers.may_be_silent c.turns.answers c.turn.new.answers) (table_view c.turns.run.machine.now).names c.args.max_steps pause.state (omega arith) (ap (λ t. t.names) here.shown.table)
-    (c.turns.invariant.drives m h) (record { picks = λ n k e. e; gives = λ n t answer e. e }) (c.turns.invariant.lasting_silent c.turn.new.answers) c.in_default.ensures (rw pause.field-0-is at (pause.ensures.pauses m here)) (pause.ensures.stays m here)
+    let narrow = policy_of (g.O.Order.may_pick c.turns.order) (g.A.Answers.may_give c.turns.answers) (g.A.Answers.may_be_silent c.turns.answers c.turn.new.answers) in
+    stopped_unanswered narrow (table_view c.turns.run.machine.now).names c.args.max_steps pause.state (omega arith) (ap (λ t. t.names) here.shown.table)
+    (c.turns.invariant.drives m h) (record { picks = λ n k e. e; gives = λ n t answer e. e }) (record { picks = c.turns.invariant.lasting_order; gives = c.turns.invariant.lasting }) (c.turns.invariant.lasting_silent c.turn.new.answers) c.in_default.ensures (rw pause.field-0-is at (pause.ensures.pauses m here)) (pause.ensures.stays m here)
 
 pub returns-in-None-clause-stops : goal.returns-in-None-clause-stops
 returns-in-None-clause-stops g c = λ m h.
@@ -57,5 +58,6 @@ pub returns-in-Err-OutOfMemory-clause-broken_off : goal.returns-in-Err-OutOfMemo
 returns-in-Err-OutOfMemory-clause-broken_off g c = λ m h.
     let here = c.turns.invariant.run m h in
     let pause = c.in-Err-OutOfMemory in
-    broken_off_there (g.A.Answers.may_be_silent c.turns.answers c.turn.new.answers) (table_view c.turns.run.machine.now).names c.args.max_steps pause.answer (omega arith)
+    let narrow = policy_of (g.O.Order.may_pick c.turns.order) (g.A.Answers.may_give c.turns.answers) (g.A.Answers.may_be_silent c.turns.answers c.turn.new.answers) in
+    broken_off_there (TurnIsUnanswered narrow m (run_view c.turns.run)) (table_view c.turns.run.machine.now).names c.args.max_steps pause.answer (omega arith)
     (c.turns.invariant.drives m h) (record { picks = λ n k e. e; gives = λ n t answer e. e }) c.in_default.ensures (rw pause.field-0-is at (pause.ensures.pauses m here)) (pause.ensures.stays m here)

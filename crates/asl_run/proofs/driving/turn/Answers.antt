@@ -1,13 +1,14 @@
 use Rattle.std.proofs.Common.{List, map, ◌++◌, ap, sym, ◌∙◌, subst}
 use Rattle.asl_states.specs.Table.{table_view}
 use Rattle.asl_model.specs.Run.{activity_at}
-use Rattle.asl_run.specs.Driving.{ComesNext, IsPicked, Suits, policy_of, stage_of}
+use Rattle.asl_run.specs.Driving.{ComesNext, IsPicked, IsUnanswered, Pauses, Suits, policy_of, stage_of}
 use Rattle.asl_run.specs.Entries.{entry_view, event_view}
 use Rattle.asl_run.specs.Nodes.{shown_at}
 use Rattle.asl_run.specs.Running.{run_view}
 use Rattle.asl_run.specs.Standing.{StandsIn}
 use Rattle.asl_run.specs.declared.nodes.Node.{Node}
 use Rattle.asl_run.proofs.Driven.{turn_taken}
+use Rattle.asl_run.proofs.Stopping.{pauses_in_turn}
 use Rattle.asl_run.proofs.Suited.{suited_steps}
 use Rattle.asl_run.proofs.driving.turn.Goals as goal
 
@@ -26,6 +27,17 @@ returns-in-Ok-take-clause-goes_on g c =
 pub returns-in-Err-take-clause-pauses : goal.returns-in-Err-take-clause-pauses
 returns-in-Err-take-clause-pauses g c = λ m h.
     c.in-Ok-next_event.ensures.next.answered ∙ ap (λ v. v ++ g.A.Answers.content c.next_event.new.answers) (sym (c.in-Err-take.ensures.returned m h))
+
+pub returns-in-Err-next_event-clause-pauses : goal.returns-in-Err-next_event-clause-pauses
+returns-in-Err-next_event-clause-pauses g c =
+    let policy = policy_of (g.O.Order.may_pick c.args.order.now) (g.A.Answers.may_give c.args.answers.now) (g.A.Answers.may_be_silent c.args.answers.now c.next_event.new.answers) in
+    let names = (table_view c.args.run.now.machine.now).names in
+    let pause = c.in-Err-next_event.pause in
+    let place = c.in-Ok.place.items in
+    let given = g.A.Answers.content c.args.answers.now in
+    let left = g.A.Answers.content c.next_event.new.answers in
+    let P = λ (l : List Node). Pauses (IsUnanswered policy.may_be_silent place (shown_at names l 0)) names given left pause in
+    λ m h. pauses_in_turn policy m (run_view c.args.run.now) place names given left pause (c.in-Ok.ensures.picked m h) (subst P c.nodes.ensures c.in-Err-next_event.ensures.pauses)
 
 pub take-requires : goal.take-requires
 take-requires g c = record {
