@@ -194,6 +194,14 @@ fn definitions(rt: HostRuntime) {
             "EmptyList A Choices",
         ),
         (
+            r#"{"StartAt":"A","States":{"A":{"Type":"Choice","Choices":[{"Variable":"$.a","NumericEquals":1.5,"Next":"A"}]}}}"#,
+            "NotWhole A Choices",
+        ),
+        (
+            r#"{"StartAt":"A","States":{"A":{"Type":"Pass","End":true,"Parameters":{"x":1.5}}}}"#,
+            "NotWhole A Parameters",
+        ),
+        (
             r#"{"StartAt":"A","States":{"A":{"Type":"Task","Resource":"r","End":true,"Retry":[{"ErrorEquals":["States.ALL","E"]}]}}}"#,
             "BadErrorEquals A Retry",
         ),
