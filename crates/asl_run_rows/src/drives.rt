@@ -417,6 +417,7 @@ const FIRST_ASKED: [&str; 3] = [
     r#"Enter { at: [0], state: "T0", input: Int(5) }"#,
     r#"Task { at: [0], state: "T0", payload: Int(5) }"#,
 ];
+
 const SECOND_ASKED: [&str; 2] = [
     r#"Enter { at: [1], state: "T1", input: Int(5) }"#,
     r#"Task { at: [1], state: "T1", payload: Int(5) }"#,
@@ -458,5 +459,8 @@ fn many_steps_in_one_call(rt: HostRuntime) {
     assert_eq!(rt; stop, Stop::StepsSpent);
     assert_eq!(rt; trace.len(), 2000);
     let last = format!(in alloc; "{:?}", trace[1999]).expect(&rt, "memory");
-    assert_eq!(rt; last.as_str(), r#"Leave { at: [], state: "A", output: Int(7) }"#);
+    assert_eq!(rt;
+        last.as_str(),
+        r#"Leave { at: [], state: "A", output: Int(7) }"#
+    );
 }
