@@ -3,7 +3,7 @@ use Rattle.std.proofs.Common.{◌≡◌, ◌≤◌, ℕ, List, [], ◌∷◌, ma
 use Rattle.std.specs.Prelude.{All}
 use Rattle.std.specs.Option.{unwrap_or}
 use Rattle.std.proofs.lemmas.List.Elements.{All-head, All-tail}
-use Rattle.asl_model.specs.Certificate.{Declared, ActionObeys, TakenObeys, AnswersObey, waiting_name}
+use Rattle.asl_model.specs.Certificate.{Declared, ActionObeys, TakenObeys, AnswersObey, waiting_at, waiting_name}
 use Rattle.asl_model.specs.Machine.{Scope}
 use Rattle.asl_model.specs.Numbering.{table_of}
 use Rattle.asl_model.specs.Run.{Activity, Action, Move, Gives, FailsTask, Event, Entry, Turn, activity_at, enabled, run_of, trace}
@@ -12,11 +12,11 @@ use Rattle.asl_model.specs.Tree.{Tree}
 use Rattle.asl_model.specs.Printed.{RunEnd, InputShape}
 use Rattle.asl_records.specs.View.{declared_view}
 use Rattle.asl_records.specs.declared.records.Declared as code
-use Rattle.asl_run.specs.Driving.{MayHappen, answer_given, IsTaken, IsUnanswered, Policy, StopsSo, placed_entry, policy_of}
+use Rattle.asl_run.specs.Driving.{MayHappen, answer_given, IsTaken, IsUnanswered, Policy, StopsSo, TurnIsUnanswered, placed_entry, policy_of}
 use Rattle.asl_run.specs.declared.driving.Stop.{Stop}
 use Rattle.asl_run.specs.declared.driving.Stop.TheVariants as stops
 use Rattle.asl_tool.specs.Tracing.{Traces, begun}
-use Rattle.asl_tool.specs.Runs.{AllEnabled, AllPicked, EndsSo, IsRun, MayBeSilent, MayGive, NextMisfits, ObeysShapes, RunGiven, RunsTo, Waits, end_at, fits_input, input_misfits, is_run, is_spent, left_standing, next_fits, place_picked, turns_of}
+use Rattle.asl_tool.specs.Runs.{AllEnabled, AllPicked, EndsSo, IsRun, MayBeSilent, MayGive, NextMisfits, ObeysShapes, RunGiven, RunsTo, end_at, fits_input, input_misfits, is_run, is_spent, left_standing, next_fits, place_of_turn, place_picked, turns_of, waiting_in_turn}
 use Rattle.asl_tool.specs.declared.runs.Pick.{Pick}
 
 -- so the order picks the places
@@ -75,19 +75,27 @@ none_left : (left : List Action) → true ≡ is_spent left → left ≡ []
 none_left [] e = refl
 none_left (a ∷ left) e = absurd (cc)
 
-waits_there : (Silent : List ℕ → Tree → Type 0) (state : Option (List ℕ)) (a : Activity) (u : IsUnanswered Silent state a) → Waits u.name a
-waits_there Silent state a u = record { place = u.place; waits = ap (option_and_then waiting_name) u.waits }
+-- the task that waits in its turn is the one that is told
+waits_in_turn : (order : Pick) (shapes : Option Declared) (left : List Action) (machine : Scope) (a : Activity) (state : Option (List ℕ)) (u : TurnIsUnanswered (RunPolicy order shapes left) machine a state)
+    → waiting_in_turn order machine a ≡ Some u.unanswered.name
+waits_in_turn order shapes left machine a state u =
+    let wanted = enabled a machine in
+    let turn : place_of_turn order machine a ≡ Some u.place = ap (λ k. option_map (λ w. w.0) (slice_get wanted k)) (sym u.picked.picks) ∙ u.picked.stands in
+    ap (option_and_then (λ place. waiting_at place a)) turn ∙ ap (option_and_then waiting_name) u.unanswered.waits
 
-ends_so : (order : Pick) (shapes : Option Declared) (names : List (List ℕ)) (most count : ℕ) (a : Activity) (left : List Action) (spent : Bool) (stop : Stop) → spent ≡ is_spent left → StopsSo (RunPolicy order shapes left) names most count a stop
-    → EndsSo shapes most count a left (end_at names spent stop)
-ends_so order shapes names most count a left spent stops.Output e h = h
-ends_so order shapes names most count a left spent stops.Failed e h = h
-ends_so order shapes names most count a left true (stops.NoAnswer i) e h = (h.0, h.1, (h.2.name, waits_there (MayBeSilent shapes left) (slice_get names i) a h.2), none_left left e)
-ends_so order shapes names most count a left false (stops.NoAnswer i) e h =
-    let u : IsUnanswered (MayBeSilent shapes left) (slice_get names i) a = h.2 in
-    let same : u.name ≡ unwrap_or (slice_get names i) [] = sym (ap (λ o. unwrap_or o []) u.named) in
-    (h.0, h.1, subst (λ n. Waits n a) same (waits_there (MayBeSilent shapes left) (slice_get names i) a u), subst (λ n. NextMisfits shapes n left) same (next_misfits shapes u.name left e u.silent))
-ends_so order shapes names most count a left spent stops.StepsSpent e h = h
+ends_so : (given : RunGiven) (order : Pick) (most count : ℕ) (a : Activity) (left : List Action) (spent : Bool) (stop : Stop) → spent ≡ is_spent left → StopsSo (RunPolicy order given.shapes left) given.machine most count a stop
+    → EndsSo given order most count a left (end_at (table_of given.machine).names spent stop)
+ends_so given order most count a left spent stops.Output e h = h
+ends_so given order most count a left spent stops.Failed e h = h
+ends_so given order most count a left true (stops.NoAnswer i) e h =
+    let state = slice_get (table_of given.machine).names i in
+    (h.0, h.1, (h.2.unanswered.name, waits_in_turn order given.shapes left given.machine a state h.2), none_left left e)
+ends_so given order most count a left false (stops.NoAnswer i) e h =
+    let state = slice_get (table_of given.machine).names i in
+    let u : IsUnanswered (MayBeSilent given.shapes left) h.2.place a state = h.2.unanswered in
+    let same : u.name ≡ unwrap_or state [] = sym (ap (λ o. unwrap_or o []) u.named) in
+    (h.0, h.1, subst (λ n. waiting_in_turn order given.machine a ≡ Some n) same (waits_in_turn order given.shapes left given.machine a state h.2), subst (λ n. NextMisfits given.shapes n left) same (next_misfits given.shapes u.name left e u.silent))
+ends_so given order most count a left spent stops.StepsSpent e h = h
 
 -- ---- the whole run
 
@@ -119,8 +127,8 @@ written_run given order most stop left spent end text fits none_more written end
     let s = written.stops in
     let after = written.after in
     let turns = turns_of given s.drives.events in
-    let E : ℕ → Activity → RunEnd → Type 0 = λ count a e. EndsSo shapes most count a left e in
-    let there : E s.count after (end_at (table_of machine).names spent stop) = ends_so order shapes (table_of machine).names most s.count after left spent stop none_more s.why in
+    let E : ℕ → Activity → RunEnd → Type 0 = λ count a e. EndsSo given order most count a left e in
+    let there : E s.count after (end_at (table_of machine).names spent stop) = ends_so given order most s.count after left spent stop none_more s.why in
     record {
       events = s.drives.events;
       left = left;

@@ -1,13 +1,13 @@
 -- A run that is driven one step after another, its history written after each.
-use Rattle.std.proofs.Common.{◌≡◌, ◌<◌, ◌≤◌, ◌+◌, ℕ, List, [], ◌∷◌, ◌++◌, map, None, slice_get, refl, sym, ap, subst, ◌∙◌, append_assoc, arith}
+use Rattle.std.proofs.Common.{◌≡◌, ◌<◌, ◌≤◌, ◌+◌, ℕ, List, [], ◌∷◌, ◌++◌, map, None, refl, sym, ap, subst, ◌∙◌, append_assoc, arith}
 use Rattle.asl_model.specs.Machine.{Scope}
-use Rattle.asl_model.specs.Numbering.{table_of}
 use Rattle.asl_model.specs.Run.{Activity, Action, Entry, outcome_of, run, trace}
 use Rattle.asl_model.specs.Tree.{Tree}
 use Rattle.asl_model.specs.TracePrinted.{entry_line, trace_text}
-use Rattle.asl_run.specs.Driving.{Drives, IsUnanswered, Policy, Stage, Stops, StopsSo, Told, placed_entry, stage_of}
+use Rattle.asl_run.specs.Driving.{Drives, Policy, Stage, Stops, StopsSo, Told, placed_entry, stage_of}
 use Rattle.asl_run.specs.declared.driving.Stop.{Stop}
 use Rattle.asl_run.specs.declared.driving.Stop.TheVariants as stops
+use Rattle.asl_run.proofs.Stopping.{unanswered_for}
 use Rattle.asl_run.proofs.Turns.{IsWithin, drives_none, drives_then, drives_for}
 use Rattle.asl_tool.specs.Tracing.{Traces}
 
@@ -56,27 +56,14 @@ written_more {wider = wider} {machine = machine} {b = b} {c = c} {more = more} {
     }
 
 -- why one step more was the last is why the run stops
-last_step : (policy wider : Policy) (names : List (List ℕ)) (most before here : ℕ) (a : Activity) (stop : Stop) → before < most → (stop ≡ stops.StepsSpent → ⊥)
-    → ((n : List ℕ) (payload : Tree) → policy.may_be_silent n payload → wider.may_be_silent n payload)
-    → StopsSo policy names 1 here a stop → StopsSo wider names most (before + here) a stop
-last_step policy wider names most before here a stops.Output fewer going silent why = why
-last_step policy wider names most before here a stops.Failed fewer going silent why = why
-last_step policy wider names most before here a (stops.NoAnswer state) fewer going silent why =
-    let u : IsUnanswered policy.may_be_silent (slice_get names state) a = why.2 in (
-      why.0,
-      omega arith,
-      record {
-        place = u.place;
-        name = u.name;
-        raw = u.raw;
-        counts = u.counts;
-        payload = u.payload;
-        named = u.named;
-        waits = u.waits;
-        silent = silent u.name u.payload u.silent;
-      },
-    )
-last_step policy wider names most before here a stops.StepsSpent fewer going silent why = absurd (going refl)
+last_step : (policy wider : Policy) (machine : Scope) (most before here : ℕ) (a : Activity) (stop : Stop) → before < most → (stop ≡ stops.StepsSpent → ⊥)
+    → IsWithin policy wider → ((n : List ℕ) (payload : Tree) → policy.may_be_silent n payload → wider.may_be_silent n payload)
+    → StopsSo policy machine 1 here a stop → StopsSo wider machine most (before + here) a stop
+last_step policy wider machine most before here a stops.Output fewer going within silent why = why
+last_step policy wider machine most before here a stops.Failed fewer going within silent why = why
+last_step policy wider machine most before here a (stops.NoAnswer state) fewer going within silent why =
+    (why.0, omega arith, unanswered_for within silent why.2)
+last_step policy wider machine most before here a stops.StepsSpent fewer going within silent why = absurd (going refl)
 
 -- it stops at that step
 pub stopped_there : {policy other wider : Policy} {machine : Scope} {before : Stage} {b c : Activity} {count : ℕ} {between left : List Action} {text longer : List ℕ} {told : Told} (most : ℕ) (stop : Stop)
@@ -96,7 +83,7 @@ stopped_there {other = other} {wider = wider} {machine = machine} {c = c} {count
         count = count + last.count;
         within = within;
         drives = all.drives;
-        why = last_step other wider (table_of machine).names most count last.count c stop fewer going silent last.why;
+        why = last_step other wider machine most count last.count c stop fewer going second silent last.why;
       };
       traced = all.traced;
     }
@@ -108,7 +95,7 @@ pub goes_on : {policy other wider : Policy} {machine : Scope} {before : Stage} {
     → IsWithin policy wider → IsWithin other wider → Lengthens told text longer
     → Written wider machine (count + 1) before longer c left × (outcome_of c ≡ None)
 goes_on {other = other} {wider = wider} {machine = machine} {before = before} {c = c} {count = count} {left = left} {longer = longer} stop spent so_far last first second added =
-    let why : StopsSo other (table_of machine).names 1 last.count c stops.StepsSpent = subst (StopsSo other (table_of machine).names 1 last.count c) spent last.why in
+    let why : StopsSo other machine 1 last.count c stops.StepsSpent = subst (StopsSo other machine 1 last.count c) spent last.why in
     (subst (λ n. Written wider machine (count + n) before longer c left) why.1 (written_more so_far last.drives first second added), why.0)
 
 -- all steps were taken

@@ -1,6 +1,6 @@
 -- Runs of what texts read as: what they end with and what is written of them, and how they fail.
 use Rattle.std.specs.Prelude.{◌≡◌, ◌<◌, ◌≤◌, ◌-◌, ℕ, List, [], ◌∷◌, ◌++◌, map, length, slice_get, Bool, true, false}
-use Rattle.std.specs.Prelude.{IsTrue, Option, Some, None, is_some, option_map, ⊤}
+use Rattle.std.specs.Prelude.{IsTrue, Option, Some, None, is_some, option_and_then, option_map, ⊤}
 use Rattle.std.specs.Option.{unwrap_or}
 use Rattle.std.specs.Io.KnownBytes.{Appends, Keeps}
 use Rattle.serde_json.specs.Data.{Data}
@@ -153,10 +153,10 @@ AllPicked order machine [] = ⊤
 AllPicked order machine (turn ∷ turns) =
     (place_of_turn order machine turn.before ≡ Some turn.event.place) × AllPicked order machine turns
 
--- a place of a state of that name waits for an answer
-pub record Waits (n : List ℕ) (a : Activity) : Type 0 where
-  pub place : List ℕ
-  pub waits : waiting_at place a ≡ Some n
+-- the name of the state that waits at the place whose turn it is; none where that place doesn't wait
+abbrev pub waiting_in_turn : Pick → Scope → Activity → Option (List ℕ)
+waiting_in_turn order machine a =
+    option_and_then (λ place. waiting_at place a) (place_of_turn order machine a)
 
 -- the next of the answers gives what isn't of the shape of what that task gives
 pub record NextMisfits (shapes : Option Declared) (n : List ℕ) (left : List Action) : Type 0 where
@@ -166,16 +166,16 @@ pub record NextMisfits (shapes : Option Declared) (n : List ℕ) (left : List Ac
   pub misfit : has (shape_given shapes n) answer ≡ false
 
 -- why a run of at most so many events ends after that many, where that activity stands and those answers are left
-abbrev pub EndsSo : Option Declared → ℕ → ℕ → Activity → List Action → RunEnd → Type 0
-EndsSo shapes most count a left RunOutput = (output : Tree) × (outcome_of a ≡ Some (Output output))
-EndsSo shapes most count a left RunFailed =
+abbrev pub EndsSo : RunGiven → Pick → ℕ → ℕ → Activity → List Action → RunEnd → Type 0
+EndsSo given order most count a left RunOutput = (output : Tree) × (outcome_of a ≡ Some (Output output))
+EndsSo given order most count a left RunFailed =
     (error : List ℕ) × (cause : List ℕ) × (outcome_of a ≡ Some (FailedWith error cause))
-EndsSo shapes most count a left NoAnswer =
-    (outcome_of a ≡ None) × (count < most) × ((n : List ℕ) × Waits n a) × (left ≡ [])
-EndsSo shapes most count a left StepsSpent = (outcome_of a ≡ None) × (count ≡ most)
-EndsSo shapes most count a left InputShape = ⊥
-EndsSo shapes most count a left (AnswerShape n) =
-    (outcome_of a ≡ None) × (count < most) × Waits n a × NextMisfits shapes n left
+EndsSo given order most count a left NoAnswer = (outcome_of a ≡ None) × (count < most)
+    × ((n : List ℕ) × (waiting_in_turn order given.machine a ≡ Some n)) × (left ≡ [])
+EndsSo given order most count a left StepsSpent = (outcome_of a ≡ None) × (count ≡ most)
+EndsSo given order most count a left InputShape = ⊥
+EndsSo given order most count a left (AnswerShape n) = (outcome_of a ≡ None) × (count < most)
+    × (waiting_in_turn order given.machine a ≡ Some n) × NextMisfits given.shapes n left
 
 -- A run of what is given ends so, and its history is that text: at most so many events are taken, all enabled, each
 -- at the place whose turn it is in the order asked for, and their answers are a front of those that are given. The
@@ -190,7 +190,7 @@ pub record IsRun (given : RunGiven) (order : Pick) (most : ℕ) (end : RunEnd)
   pub answered : given.answers ≡ answers_among events ++ left
   pub obeys : ObeysShapes given.shapes given.machine given.input events
   pub told : text ≡ trace_text (trace (turns_of given events))
-  pub why : EndsSo given.shapes most (length events) (left_standing given events) left end
+  pub why : EndsSo given order most (length events) (left_standing given events) left end
 
 -- what comes of what is given: no run where the input isn't of its shape, else a run
 pub data RunsTo (given : RunGiven) (order : Pick) (most : ℕ) : RunEnd → List ℕ → Type 0 where
