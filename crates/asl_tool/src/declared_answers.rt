@@ -1,9 +1,12 @@
 //! Answers from a list, each of which has to be of the shape that is declared for it.
 
-ghost use Rattle.std.specs.Prelude.{◌≡◌, map, option_map};
+ghost use Rattle.std.specs.Prelude.{◌≡◌, ℕ, List, map, option_map, Ok, None, IfOk, IfSome, OnErr};
 ghost use Rattle.asl_model.specs.Certificate.{gives_of};
+ghost use Rattle.asl_model.specs.Run.{Action};
 ghost use Rattle.asl_model.specs.Shape.{has as has_shape};
+ghost use Rattle.asl_model.specs.Tree as trees;
 ghost use Rattle.asl_records.specs.View.{declared_view};
+ghost use Rattle.asl_run.specs.Answering.{TakesFront};
 ghost use Rattle.asl_run.specs.Entries.{answer_view};
 ghost use Rattle.asl_tree.specs.View.{view};
 ghost use Rattle.asl_tool.specs.Runs.{MayBeSilent, MayGive, shape_given, fits_task, is_spent, next_fits};
@@ -23,6 +26,8 @@ pub(crate) struct DeclaredAnswers<'d> {
 }
 
 impl Answers for DeclaredAnswers<'_> {
+    ghost use Rattle.asl_tool.specs.declared.declared_answers.DeclaredAnswers.{DeclaredAnswers};
+
     ghost content = { λ s. map answer_view s.list.items };
 
     ghost may_give = { λ s. MayGive (option_map (λ d. declared_view d.now) s.declared) };
@@ -31,7 +36,25 @@ impl Answers for DeclaredAnswers<'_> {
         (map answer_view later.list.items) };
 
     /// Never out of memory.
-    fn next(&mut self, state: &str, _payload: &Tree) -> Result<Option<Answer>, OutOfMemory> {
+    fn next(&mut self, state: &str, _payload: &Tree) -> Result<Option<Answer>, OutOfMemory>
+        ensures answered { OnErr result ⊥ }
+        ensures front { TakesFront result (map answer_view self.old.list.items)
+            (map answer_view self.new.list.items) }
+        ensures given { let shapes = option_map (λ d. declared_view d.now) self.old.declared in
+            IfOk result (λ o. IfSome o
+            (λ answer. MayGive shapes state.now (view _payload.now) (answer_view answer))) }
+        ensures silent { let shapes = option_map (λ d. declared_view d.now) self.old.declared in
+            result ≡ Ok None → MayBeSilent shapes (map answer_view self.new.list.items)
+            state.now (view _payload.now) }
+        ensures lasting { (n : List ℕ) (t : trees.Tree) (answer : Action)
+            → MayGive (option_map (λ d. declared_view d.now) self.new.declared) n t answer
+            → MayGive (option_map (λ d. declared_view d.now) self.old.declared) n t answer }
+        ensures lasting_silent { (later : DeclaredAnswers) (n : List ℕ) (t : trees.Tree)
+            → MayBeSilent (option_map (λ d. declared_view d.now) self.new.declared)
+            (map answer_view later.list.items) n t
+            → MayBeSilent (option_map (λ d. declared_view d.now) self.old.declared)
+            (map answer_view later.list.items) n t }
+    {
         if self.next_fits(state) {
             Ok(self.list.pop_front())
         } else {
