@@ -1,6 +1,8 @@
+pub mod Agreeing
 pub mod CertificateTokens
 pub mod Failures
 pub mod Fronts
+pub mod InferredOnce
 pub mod LineSteps
 pub mod NumberedNesting
 pub mod Promises

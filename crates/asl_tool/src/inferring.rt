@@ -10,7 +10,7 @@ ghost use Rattle.asl_model.specs.Written.{written_certificate};
 ghost use Rattle.asl_model.specs.WrittenNumbered.{written_numbered};
 ghost use Rattle.asl_records.specs.Numbered.{AreWithin, numbered_view};
 ghost use Rattle.asl_tool.specs.Inferred.{AreFewRounds, InferFaultStands, IsFindingOn, IsWrittenFor, WhereCertificate, WhereFinding, WhereNotSettled, written_as};
-ghost use Rattle.asl_tool.specs.VerifiedInference.{Describes, IsVerdictOnInferred, NeverFaultsAsInferred, Tells, WhereVerdict};
+ghost use Rattle.asl_tool.specs.VerifiedInference.{Describes, IsVerdictOnInferred, IsVerdictOnWritten, NeverFaultsAsInferred, Tells, WhereVerdict};
 
 use crate::certificate_text::plain_text;
 use crate::reading::{declared_text, machine_text};
@@ -18,6 +18,7 @@ use crate::refusals::{RunFault, TextRefusal, Which};
 use asl_check::{Finding, Verdict, check_numbered};
 use asl_infer::{InferRefusal, infer_numbered};
 use asl_machine::Machine;
+use asl_model::reading_laws::texts_have_one_meaning;
 use asl_model::run_laws::{closed_runs_never_fault, closed_runs_tell_no_fault};
 use asl_records::{Declared, NumberedCertificate, write_numbered};
 use asl_tree::{OutOfMemory, to_text};
@@ -85,7 +86,8 @@ pub enum Verified {
 }
 
 /// Infers a certificate of a definition and declared shapes, both given as JSON texts, in at most `max_rounds` rounds, and
-/// checks it: the verdict is right for the certificate that the text of [`infer_texts`] reads as.
+/// checks it: the verdict is right for the certificate that the text of [`infer_texts`] reads as, in the sense in which
+/// that of [`verify_texts`](crate::verify_texts) on this text is.
 ///
 /// Where it is yes, then for every input of the declared shape and every list of moves and task answers, branches and
 /// iterations interleaved in any way, each answer a failure or of its declared shape, the run raises none of the six
@@ -100,6 +102,8 @@ pub fn verify_inferred(
 ) -> Result<Verified, RunFault>
     ensures verdict { IfOk result
         (WhereVerdict (IsVerdictOnInferred max_rounds definition.now declared.now)) }
+    ensures on_texts { IfOk result
+        (WhereVerdict (IsVerdictOnWritten max_rounds definition.now declared.now)) }
     ensures headline { IfOk result
         (WhereVerdict (WhereAccepted
         (NeverFaultsAsInferred max_rounds definition.now declared.now))) }
@@ -118,6 +122,7 @@ pub fn verify_inferred(
     };
     closed_runs_never_fault();
     closed_runs_tell_no_fault();
+    texts_have_one_meaning();
     match check_numbered(alloc, &subject.machine, &subject.declared, &mut certificate) {
         Ok(verdict) => Ok(Verified::Verdict(verdict)),
         Err(_) => Err(RunFault::OutOfMemory),

@@ -1,12 +1,14 @@
 //! What a yes means for what stands in the midst of a run. The functions here do nothing: their contracts are the laws.
 
 ghost use Rattle.std.specs.Prelude.{List, Option, Some, ℕ};
-ghost use Rattle.asl_model.specs.Headline.{NeverFaults};
+ghost use Rattle.asl_model.specs.Headline.{IsVerdictOn, NeverFaults};
 ghost use Rattle.asl_model.specs.Machine.{Scope, LeadsInside};
 ghost use Rattle.asl_model.specs.Certificate.{Declared, Certificate, IsClosed, MovesOn, Works, Nests, IsKeptBy, KeepsData};
 ghost use Rattle.asl_model.specs.Printed.{RunEnd};
 ghost use Rattle.asl_model.specs.TracePrinted.{HasNoRaiseLine};
 ghost use Rattle.asl_tool.specs.Runs.{RunsTexts, texts_of, request_of};
+ghost use Rattle.asl_model.specs.Verdict.{Verdict};
+ghost use Rattle.asl_tool.specs.VerifiedInference.{Agree};
 ghost use Rattle.asl_tool.specs.declared.runs.Pick.{Pick};
 
 /// An event at a Pass, a Succeed or a Fail, wherever it is nested, leaves every activity of a run as certified: its
@@ -58,4 +60,14 @@ pub fn verified_runs_write_no_raise_line()
 {
     asl_model::reading_laws::texts_have_one_meaning();
     asl_model::run_laws::faultless_traces_have_no_raise_line();
+}
+
+/// Two right verdicts on the same three texts agree: both are yes, or both are no with findings of the same names. So
+/// does the one of `verify_inferred` with that of `verify_texts`, on each text that `infer_texts` may write.
+pub fn verdicts_on_the_same_texts_agree()
+    ensures { (definition declared certificate : List ℕ) (one other : Verdict)
+        → IsVerdictOn definition declared certificate one
+        → IsVerdictOn definition declared certificate other → Agree one other }
+{
+    asl_model::reading_laws::texts_have_one_meaning();
 }

@@ -35,7 +35,8 @@ pub use endings::Closing;
 pub use inferring::{Inferred, Verified, infer_texts, verify_inferred};
 pub use laws::{
     activities_stay_as_certified, nesting_activities_stay_as_certified,
-    verified_runs_write_no_raise_line, working_activities_stay_as_certified,
+    verdicts_on_the_same_texts_agree, verified_runs_write_no_raise_line,
+    working_activities_stay_as_certified,
 };
 pub use printing::{closing, verdict_text};
 pub use refusals::{RunFault, TextFault, TextRefusal, Which};

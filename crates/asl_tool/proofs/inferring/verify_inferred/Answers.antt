@@ -2,6 +2,7 @@ use Rattle.asl_records.specs.Numbered.{numbered_view}
 use Rattle.asl_records.specs.View.{declared_view}
 use Rattle.asl_check.specs.View.{verdict_view}
 use Rattle.asl_tool.specs.VerifiedInference.{NeverFaultsAsInferred}
+use Rattle.asl_tool.proofs.InferredOnce.{verdict_on_written}
 use Rattle.asl_tool.proofs.Promises.{where_accepted}
 use Rattle.asl_tool.proofs.inferring.verify_inferred.Goals as goal
 
@@ -40,3 +41,12 @@ returns-in-Ok-check_numbered-clause-headline c =
       tells_no_fault = c.closed_runs_tell_no_fault.ensures shapes certified definition closed;
       as_certified = c.closed_runs_never_fault.ensures shapes certified definition closed;
     })
+
+pub returns-in-Ok-check_numbered-clause-on_texts : goal.returns-in-Ok-check_numbered-clause-on_texts
+returns-in-Ok-check_numbered-clause-on_texts c =
+    let subject = c.in_ok-subject.subject in
+    let read = c.in_ok-subject.ensures.read in
+    let definition = read.machine.definition in
+    verdict_on_written c.args.max_rounds c.args.definition.now c.args.declared.now definition (declared_view subject.declared) (numbered_view c.in-Ok.certificate) (verdict_view c.in-Ok-check_numbered.verdict)
+    c.texts_have_one_meaning.ensures.machine c.texts_have_one_meaning.ensures.declared read.machine.reads read.as_declared
+    (c.in-Ok.ensures.inferred definition read.machine.shown) (c.in-Ok-check_numbered.ensures.verdict definition read.machine.shown)
