@@ -167,7 +167,8 @@ pub record NextMisfits (shapes : Option Declared) (n : List ℕ) (left : List Ac
 
 -- why a run of at most so many events ends after that many, where that activity stands and those answers are left
 abbrev pub EndsSo : RunGiven → Pick → ℕ → ℕ → Activity → List Action → RunEnd → Type 0
-EndsSo given order most count a left RunOutput = (output : Tree) × (outcome_of a ≡ Some (Output output))
+EndsSo given order most count a left RunOutput =
+    (output : Tree) × (outcome_of a ≡ Some (Output output))
 EndsSo given order most count a left RunFailed =
     (error : List ℕ) × (cause : List ℕ) × (outcome_of a ≡ Some (FailedWith error cause))
 EndsSo given order most count a left NoAnswer = (outcome_of a ≡ None) × (count < most)

@@ -33,7 +33,8 @@ pub record IsVerdictOnInferred (rounds : ℕ) (definition declared : List ℕ) (
 -- a check of the three texts is
 abbrev pub IsVerdictOnWritten : ℕ → List ℕ → List ℕ → verdict.Verdict → Type 0
 IsVerdictOnWritten rounds definition declared told = (numbered : Bool) (text : List ℕ)
-    → IsWrittenFor numbered rounds definition declared text → IsVerdictOn definition declared text told
+    → IsWrittenFor numbered rounds definition declared text
+    → IsVerdictOn definition declared text told
 
 -- two verdicts agree: both are yes, or both are no with findings of the same names
 abbrev pub Agree : verdict.Verdict → verdict.Verdict → Type 0
