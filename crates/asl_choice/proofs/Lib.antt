@@ -6,5 +6,4 @@ pub mod Operands
 pub mod Telling
 pub mod VariableTests
 pub mod Walks
-pub mod Wholeness
 pub mod Wholes

@@ -6,7 +6,7 @@ use Rattle.serde_json.specs.Data.{Data}
 use Rattle.asl_model.specs.Json.{tree_of}
 use Rattle.asl_model.specs.Tree.{Tree}
 use Rattle.asl_model.specs.RuleSpelling.{RuleFault, SpellsRule, HasRuleFault, rule_faults}
-use Rattle.asl_tree.proofs.Values.{holds_whole, holds_this, answer_this}
+use Rattle.asl_tree.proofs.Values.{holds_whole, answer_whole, holds_this, answer_this}
 use Rattle.asl_tree.specs.Values.{whole}
 use Rattle.asl_choice.specs.Refusal.{Tells, fault_named}
 use Rattle.asl_choice.specs.View.{rule_view}
@@ -15,8 +15,8 @@ use Rattle.asl_choice.specs.declared.refusal.RuleRefusal.{RuleRefusal}
 use Rattle.asl_choice.specs.declared.rule.Rule.{Rule}
 
 -- what it reads
-pub spelled_whole : (rule : Rule) (v : Data) → is_some (tree_of v) ≡ true → SpellsRule (whole v) (rule_view rule) → ValueSpells v (rule_view rule)
-spelled_whole rule v h spells = holds_whole (λ t. SpellsRule t (rule_view rule)) v h spells
+pub spelled_whole : {E : Type 0} (r : Result Rule E) (v : Data) → is_some (tree_of v) ≡ true → IfOk r (λ rule. SpellsRule (whole v) (rule_view rule)) → IfOk r (λ rule. ValueSpells v (rule_view rule))
+spelled_whole r v h spells = answer_whole (λ rule t. SpellsRule t (rule_view rule)) r v h spells
 
 -- what is wrong
 pub told_whole : {A : Type 0} (r : Result A RuleRefusal) (v : Data) (e : RuleRefusal) (f : RuleFault) → is_some (tree_of v) ≡ true → IfErr r (λ e. Tells e (rule_faults (whole v)))

@@ -1,4 +1,3 @@
-pub mod Members
 pub mod Operators
 pub mod Refusal
 pub mod Single

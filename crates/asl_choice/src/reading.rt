@@ -1,14 +1,11 @@
 //! Reading rules from JSON values.
 ghost use Rattle.std.specs.Prelude.{◌≡◌, [], ◌∷◌, true, false, Err, IfErr, IfOk, IfSome, IsUtf8, MatchOption, None, OnOk, Some, codes, is_some, string_bytes, string_cmp};
 ghost use Rattle.std.specs.List.{Contains};
-ghost use Rattle.std.specs.List.Sorted.{IsStrictlySortedBy};
-ghost use Rattle.std.specs.Map.{keys_of};
 ghost use Rattle.serde_json.specs.View.{view as json_view, items_view, members_view};
 ghost use Rattle.asl_model.specs.Json.{tree_of, elements_of, members_of};
 ghost use Rattle.asl_model.specs.RuleSpelling as model;
 ghost use Rattle.asl_model.specs.Tree as json;
 ghost use Rattle.asl_model.specs.Tree.{field_named};
-ghost use Rattle.asl_choice.specs.Members.{AreWholeBesideTexts};
 ghost use Rattle.asl_choice.specs.Refusal.{Tells};
 ghost use Rattle.asl_choice.specs.Single.{is_beside as beside, joined_test, one_joined_faults};
 ghost use Rattle.asl_choice.specs.View.{rule_view, tests_view, view};
@@ -30,11 +27,12 @@ use std::alloc::Global;
 /// rules that isn't empty, `Not` with a rule, or `Variable` with exactly one operator. The rules inside have neither
 /// `Next` nor `Comment`.
 ///
-/// Refuses as [`RuleRefusal::NotWhole`] a value that is no tree. Where several other refusals stand in the tree, the
-/// answer is one of them.
+/// Refuses as [`RuleRefusal::NotWhole`] each value that is no tree, which takes no memory. Where several other refusals
+/// stand in the tree, the answer is one of them.
 pub fn from_value(alloc: Global, value: &Value) -> Result<Rule, RuleRefusal>
     ensures spelled { IfOk result (λ rule. ValueSpells (json_view value.now) (rule_view rule)) }
     ensures not_whole { result ≡ Err RuleRefusal.NotWhole → tree_of (json_view value.now) ≡ None }
+    ensures no_tree { tree_of (json_view value.now) ≡ None → result ≡ Err RuleRefusal.NotWhole }
     ensures not_a_rule { result ≡ Err RuleRefusal.NotARule
         → ValueHasFault (json_view value.now) model.NotARule }
     ensures unknown_operator { result ≡ Err RuleRefusal.UnknownOperator
@@ -50,11 +48,11 @@ pub fn from_value(alloc: Global, value: &Value) -> Result<Rule, RuleRefusal>
     ensures next_inside { result ≡ Err RuleRefusal.NextInside
         → ValueHasFault (json_view value.now) model.NextInside }
 {
-    // What spells a rule is whole, so numbers are looked at only where something is refused.
-    match read_top(alloc, value) {
-        Ok(rule) => Ok(rule),
-        Err(refusal) if is_whole(value) => Err(refusal),
-        Err(_) => Err(RuleRefusal::NotWhole),
+    // The numbers are looked at before there is memory to ask for, so a refused request is never told as one of them.
+    if is_whole(value) {
+        read_top(alloc, value)
+    } else {
+        Err(RuleRefusal::NotWhole)
     }
 }
 
@@ -87,7 +85,6 @@ pub fn from_tree(alloc: Global, tree: &Tree) -> Result<Rule, RuleRefusal>
 /// The rule that a value at the top spells.
 fn read_top(alloc: Global, value: &Value) -> Result<Rule, RuleRefusal>
     ensures spelled { IfOk result (λ rule. model.SpellsRule (tree_in value.now) (rule_view rule)) }
-    ensures whole { OnOk result (is_some (tree_of (json_view value.now)) ≡ true) }
     ensures not_whole { result ≡ Err RuleRefusal.NotWhole → tree_of (json_view value.now) ≡ None }
     ensures refused { IfErr result (λ e. Tells e (model.rule_faults (tree_in value.now))) }
 {
@@ -104,8 +101,6 @@ fn read_top(alloc: Global, value: &Value) -> Result<Rule, RuleRefusal>
 fn read_rule(alloc: Global, members: &Map<String, Value>) -> Result<Rule, RuleRefusal>
     ensures spelled { IfOk result (λ rule. model.SpellsRule
         (json.Object (fields_in members.now.entries)) (rule_view rule)) }
-    ensures whole { OnOk result
-        (is_some (members_of (members_view members.now.entries)) ≡ true) }
     ensures not_whole { result ≡ Err RuleRefusal.NotWhole
         → members_of (members_view members.now.entries) ≡ None }
     ensures refused { IfErr result
@@ -175,7 +170,6 @@ fn read_test(alloc: Global, members: &Map<String, Value>) -> Result<Test, RuleRe
     ensures right { OnOk result (model.object_faults (fields_in members.now.entries) ≡ []) }
     ensures test { IfOk result
         (λ test. view test ≡ model.test_of (json.Object (fields_in members.now.entries))) }
-    ensures whole { OnOk result (AreWholeBesideTexts members.now.entries) }
     ensures not_whole { result ≡ Err RuleRefusal.NotWhole
         → members_of (members_view members.now.entries) ≡ None }
     ensures refused { IfErr result
@@ -195,7 +189,6 @@ fn read_test(alloc: Global, members: &Map<String, Value>) -> Result<Test, RuleRe
 fn read_joined(alloc: Global, name: &str, value: &Value) -> Result<Test, RuleRefusal>
     ensures right { OnOk result (one_joined_faults name.now (tree_in value.now) ≡ []) }
     ensures test { IfOk result (λ test. view test ≡ joined_test name.now (tree_in value.now)) }
-    ensures whole { OnOk result (is_some (tree_of (json_view value.now)) ≡ true) }
     ensures not_whole { result ≡ Err RuleRefusal.NotWhole → tree_of (json_view value.now) ≡ None }
     ensures refused { IfErr result (λ e. Tells e (one_joined_faults name.now (tree_in value.now))) }
 {
@@ -213,7 +206,6 @@ fn read_list(alloc: Global, value: &Value) -> Result<Vec<Test>, RuleRefusal>
     ensures right { OnOk result (model.list_faults (tree_in value.now) ≡ []) }
     ensures tests { IfOk result
         (λ tests. tests_view tests.items ≡ model.tests_of (tree_in value.now)) }
-    ensures whole { OnOk result (is_some (tree_of (json_view value.now)) ≡ true) }
     ensures not_whole { result ≡ Err RuleRefusal.NotWhole → tree_of (json_view value.now) ≡ None }
     ensures refused { IfErr result (λ e. Tells e (model.list_faults (tree_in value.now))) }
 {
@@ -236,7 +228,6 @@ fn read_elements(alloc: Global, elements: &[Value]) -> Result<Vec<Test>, RuleRef
     ensures right { OnOk result (model.each_faults (elements_in elements.now) ≡ []) }
     ensures tests { IfOk result
         (λ tests. tests_view tests.items ≡ model.each_test (elements_in elements.now)) }
-    ensures whole { OnOk result (is_some (elements_of (items_view elements.now)) ≡ true) }
     ensures not_whole { result ≡ Err RuleRefusal.NotWhole
         → elements_of (items_view elements.now) ≡ None }
     ensures refused { IfErr result (λ e. Tells e (model.each_faults (elements_in elements.now))) }
@@ -253,7 +244,6 @@ fn read_elements(alloc: Global, elements: &[Value]) -> Result<Vec<Test>, RuleRef
 fn read_nested(alloc: Global, value: &Value) -> Result<Test, RuleRefusal>
     ensures right { OnOk result (model.nested_faults (tree_in value.now) ≡ []) }
     ensures test { IfOk result (λ test. view test ≡ model.test_of (tree_in value.now)) }
-    ensures whole { OnOk result (is_some (tree_of (json_view value.now)) ≡ true) }
     ensures not_whole { result ≡ Err RuleRefusal.NotWhole → tree_of (json_view value.now) ≡ None }
     ensures refused { IfErr result (λ e. Tells e (model.nested_faults (tree_in value.now))) }
 {
@@ -292,7 +282,6 @@ fn only_field(members: &Map<String, Value>) -> Option<(&String, &Value)>
         (λ f. model.main_fields (fields_in members.now.entries)
         ≡ (string_bytes f.0.now, tree_in f.1.now) ∷ []) }
     ensures among { IfSome result (λ f. Contains members.now.entries (f.0.now, f.1.now)) }
-    ensures ordered { IsStrictlySortedBy string_cmp (keys_of members.now.entries) }
 {
     let mut only = None;
     for (name, value) in members.iter() {

@@ -33,7 +33,6 @@ pub(crate) fn read_variable_test(
         (one_variable_faults (tree_in variable.now) name.now (tree_in operand.now) ≡ []) }
     ensures test { IfOk result (λ test. view test
         ≡ variable_test (tree_in variable.now) name.now (tree_in operand.now)) }
-    ensures whole { OnOk result (is_some (tree_of (json_view operand.now)) ≡ true) }
     ensures not_whole { result ≡ Err RuleRefusal.NotWhole → tree_of (json_view operand.now) ≡ None }
     ensures refused { IfErr result (λ e. Tells e
         (one_variable_faults (tree_in variable.now) name.now (tree_in operand.now))) }
@@ -54,7 +53,6 @@ fn read_operator(
 ) -> Result<Test, RuleRefusal>
     ensures test { IfOk result
         (λ test. model.named_test variable name.now (tree_in operand.now) ≡ Ok (view test)) }
-    ensures whole { OnOk result (is_some (tree_of (json_view operand.now)) ≡ true) }
     ensures not_whole { result ≡ Err RuleRefusal.NotWhole → tree_of (json_view operand.now) ≡ None }
     ensures refused { IfErr result
         (λ e. Tells e (model.fault_of (model.named_test variable name.now (tree_in operand.now)))) }
@@ -75,7 +73,6 @@ fn read_operand(
 ) -> Result<Test, RuleRefusal>
     ensures test { IfOk result (λ test. model.operator_test
         variable (operator_view operator) (tree_in operand.now) ≡ Ok (view test)) }
-    ensures whole { OnOk result (is_some (tree_of (json_view operand.now)) ≡ true) }
     ensures not_whole { result ≡ Err RuleRefusal.NotWhole → tree_of (json_view operand.now) ≡ None }
     ensures refused { IfErr result (λ e. Tells e (model.fault_of
         (model.operator_test variable (operator_view operator) (tree_in operand.now)))) }
@@ -122,7 +119,6 @@ fn read_operand(
 /// The tree that the operand is.
 fn read_constant(alloc: Global, operand: &Value) -> Result<Tree, RuleRefusal>
     ensures tree { IfOk result (λ t. trees.view t ≡ tree_in operand.now) }
-    ensures whole { OnOk result (is_some (tree_of (json_view operand.now)) ≡ true) }
     ensures not_whole { result ≡ Err RuleRefusal.NotWhole → tree_of (json_view operand.now) ≡ None }
     ensures refused { IfErr result (λ e. Tells e []) }
 {

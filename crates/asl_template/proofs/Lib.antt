@@ -4,5 +4,4 @@ pub mod Members
 pub mod Parts
 pub mod Telling
 pub mod Values
-pub mod Wholeness
 pub mod Wholes

@@ -29,12 +29,13 @@ use std::collections::BTreeMap;
 /// path into the template's input (one leading `$`), a context path (`$$`), or an intrinsic call. All else stands for
 /// itself. `item` says whether paths to the item that a Map takes at hand are allowed.
 ///
-/// Refuses as [`SpellingRefusal::NotWhole`] a value that is no tree. Where several other refusals stand in the tree, the
-/// answer is one of them.
+/// Refuses as [`SpellingRefusal::NotWhole`] each value that is no tree, which takes no memory. Where several other
+/// refusals stand in the tree, the answer is one of them.
 pub fn from_value(alloc: Global, value: &Value, item: bool) -> Result<Template, SpellingRefusal>
     ensures spelled { IfOk result (λ t. ValueSpells item (json_view value.now) (view t)) }
     ensures stands_for { IfOk result (λ t. ValueStandsFor item (json_view value.now) (view t)) }
     ensures not_whole { result ≡ Err NotWhole → tree_of (json_view value.now) ≡ None }
+    ensures no_tree { tree_of (json_view value.now) ≡ None → result ≡ Err NotWhole }
     ensures not_object { result ≡ Err NotObject
         → ValueHasFault item (json_view value.now) model.NotObject }
     ensures not_text { result ≡ Err NotText
@@ -48,11 +49,11 @@ pub fn from_value(alloc: Global, value: &Value, item: bool) -> Result<Template, 
     ensures left_out_context { result ≡ Err LeftOutContext
         → ValueHasFault item (json_view value.now) model.LeftOutContext }
 {
-    // What spells a template is whole, so numbers are looked at only where something is refused.
-    match read_top(alloc, value, item) {
-        Ok(template) => Ok(template),
-        Err(refusal) if is_whole(value) => Err(refusal),
-        Err(_) => Err(SpellingRefusal::NotWhole),
+    // The numbers are looked at before there is memory to ask for, so a refused request is never told as one of them.
+    if is_whole(value) {
+        read_top(alloc, value, item)
+    } else {
+        Err(SpellingRefusal::NotWhole)
     }
 }
 
@@ -83,7 +84,6 @@ pub fn from_tree(alloc: Global, tree: &Tree, item: bool) -> Result<Template, Spe
 /// The template that a value at the top spells.
 fn read_top(alloc: Global, value: &Value, item: bool) -> Result<Template, SpellingRefusal>
     ensures spelled { IfOk result (λ t. model.SpellsTemplate item (tree_in value.now) (view t)) }
-    ensures whole { OnOk result (is_some (tree_of (json_view value.now)) ≡ true) }
     ensures not_whole { result ≡ Err NotWhole → tree_of (json_view value.now) ≡ None }
     ensures refused { IfErr result (λ e. Tells e (model.template_faults item (tree_in value.now))) }
 {
@@ -100,7 +100,6 @@ fn read_top(alloc: Global, value: &Value, item: bool) -> Result<Template, Spelli
 fn read_part(alloc: Global, value: &Value, item: bool) -> Result<Template, SpellingRefusal>
     ensures right { OnOk result (model.part_faults item (tree_in value.now) ≡ []) }
     ensures template { IfOk result (λ t. view t ≡ model.part_of item (tree_in value.now)) }
-    ensures whole { OnOk result (is_some (tree_of (json_view value.now)) ≡ true) }
     ensures not_whole { result ≡ Err NotWhole → tree_of (json_view value.now) ≡ None }
     ensures refused { IfErr result (λ e. Tells e (model.part_faults item (tree_in value.now))) }
 {
@@ -116,7 +115,6 @@ fn read_part(alloc: Global, value: &Value, item: bool) -> Result<Template, Spell
 /// The template of a value that stands for itself.
 fn read_literal(alloc: Global, value: &Value) -> Result<Template, SpellingRefusal>
     ensures template { IfOk result (λ t. view t ≡ Literal (tree_in value.now)) }
-    ensures whole { OnOk result (is_some (tree_of (json_view value.now)) ≡ true) }
     ensures not_whole { result ≡ Err NotWhole → tree_of (json_view value.now) ≡ None }
     ensures refused { IfErr result (λ e. Tells e []) }
 {
@@ -140,7 +138,6 @@ fn read_elements(
     ensures right { OnOk result (model.parts_faults item (elements_in elements.now) ≡ []) }
     ensures templates { IfOk result
         (λ v. elements_view v.items ≡ model.parts_of item (elements_in elements.now)) }
-    ensures whole { OnOk result (is_some (elements_of (items_view elements.now)) ≡ true) }
     ensures not_whole { result ≡ Err NotWhole → elements_of (items_view elements.now) ≡ None }
     ensures refused { IfErr result
         (λ e. Tells e (model.parts_faults item (elements_in elements.now))) }
@@ -163,8 +160,6 @@ fn read_fields(
         (model.part_faults item (json.Object (fields_in members.now.entries)) ≡ []) }
     ensures templates { IfOk result (λ m. entries_view m.entries
         ≡ model.field_templates_of item (fields_in members.now.entries)) }
-    ensures whole { OnOk result
-        (is_some (members_of (members_view members.now.entries)) ≡ true) }
     ensures not_whole { result ≡ Err NotWhole
         → members_of (members_view members.now.entries) ≡ None }
     ensures refused { IfErr result
@@ -192,7 +187,6 @@ fn read_field(
     ensures name { IfOk result (λ f. string_bytes f.0 ≡ model.renamed name.now) }
     ensures template { IfOk result
         (λ f. view f.1 ≡ field_template item name.now (tree_in value.now)) }
-    ensures whole { OnOk result (is_some (tree_of (json_view value.now)) ≡ true) }
     ensures not_whole { result ≡ Err NotWhole → tree_of (json_view value.now) ≡ None }
     ensures refused { IfErr result (λ e. Tells e (field_faults item name.now (tree_in value.now))) }
 {
@@ -220,7 +214,6 @@ fn unmarked(name: &str) -> Option<&str>
 fn read_marked(alloc: Global, value: &Value, item: bool) -> Result<Template, SpellingRefusal>
     ensures right { OnOk result (model.marked_faults item (tree_in value.now) ≡ []) }
     ensures template { IfOk result (λ t. view t ≡ model.marked_value item (tree_in value.now)) }
-    ensures whole { OnOk result (is_some (tree_of (json_view value.now)) ≡ true) }
     ensures of_text { ¬ (result ≡ Err NotWhole) }
     ensures refused { IfErr result (λ e. Tells e (model.marked_faults item (tree_in value.now))) }
 {

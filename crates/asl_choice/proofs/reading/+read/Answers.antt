@@ -15,7 +15,6 @@ use Rattle.asl_tree.proofs.Values.{field_named_lookup}
 use Rattle.asl_tree.specs.Values.{tree_in, fields_in}
 use Rattle.asl_choice.proofs.Fields.{smaller, member_lost, variable_faults_one}
 use Rattle.asl_choice.proofs.Lists.{tests_read, element_told, list_right, no_one_field, right_same, told_all}
-use Rattle.asl_choice.proofs.Wholeness.{variable_whole, joined_whole}
 use Rattle.asl_choice.proofs.reading.+read.Goals as goal
 
 pub read_test-read_joined-requires : goal.read_test-read_joined-requires
@@ -80,14 +79,3 @@ read_test-returns-in-Some-get-clause-refused t c =
     let v = tree_in c.in-Some-get.variable.now in
     let operand = tree_in c.in-Some.value.now in
     told_all _ _ c.read_variable_test.result (variable_faults_one fs v c.deref.result.now operand (found c.args.members.now.entries c.in-Some-get.variable.now c.in-Some-get.ensures.value) (one fs (string_bytes c.in-Some.name.now) c.deref.result.now operand c.in-Some.ensures.field c.deref.ensures)) c.read_variable_test.ensures.refused
-
-pub read_test-returns-in-Some-get-clause-whole : goal.read_test-returns-in-Some-get-clause-whole
-read_test-returns-in-Some-get-clause-whole t c =
-    let es = c.args.members.now.entries in
-    let v = c.in-Some-get.variable.now in
-    variable_whole c.read_variable_test.result es (c.in-Some.name.now, c.in-Some.value.now) v c.deref.result.now c.only_field.ensures.ordered c.in-Some.ensures.among c.in-Some.ensures.field (found es v c.in-Some-get.ensures.value) c.read_variable_test.ensures.right c.read_variable_test.ensures.whole
-
-pub read_test-returns-in-None-clause-whole : goal.read_test-returns-in-None-clause-whole
-read_test-returns-in-None-clause-whole t c =
-    let es = c.args.members.now.entries in
-    joined_whole c.read_joined.result es (c.in-Some.name.now, c.in-Some.value.now) c.only_field.ensures.ordered c.in-Some.ensures.among c.in-Some.ensures.field (field_named_lookup (codes "Variable") es ∙ ap (option_map tree_in) (sym c.in-None.ensures.value)) c.read_joined.ensures.whole

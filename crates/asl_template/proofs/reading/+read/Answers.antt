@@ -3,7 +3,6 @@ use Rattle.std.proofs.lemmas.Result.{err_from_is_err_and}
 use Rattle.asl_tree.proofs.Texts.{elements_none, members_none}
 use Rattle.asl_template.proofs.Members.{Member, field_read, twice_told, field_told, field_passed}
 use Rattle.asl_template.proofs.Parts.{parts_read, element_told}
-use Rattle.asl_template.proofs.Wholeness.{member_read}
 use Rattle.asl_template.proofs.reading.+read.Goals as goal
 
 pub read_elements-returns-in_err-read_part-clause-refused : goal.read_elements-returns-in_err-read_part-clause-refused
@@ -62,5 +61,4 @@ read_fields-loop-name-preserved t c =
       templates = read.0;
       distinct = read.1;
       faults = field_passed c.args.item c.args.members.now.entries l.name-iterator left m c.deref.result.now l.invariant.faults c.in-Some.ensures.steps c.deref.ensures c.in_ok-name.ensures.right;
-      trees = member_read c.args.members.now.entries l.name-iterator left m l.invariant.trees c.in-Some.ensures.steps c.in_ok-name.ensures.whole;
     }

@@ -1,6 +1,4 @@
-use Rattle.std.proofs.Common.{◌≡◌, true, is_some, List, ◌++◌, map, take, drop}
-use Rattle.serde_json.specs.View.{items_view, members_view}
-use Rattle.asl_model.specs.Json.{elements_of, members_of}
+use Rattle.std.proofs.Common.{◌≡◌, true, List, ◌++◌, map, take, drop}
 use Rattle.asl_model.specs.ShapeSpelling.{are_distinct}
 use Rattle.asl_model.specs.TemplateSpelling.{part_of, parts_faults, field_templates_of, fields_faults, renamed_names}
 use Rattle.asl_tree.specs.Values.{tree_in, elements_in, fields_in}
@@ -12,7 +10,6 @@ abbrev pub invariant-read_elements-loop-element : goal.invariant-read_elements-l
 invariant-read_elements-loop-element l = record {
   templates : map view l.templates.items ≡ map (λ t. part_of l.item (tree_in t)) (take l.element-index l.elements);
   faults : parts_faults l.item (elements_in l.elements) ≡ parts_faults l.item (elements_in (drop l.element-index l.elements));
-  trees : is_some (elements_of (items_view l.elements)) ≡ is_some (elements_of (items_view (drop l.element-index l.elements)));
 }
 
 abbrev pub invariant-read_fields-loop-name : goal.invariant-read_fields-loop-name
@@ -22,5 +19,4 @@ invariant-read_fields-loop-name l = record {
   templates : entries_view l.templates.entries ≡ field_templates_of l.item (fields_in done);
   distinct : are_distinct (renamed_names (fields_in done)) ≡ true;
   faults : fields_faults l.item (fields_in l.members.entries) ≡ fields_faults l.item (fields_in l.name-iterator);
-  trees : is_some (members_of (members_view l.members.entries)) ≡ is_some (members_of (members_view l.name-iterator));
 }
