@@ -57,7 +57,7 @@ pub fn check(
 }
 
 /// Checks the certificate as [`check`] does. Further shapes may stand in its table afterwards, also where memory runs
-/// out; its numbers stand for the shapes that they stood for.
+/// out; each that stood there keeps its number, and the certificate's own numbers are the same.
 pub fn check_numbered(
     alloc: Global,
     machine: &Machine,
@@ -70,6 +70,9 @@ pub fn check_numbered(
         (verdict_view verdict)) }
     ensures same { numbered_view certificate.new ≡ numbered_view certificate.old }
     ensures within { AreWithin certificate.new }
+    ensures keeps { Keeps (expansions certificate.old.shapes) (expansions certificate.new.shapes) }
+    ensures output { certificate.new.output ≡ certificate.old.output }
+    ensures states { certificate.new.states ≡ certificate.old.states }
 {
     let never = certificate.shapes.add(&Shape::Never)?;
     let checker = Checker {

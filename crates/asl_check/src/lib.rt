@@ -2,7 +2,8 @@
 //!
 //! [`check_numbered`] goes over the edges of each state ([`asl_edges::edges_of`]) and compares what flows there with
 //! what stands there, by the numbers of the certificate's table; [`check`] does so for a certificate with shapes of its
-//! own.
+//! own. What is declared and the certificates, with their readers and writers, are those of [`asl_records`], which this
+//! crate shows again: who checks a certificate names no other crate for it.
 #![tactic(auto)]
 
 mod checker;
@@ -15,5 +16,11 @@ mod tasks;
 mod verdicts;
 
 pub use asl_edges::{Broken, FindingFault};
+pub use asl_records::{
+    Certificate, Declared, NumberedCertificate, ReadFault, RecordFault, RecordRefusal,
+    StateNumbers, StateShapes, TaskShapes, expand_certificate, number_certificate,
+    read_certificate, read_declared, read_numbered, write_certificate, write_declared,
+    write_numbered,
+};
 pub use checker::{check, check_numbered};
 pub use verdicts::{Finding, Verdict};

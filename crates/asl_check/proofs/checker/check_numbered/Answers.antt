@@ -30,3 +30,6 @@ returns-clause-same c = certificate_shown c.args.certificate.now (in_table c.arg
 
 pub returns-clause-within : goal.returns-clause-within
 returns-clause-within c = certificate_within c.args.certificate.now (in_table c.args.certificate.now c.verdict.new.shapes) (keeps_trans _ _ _ c.add.ensures.keeps c.verdict.ensures.keeps) refl refl c.requires.within
+
+pub returns-clause-keeps : goal.returns-clause-keeps
+returns-clause-keeps c = keeps_trans _ _ _ c.add.ensures.keeps c.verdict.ensures.keeps
