@@ -3,8 +3,8 @@ use Rattle.std.proofs.Common.{◌≡◌, ℕ, zero, suc, List, Bool, ◌&&◌, �
 use Rattle.std.specs.Prelude.{IsTrue, bytes_eq}
 use Rattle.std.proofs.lemmas.Bool.{and_parts, and_from, false≢true}
 use Rattle.asl_model.specs.Tree.{Tree, Array, Object, Trees, NoTrees, AndTree, Fields, NoFields, AndField, field_named}
-use Rattle.asl_model.specs.Shape.{Shape, Any, Never, NullShape, BooleanShape, IntegerShape, StringShape, ArrayShape, ObjectShape, Shapes, NoShapes, AndShape, FieldShapes, NoFieldShapes, AndFieldShape, Has, has, Inside, elements_have, each_element, fields_have, there_and, mentions, all_mentioned}
-use Rattle.asl_drafts.specs.Cutting.{cut, cut_to, cut_elements_to, cut_fields_to}
+use Rattle.asl_model.specs.Shape.{Shape, Any, OfKinds, Arrays, WithoutArrays, ArraysOf, Objects, WithoutObjects, ObjectsOf, Shapes, NoShapes, AndShape, FieldShapes, NoFieldShapes, AndFieldShape, Has, has, Inside, arrays_have, objects_have, elements_have, each_element, fields_have, there_and, mentions, all_mentioned}
+use Rattle.asl_drafts.specs.Cutting.{cut, cut_to, cut_arrays_to, cut_objects_to, cut_elements_to, cut_fields_to}
 
 -- the same fields are mentioned
 mentions-cut : (levels : ℕ) (n : List ℕ) (shapes : FieldShapes) → mentions n (cut_fields_to levels shapes) ≡ mentions n shapes
@@ -31,17 +31,19 @@ mutual
   cut_to-above : (levels : ℕ) (s : Shape) (t : Tree) → Has s t → Has (cut_to levels s) t
   cut_to-above zero s t h = refl
   cut_to-above (suc levels) Any t h = refl
-  cut_to-above (suc levels) Never t h = h
-  cut_to-above (suc levels) NullShape t h = h
-  cut_to-above (suc levels) BooleanShape t h = h
-  cut_to-above (suc levels) IntegerShape t h = h
-  cut_to-above (suc levels) StringShape t h = h
-  cut_to-above (suc levels) (ArrayShape first rest) (Array ts) h = elements-above levels first (has rest) (has (cut_to levels rest)) (λ t k. cut_to-above levels rest t k) ts h
-  cut_to-above (suc levels) (ArrayShape first rest) t h = absurd (false≢true h)
-  cut_to-above (suc levels) (ObjectShape shapes extra) (Object fs) h =
+  cut_to-above (suc levels) (OfKinds simple arrays objects) (Array ts) h = arrays-above levels arrays ts h
+  cut_to-above (suc levels) (OfKinds simple arrays objects) (Object fs) h = objects-above levels objects fs h
+  cut_to-above (suc levels) (OfKinds simple arrays objects) t h = h
+
+  arrays-above : (levels : ℕ) (arrays : Arrays) (ts : Trees) → IsTrue (arrays_have arrays ts) → IsTrue (arrays_have (cut_arrays_to levels arrays) ts)
+  arrays-above levels WithoutArrays ts h = h
+  arrays-above levels (ArraysOf first rest) ts h = elements-above levels first (has rest) (has (cut_to levels rest)) (λ t k. cut_to-above levels rest t k) ts h
+
+  objects-above : (levels : ℕ) (objects : Objects) (fs : Fields) → IsTrue (objects_have objects fs) → IsTrue (objects_have (cut_objects_to levels objects) fs)
+  objects-above levels WithoutObjects fs h = h
+  objects-above levels (ObjectsOf shapes extra) fs h =
       let both = and_parts (fields_have shapes fs) (extra || all_mentioned shapes fs) h in
       and_from (fields_have (cut_fields_to levels shapes) fs) (extra || all_mentioned (cut_fields_to levels shapes) fs) (fields-above levels shapes fs both.0) (rw (mentioned-cut levels shapes fs) both.1)
-  cut_to-above (suc levels) (ObjectShape shapes extra) t h = absurd (false≢true h)
 
   elements-above : (levels : ℕ) (first : Shapes) (test more : Tree → Bool) → ((t : Tree) → IsTrue (test t) → IsTrue (more t)) → (ts : Trees) → IsTrue (elements_have first test ts) → IsTrue (elements_have (cut_elements_to levels first) more ts)
   elements-above levels NoShapes test more up ts h = each-more test more up ts h

@@ -11,8 +11,7 @@ use Rattle.asl_model.specs.Machine.{Catcher, Settings, Delay, Seconds, SecondsPa
 use Rattle.asl_model.specs.Numbering.{kind_outline, scope_outline, scopes_outline}
 use Rattle.asl_model.specs.Path.{Segment}
 use Rattle.asl_model.specs.Shape.{Shape, Never, Shapes, ArrayShape, inhabited}
-use Rattle.asl_model.specs.ShapeFlow.{look, literal, rule_shape, leave, Flow, FlowFault}
-use Rattle.asl_model.specs.ShapeOrder.{is_integer_shape, is_string_shape}
+use Rattle.asl_model.specs.ShapeFlow.{look, literal, is_integer_shape, is_string_shape, rule_shape, leave, Flow, FlowFault}
 use Rattle.asl_model.specs.Template.{Template}
 use Rattle.asl_model.specs.Test.{Rule}
 use Rattle.asl_model.proofs.Listed.{first_in, later_in}

@@ -1,116 +1,27 @@
 -- Where all that flows through a state is inside what is certified there, and nothing stops it, the certificate is closed
 -- at the state, whatever its type.
 use Rattle.std.proofs.Common.{◌≡◌, ℕ, suc, List, [], ◌∷◌, ◌++◌, length, Bool, true, false, Option, Some, None, Result, Ok, Err, refl, ap, subst, arith}
-use Rattle.std.specs.Prelude.{pos, IsTrue, is_some, codes, if◌then◌else◌}
-use Rattle.std.proofs.lemmas.Bool.{and_parts, and_from, false≢true}
-use Rattle.asl_model.specs.Tree.{Tree, Integer, Text, Array, Trees, NoTrees, AndTree, count}
+use Rattle.std.specs.Prelude.{IsTrue, is_some, codes, if◌then◌else◌}
+use Rattle.std.proofs.lemmas.Bool.{false≢true}
+use Rattle.asl_model.specs.Tree.{Tree, Array, Trees, count}
 use Rattle.asl_model.specs.Path.{Segment}
 use Rattle.asl_model.specs.Placing.{placed}
-use Rattle.asl_model.specs.Template.{Template}
 use Rattle.asl_model.specs.Test.{Rule, truth}
 use Rattle.asl_model.specs.Machine.{Catcher, Settings, Delay, Seconds, SecondsPath, Timestamp, TimestampPath, StateOf, Kind, Pass, Task, Choice, Wait, Succeed, Fail, Parallel, Map, Scopes, NoScopes, AndScope, start_of, scope_at, how_many}
-use Rattle.asl_model.specs.Flow.{effective_input, at_output_path, output_of, chosen, delay_in, branch_inputs, item_input, item_inputs, map_items, work_of, first_move}
+use Rattle.asl_model.specs.Flow.{effective_input, at_output_path, output_of, chosen, delay_in, branch_inputs, work_of, first_move}
 use Rattle.asl_model.specs.Run.{error_output, error_placed}
-use Rattle.asl_model.specs.Shape.{Shape, Any, Never, NullShape, BooleanShape, IntegerShape, StringShape, ArrayShape, ObjectShape, Shapes, NoShapes, AndShape, Has, has, elements_have, each_element, inhabited}
-use Rattle.asl_model.specs.ShapeOrder.{join, joined_with_each, is_integer_shape, is_string_shape}
-use Rattle.asl_model.specs.ShapeFlow.{look, put, literal, template_shape, rule_shape, Flow, template_flow, output_flow, result_leaves}
-use Rattle.asl_model.specs.Certificate.{Declared, StateShapes, Certificate, certified, certified_input, input_among, branches_in, is_map, branch_shape, branch_end, item_end, or_never, gives_of, EachHas, OutputFits, WorkFits, CaughtFits, CatchersFit, HasEntry, IsClosedAt}
-use Rattle.asl_model.specs.Finding.{FindingFault, as_first_elements, element_shape, item_flow, at_each_place, map_result, array_parts, error_output_shape, error_placed_shape, effective_flow}
-use Rattle.asl_model.specs.Edges.{Walked, breaks_unless, walk_then, to_next, to_end, onward, walk_named, walk_delay, to_child, to_branches, walk_items_result, walk_elements, walk_items, walk_chosen, walk_rule, walk_rules, walk_default, walk_caught, walk_catchers, walk_result, walk_work, walk_settled, walk}
+use Rattle.asl_model.specs.Shape.{Shape, Never, ArrayShape, Shapes, Has, has, elements_have, inhabited}
+use Rattle.asl_model.specs.ShapeFlow.{look, put, literal, is_integer_shape, is_string_shape, rule_shape, Flow, output_flow, result_leaves}
+use Rattle.asl_model.specs.Certificate.{Declared, StateShapes, Certificate, certified, certified_input, input_among, branches_in, is_map, branch_end, item_end, or_never, gives_of, EachHas, OutputFits, WorkFits, CaughtFits, CatchersFit, HasEntry, IsClosedAt}
+use Rattle.asl_model.specs.Finding.{FindingFault, as_first_elements, element_shape, item_flow, map_result, array_parts, error_output_shape, error_placed_shape, effective_flow}
+use Rattle.asl_model.specs.Edges.{Walked, breaks_unless, walk_then, to_next, to_end, onward, walk_named, walk_delay, to_child, to_branches, walk_items_result, walk_elements, with_elements_walked, walk_items, walk_chosen, walk_rule, walk_rules, walk_default, walk_caught, walk_catchers, walk_result, walk_work, walk_settled, walk}
 use Rattle.asl_drafts.specs.Fits.{AllFit}
 use Rattle.asl_model.proofs.ShapeInhabited.{has-inhabited}
-use Rattle.asl_model.proofs.ShapeInside.{only_integer, only_string}
-use Rattle.asl_model.proofs.ShapeJoin.{join_above, join_each-above, all_inside-more, elements_above}
+use Rattle.asl_model.proofs.FindingStates.{number-there, text-there, branches-have, map-has, items-there, items-have, item-told, inputs-give, each-fits, error-has}
 use Rattle.asl_model.proofs.ShapePut.{put-gives}
-use Rattle.asl_model.proofs.ShapeTemplate.{look-gives, literal-has_itself, template-gives}
+use Rattle.asl_model.proofs.ShapeTemplate.{look-gives, literal-has_itself}
 use Rattle.asl_model.proofs.ShapeRule.{rule-decided}
-use Rattle.asl_model.proofs.ShapeLeave.{Gives, IsTold, leaves-told, output-told, effective-told, template-told, template-parts, leaves-gives, output-gives, effective-gives}
-
--- Values that are wanted
-
-number-there : (field : List ℕ) (w : Tree) → Has IntegerShape w → (t : Tree) × (Rattle.asl_model.specs.Flow.number_wanted field w ≡ Ok t)
-number-there field (Integer n) m = (Integer n, refl)
-number-there field w m = absurd (false≢true m)
-
-text-there : (field : List ℕ) (w : Tree) → Has StringShape w → (t : Tree) × (Rattle.asl_model.specs.Flow.text_wanted field w ≡ Ok t)
-text-there field (Text s) m = (Text s, refl)
-text-there field w m = absurd (false≢true m)
-
--- Lists of outputs
-
-branches-have : (all : List Shape) (outputs : Trees) → count outputs ≡ length all → EachHas (λ i. or_never (branch_shape i all)) outputs → IsTrue (elements_have (as_first_elements all) (has Never) outputs)
-branches-have [] NoTrees same each = refl
-branches-have [] (AndTree t ts) same each = absurd (omega arith)
-branches-have (s ∷ further) NoTrees same each = absurd (omega arith)
-branches-have (s ∷ further) (AndTree t ts) same each = and_from (has s t) (elements_have (as_first_elements further) (has Never) ts) each.0 (branches-have further ts (omega arith) each.1)
-
-each-item : (item : Shape) (outputs : Trees) → EachHas (λ i. item) outputs → IsTrue (each_element (has item) outputs)
-each-item item NoTrees each = refl
-each-item item (AndTree t ts) each = and_from (has item t) (each_element (has item) ts) each.0 (each-item item ts each.1)
-
-map-has : (item : Shape) (first : Shapes) (rest : Shape) (ts outputs : Trees) → IsTrue (elements_have first (has rest) ts) → count outputs ≡ count ts → EachHas (λ i. item) outputs → IsTrue (elements_have (at_each_place item first) (has (if inhabited rest then item else Never)) outputs)
-map-has item NoShapes rest NoTrees NoTrees h same each = refl
-map-has item NoShapes rest NoTrees (AndTree u us) h same each = absurd (omega arith)
-map-has item NoShapes rest (AndTree t ts) outputs h same each = rw (has-inhabited rest t (and_parts (has rest t) (each_element (has rest) ts) h).0) (each-item item outputs each)
-map-has item (AndShape s others) rest NoTrees outputs h same each = absurd (false≢true h)
-map-has item (AndShape s others) rest (AndTree t ts) NoTrees h same each = absurd (omega arith)
-map-has item (AndShape s others) rest (AndTree t ts) (AndTree u us) h same each = and_from (has item u) (elements_have (at_each_place item others) (has (if inhabited rest then item else Never)) us) each.0 (map-has item others rest ts us (and_parts (has s t) (elements_have others (has rest) ts) h).1 (omega arith) each.1)
-
--- Items of a Map
-
--- a tree of an array's shape is an array
-array-tree : (field : List ℕ) (first : Shapes) (rest : Shape) (w : Tree) → Has (ArrayShape first rest) w → (ts : Trees) × (Rattle.asl_model.specs.Flow.list_wanted field w ≡ Ok ts) × IsTrue (elements_have first (has rest) ts)
-array-tree field first rest (Array ts) m = (ts, refl, m)
-array-tree field first rest w m = absurd (false≢true m)
-
-items-there : (items : List Segment) (s : Shape) (first : Shapes) (rest : Shape) (u : Tree) → look items s ≡ Ok (ArrayShape first rest) → Has s u → (ts : Trees) × (map_items items u ≡ Ok ts) × IsTrue (elements_have first (has rest) ts)
-items-there items s first rest u e m =
-    let given = look-gives items s (ArrayShape first rest) u e m in
-    let list = array-tree (codes "ItemsPath") first rest given.0 given.2 in
-    (list.0, rw (given.1) (list.1), list.2)
-
--- each item has the element's shape
-items-have : (first : Shapes) (rest : Shape) (ts : Trees) → IsTrue (elements_have first (has rest) ts) → IsTrue (each_element (has (element_shape first rest)) ts)
-items-have first rest ts h =
-    let inner : Shape = joined_with_each join Never first in
-    elements_above join join_above first rest (join inner rest) ts (all_inside-more first inner (join inner rest) (λ t m. join_above.left inner rest t m) (join_each-above Never first).1) (λ t m. join_above.right inner rest t m) h
-
-item-told : (selector : Option Template) (s element : Shape) → IsTold (item_flow selector s element)
-item-told None s element = tt
-item-told (Some selector) s element = go (inhabited element)
-  where
-    go : (live : Bool) → IsTold (if live then template_flow (codes "ItemSelector") (template_shape selector s (Some element)) else Ok Never)
-    go true = template-told (codes "ItemSelector") selector s (Some element)
-    go false = tt
-
-item-gives : (selector : Option Template) (s element r : Shape) (u : Tree) (i : ℕ) (t : Tree) → item_flow selector s element ≡ Ok r → Has s u → Has element t → Gives r (item_input selector u i t)
-item-gives None s element r u i t e h m =
-    let is : element ≡ r = cc in
-    (t, refl, subst (λ (z : Shape). Has z t) is m)
-item-gives (Some selector) s element r u i t e h m =
-    let live : template_flow (codes "ItemSelector") (template_shape selector s (Some element)) ≡ Ok r = rw (has-inhabited element t m) at e in
-    let given = template-gives selector s (Some element) r u (Some (record { number = pos i; value = t })) (template-parts (codes "ItemSelector") (template_shape selector s (Some element)) r live) h m in
-    (given.0, rw (given.1) refl, given.2)
-
-inputs-give : (selector : Option Template) (s element r : Shape) (u : Tree) (i : ℕ) (ts : Trees) → item_flow selector s element ≡ Ok r → Has s u → IsTrue (each_element (has element) ts) → (us : Trees) × (item_inputs selector u i ts ≡ Ok us) × (count us ≡ count ts) × IsTrue (each_element (has r) us)
-inputs-give selector s element r u i NoTrees e h m = (NoTrees, refl, refl, refl)
-inputs-give selector s element r u i (AndTree t ts) e h m =
-    let both = and_parts (has element t) (each_element (has element) ts) m in
-    let first = item-gives selector s element r u i t e h both.0 in
-    let further = inputs-give selector s element r u (suc i) ts e h both.1 in
-    (AndTree first.0 further.0, rw (first.1, further.1) refl, ap suc further.2, and_from (has r first.0) (each_element (has r) further.0) first.2 further.3)
-
--- the inputs have the shape of the processor's start
-each-fits : (r p : Shape) (us : Trees) → ((v : Tree) → Has r v → Has p v) → IsTrue (each_element (has r) us) → EachHas (λ i. p) us
-each-fits r p NoTrees inside h = tt
-each-fits r p (AndTree u us) inside h =
-    let both = and_parts (has r u) (each_element (has r) us) h in
-    (inside u both.0, each-fits r p us inside both.1)
-
--- Catchers
-
-error-has : (error cause : List ℕ) → Has error_output_shape (error_output error cause)
-error-has error cause = refl
+use Rattle.asl_model.proofs.ShapeLeave.{IsTold, leaves-told, output-told, effective-told, leaves-gives, output-gives, effective-gives}
 
 -- ---- steps that fit
 
@@ -143,25 +54,24 @@ module _ (declared : Declared) (certificate : Certificate) (end : Shape) (n : Li
   delay-fits (SecondsPath path) s u f m =
       let kind = kind-fit (codes "SecondsPath") is_integer_shape (look path s) f in
       let given = look-gives path s kind.0 u kind.1 m in
-      let number = number-there (codes "SecondsPath") given.0 (subst (λ (z : Shape). Has z given.0) (only_integer kind.0 kind.2) given.2) in
+      let number = number-there (codes "SecondsPath") kind.0 given.0 kind.2 given.2 in
       (number.0, rw (given.1) (number.1))
   delay-fits (Timestamp t) s u f m = (u, refl)
   delay-fits (TimestampPath path) s u f m =
       let kind = kind-fit (codes "TimestampPath") is_string_shape (look path s) f in
       let given = look-gives path s kind.0 u kind.1 m in
-      let text = text-there (codes "TimestampPath") given.0 (subst (λ (z : Shape). Has z given.0) (only_string kind.0 kind.2) given.2) in
+      let text = text-there (codes "TimestampPath") kind.0 given.0 kind.2 given.2 in
       (text.0, rw (given.1) (text.1))
 
-  items-parts : (go_on : Shapes × Shape → List Walked) (result : Result Shape ℕ) → Fit (walk_items go_on result) → (first : Shapes) × (rest : Shape) × (result ≡ Ok (ArrayShape first rest)) × Fit (go_on (first, rest))
+  parts-fit : (go_on : Shapes × Shape → List Walked) (o : Option (Shapes × Shape)) → Fit (with_elements_walked go_on o) → (parts : Shapes × Shape) × (o ≡ Some parts) × Fit (go_on parts)
+  parts-fit go_on None f = absurd f.0
+  parts-fit go_on (Some parts) f = (parts, refl, f)
+
+  items-parts : (go_on : Shapes × Shape → List Walked) (result : Result Shape ℕ) → Fit (walk_items go_on result) → (first : Shapes) × (rest : Shape) × (named : Shape) × (result ≡ Ok named) × (array_parts named ≡ Some (first, rest)) × Fit (go_on (first, rest))
   items-parts go_on (Err at) f = absurd f.0
-  items-parts go_on (Ok Any) f = absurd f.0
-  items-parts go_on (Ok Never) f = absurd f.0
-  items-parts go_on (Ok NullShape) f = absurd f.0
-  items-parts go_on (Ok BooleanShape) f = absurd f.0
-  items-parts go_on (Ok IntegerShape) f = absurd f.0
-  items-parts go_on (Ok StringShape) f = absurd f.0
-  items-parts go_on (Ok (ArrayShape first rest)) f = (first, rest, refl, f)
-  items-parts go_on (Ok (ObjectShape fields extra)) f = absurd f.0
+  items-parts go_on (Ok named) f =
+      let parts = parts-fit go_on (array_parts named) f in
+      (parts.0.0, parts.0.1, named, refl, parts.1, parts.2)
 
   -- Catchers
 
@@ -277,8 +187,8 @@ module _ (declared : Declared) (certificate : Certificate) (end : Shape) (n : Li
     work-fits (Map items selector processor) settings s v u long item f g eff m h =
         let parts = items-parts (walk_elements settings (Map items selector processor) entry selector processor s) (look items s) f in
         let element = element_shape parts.0 parts.1 in
-        let both = both-fit (walk_then (to_child (codes "ItemProcessor") processor) (item_flow selector s element)) (walk_items_result settings (Map items selector processor) entry.input entry.item (parts.0, parts.1)) parts.3 in
-        let list = items-there items s parts.0 parts.1 u parts.2 m in
+        let both = both-fit (walk_then (to_child (codes "ItemProcessor") processor) (item_flow selector s element)) (walk_items_result settings (Map items selector processor) entry.input entry.item (parts.0, parts.1)) parts.5 in
+        let list = items-there items s parts.2 parts.0 parts.1 u parts.3 parts.4 m in
         let flow = then-fit (to_child (codes "ItemProcessor") processor) (item_flow selector s element) (item-told selector s element) both.0 in
         let given = inputs-give selector s element flow.0 u 0 list.0 flow.1 m (items-have parts.0 parts.1 list.0 list.2) in
         rw (eff, list.1, given.1) (each-fits flow.0 (certified_input certificate (start_of processor)) given.0 (λ w held. flow.2.0 w held) given.3, λ outputs same each. outputs-fit entry.item refl outputs parts.0 parts.1 list.0 given.0 list.2 given.2 same (subst (λ (o : Option StateShapes). EachHas (λ i. or_never (item_end o)) outputs) at each) both.1)

@@ -9,8 +9,7 @@ use Rattle.asl_model.specs.Finding.{Breach, PathMayBeMissing, WrongKind, array_p
 use Rattle.asl_model.specs.Machine.{Delay, SecondsPath, TimestampPath}
 use Rattle.asl_model.specs.Path.{Segment}
 use Rattle.asl_model.specs.Shape.{Shape, Shapes}
-use Rattle.asl_model.specs.ShapeFlow.{look}
-use Rattle.asl_model.specs.ShapeOrder.{is_integer_shape, is_string_shape}
+use Rattle.asl_model.specs.ShapeFlow.{look, is_integer_shape, is_string_shape}
 use Rattle.asl_numbered.specs.Expansion.{shape_at, Keeps}
 use Rattle.asl_edges.specs.Named.{Named, StopsUnnamed}
 use Rattle.asl_edges.specs.View.{stopped_view}

@@ -10,8 +10,7 @@ ghost use Rattle.asl_states.specs.Machine.{delay_view};
 ghost use Rattle.asl_model.specs.Edges as model;
 ghost use Rattle.asl_model.specs.Finding.{WrongKind};
 ghost use Rattle.asl_model.specs.Shape.{Shape};
-ghost use Rattle.asl_model.specs.ShapeFlow.{look};
-ghost use Rattle.asl_model.specs.ShapeOrder.{is_integer_shape, is_string_shape};
+ghost use Rattle.asl_model.specs.ShapeFlow.{look, is_integer_shape, is_string_shape};
 ghost use Rattle.asl_numbered.specs.Expansion.{expansions, shape_at};
 
 use crate::faults::{FindingFault, Stopped, broken_at};

@@ -1,5 +1,5 @@
 -- The shapes of the functions' values, for the numbers of the shapes of their arguments.
-use Rattle.std.proofs.Common.{◌≡◌, ℕ, suc, List, [], ◌∷◌, length, get_or, Bool, true, false, ◌||◌, not, nat_eq, Option, Some, None, option_map, Ok, refl, sym, ap, ◌∙◌, arith}
+use Rattle.std.proofs.Common.{◌≡◌, ℕ, suc, List, [], ◌∷◌, length, get_or, true, false, ◌||◌, not, nat_eq, Option, Some, None, option_map, Ok, refl, sym, ap, ◌∙◌, arith}
 use Rattle.asl_model.specs.Intrinsic.{Pieces}
 use Rattle.asl_model.specs.Shape as model
 use Rattle.asl_model.specs.ShapeFlow as flow
@@ -23,11 +23,6 @@ holes_fit None s table others holes is = absurd (cc)
 holes_fit (Some pieces) s table others holes is =
     let same : holes ≡ length pieces.after_holes = cc in
     rw (same, counted table others) refl
-
--- one test before four is before each
-pub before_four : (a b c d e : Bool) → (a || (b || c || d || e)) ≡ (a || b || c || d || e)
-before_four true b c d e = refl
-before_four false b c d e = refl
 
 -- ---- `States.ArrayLength`
 

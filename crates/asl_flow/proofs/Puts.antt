@@ -1,13 +1,13 @@
 -- What is put in the parts of a shape, with refusals counted from the first segment, and the numbers that answer it.
-use Rattle.std.proofs.Common.{◌≡◌, ◌<◌, ℕ, suc, ◌+◌, Bool, true, false, ◌&&◌, List, [], ◌∷◌, Option, Some, None, Result, Ok, Err, option_map, String, Global, string_bytes, length, refl, ap, sym, ◌∙◌, subst, arith}
+use Rattle.std.proofs.Common.{◌≡◌, ◌<◌, ℕ, suc, ◌+◌, Bool, true, false, ◌&&◌, List, [], ◌∷◌, Option, Some, None, Result, Ok, Err, option_map, String, Global, string_bytes, length, get_or, drop, refl, ap, sym, ◌∙◌, subst, arith}
 use Rattle.std.specs.BTreeMap.{BTreeMap, get_by}
 use Rattle.std.specs.Prelude.{IfOk}
 use Rattle.std.specs.String.{string_cmp}
 use Rattle.asl_model.specs.Path.{Segment, Name, Index}
-use Rattle.asl_model.specs.Shape.{Shape, FieldShapes, NoFieldShapes, AndFieldShape, ArrayShape, ObjectShape, Any, Never, NullShape, BooleanShape, IntegerShape, StringShape, inhabited}
-use Rattle.asl_model.specs.ShapeFlow.{part_at, place_at, put, put_under, put_mentioned, array_with, object_with, around, join_results}
+use Rattle.asl_model.specs.Shape.{Shape, Arrays, WithoutArrays, ArraysOf, FieldShapes, NoFieldShapes, AndFieldShape, ObjectShape, Never, inhabited}
+use Rattle.asl_model.specs.ShapeFlow.{part_at, place_in, arrays_alone, put, put_under, put_in_arrays, put_mentioned, array_with, object_with, around, join_results}
 use Rattle.asl_model.specs.ShapeOrder.{mention_of, join}
-use Rattle.asl_flow.specs.Changing.{with_field, with_place}
+use Rattle.asl_flow.specs.Changing.{arrays_with, with_field, with_place}
 use Rattle.asl_flow.specs.Counting.{counted_on}
 use Rattle.asl_flow.specs.Numbers.{Shows}
 use Rattle.asl_flow.specs.Putting.{Answers, mentioned}
@@ -16,6 +16,8 @@ use Rattle.asl_flow.specs.declared.putting.PutRefusal.TheVariants.{MayNotFit, Ou
 use Rattle.asl_flow.proofs.Numbered.{still_shown, number_within, own_number}
 use Rattle.asl_flow.proofs.NumberedParts.{mention_got}
 use Rattle.asl_flow.proofs.ShapeParts.{counted_none}
+use Rattle.asl_path.specs.View.{segment_view, segments_view}
+use Rattle.asl_path.specs.declared.Segment as code
 use Rattle.asl_numbered.specs.declared.node.Node.{Node}
 use Rattle.asl_numbered.specs.declared.node.NodeField.{NodeField}
 use Rattle.asl_numbered.specs.Expansion.{expansions, shape_at, fields_at, AreDistinct, IsNumberOf, Keeps}
@@ -50,38 +52,35 @@ changed_below old new at f whole r n m is h shows = record {
   refusal = tt;
 }
 
+-- ---- behind the first segment
+
+-- putting at segments is putting under the first of them, where there are trees
+pub put_first : (items further : List code.Segment) (s : code.Segment) (at : Segment) (w t : Shape) → 0 < length items → further ≡ drop 1 items → s ≡ get_or items 0 s → segment_view s ≡ at → inhabited t && inhabited w ≡ true
+    → put_under (put (segments_view further) w) at (segments_view further) w t ≡ put (segments_view items) w t
+put_first [] further s at w t h behind is same both = absurd (omega arith)
+put_first (x ∷ items) further s at w t h behind is same both = rw (both, behind, ← same, is) refl
+
 -- ---- lists
+
+put_in_place_of : (go_on : Shape → Result Shape ℕ) (s : Shape) (i : ℕ) (arrays : Arrays) (t : Shape) → place_in i arrays ≡ Some t → put_in_arrays go_on i arrays ≡ changed_by (λ u. arrays_with i u arrays s) (go_on t)
+put_in_place_of go_on s i WithoutArrays t at = absurd (cc)
+put_in_place_of go_on s i (ArraysOf first rest) t at = rw at (changed (go_on t))
+  where
+    changed : (r : Result Shape ℕ) → array_with i first rest r ≡ changed_by (λ u. arrays_with i u (ArraysOf first rest) s) r
+    changed (Ok u) = refl
+    changed (Err at) = refl
 
 -- putting under an index changes the place there
 pub put_at_index : (go_on : Shape → Result Shape ℕ) (p : List Segment) (w s : Shape) (i : ℕ) (part : Option Shape) (t : Shape) → part ≡ part_at (Index i) s → part ≡ Some t → put_under go_on (Index i) p w s ≡ changed_by (λ u. with_place i u s) (go_on t)
-put_at_index go_on p w Any i part t is found = absurd (cc)
-put_at_index go_on p w Never i part t is found = absurd (cc)
-put_at_index go_on p w NullShape i part t is found = absurd (cc)
-put_at_index go_on p w BooleanShape i part t is found = absurd (cc)
-put_at_index go_on p w IntegerShape i part t is found = absurd (cc)
-put_at_index go_on p w StringShape i part t is found = absurd (cc)
-put_at_index go_on p w (ArrayShape first rest) i part t is found =
-    let at : place_at i first ≡ Some t = sym is ∙ found in
-    rw at (changed (go_on t))
-  where
-    changed : (r : Result Shape ℕ) → array_with i first rest r ≡ changed_by (λ u. with_place i u (ArrayShape first rest)) r
-    changed (Ok u) = refl
-    changed (Err at) = refl
-put_at_index go_on p w (ObjectShape shapes extra) i part t is found = absurd (cc)
+put_at_index go_on p w s i part t is found = put_in_place_of go_on s i (arrays_alone s) t (sym is ∙ found)
 
 -- where there is no such place, nothing can be put
 pub no_index : (nodes : List Node) (at : ℕ) (go_on : Shape → Result Shape ℕ) (p : List Segment) (w s : Shape) (i : ℕ) → None ≡ part_at (Index i) s → Answers nodes (counted_on at (put_under go_on (Index i) p w s)) (Err (MayNotFit at))
-no_index nodes at go_on p w s i none = record { within = tt; shape = tt; refusal = ap (counted_on at) (refused s none) ∙ ap Err (omega arith) }
+no_index nodes at go_on p w s i none = record { within = tt; shape = tt; refusal = ap (counted_on at) (refused (arrays_alone s) none) ∙ ap Err (omega arith) }
   where
-    refused : (t : Shape) → None ≡ part_at (Index i) t → put_under go_on (Index i) p w t ≡ Err 0
-    refused Any e = refl
-    refused Never e = refl
-    refused NullShape e = refl
-    refused BooleanShape e = refl
-    refused IntegerShape e = refl
-    refused StringShape e = refl
-    refused (ArrayShape first rest) e = rw (sym e) refl
-    refused (ObjectShape shapes extra) e = refl
+    refused : (arrays : Arrays) → None ≡ place_in i arrays → put_in_arrays go_on i arrays ≡ Err 0
+    refused WithoutArrays e = refl
+    refused (ArraysOf first rest) e = rw (sym e) refl
 
 pub refused_in_list : (old new : List Node) (at i : ℕ) (go_on : Shape → Result Shape ℕ) (p : List Segment) (w : Shape) (number : ℕ) (r : Option ℕ) (place : ℕ) (refusal : PutRefusal) (answer : Result ℕ PutRefusal)
     → option_map (shape_at (expansions old)) r ≡ part_at (Index i) (shape_at (expansions old) number) → r ≡ Some place → Answers new (counted_on (at + 1) (go_on (shape_at (expansions old) place))) (Err refusal) → answer ≡ Err refusal

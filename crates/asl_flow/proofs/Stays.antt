@@ -1,8 +1,8 @@
 -- An object shape stays as it is where a field is put that it has already.
-use Rattle.std.proofs.Common.{◌≡◌, ℕ, List, Bool, true, false, Some, IsTrue, bytes_eq, refl, ap, subst}
+use Rattle.std.proofs.Common.{◌≡◌, ℕ, List, Bool, true, false, Some, IsTrue, bytes_eq, refl, ap, subst, arith}
 use Rattle.std.proofs.lemmas.Slice.Eq.{bytes_eq-Decides}
 use Rattle.asl_model.specs.Path.{Name}
-use Rattle.asl_model.specs.Shape.{Shape, Any, Never, NullShape, BooleanShape, IntegerShape, StringShape, ArrayShape, ObjectShape, FieldShapes, NoFieldShapes, AndFieldShape, before_mentions, insert_mention, IsProperShape, AreProperFields}
+use Rattle.asl_model.specs.Shape.{Shape, Any, OfKinds, ObjectShape, WithoutObjects, ObjectsOf, FieldShapes, NoFieldShapes, AndFieldShape, before_mentions, insert_mention, IsProperShape, AreProperFields}
 use Rattle.asl_model.specs.ShapeFlow.{part_at, if_needed}
 use Rattle.asl_model.specs.ShapeOrder.{mention_of, set_mention, without_mention}
 use Rattle.asl_model.specs.Tree.{comes_before}
@@ -55,10 +55,7 @@ set_again n w (AndFieldShape m needed s shapes) proper there = go (bytes_eq m n)
 -- so for the field of an object shape
 pub field_stays : (n : List ℕ) (w s : Shape) → IsProperShape s → part_at (Name n) s ≡ Some w → with_field n w s ≡ s
 field_stays n w Any proper there = refl
-field_stays n w Never proper there = refl
-field_stays n w NullShape proper there = refl
-field_stays n w BooleanShape proper there = refl
-field_stays n w IntegerShape proper there = refl
-field_stays n w StringShape proper there = refl
-field_stays n w (ArrayShape first rest) proper there = refl
-field_stays n w (ObjectShape shapes extra) proper there = ap (λ fields. ObjectShape fields extra) (set_again n w shapes proper there)
+field_stays n w (OfKinds simple arrays WithoutObjects) proper there = absurd (grind arith)
+field_stays n w (OfKinds simple arrays (ObjectsOf shapes extra)) proper there =
+    let alone : ObjectShape shapes extra ≡ OfKinds simple arrays (ObjectsOf shapes extra) = grind arith in
+    subst (λ s. part_at (Name n) s ≡ Some w → with_field n w s ≡ s) alone (λ named. ap (λ fields. ObjectShape fields extra) (set_again n w shapes proper.2 named)) there

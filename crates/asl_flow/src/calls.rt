@@ -7,7 +7,6 @@ ghost use Rattle.asl_intrinsic.specs.View as calls;
 ghost use Rattle.asl_model.specs.Intrinsic.{literal_pieces};
 ghost use Rattle.asl_model.specs.Shape as model;
 ghost use Rattle.asl_model.specs.ShapeFlow as flow;
-ghost use Rattle.asl_model.specs.ShapeOrder as order;
 ghost use Rattle.asl_numbered.specs.Expansion.{expansions, shape_at, shapes_at, shape_over, AreBelow, Keeps};
 
 use crate::composing::closed_list;
@@ -209,11 +208,8 @@ fn is_formattable(shapes: &Shapes, number: usize) -> bool
 
 /// Whether the node is of a kind that can be put in a text.
 fn is_written(node: &Node) -> bool
-    ensures { (table : List model.Shape) → result
-        ≡ (order.is_null_shape (shape_over table node.now)
-        || order.is_boolean_shape (shape_over table node.now)
-        || order.is_integer_shape (shape_over table node.now)
-        || order.is_string_shape (shape_over table node.now)) }
+    ensures { (table : List model.Shape) → flow.is_formattable (shape_over table node.now)
+        ≡ (not (model.inhabited (shape_over table node.now)) || result) }
 {
     matches!(node, Node::Null | Node::Bool | Node::Int | Node::Text)
 }

@@ -2,13 +2,13 @@
 use Rattle.std.proofs.Common.{◌≡◌, ◌<◌, ◌≤◌, ◌+◌, ℕ, zero, suc, List, [], ◌∷◌, ◌++◌, length, map, take, get_or, refl, sym, ap, ◌∙◌, subst, arith}
 use Rattle.std.proofs.lemmas.List.{length-map, map-append, take_all, take_more}
 use Rattle.asl_model.specs.Shape as model
-use Rattle.asl_model.specs.ShapeOrder.{depth, depth_of_elements, depth_of_fields}
+use Rattle.asl_model.specs.ShapeOrder.{depth, depth_of_arrays, depth_of_objects, depth_of_elements, depth_of_fields}
 use Rattle.asl_numbered.specs.declared.node.Node.{Node}
 use Rattle.asl_numbered.specs.Expansion.{expansions, shape_at, AreBelow, Keeps}
 use Rattle.asl_numbered.specs.Joins.{Shows}
 use Rattle.asl_numbered.proofs.Expansions.{as_many, below-append, below-wider}
 use Rattle.asl_edges.proofs.Kept.{among, longer, shown, within}
-use Rattle.asl_growing.specs.Cutting.{cut_to, cut_elements_to, cut_fields_to}
+use Rattle.asl_growing.specs.Cutting.{cut_to, cut_arrays_to, cut_objects_to, cut_elements_to, cut_fields_to}
 use Rattle.asl_growing.specs.Cuts.{AreCutTo}
 use Rattle.asl_growing.specs.Depths.{told_depth}
 use Rattle.asl_growing.specs.Parts.{parts_of, with_parts}
@@ -20,21 +20,17 @@ mutual
   -- a shape with no more levels
   few_levels : (levels : ℕ) (s : model.Shape) → depth s ≤ levels → cut_to levels s ≡ s
   few_levels zero model.Any h = refl
-  few_levels zero model.Never h = absurd (omega (arith, h))
-  few_levels zero model.NullShape h = absurd (omega (arith, h))
-  few_levels zero model.BooleanShape h = absurd (omega (arith, h))
-  few_levels zero model.IntegerShape h = absurd (omega (arith, h))
-  few_levels zero model.StringShape h = absurd (omega (arith, h))
-  few_levels zero (model.ArrayShape first rest) h = absurd (omega (arith, h))
-  few_levels zero (model.ObjectShape fields extra) h = absurd (omega (arith, h))
+  few_levels zero (model.OfKinds simple arrays objects) h = absurd (omega (arith, h))
   few_levels (suc levels) model.Any h = refl
-  few_levels (suc levels) model.Never h = refl
-  few_levels (suc levels) model.NullShape h = refl
-  few_levels (suc levels) model.BooleanShape h = refl
-  few_levels (suc levels) model.IntegerShape h = refl
-  few_levels (suc levels) model.StringShape h = refl
-  few_levels (suc levels) (model.ArrayShape first rest) h = rw (few_elements levels first (omega (arith, h)), few_levels levels rest (omega (arith, h))) refl
-  few_levels (suc levels) (model.ObjectShape fields extra) h = ap (λ fs. model.ObjectShape fs extra) (few_fields levels fields (omega (arith, h)))
+  few_levels (suc levels) (model.OfKinds simple arrays objects) h = rw (few_arrays levels arrays (omega (arith, h)), few_objects levels objects (omega (arith, h))) refl
+
+  few_arrays : (levels : ℕ) (arrays : model.Arrays) → depth_of_arrays arrays ≤ levels → cut_arrays_to levels arrays ≡ arrays
+  few_arrays levels model.WithoutArrays h = refl
+  few_arrays levels (model.ArraysOf first rest) h = rw (few_elements levels first (omega (arith, h)), few_levels levels rest (omega (arith, h))) refl
+
+  few_objects : (levels : ℕ) (objects : model.Objects) → depth_of_objects objects ≤ levels → cut_objects_to levels objects ≡ objects
+  few_objects levels model.WithoutObjects h = refl
+  few_objects levels (model.ObjectsOf fields extra) h = ap (λ fs. model.ObjectsOf fs extra) (few_fields levels fields h)
 
   few_elements : (levels : ℕ) (first : model.Shapes) → depth_of_elements first ≤ levels → cut_elements_to levels first ≡ first
   few_elements levels model.NoShapes h = refl

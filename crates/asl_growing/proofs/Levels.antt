@@ -1,8 +1,8 @@
 -- How many levels the shapes have that grow, and those of a certificate that is made of them.
 use Rattle.std.proofs.Common.{◌≤◌, ℕ, zero, suc, arith}
-use Rattle.asl_model.specs.Shape.{Shape, Any, Never, NullShape, BooleanShape, IntegerShape, StringShape, ArrayShape, ObjectShape, Shapes, NoShapes, AndShape, FieldShapes, NoFieldShapes, AndFieldShape}
-use Rattle.asl_model.specs.ShapeOrder.{depth, depth_of_elements, depth_of_fields}
-use Rattle.asl_growing.specs.Cutting.{cut, cut_to, cut_elements_to, cut_fields_to, deepest, IsShallow}
+use Rattle.asl_model.specs.Shape.{Shape, Any, OfKinds, Arrays, WithoutArrays, ArraysOf, Objects, WithoutObjects, ObjectsOf, Shapes, NoShapes, AndShape, FieldShapes, NoFieldShapes, AndFieldShape}
+use Rattle.asl_model.specs.ShapeOrder.{depth, depth_of_arrays, depth_of_objects, depth_of_elements, depth_of_fields}
+use Rattle.asl_growing.specs.Cutting.{cut, cut_to, cut_arrays_to, cut_objects_to, cut_elements_to, cut_fields_to, deepest, IsShallow}
 
 -- ---- shapes
 
@@ -11,13 +11,15 @@ mutual
   cut_to_within : (levels : ℕ) (s : Shape) → depth (cut_to levels s) ≤ suc levels
   cut_to_within zero s = omega arith
   cut_to_within (suc levels) Any = omega arith
-  cut_to_within (suc levels) Never = omega arith
-  cut_to_within (suc levels) NullShape = omega arith
-  cut_to_within (suc levels) BooleanShape = omega arith
-  cut_to_within (suc levels) IntegerShape = omega arith
-  cut_to_within (suc levels) StringShape = omega arith
-  cut_to_within (suc levels) (ArrayShape first rest) = omega (arith, cut_elements_within levels first, cut_to_within levels rest)
-  cut_to_within (suc levels) (ObjectShape shapes extra) = omega (arith, cut_fields_within levels shapes)
+  cut_to_within (suc levels) (OfKinds simple arrays objects) = omega (arith, cut_arrays_within levels arrays, cut_objects_within levels objects)
+
+  cut_arrays_within : (levels : ℕ) (arrays : Arrays) → depth_of_arrays (cut_arrays_to levels arrays) ≤ suc levels
+  cut_arrays_within levels WithoutArrays = omega arith
+  cut_arrays_within levels (ArraysOf first rest) = omega (arith, cut_elements_within levels first, cut_to_within levels rest)
+
+  cut_objects_within : (levels : ℕ) (objects : Objects) → depth_of_objects (cut_objects_to levels objects) ≤ suc levels
+  cut_objects_within levels WithoutObjects = omega arith
+  cut_objects_within levels (ObjectsOf shapes extra) = cut_fields_within levels shapes
 
   cut_elements_within : (levels : ℕ) (first : Shapes) → depth_of_elements (cut_elements_to levels first) ≤ suc levels
   cut_elements_within levels NoShapes = omega arith

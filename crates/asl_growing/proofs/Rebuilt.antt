@@ -13,8 +13,8 @@ use Rattle.asl_numbered.specs.declared.node.NodeField.{NodeField}
 use Rattle.asl_numbered.specs.Expansion.{expansions, fields_at, shape_at, shapes_at, shape_over, numbers_in, parts, AreBelow, RefersBelow}
 use Rattle.asl_numbered.proofs.Appending.{names, appended}
 use Rattle.asl_numbered.proofs.Expansions.{below-wider}
-use Rattle.asl_growing.specs.Cutting.{cut_to, cut_elements_to, cut_fields_to}
-use Rattle.asl_growing.specs.Parts.{each_of, shapes_in, parts_of, fields_with, array_with, with_parts, mention_of, mentions_of, AreFieldsWith}
+use Rattle.asl_growing.specs.Cutting.{cut_to, cut_arrays_to, cut_objects_to, cut_elements_to, cut_fields_to}
+use Rattle.asl_growing.specs.Parts.{each_of, shapes_in, parts_of, parts_of_arrays, parts_of_objects, fields_with, behind_fields, behind_objects, arrays_with, objects_with, with_parts, mention_of, mentions_of, AreFieldsWith}
 
 -- ---- the parts of a first level
 
@@ -22,7 +22,7 @@ each_at : (table : List model.Shape) (ns : List ℕ) → map (shape_at table) ns
 each_at table [] = refl
 each_at table (n ∷ ns) = ap (λ ss. shape_at table n ∷ ss) (each_at table ns)
 
-fields_in : (table : List model.Shape) (fs : List (String Global × NodeField)) → map (shape_at table) (numbers_in fs) ≡ shapes_in (fields_at table fs)
+fields_in : (table : List model.Shape) (fs : List (String Global × NodeField)) → map (shape_at table) (numbers_in fs) ≡ shapes_in (fields_at table fs) []
 fields_in table [] = refl
 fields_in table (f ∷ fs) = ap (λ ss. shape_at table f.1.shape ∷ ss) (fields_in table fs)
 
@@ -63,7 +63,7 @@ object_below bound fields new extra numbers are below = record { each = subst (A
 
 -- the first level of arrays with other numbers
 pub list_replaced : (table : List model.Shape) (first new : Vec ℕ Global) (rest n : ℕ) (numbers : List ℕ) → numbers ≡ n ∷ new.items → shape_over table (Elements new n) ≡ with_parts (shape_over table (Elements first rest)) (map (shape_at table) numbers)
-list_replaced table first new rest n numbers e = ap (λ ns. array_with (shape_over table (Elements first rest)) (map (shape_at table) ns)) (sym e)
+list_replaced table first new rest n numbers e = ap (λ ns. with_parts (shape_over table (Elements first rest)) (map (shape_at table) ns)) (sym e)
 
 pub list_below : (bound : ℕ) (new : Vec ℕ Global) (n : ℕ) (numbers : List ℕ) → numbers ≡ n ∷ new.items → AreBelow bound numbers → RefersBelow bound (Elements new n)
 list_below bound new n numbers e below = record { each = subst (AreBelow bound) e below }
@@ -111,20 +111,22 @@ cut_each : (levels : ℕ) (first : model.Shapes) → shapes_of (map (cut_to leve
 cut_each levels model.NoShapes = refl
 cut_each levels (model.AndShape s others) = ap (model.AndShape (cut_to levels s)) (cut_each levels others)
 
-cut_fields : (levels : ℕ) (fields : model.FieldShapes) → fields_with fields (map (cut_to levels) (shapes_in fields)) ≡ cut_fields_to levels fields
-cut_fields levels model.NoFieldShapes = refl
-cut_fields levels (model.AndFieldShape n needed s fields) = ap (model.AndFieldShape n needed (cut_to levels s)) (cut_fields levels fields)
+cut_arrays : (levels : ℕ) (arrays : model.Arrays) → arrays_with arrays (map (cut_to levels) (parts_of_arrays arrays)) ≡ cut_arrays_to levels arrays
+cut_arrays levels model.WithoutArrays = refl
+cut_arrays levels (model.ArraysOf first rest) = ap (λ ss. model.ArraysOf ss (cut_to levels rest)) (cut_each levels first)
+
+cut_fields : (levels : ℕ) (fields : model.FieldShapes) (more : List model.Shape) → (fields_with fields (map (cut_to levels) (shapes_in fields more)) ≡ cut_fields_to levels fields) × (behind_fields fields (map (cut_to levels) (shapes_in fields more)) ≡ map (cut_to levels) more)
+cut_fields levels model.NoFieldShapes more = (refl, refl)
+cut_fields levels (model.AndFieldShape n needed s fields) more = let behind = cut_fields levels fields more in (ap (model.AndFieldShape n needed (cut_to levels s)) behind.0, behind.1)
+
+cut_objects : (levels : ℕ) (objects : model.Objects) (more : List model.Shape) → (objects_with objects (map (cut_to levels) (parts_of_objects objects more)) ≡ cut_objects_to levels objects) × (behind_objects objects (map (cut_to levels) (parts_of_objects objects more)) ≡ map (cut_to levels) more)
+cut_objects levels model.WithoutObjects more = (refl, refl)
+cut_objects levels (model.ObjectsOf fields extra) more = let cut = cut_fields levels fields more in (ap (λ fs. model.ObjectsOf fs extra) cut.0, cut.1)
 
 -- a shape with its parts cut
 pub cut_parts : (below : ℕ) (s : model.Shape) → with_parts s (map (cut_to below) (parts_of s)) ≡ cut_to (suc below) s
 cut_parts below model.Any = refl
-cut_parts below model.Never = refl
-cut_parts below model.NullShape = refl
-cut_parts below model.BooleanShape = refl
-cut_parts below model.IntegerShape = refl
-cut_parts below model.StringShape = refl
-cut_parts below (model.ArrayShape first rest) = ap (λ ss. model.ArrayShape ss (cut_to below rest)) (cut_each below first)
-cut_parts below (model.ObjectShape fields extra) = ap (λ fs. model.ObjectShape fs extra) (cut_fields below fields)
+cut_parts below (model.OfKinds simple arrays objects) = let cut = cut_objects below objects (parts_of_arrays arrays) in rw (cut.0, cut.1, cut_arrays below arrays) refl
 
 -- ---- the first level of a number
 

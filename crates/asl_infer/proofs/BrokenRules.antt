@@ -8,8 +8,7 @@ use Rattle.asl_model.specs.Finding.{WrongKind, array_parts, as_first_elements, b
 use Rattle.asl_model.specs.Inference.{is_of_machine}
 use Rattle.asl_model.specs.Machine.{Catcher, Delay, Seconds, SecondsPath, Timestamp, TimestampPath, Kind, Pass, Task, Choice, Wait, Succeed, Fail, Parallel, Map, Scope, Scopes, NoScopes, AndScope, Settings}
 use Rattle.asl_model.specs.Shape.{Shape, Shapes, Never, ArrayShape, inhabited}
-use Rattle.asl_model.specs.ShapeFlow.{Flow, FlowFault, MissingAt, FailsAt, MisfitAt, leave, literal, look, rule_shape}
-use Rattle.asl_model.specs.ShapeOrder.{is_integer_shape, is_string_shape}
+use Rattle.asl_model.specs.ShapeFlow.{Flow, FlowFault, MissingAt, FailsAt, MisfitAt, is_integer_shape, is_string_shape, leave, literal, look, rule_shape}
 use Rattle.asl_model.specs.Template.{Template}
 use Rattle.asl_model.specs.Test.{Rule}
 

@@ -5,8 +5,7 @@ use Rattle.asl_model.specs.Template.{Template}
 use Rattle.asl_model.specs.Test.{Rule}
 use Rattle.asl_model.specs.Machine.{Catcher, Settings, Delay, Seconds, SecondsPath, Timestamp, TimestampPath, Scope, Kind, Pass, Task, Choice, Wait, Succeed, Fail, Parallel, Map, Scopes, NoScopes, AndScope, start_of}
 use Rattle.asl_model.specs.Shape.{Shape, Never, Shapes, ArrayShape, inhabited}
-use Rattle.asl_model.specs.ShapeOrder.{is_integer_shape, is_string_shape}
-use Rattle.asl_model.specs.ShapeFlow.{look, literal, rule_shape, leave, Flow, FlowFault}
+use Rattle.asl_model.specs.ShapeFlow.{look, literal, is_integer_shape, is_string_shape, rule_shape, leave, Flow, FlowFault}
 use Rattle.asl_model.specs.Certificate.{takes_of, gives_of}
 use Rattle.asl_model.specs.Finding.{Surroundings, Breach, FindingFault, OutputNotCertified, NextInput, ScopeOutput, BranchInput, PayloadNotTaken, breach_of, breach_unless, breach_unless_sub, breaches_then, effective_flow, next_breaches, end_breaches, output_breaches, result_breaches, kind_breaches, delay_breaches, child_breaches, branch_breaches, item_flow, element_shape, map_result, map_breaches, as_first_elements, array_parts, with_elements, with_items, chosen_breaches, rule_breaches, rules_breaches, default_breaches, error_placed_shape, caught_breaches, catcher_breaches, work_breaches, settled_breaches, flow_breaches}
 use Rattle.asl_model.specs.Edges.{Walked, Breaks, DestinationShapes, destination_shapes, breaks_unless, walk_then, to_next, to_end, onward, walk_result, walk_named, walk_delay, to_child, to_branches, walk_items_result, walk_elements, with_elements_walked, walk_items, walk_chosen, walk_rule, walk_rules, walk_default, walk_caught, walk_catchers, walk_work, walk_settled, walk, breaches_at, breaches_along}

@@ -2,7 +2,7 @@
 use Rattle.std.proofs.Common.{◌≡◌, ◌∙◌, refl, subst, sym, arith, ℕ, zero, suc, All, List, [], ◌∷◌, map, Bool, true, false, ◌&&◌, ◌||◌, if◌then◌else◌, bytes_eq, IsTrue, Option, Some, None, is_some, codes}
 use Rattle.asl_model.specs.Tree.{Tree, Null, Boolean, Integer, Text, Array, Object, Trees, NoTrees, AndTree, count, NoFields, trees_of}
 use Rattle.asl_model.specs.Path.{Name, Index}
-use Rattle.asl_model.specs.Shape.{Shape, Any, Never, IntegerShape, StringShape, ArrayShape, ObjectShape, NoShapes, AndShape, NoFieldShapes, AndFieldShape, Has, has, is_integer, is_text}
+use Rattle.asl_model.specs.Shape.{Shape, Any, Never, IntegerShape, StringShape, ArrayShape, ObjectShape, NoShapes, AndShape, NoFieldShapes, AndFieldShape, Has, has}
 use Rattle.asl_model.specs.Flow.{Asks, Splits, first_move}
 use Rattle.asl_model.specs.Machine.{Scope, ScopeOf, AndState, NoStates, StateOf, Pass, Task, Choice, Wait, SecondsPath, Succeed, Fail, Parallel, Map, AndScope, NoScopes, states_of, LeadsInside, own_scope}
 use Rattle.asl_model.specs.Run.{Ready, Waiting, Split, Done, NoActivities, AndActivity, Event, run_of, Move, Gives, Entered, Asked, Left, Ended, Output}
@@ -72,8 +72,8 @@ second_fits (Boolean b) h = false_true h
 second_fits (Integer n) h = false_true h
 second_fits (Text t) h = false_true h
 second_fits (Array NoTrees) h = false_true h
-second_fits (Array (AndTree t NoTrees)) h = false_true (both (is_integer t) false h).1
-second_fits (Array (AndTree t (AndTree u ts))) h = let text = (both (is_text u) (has (ArrayShape NoShapes Never) (Array ts)) (both (is_integer t) (is_text u && has (ArrayShape NoShapes Never) (Array ts)) h).1).0 in (text, text)
+second_fits (Array (AndTree t NoTrees)) h = false_true (both (has IntegerShape t) false h).1
+second_fits (Array (AndTree t (AndTree u ts))) h = let text = (both (has StringShape u) (has (ArrayShape NoShapes Never) (Array ts)) (both (has IntegerShape t) (has StringShape u && has (ArrayShape NoShapes Never) (Array ts)) h).1).0 in (text, text)
 second_fits (Object fs) h = false_true h
 
 second_at : IsClosedAt two_tasks second_certified StringShape (codes "N") (StateOf (record ends { input_path = Some (Index 1 ∷ []) }) (Pass None))
@@ -83,7 +83,7 @@ second_at = record { entry = record { shapes = plain integer_and_text StringShap
 two_fit : (outputs : Trees) → count outputs ≡ 2 → EachHas (λ i. or_never (branch_shape i (IntegerShape ∷ StringShape ∷ []))) outputs → Has integer_and_text (Array outputs)
 two_fit NoTrees e h = absurd (cc)
 two_fit (AndTree t NoTrees) e h = absurd (cc)
-two_fit (AndTree t (AndTree u NoTrees)) e h = pass (is_integer t) (is_text u) h.0 h.1.0
+two_fit (AndTree t (AndTree u NoTrees)) e h = pass (has IntegerShape t) (has StringShape u) h.0 h.1.0
   where
     pass : (a b : Bool) → IsTrue a → IsTrue b → IsTrue (a && (b && true))
     pass true true g k = refl

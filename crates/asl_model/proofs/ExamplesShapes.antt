@@ -7,7 +7,7 @@ use Rattle.asl_model.specs.Intrinsic.{InInput, InItem, ItemIndex, CallOf, States
 use Rattle.asl_model.specs.Template.{Template, Literal, FromPath, FromCall, ArrayTemplate, ObjectTemplate, NoTemplates, AndTemplate, NoFieldTemplates, AndFieldTemplate}
 use Rattle.asl_model.specs.Test.{Test, And, Or, Not, Compare, StringIs, NumericIs, Equals, LessThan, Constant, IsOfKind, NullKind, IsPresent, Tests, NoTests, AndTest}
 use Rattle.asl_model.specs.Machine.{Kind, Settings, SecondsPath, Scope, ScopeOf, NoStates, AndState, StateOf, Pass, Task, Choice, Wait, Succeed, Parallel, Map, NoScopes, AndScope}
-use Rattle.asl_model.specs.Shape.{Shape, Any, Never, NullShape, BooleanShape, IntegerShape, StringShape, ArrayShape, ObjectShape, NoShapes, AndShape, FieldShapes, NoFieldShapes, AndFieldShape, has}
+use Rattle.asl_model.specs.Shape.{Shape, Any, OfKinds, no_simple, WithoutArrays, ArraysOf, WithoutObjects, ObjectsOf, Never, NullShape, BooleanShape, IntegerShape, StringShape, ArrayShape, ObjectShape, NoShapes, AndShape, FieldShapes, NoFieldShapes, AndFieldShape, has}
 use Rattle.asl_model.specs.ShapeOrder.{sub, join}
 use Rattle.asl_model.specs.ShapeFlow.{look, put, literal, template_shape, rule_shape, leave, MayBeMissing, MayFail}
 use Rattle.asl_model.specs.Certificate.{TaskShapes, Declared, StateShapes, Certificate}
@@ -68,6 +68,20 @@ sub_of_impossible = refl
 sub_of_any : sub Any (each Any) ≡ false
 sub_of_any = refl
 
+-- whole numbers and texts; whatever a tree may be, kind by kind
+abbrev number_or_text : Shape
+number_or_text = OfKinds (record no_simple { integer = true; text = true }) WithoutArrays WithoutObjects
+
+abbrev all_kinds : Shape
+all_kinds = OfKinds (record { null = true; boolean = true; integer = true; text = true }) (ArraysOf NoShapes Any) (ObjectsOf NoFieldShapes true)
+
+-- kind by kind
+sub_kinds : map (λ s. sub s number_or_text) (Never ∷ IntegerShape ∷ number_or_text ∷ NullShape ∷ all_kinds ∷ Any ∷ []) ≡ true ∷ true ∷ true ∷ false ∷ false ∷ false ∷ []
+sub_kinds = refl
+
+sub_any_kinds : sub Any all_kinds ≡ true
+sub_any_kinds = refl
+
 -- an optional field that only the second mentions: the first can't have it, or may have it with any shape
 sub_closed_optional : sub (closed NoFieldShapes) (closed (optional (codes "a") IntegerShape NoFieldShapes)) ≡ true
 sub_closed_optional = refl
@@ -114,8 +128,8 @@ join_with_impossible = refl
 join_of_impossible : join impossible Never ≡ Never
 join_of_impossible = refl
 
--- each kind joined with itself
-join_with_itself : map (λ s. join s s) (NullShape ∷ BooleanShape ∷ IntegerShape ∷ StringShape ∷ []) ≡ NullShape ∷ BooleanShape ∷ IntegerShape ∷ StringShape ∷ []
+-- shapes of the same kinds
+join_with_itself : map (λ s. join s s) (NullShape ∷ BooleanShape ∷ IntegerShape ∷ StringShape ∷ number_or_text ∷ []) ≡ NullShape ∷ BooleanShape ∷ IntegerShape ∷ StringShape ∷ number_or_text ∷ []
 join_with_itself = refl
 
 -- a field of one object alone is optional where the other can't have it, and dropped where it may

@@ -4,7 +4,7 @@ use Rattle.std.specs.Fmt.{digits}
 use Rattle.serde_json.proofs.OnLiterals.{serde_json_on_literals}
 use Rattle.asl_model.specs.Certificate.{Certificate}
 use Rattle.asl_model.specs.WrittenNumbered.{written_numbered}
-use Rattle.asl_model.specs.Shape.{Shape, Any, Never, IntegerShape, StringShape, ArrayShape, ObjectShape, NoShapes, AndShape, NoFieldShapes, AndFieldShape}
+use Rattle.asl_model.specs.Shape.{Shape, Any, OfKinds, no_simple, ArraysOf, ObjectsOf, Never, IntegerShape, StringShape, ArrayShape, ObjectShape, NoShapes, AndShape, NoFieldShapes, AndFieldShape}
 use Rattle.asl_model.specs.Json.{compact_text}
 use Rattle.asl_model.specs.Written.{written_shape, written_declared, written_certificate}
 
@@ -27,6 +27,11 @@ a_pair = refl
 any_list : compact_text (written_shape (ArrayShape NoShapes Any)) ≡ codes "{\"type\":\"array\"}"
 unfolding serde_json_on_literals
 any_list = refl
+
+-- of three kinds: the names of the types in byte order, and the keywords of arrays among those of objects
+three_kinds : compact_text (written_shape (OfKinds (record no_simple { null = true }) (ArraysOf NoShapes IntegerShape) (ObjectsOf (AndFieldShape (codes "a") true Any NoFieldShapes) false))) ≡ codes "{\"additionalProperties\":false,\"items\":{\"type\":\"integer\"},\"properties\":{\"a\":true},\"required\":[\"a\"],\"type\":[\"array\",\"null\",\"object\"]}"
+unfolding serde_json_on_literals
+three_kinds = refl
 
 -- `tasks` and `takes` are always written
 declared : compact_text (written_declared (record { input = IntegerShape; tasks = (codes "T", record { takes = Any; gives = StringShape }) ∷ [] })) ≡ codes "{\"input\":{\"type\":\"integer\"},\"tasks\":{\"T\":{\"gives\":{\"type\":\"string\"},\"takes\":true}}}"

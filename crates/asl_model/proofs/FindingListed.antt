@@ -5,11 +5,11 @@ use Rattle.asl_model.specs.Path.{Segment}
 use Rattle.asl_model.specs.Template.{Template}
 use Rattle.asl_model.specs.Test.{Rule}
 use Rattle.asl_model.specs.Machine.{Catcher, Settings, SecondsPath, TimestampPath, Scope, Kind, Task, Choice, Map, Scopes, start_of}
-use Rattle.asl_model.specs.Shape.{Shape, Never, ArrayShape, Shapes, inhabited}
-use Rattle.asl_model.specs.ShapeOrder.{sub, is_integer_shape, is_string_shape}
-use Rattle.asl_model.specs.ShapeFlow.{look, put, Doubt, template_shape, is_array_shape, rule_shape, FlowFault, MissingAt, MisfitAt, Flow, flow_then, doubt_fault, template_flow, through_template, path_flow, through_path, leave}
+use Rattle.asl_model.specs.Shape.{Shape, Never, Arrays, WithoutArrays, ArraysOf, Shapes, has_arrays, inhabited}
+use Rattle.asl_model.specs.ShapeOrder.{sub}
+use Rattle.asl_model.specs.ShapeFlow.{look, put, arrays_alone, is_integer_shape, is_string_shape, Doubt, template_shape, rule_shape, FlowFault, MissingAt, MisfitAt, Flow, flow_then, doubt_fault, template_flow, through_template, path_flow, through_path, leave}
 use Rattle.asl_model.specs.Certificate.{takes_of}
-use Rattle.asl_model.specs.Finding.{FindingFault, PathMayBeMissing, WrongKind, ResultMayNotFit, NoDefault, PayloadNotTaken, OutputNotCertified, NextInput, ScopeOutput, BranchInput, CatchInput, Breach, breach_unless, breach_unless_sub, breach_of, breaches_then, Surroundings, effective_flow, kind_breaches, delay_breaches, child_breaches, branch_breaches, element_shape, item_flow, array_parts, with_elements, with_items, rule_breaches, rules_breaches, default_breaches, error_placed_shape, caught_breaches, catcher_breaches, result_breaches, map_breaches, work_breaches, settled_breaches, flow_breaches}
+use Rattle.asl_model.specs.Finding.{FindingFault, PathMayBeMissing, WrongKind, ResultMayNotFit, NoDefault, PayloadNotTaken, OutputNotCertified, NextInput, ScopeOutput, BranchInput, CatchInput, Breach, breach_unless, breach_unless_sub, breach_of, breaches_then, Surroundings, effective_flow, kind_breaches, delay_breaches, child_breaches, branch_breaches, element_shape, item_flow, elements_of, array_parts, with_elements, with_items, rule_breaches, rules_breaches, default_breaches, error_placed_shape, caught_breaches, catcher_breaches, result_breaches, map_breaches, work_breaches, settled_breaches, flow_breaches}
 use Rattle.asl_model.specs.FindingRules.{IsBranch, branch_is_first, branch_is_later, IsEffective, Target, ToState, ToEnd, next_target, Makes, makes_literal, makes_what_it_takes, makes_answer, lets_through, lets_default, lets_wait, lets_succeed, makes_outputs, makes_items, Leaves, Wants, wants_number, wants_text, wants_list, LooksUp, looks_up_input, looks_up_wanted, looks_up_output, Evaluates, evaluates_parameters, evaluates_item_selector, evaluates_result_selector, HasDoubt, Puts, puts_result, puts_error_output, Starts, starts_branch, starts_item, BreaksFlow, path_may_be_missing, template_may_be_missing, rule_may_be_missing, may_be_of_wrong_kind, may_not_fit, may_fail, has_no_default, payload_is_not_taken, output_is_not_certified, is_no_next_input, is_no_scope_output, is_no_branch_input, is_no_catch_input}
 use Rattle.asl_model.proofs.Listed.{none_in, first_in, first_or_later, map_in}
 use Rattle.asl_model.proofs.FindingFlows.{template_stops, selector_stops, placing_stops, output_stops}
@@ -98,8 +98,8 @@ module _ (around : Surroundings) (settings : Settings) (live : IsTrue (inhabited
   of_elements items selector processor s elements = breaches_then (child_breaches around.inputs (codes "ItemProcessor") processor) (item_flow selector s (element_shape elements.0 elements.1)) ++ map_breaches around settings (Map items selector processor) around.entry.item elements
 
   -- what follows for the items of a Map
-  elements_in : (items : List Segment) (selector : Option Template) (processor : Scope) (s : Shape) (first : Shapes) (rest : Shape) (b : Breach) → IsEffective around settings s → look items s ≡ Ok (ArrayShape first rest) → Contains (of_elements items selector processor s (first, rest)) b → Contains (flow (Map items selector processor)) b
-  elements_in items selector processor s first rest b eff e c = in_work (Map items selector processor) s b eff (subst (λ r. Contains (with_items (of_elements items selector processor s) r) b) (sym e) c)
+  elements_in : (items : List Segment) (selector : Option Template) (processor : Scope) (s named : Shape) (first : Shapes) (rest : Shape) (b : Breach) → IsEffective around settings s → look items s ≡ Ok named → array_parts named ≡ Some (first, rest) → Contains (of_elements items selector processor s (first, rest)) b → Contains (flow (Map items selector processor)) b
+  elements_in items selector processor s named first rest b eff e parts c = in_work (Map items selector processor) s b eff (subst (λ r. Contains (with_items (of_elements items selector processor s) r) b) (sym e) (subst (λ o. Contains (with_elements (of_elements items selector processor s) o) b) (sym parts) c))
 
   -- ---- what a state makes
 
@@ -122,8 +122,8 @@ module _ (around : Surroundings) (settings : Settings) (live : IsTrue (inhabited
   made_in {kind} {made} (lets_wait {delay = delay} {s = s} eff) b c = in_work kind s b eff (Contains-append_right (delay_breaches delay s) (result_breaches around settings kind s) b (next_way kind made b c))
   made_in {kind} {made} (lets_succeed {s = s} eff) b c = in_work kind s b eff c
   made_in {kind} {made} makes_outputs b c = in_settled kind b (next_way kind made b c)
-  made_in {kind} {made} (makes_items {items = items} {selector = selector} {processor = processor} {s = s} {item = item} {first = first} {rest = rest} eff e there) b c =
-      elements_in items selector processor s first rest b eff e
+  made_in {kind} {made} (makes_items {items = items} {selector = selector} {processor = processor} {s = s} {named = named} {first = first} {rest = rest} eff e parts there) b c =
+      elements_in items selector processor s named first rest b eff e parts
       (Contains-append_right (breaches_then (child_breaches around.inputs (codes "ItemProcessor") processor) (item_flow selector s (element_shape first rest))) (map_breaches around settings kind around.entry.item (first, rest)) b
       (subst (λ o. Contains (map_breaches around settings kind o (first, rest)) b) (sym there) (next_way kind made b c)))
 
@@ -142,9 +142,9 @@ module _ (around : Surroundings) (settings : Settings) (live : IsTrue (inhabited
   evaluated_in {kind} {template = template} {d = d} (evaluates_parameters {s = s} p given) some doubt =
       let w = template_stops (codes "Parameters") template s None d some doubt in
       in_stopped kind w.0 (doubt_fault (codes "Parameters") d) (ap (flow_then (through_template (codes "Parameters") settings.parameters)) p ∙ (ap (λ o. through_template (codes "Parameters") o s) given ∙ w.1)) w.2
-  evaluated_in {kind} {template = template} {d = d} (evaluates_item_selector {items = items} {processor = processor} {s = s} {first = first} {rest = rest} eff e present) some doubt =
+  evaluated_in {kind} {template = template} {d = d} (evaluates_item_selector {items = items} {processor = processor} {s = s} {named = named} {first = first} {rest = rest} eff e parts present) some doubt =
       let w = template_stops (codes "ItemSelector") template s (Some (element_shape first rest)) d some doubt in
-      elements_in items (Some template) processor s first rest (breach_of (doubt_fault (codes "ItemSelector") d)) eff e
+      elements_in items (Some template) processor s named first rest (breach_of (doubt_fault (codes "ItemSelector") d)) eff e parts
       (Contains-append_left (breaches_then (child_breaches around.inputs (codes "ItemProcessor") processor) (item_flow (Some template) s (element_shape first rest))) (map_breaches around settings (Map items (Some template) processor) around.entry.item (first, rest)) (breach_of (doubt_fault (codes "ItemSelector") d))
       (stopped_in (child_breaches around.inputs (codes "ItemProcessor") processor) (item_flow (Some template) s (element_shape first rest)) w.0 (doubt_fault (codes "ItemSelector") d) (ap (λ t. if t then template_flow (codes "ItemSelector") (template_shape template s (Some (element_shape first rest))) else Ok Never) present ∙ w.1) w.2))
   evaluated_in {kind} {template = template} {d = d} (evaluates_result_selector {made = made} makes with given) some doubt =
@@ -165,16 +165,16 @@ module _ (around : Surroundings) (settings : Settings) (live : IsTrue (inhabited
   looked_up_in {s = s} at (looks_up_wanted eff wants) e = missing_in s at wants eff e
   looked_up_in {kind} {path = path} at (looks_up_output {made = made} {s = s} makes goes given) e = made_stopped makes (MissingAt (codes "OutputPath") ∷ []) (MissingAt (codes "OutputPath")) (output_stops settings kind around.entry.input made s path at live goes given e) (first_in (MissingAt (codes "OutputPath")) [])
 
-  -- a shape that is none of arrays
-  no_array : (t : Shape) → IsFalse (is_array_shape t) → array_parts t ≡ None
-  no_array (ArrayShape first rest) h = absurd (cc)
-  no_array t h = refl
+  -- of no arrays no elements are known
+  no_array : (arrays : Arrays) → IsFalse (has_arrays arrays) → elements_of arrays ≡ None
+  no_array WithoutArrays h = refl
+  no_array (ArraysOf first rest) h = absurd (cc)
 
   -- a path that may name something of another kind
   wrong_in : {kind : Kind} {field : List ℕ} {path : List Segment} {test : Shape → Bool} (s t : Shape) → Wants kind field path test → IsEffective around settings s → look path s ≡ Ok t → IsFalse (test t) → Contains (flow kind) (record { field = field; fault = WrongKind })
   wrong_in {kind} s t (wants_number {path = path}) eff e h = in_work kind s (record { field = codes "SecondsPath"; fault = WrongKind }) eff (Contains-append_left (delay_breaches (SecondsPath path) s) (result_breaches around settings kind s) (record { field = codes "SecondsPath"; fault = WrongKind }) (subst (λ r. Contains (kind_breaches (codes "SecondsPath") is_integer_shape r) (record { field = codes "SecondsPath"; fault = WrongKind })) (sym e) (unless_in (is_integer_shape t) (codes "SecondsPath") WrongKind h)))
   wrong_in {kind} s t (wants_text {path = path}) eff e h = in_work kind s (record { field = codes "TimestampPath"; fault = WrongKind }) eff (Contains-append_left (delay_breaches (TimestampPath path) s) (result_breaches around settings kind s) (record { field = codes "TimestampPath"; fault = WrongKind }) (subst (λ r. Contains (kind_breaches (codes "TimestampPath") is_string_shape r) (record { field = codes "TimestampPath"; fault = WrongKind })) (sym e) (unless_in (is_string_shape t) (codes "TimestampPath") WrongKind h)))
-  wrong_in {kind} s t (wants_list {items = items} {selector = selector} {processor = processor}) eff e h = in_work kind s (record { field = codes "ItemsPath"; fault = WrongKind }) eff (subst (λ r. Contains (with_items (of_elements items selector processor s) r) (record { field = codes "ItemsPath"; fault = WrongKind })) (sym e) (subst (λ o. Contains (with_elements (of_elements items selector processor s) o) (record { field = codes "ItemsPath"; fault = WrongKind })) (sym (no_array t h)) (first_in (record { field = codes "ItemsPath"; fault = WrongKind }) [])))
+  wrong_in {kind} s t (wants_list {items = items} {selector = selector} {processor = processor}) eff e h = in_work kind s (record { field = codes "ItemsPath"; fault = WrongKind }) eff (subst (λ r. Contains (with_items (of_elements items selector processor s) r) (record { field = codes "ItemsPath"; fault = WrongKind })) (sym e) (subst (λ o. Contains (with_elements (of_elements items selector processor s) o) (record { field = codes "ItemsPath"; fault = WrongKind })) (sym (no_array (arrays_alone t) h)) (first_in (record { field = codes "ItemsPath"; fault = WrongKind }) [])))
 
   -- ---- placings, children
 
@@ -186,8 +186,8 @@ module _ (around : Surroundings) (settings : Settings) (live : IsTrue (inhabited
   -- a child's input
   started_in : {kind : Kind} {field : List ℕ} {child : Scope} {s : Shape} (expected : Shape) → Starts around settings kind field child s → around.inputs (start_of child) ≡ Some expected → IsFalse (sub s expected) → Contains (flow kind) (record { field = field; fault = BranchInput })
   started_in {kind} {child = child} expected (starts_branch {s = s} eff branch) e h = in_work kind s (record { field = codes "Branches"; fault = BranchInput }) eff (branch_in s (record { field = codes "Branches"; fault = BranchInput }) branch (sub_in (codes "Branches") BranchInput s (around.inputs (start_of child)) expected e h))
-  started_in {kind} expected (starts_item {items = items} {selector = selector} {processor = processor} {s = s} {input = input} {first = first} {rest = rest} eff found flows) e h =
-      elements_in items selector processor s first rest (record { field = codes "ItemProcessor"; fault = BranchInput }) eff found
+  started_in {kind} expected (starts_item {items = items} {selector = selector} {processor = processor} {s = s} {named = named} {input = input} {first = first} {rest = rest} eff found parts flows) e h =
+      elements_in items selector processor s named first rest (record { field = codes "ItemProcessor"; fault = BranchInput }) eff found parts
       (Contains-append_left (breaches_then (child_breaches around.inputs (codes "ItemProcessor") processor) (item_flow selector s (element_shape first rest))) (map_breaches around settings kind around.entry.item (first, rest)) (record { field = codes "ItemProcessor"; fault = BranchInput })
       (gone_in (child_breaches around.inputs (codes "ItemProcessor") processor) (item_flow selector s (element_shape first rest)) input (record { field = codes "ItemProcessor"; fault = BranchInput }) flows (sub_in (codes "ItemProcessor") BranchInput input (around.inputs (start_of processor)) expected e h)))
 

@@ -1,8 +1,9 @@
 -- Where no rule is broken at a state, the certificate is closed at it, whatever its type.
-use Rattle.std.proofs.Common.{◌≡◌, ℕ, suc, List, [], ◌∷◌, ◌++◌, length, Bool, true, false, Option, Some, None, Result, Ok, Err, refl, sym, ap, subst, arith}
+use Rattle.std.proofs.Common.{◌≡◌, ℕ, suc, List, [], ◌∷◌, ◌++◌, length, Bool, true, false, ◌||◌, Option, Some, None, Result, Ok, Err, refl, sym, ap, subst, arith}
 use Rattle.std.specs.Prelude.{pos, IsTrue, is_some, codes, if◌then◌else◌}
 use Rattle.std.proofs.lemmas.Bool.{and_parts, and_from, false≢true}
-use Rattle.asl_model.specs.Tree.{Tree, Integer, Text, Array, Trees, NoTrees, AndTree, count}
+use Rattle.std.proofs.lemmas.Option.{same_Some}
+use Rattle.asl_model.specs.Tree.{Tree, Integer, Text, Array, Object, Trees, NoTrees, AndTree, count}
 use Rattle.asl_model.specs.Path.{Segment}
 use Rattle.asl_model.specs.Placing.{placed}
 use Rattle.asl_model.specs.Template.{Template}
@@ -10,15 +11,16 @@ use Rattle.asl_model.specs.Test.{Rule, truth}
 use Rattle.asl_model.specs.Machine.{Catcher, Settings, Delay, Seconds, SecondsPath, Timestamp, TimestampPath, Scope, StateOf, Kind, Pass, Task, Choice, Wait, Succeed, Fail, Parallel, Map, Scopes, NoScopes, AndScope, start_of, scope_at, how_many, names_state}
 use Rattle.asl_model.specs.Flow.{effective_input, at_output_path, output_of, Work, works_on, Splits, chosen, by_truth, delay_in, branch_inputs, item_input, item_inputs, map_items, work_of, first_move}
 use Rattle.asl_model.specs.Run.{error_output, error_placed}
-use Rattle.asl_model.specs.Shape.{Shape, Any, Never, NullShape, BooleanShape, IntegerShape, StringShape, ArrayShape, ObjectShape, Shapes, NoShapes, AndShape, Has, has, elements_have, each_element, inhabited}
-use Rattle.asl_model.specs.ShapeOrder.{sub, join, joined_with_each, is_integer_shape, is_string_shape}
-use Rattle.asl_model.specs.ShapeFlow.{look, put, literal, template_shape, rule_shape, Flow, template_flow, output_flow, result_leaves}
+use Rattle.asl_model.specs.Shape.{Simple, Shape, Any, OfKinds, Never, ArrayShape, Arrays, WithoutArrays, ArraysOf, WithoutObjects, Shapes, NoShapes, AndShape, Has, has, elements_have, each_element, no_simple, some_array, some_object, inhabited}
+use Rattle.asl_model.specs.ShapeOrder.{sub, join, joined_with_each}
+use Rattle.asl_model.specs.ShapeFlow.{look, put, literal, arrays_alone, is_only, is_integer_shape, is_string_shape, template_shape, rule_shape, Flow, template_flow, output_flow, result_leaves}
 use Rattle.asl_model.specs.Certificate.{Declared, StateShapes, Certificate, certified, certified_input, certified_output, input_among, output_among, branches_in, is_map, branch_shape, branch_end, item_end, or_never, takes_of, gives_of, EachHas, OutputFits, WorkFits, CaughtFits, CatchersFit, HasEntry, IsClosedAt}
-use Rattle.asl_model.specs.Finding.{FindingFault, Breach, Surroundings, surrounded_by, where_certified, NotCertified, BranchInput, NextInput, ScopeOutput, OutputNotCertified, PayloadNotTaken, CatchInput, breach_unless, breach_unless_sub, breach_of, breaches_then, input_of_entry, input_to_compare, effective_flow, next_breaches, end_breaches, output_breaches, kind_breaches, delay_breaches, child_breaches, branch_breaches, as_first_elements, element_shape, item_flow, at_each_place, map_result, array_parts, with_elements, with_items, chosen_breaches, rule_breaches, rules_breaches, default_breaches, error_output_shape, error_placed_shape, caught_breaches, catcher_breaches, result_breaches, map_breaches, work_breaches, settled_breaches, flow_breaches, state_breaches, scope_findings}
+use Rattle.asl_model.specs.Finding.{FindingFault, Breach, Surroundings, surrounded_by, where_certified, NotCertified, BranchInput, NextInput, ScopeOutput, OutputNotCertified, PayloadNotTaken, CatchInput, breach_unless, breach_unless_sub, breach_of, breaches_then, input_of_entry, input_to_compare, effective_flow, next_breaches, end_breaches, output_breaches, kind_breaches, delay_breaches, child_breaches, branch_breaches, as_first_elements, element_shape, item_flow, at_each_place, map_result, elements_of, array_parts, with_elements, with_items, chosen_breaches, rule_breaches, rules_breaches, default_breaches, error_output_shape, error_placed_shape, caught_breaches, catcher_breaches, result_breaches, map_breaches, work_breaches, settled_breaches, flow_breaches, state_breaches, scope_findings}
 use Rattle.asl_model.proofs.FindingScopes.{append-none, none-unless, flow-none, has-entry, state-certified}
 use Rattle.asl_model.proofs.ShapeInhabited.{has-inhabited}
-use Rattle.asl_model.proofs.ShapeInside.{sub-inside, only_integer, only_string}
+use Rattle.asl_model.proofs.ShapeInside.{sub-inside}
 use Rattle.asl_model.proofs.ShapeJoin.{join_above, join_each-above, all_inside-more, elements_above}
+use Rattle.asl_model.proofs.ShapeLook.{alone-array}
 use Rattle.asl_model.proofs.ShapePut.{put-gives}
 use Rattle.asl_model.proofs.ShapeTemplate.{look-gives, literal-has_itself, template-gives}
 use Rattle.asl_model.proofs.ShapeRule.{rule-decided}
@@ -40,13 +42,24 @@ InputsFit certificate inputs = (n field : List ℕ) (fault : FindingFault) (s : 
 
 -- Values that are wanted
 
-number-there : (field : List ℕ) (w : Tree) → Has IntegerShape w → (t : Tree) × (Rattle.asl_model.specs.Flow.number_wanted field w ≡ Ok t)
-number-there field (Integer n) m = (Integer n, refl)
-number-there field w m = absurd (false≢true m)
+-- where trees of these simple kinds alone have the shape, each of its trees is of one of them
+only-has : (kinds : Simple) (s : Shape) (w : Tree) → IsTrue (is_only kinds s) → Has s w → Has (OfKinds kinds WithoutArrays WithoutObjects) w
+only-has kinds Any w h m = absurd (false≢true h)
+only-has kinds (OfKinds simple arrays objects) (Array ts) h m =
+    let some : IsTrue (some_array arrays || false) = has-inhabited (OfKinds no_simple arrays WithoutObjects) (Array ts) m in
+    grind arith
+only-has kinds (OfKinds simple arrays objects) (Object fs) h m =
+    let some : IsTrue (some_object objects) = has-inhabited (OfKinds no_simple WithoutArrays objects) (Object fs) m in
+    grind arith
+only-has kinds (OfKinds simple arrays objects) w h m = grind arith
 
-text-there : (field : List ℕ) (w : Tree) → Has StringShape w → (t : Tree) × (Rattle.asl_model.specs.Flow.text_wanted field w ≡ Ok t)
-text-there field (Text s) m = (Text s, refl)
-text-there field w m = absurd (false≢true m)
+pub number-there : (field : List ℕ) (s : Shape) (w : Tree) → IsTrue (is_integer_shape s) → Has s w → (t : Tree) × (Rattle.asl_model.specs.Flow.number_wanted field w ≡ Ok t)
+number-there field s (Integer n) h m = (Integer n, refl)
+number-there field s w h m = absurd (false≢true (only-has (record no_simple { integer = true }) s w h m))
+
+pub text-there : (field : List ℕ) (s : Shape) (w : Tree) → IsTrue (is_string_shape s) → Has s w → (t : Tree) × (Rattle.asl_model.specs.Flow.text_wanted field w ≡ Ok t)
+text-there field s (Text t) h m = (Text t, refl)
+text-there field s w h m = absurd (false≢true (only-has (record no_simple { text = true }) s w h m))
 
 kind-none : (field : List ℕ) (test : Shape → Bool) (result : Result Shape ℕ) → kind_breaches field test result ≡ [] → (t : Shape) × (result ≡ Ok t) × IsTrue (test t)
 kind-none field test (Ok t) e = (t, refl, none-unless (test t) field Rattle.asl_model.specs.Finding.WrongKind e)
@@ -57,18 +70,18 @@ delay-fits (Seconds k) s u e m = (u, refl)
 delay-fits (SecondsPath path) s u e m =
     let kind = kind-none (codes "SecondsPath") is_integer_shape (look path s) e in
     let given = look-gives path s kind.0 u kind.1 m in
-    let number = number-there (codes "SecondsPath") given.0 (subst (λ (z : Shape). Has z given.0) (only_integer kind.0 kind.2) given.2) in
+    let number = number-there (codes "SecondsPath") kind.0 given.0 kind.2 given.2 in
     (number.0, rw (given.1) (number.1))
 delay-fits (Timestamp t) s u e m = (u, refl)
 delay-fits (TimestampPath path) s u e m =
     let kind = kind-none (codes "TimestampPath") is_string_shape (look path s) e in
     let given = look-gives path s kind.0 u kind.1 m in
-    let text = text-there (codes "TimestampPath") given.0 (subst (λ (z : Shape). Has z given.0) (only_string kind.0 kind.2) given.2) in
+    let text = text-there (codes "TimestampPath") kind.0 given.0 kind.2 given.2 in
     (text.0, rw (given.1) (text.1))
 
 -- Lists of outputs
 
-branches-have : (all : List Shape) (outputs : Trees) → count outputs ≡ length all → EachHas (λ i. or_never (branch_shape i all)) outputs → IsTrue (elements_have (as_first_elements all) (has Never) outputs)
+pub branches-have : (all : List Shape) (outputs : Trees) → count outputs ≡ length all → EachHas (λ i. or_never (branch_shape i all)) outputs → IsTrue (elements_have (as_first_elements all) (has Never) outputs)
 branches-have [] NoTrees same each = refl
 branches-have [] (AndTree t ts) same each = absurd (omega arith)
 branches-have (s ∷ further) NoTrees same each = absurd (omega arith)
@@ -78,7 +91,7 @@ each-item : (item : Shape) (outputs : Trees) → EachHas (λ i. item) outputs �
 each-item item NoTrees each = refl
 each-item item (AndTree t ts) each = and_from (has item t) (each_element (has item) ts) each.0 (each-item item ts each.1)
 
-map-has : (item : Shape) (first : Shapes) (rest : Shape) (ts outputs : Trees) → IsTrue (elements_have first (has rest) ts) → count outputs ≡ count ts → EachHas (λ i. item) outputs → IsTrue (elements_have (at_each_place item first) (has (if inhabited rest then item else Never)) outputs)
+pub map-has : (item : Shape) (first : Shapes) (rest : Shape) (ts outputs : Trees) → IsTrue (elements_have first (has rest) ts) → count outputs ≡ count ts → EachHas (λ i. item) outputs → IsTrue (elements_have (at_each_place item first) (has (if inhabited rest then item else Never)) outputs)
 map-has item NoShapes rest NoTrees NoTrees h same each = refl
 map-has item NoShapes rest NoTrees (AndTree u us) h same each = absurd (omega arith)
 map-has item NoShapes rest (AndTree t ts) outputs h same each = rw (has-inhabited rest t (and_parts (has rest t) (each_element (has rest) ts) h).0) (each-item item outputs each)
@@ -88,35 +101,38 @@ map-has item (AndShape s others) rest (AndTree t ts) (AndTree u us) h same each 
 
 -- Items of a Map
 
-items-parts : (go_on : Shapes × Shape → List Breach) (result : Result Shape ℕ) → with_items go_on result ≡ [] → (first : Shapes) × (rest : Shape) × (result ≡ Ok (ArrayShape first rest)) × (go_on (first, rest) ≡ [])
+parts-none : (go_on : Shapes × Shape → List Breach) (o : Option (Shapes × Shape)) → with_elements go_on o ≡ [] → (parts : Shapes × Shape) × (o ≡ Some parts) × (go_on parts ≡ [])
+parts-none go_on None e = absurd (cc)
+parts-none go_on (Some parts) e = (parts, refl, e)
+
+items-parts : (go_on : Shapes × Shape → List Breach) (result : Result Shape ℕ) → with_items go_on result ≡ [] → (first : Shapes) × (rest : Shape) × (named : Shape) × (result ≡ Ok named) × (array_parts named ≡ Some (first, rest)) × (go_on (first, rest) ≡ [])
 items-parts go_on (Err at) e = absurd (cc)
-items-parts go_on (Ok Any) e = absurd (cc)
-items-parts go_on (Ok Never) e = absurd (cc)
-items-parts go_on (Ok NullShape) e = absurd (cc)
-items-parts go_on (Ok BooleanShape) e = absurd (cc)
-items-parts go_on (Ok IntegerShape) e = absurd (cc)
-items-parts go_on (Ok StringShape) e = absurd (cc)
-items-parts go_on (Ok (ArrayShape first rest)) e = (first, rest, refl, e)
-items-parts go_on (Ok (ObjectShape fields extra)) e = absurd (cc)
+items-parts go_on (Ok named) e = let parts = parts-none go_on (array_parts named) e in (parts.0.0, parts.0.1, named, refl, parts.1, parts.2)
 
--- a tree of an array's shape is an array
-array-tree : (field : List ℕ) (first : Shapes) (rest : Shape) (w : Tree) → Has (ArrayShape first rest) w → (ts : Trees) × (Rattle.asl_model.specs.Flow.list_wanted field w ≡ Ok ts) × IsTrue (elements_have first (has rest) ts)
-array-tree field first rest (Array ts) m = (ts, refl, m)
-array-tree field first rest w m = absurd (false≢true m)
+-- arrays of which elements are known
+elements-known : (arrays : Arrays) (first : Shapes) (rest : Shape) → elements_of arrays ≡ Some (first, rest) → arrays ≡ ArraysOf first rest
+elements-known WithoutArrays first rest e = absurd (cc)
+elements-known (ArraysOf places further) first rest e = ap (λ p. ArraysOf p.0 p.1) (same_Some (places, further) (first, rest) e)
 
-items-there : (items : List Segment) (s : Shape) (first : Shapes) (rest : Shape) (u : Tree) → look items s ≡ Ok (ArrayShape first rest) → Has s u → (ts : Trees) × (map_items items u ≡ Ok ts) × IsTrue (elements_have first (has rest) ts)
-items-there items s first rest u e m =
-    let given = look-gives items s (ArrayShape first rest) u e m in
-    let list = array-tree (codes "ItemsPath") first rest given.0 given.2 in
+-- each tree of a shape whose elements are known is an array
+list-there : (s : Shape) (first : Shapes) (rest : Shape) (w : Tree) → array_parts s ≡ Some (first, rest) → Has s w → (ts : Trees) × (Rattle.asl_model.specs.Flow.list_wanted (codes "ItemsPath") w ≡ Ok ts) × IsTrue (elements_have first (has rest) ts)
+list-there s first rest w e m =
+    let list = alone-array s first rest w (elements-known (arrays_alone s) first rest e) m in
+    (list.0, ap (Rattle.asl_model.specs.Flow.list_wanted (codes "ItemsPath")) (list.1), list.2)
+
+pub items-there : (items : List Segment) (s named : Shape) (first : Shapes) (rest : Shape) (u : Tree) → look items s ≡ Ok named → array_parts named ≡ Some (first, rest) → Has s u → (ts : Trees) × (map_items items u ≡ Ok ts) × IsTrue (elements_have first (has rest) ts)
+items-there items s named first rest u e parts m =
+    let given = look-gives items s named u e m in
+    let list = list-there named first rest given.0 parts given.2 in
     (list.0, rw (given.1) (list.1), list.2)
 
 -- each item has the element's shape
-items-have : (first : Shapes) (rest : Shape) (ts : Trees) → IsTrue (elements_have first (has rest) ts) → IsTrue (each_element (has (element_shape first rest)) ts)
+pub items-have : (first : Shapes) (rest : Shape) (ts : Trees) → IsTrue (elements_have first (has rest) ts) → IsTrue (each_element (has (element_shape first rest)) ts)
 items-have first rest ts h =
     let inner : Shape = joined_with_each join Never first in
     elements_above join join_above first rest (join inner rest) ts (all_inside-more first inner (join inner rest) (λ t m. join_above.left inner rest t m) (join_each-above Never first).1) (λ t m. join_above.right inner rest t m) h
 
-item-told : (selector : Option Template) (s element : Shape) → IsTold (item_flow selector s element)
+pub item-told : (selector : Option Template) (s element : Shape) → IsTold (item_flow selector s element)
 item-told None s element = tt
 item-told (Some selector) s element = go (inhabited element)
   where
@@ -133,7 +149,7 @@ item-gives (Some selector) s element r u i t e h m =
     let given = template-gives selector s (Some element) r u (Some (record { number = pos i; value = t })) (template-parts (codes "ItemSelector") (template_shape selector s (Some element)) r live) h m in
     (given.0, rw (given.1) refl, given.2)
 
-inputs-give : (selector : Option Template) (s element r : Shape) (u : Tree) (i : ℕ) (ts : Trees) → item_flow selector s element ≡ Ok r → Has s u → IsTrue (each_element (has element) ts) → (us : Trees) × (item_inputs selector u i ts ≡ Ok us) × (count us ≡ count ts) × IsTrue (each_element (has r) us)
+pub inputs-give : (selector : Option Template) (s element r : Shape) (u : Tree) (i : ℕ) (ts : Trees) → item_flow selector s element ≡ Ok r → Has s u → IsTrue (each_element (has element) ts) → (us : Trees) × (item_inputs selector u i ts ≡ Ok us) × (count us ≡ count ts) × IsTrue (each_element (has r) us)
 inputs-give selector s element r u i NoTrees e h m = (NoTrees, refl, refl, refl)
 inputs-give selector s element r u i (AndTree t ts) e h m =
     let both = and_parts (has element t) (each_element (has element) ts) m in
@@ -142,7 +158,7 @@ inputs-give selector s element r u i (AndTree t ts) e h m =
     (AndTree first.0 further.0, rw (first.1, further.1) refl, ap suc further.2, and_from (has r first.0) (each_element (has r) further.0) first.2 further.3)
 
 -- the inputs have the shape of the processor's start
-each-fits : (r p : Shape) (us : Trees) → ((v : Tree) → Has r v → Has p v) → IsTrue (each_element (has r) us) → EachHas (λ i. p) us
+pub each-fits : (r p : Shape) (us : Trees) → ((v : Tree) → Has r v → Has p v) → IsTrue (each_element (has r) us) → EachHas (λ i. p) us
 each-fits r p NoTrees inside h = tt
 each-fits r p (AndTree u us) inside h =
     let both = and_parts (has r u) (each_element (has r) us) h in
@@ -150,7 +166,7 @@ each-fits r p (AndTree u us) inside h =
 
 -- Catchers
 
-error-has : (error cause : List ℕ) → Has error_output_shape (error_output error cause)
+pub error-has : (error cause : List ℕ) → Has error_output_shape (error_output error cause)
 error-has error cause = refl
 
 module _ (declared : Declared) (certificate : Certificate) (inputs : List ℕ → Option Shape) (fit : InputsFit certificate inputs) where
@@ -269,8 +285,8 @@ module _ (declared : Declared) (certificate : Certificate) (inputs : List ℕ �
             omega arith
     work-fits (Map items selector processor) settings s v u long item e f eff m h =
         let parts = items-parts (λ elements. breaches_then (child_breaches inputs (codes "ItemProcessor") processor) (item_flow selector s (element_shape elements.0 elements.1)) ++ map_breaches around settings (Map items selector processor) entry.item elements) (look items s) e in
-        let both = append-none (breaches_then (child_breaches inputs (codes "ItemProcessor") processor) (item_flow selector s (element_shape parts.0 parts.1))) (map_breaches around settings (Map items selector processor) entry.item (parts.0, parts.1)) parts.3 in
-        let list = items-there items s parts.0 parts.1 u parts.2 m in
+        let both = append-none (breaches_then (child_breaches inputs (codes "ItemProcessor") processor) (item_flow selector s (element_shape parts.0 parts.1))) (map_breaches around settings (Map items selector processor) entry.item (parts.0, parts.1)) parts.5 in
+        let list = items-there items s parts.2 parts.0 parts.1 u parts.3 parts.4 m in
         let flow = then-none (child_breaches inputs (codes "ItemProcessor") processor) (item_flow selector s (element_shape parts.0 parts.1)) (item-told selector s (element_shape parts.0 parts.1)) both.0 in
         let given = inputs-give selector s (element_shape parts.0 parts.1) flow.0 u 0 list.0 flow.1 m (items-have parts.0 parts.1 list.0 list.2) in
         rw (eff, list.1, given.1) (each-fits flow.0 (certified_input certificate (start_of processor)) given.0 (λ w held. fit (start_of processor) (codes "ItemProcessor") BranchInput flow.0 flow.2 w held) given.3, λ outputs same each. outputs-fit entry.item refl outputs parts.0 parts.1 list.0 given.0 list.2 given.2 same (subst (λ (o : Option StateShapes). EachHas (λ i. or_never (item_end o)) outputs) at each) both.1)

@@ -1,16 +1,16 @@
 -- What the list of a state's breaches holds is broken: each of its parts tells rules on what flows that are broken.
-use Rattle.std.proofs.Common.{◌≡◌, ℕ, suc, List, [], ◌∷◌, ◌++◌, Contains, Bool, true, false, IsTrue, IsFalse, if◌then◌else◌, Option, Some, None, Result, Ok, Err, codes, refl, sym, ap, subst, ◌∙◌, ◌⊎◌, inl, inr}
+use Rattle.std.proofs.Common.{◌≡◌, ℕ, suc, List, [], ◌∷◌, ◌++◌, Contains, Bool, true, false, IsTrue, IsFalse, if◌then◌else◌, Option, Some, None, Result, Ok, Err, codes, refl, sym, subst, ◌⊎◌, inl, inr}
 use Rattle.std.proofs.lemmas.List.Elements.{Contains-append_cases}
-use Rattle.std.proofs.lemmas.Option.{none-some, same_Some}
+use Rattle.std.proofs.lemmas.Option.{same_Some}
 use Rattle.asl_model.specs.Path.{Segment}
 use Rattle.asl_model.specs.Template.{Template}
 use Rattle.asl_model.specs.Test.{Rule}
 use Rattle.asl_model.specs.Machine.{Catcher, Settings, Delay, Seconds, SecondsPath, Timestamp, TimestampPath, Scope, Kind, Pass, Task, Choice, Wait, Succeed, Fail, Parallel, Map, Scopes, NoScopes, AndScope, start_of}
-use Rattle.asl_model.specs.Shape.{Shape, Any, Never, NullShape, BooleanShape, IntegerShape, StringShape, ArrayShape, ObjectShape, Shapes, inhabited}
-use Rattle.asl_model.specs.ShapeOrder.{sub, is_integer_shape, is_string_shape}
-use Rattle.asl_model.specs.ShapeFlow.{look, literal, Doubt, MayBeMissing, MayFail, template_shape, is_array_shape, rule_shape, FlowFault, Flow, flow_then, doubt_fault, template_flow, through_template, through_path, through_placing, output_flow, result_flow, Leaving, WithResult, WithInput, Nothing, leaving, leave_by, leave}
+use Rattle.asl_model.specs.Shape.{Shape, Never, ArrayShape, Arrays, WithoutArrays, ArraysOf, Shapes, has_arrays, inhabited}
+use Rattle.asl_model.specs.ShapeOrder.{sub}
+use Rattle.asl_model.specs.ShapeFlow.{look, literal, arrays_alone, is_integer_shape, is_string_shape, Doubt, MayBeMissing, MayFail, template_shape, rule_shape, FlowFault, Flow, flow_then, doubt_fault, template_flow, through_template, through_path, through_placing, output_flow, result_flow, Leaving, WithResult, WithInput, Nothing, leaving, leave_by, leave}
 use Rattle.asl_model.specs.Certificate.{takes_of, gives_of}
-use Rattle.asl_model.specs.Finding.{FindingFault, PathMayBeMissing, WrongKind, ResultMayNotFit, NoDefault, PayloadNotTaken, OutputNotCertified, NextInput, ScopeOutput, BranchInput, CatchInput, Breach, breach_unless, breach_unless_sub, breach_of, breaches_then, Surroundings, effective_flow, next_breaches, end_breaches, output_breaches, kind_breaches, delay_breaches, child_breaches, branch_breaches, as_first_elements, element_shape, item_flow, map_result, array_parts, with_elements, with_items, rule_breaches, rules_breaches, default_breaches, error_placed_shape, caught_breaches, catcher_breaches, result_breaches, map_breaches, work_breaches, settled_breaches, flow_breaches}
+use Rattle.asl_model.specs.Finding.{FindingFault, PathMayBeMissing, WrongKind, ResultMayNotFit, NoDefault, PayloadNotTaken, OutputNotCertified, NextInput, ScopeOutput, BranchInput, CatchInput, Breach, breach_unless, breach_unless_sub, breach_of, breaches_then, Surroundings, effective_flow, next_breaches, end_breaches, output_breaches, kind_breaches, delay_breaches, child_breaches, branch_breaches, as_first_elements, element_shape, item_flow, map_result, elements_of, array_parts, with_elements, with_items, rule_breaches, rules_breaches, default_breaches, error_placed_shape, caught_breaches, catcher_breaches, result_breaches, map_breaches, work_breaches, settled_breaches, flow_breaches}
 use Rattle.asl_model.specs.FindingRules.{IsBranch, branch_is_first, branch_is_later, IsEffective, Target, ToState, ToEnd, next_target, Makes, makes_literal, makes_what_it_takes, makes_answer, lets_through, lets_default, lets_wait, lets_succeed, makes_outputs, makes_items, IsSelected, GoesOut, goes_out_placed, goes_out_as_it_is, Leaves, wants_number, wants_text, wants_list, looks_up_input, looks_up_wanted, looks_up_output, Evaluates, evaluates_parameters, evaluates_item_selector, evaluates_result_selector, HasDoubt, puts_result, puts_error_output, starts_branch, starts_item, BreaksFlow, path_may_be_missing, template_may_be_missing, rule_may_be_missing, may_be_of_wrong_kind, may_not_fit, may_fail, has_no_default, payload_is_not_taken, output_is_not_certified, is_no_next_input, is_no_scope_output, is_no_branch_input, is_no_catch_input}
 use Rattle.asl_model.proofs.Listed.{none_in, first_in, later_in, first_or_later, in_map}
 use Rattle.asl_model.proofs.FindingFlows.{template_told, stopped_at, path_stopped, placing_stopped, result_stopped}
@@ -25,27 +25,10 @@ pub going_next : (inputs : List ℕ → Option Shape) (certified_output : Shape)
 going_next inputs certified_output end None = refl
 going_next inputs certified_output end (Some next) = refl
 
--- a shape whose elements are known
-pub parts_array : (t : Shape) (parts : Shapes × Shape) → array_parts t ≡ Some parts → t ≡ ArrayShape parts.0 parts.1
-parts_array (ArrayShape first rest) parts h = ap (λ p. ArrayShape p.0 p.1) (same_Some (first, rest) parts h)
-parts_array Any parts h = absurd (none-some parts h)
-parts_array Never parts h = absurd (none-some parts h)
-parts_array NullShape parts h = absurd (none-some parts h)
-parts_array BooleanShape parts h = absurd (none-some parts h)
-parts_array IntegerShape parts h = absurd (none-some parts h)
-parts_array StringShape parts h = absurd (none-some parts h)
-parts_array (ObjectShape shapes extra) parts h = absurd (none-some parts h)
-
--- a shape without elements is none of arrays
-no_parts : (t : Shape) → array_parts t ≡ None → is_array_shape t ≡ false
-no_parts (ArrayShape first rest) h = absurd (none-some (first, rest) (sym h))
-no_parts Any h = refl
-no_parts Never h = refl
-no_parts NullShape h = refl
-no_parts BooleanShape h = refl
-no_parts IntegerShape h = refl
-no_parts StringShape h = refl
-no_parts (ObjectShape shapes extra) h = refl
+-- those of which no elements are known are none
+no_parts : (arrays : Arrays) → elements_of arrays ≡ None → has_arrays arrays ≡ false
+no_parts WithoutArrays h = refl
+no_parts (ArraysOf first rest) h = absurd (cc)
 
 module _ (around : Surroundings) (settings : Settings) where
   -- each of the breaches breaks a rule on what flows
@@ -211,10 +194,10 @@ module _ (around : Surroundings) (settings : Settings) where
       (branches_broken all s eff others (λ scope i b. among scope (suc i) (branch_is_later b)))
 
   -- what starts the children of a Map
-  item_broken : (items : List Segment) (selector : Option Template) (processor : Scope) (s : Shape) (first : Shapes) (rest : Shape) → IsEffective around settings s → look items s ≡ Ok (ArrayShape first rest) → AreBroken (Map items selector processor) (breaches_then (child_breaches around.inputs (codes "ItemProcessor") processor) (item_flow selector s (element_shape first rest)))
-  item_broken items selector processor s first rest eff e =
+  item_broken : (items : List Segment) (selector : Option Template) (processor : Scope) (s named : Shape) (first : Shapes) (rest : Shape) → IsEffective around settings s → look items s ≡ Ok named → array_parts named ≡ Some (first, rest) → AreBroken (Map items selector processor) (breaches_then (child_breaches around.inputs (codes "ItemProcessor") processor) (item_flow selector s (element_shape first rest)))
+  item_broken items selector processor s named first rest eff e parts =
       then_broken (Map items selector processor) (child_breaches around.inputs (codes "ItemProcessor") processor) (item_flow selector s (element_shape first rest))
-      (λ input k. sub_broken (Map items selector processor) (codes "ItemProcessor") BranchInput input (around.inputs (start_of processor)) (λ expected f g. is_no_branch_input (starts_item eff e k) (f) g))
+      (λ input k. sub_broken (Map items selector processor) (codes "ItemProcessor") BranchInput input (around.inputs (start_of processor)) (λ expected f g. is_no_branch_input (starts_item eff e parts k) (f) g))
       (λ faults k f c. given selector faults k f c)
     where
       given : (o : Option Template) (faults : List FlowFault) → item_flow o s (element_shape first rest) ≡ Err faults → (f : FlowFault) → Contains faults f → Broken (Map items o processor) (breach_of f)
@@ -222,13 +205,13 @@ module _ (around : Surroundings) (settings : Settings) where
       given (Some template) faults k f c = go (inhabited (element_shape first rest)) refl k
         where
           go : (t : Bool) → inhabited (element_shape first rest) ≡ t → (if t then template_flow (codes "ItemSelector") (template_shape template s (Some (element_shape first rest))) else Ok Never) ≡ Err faults → Broken (Map items (Some template) processor) (breach_of f)
-          go true some l = template_broken (Map items (Some template) processor) (codes "ItemSelector") template s (Some (element_shape first rest)) faults f (evaluates_item_selector eff e some) l c
+          go true some l = template_broken (Map items (Some template) processor) (codes "ItemSelector") template s (Some (element_shape first rest)) faults f (evaluates_item_selector eff e parts some) l c
           go false some l = absurd (cc)
 
   -- the result of a Map
-  map_broken : (items : List Segment) (selector : Option Template) (processor : Scope) (s : Shape) (first : Shapes) (rest : Shape) → IsEffective around settings s → look items s ≡ Ok (ArrayShape first rest) → (item : Option Shape) → around.entry.item ≡ item → AreBroken (Map items selector processor) (map_breaches around settings (Map items selector processor) item (first, rest))
-  map_broken items selector processor s first rest eff e None there = none_broken (Map items selector processor)
-  map_broken items selector processor s first rest eff e (Some item) there = next_broken (Map items selector processor) (map_result item first rest) (makes_items eff e there)
+  map_broken : (items : List Segment) (selector : Option Template) (processor : Scope) (s named : Shape) (first : Shapes) (rest : Shape) → IsEffective around settings s → look items s ≡ Ok named → array_parts named ≡ Some (first, rest) → (item : Option Shape) → around.entry.item ≡ item → AreBroken (Map items selector processor) (map_breaches around settings (Map items selector processor) item (first, rest))
+  map_broken items selector processor s named first rest eff e parts None there = none_broken (Map items selector processor)
+  map_broken items selector processor s named first rest eff e parts (Some item) there = next_broken (Map items selector processor) (map_result item first rest) (makes_items eff e parts there)
 
   -- what follows for the elements of what `ItemsPath` names
   abbrev of_elements : List Segment → Option Template → Scope → Shape → Shapes × Shape → List Breach
@@ -239,12 +222,11 @@ module _ (around : Surroundings) (settings : Settings) where
   items_broken items selector processor s eff = go (look items s) refl
     where
       parts : (t : Shape) → look items s ≡ Ok t → (o : Option (Shapes × Shape)) → array_parts t ≡ o → AreBroken (Map items selector processor) (with_elements (of_elements items selector processor s) o)
-      parts t e None k = one_broken (Map items selector processor) (codes "ItemsPath") WrongKind (may_be_of_wrong_kind eff wants_list e (no_parts t k))
+      parts t e None k = one_broken (Map items selector processor) (codes "ItemsPath") WrongKind (may_be_of_wrong_kind eff wants_list e (no_parts (arrays_alone t) k))
       parts t e (Some elements) k =
-          let found = e ∙ ap Ok (parts_array t elements k) in
           both_broken (Map items selector processor) (breaches_then (child_breaches around.inputs (codes "ItemProcessor") processor) (item_flow selector s (element_shape elements.0 elements.1))) (map_breaches around settings (Map items selector processor) around.entry.item elements)
-          (item_broken items selector processor s elements.0 elements.1 eff found)
-          (map_broken items selector processor s elements.0 elements.1 eff found around.entry.item refl)
+          (item_broken items selector processor s t elements.0 elements.1 eff e k)
+          (map_broken items selector processor s t elements.0 elements.1 eff e k around.entry.item refl)
 
       go : (r : Result Shape ℕ) → look items s ≡ r → AreBroken (Map items selector processor) (with_items (of_elements items selector processor s) r)
       go (Ok t) e = parts t e (array_parts t) refl

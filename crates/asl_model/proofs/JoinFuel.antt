@@ -3,18 +3,12 @@
 use Rattle.std.proofs.Common.{◌≡◌, ℕ, zero, suc, min, max, ◌≤◌, List, Bool, true, false, ◌&&◌, ◌||◌, Option, Some, None, refl, ap, ◌∙◌, arith}
 use Rattle.std.specs.Prelude.{bytes_eq, if◌then◌else◌}
 use Rattle.asl_model.specs.Tree.{comes_before}
-use Rattle.asl_model.specs.Shape.{Shape, Any, Never, NullShape, BooleanShape, IntegerShape, StringShape, ArrayShape, ObjectShape, Shapes, NoShapes, AndShape, FieldShapes, NoFieldShapes, AndFieldShape, inhabited, mentions, insert_mention}
-use Rattle.asl_model.specs.ShapeOrder.{mention_of, is_null_shape, is_boolean_shape, is_integer_shape, is_string_shape, with_mention_unless, without_mention, depth, depth_of_elements, depth_of_fields, common_joins, further_places, joined_with_each, keep_joined, joined_fields, with_optional_unless, with_other_fields, join_array, join_object, join_kinds, join_within, join}
+use Rattle.asl_model.specs.Shape.{Shape, Any, OfKinds, Never, Arrays, WithoutArrays, ArraysOf, Objects, WithoutObjects, ObjectsOf, Shapes, NoShapes, AndShape, FieldShapes, NoFieldShapes, AndFieldShape, inhabited, mentions, insert_mention}
+use Rattle.asl_model.specs.ShapeOrder.{mention_of, with_mention_unless, without_mention, depth, depth_of_arrays, depth_of_objects, depth_of_elements, depth_of_fields, common_joins, further_places, joined_with_each, keep_joined, joined_fields, with_optional_unless, with_other_fields, either, join_arrays, join_objects, same_kinds, join_kinds, join_within, join}
 
 pub one_deep : (s : Shape) → 1 ≤ depth s
 one_deep Any = omega arith
-one_deep Never = omega arith
-one_deep NullShape = omega arith
-one_deep BooleanShape = omega arith
-one_deep IntegerShape = omega arith
-one_deep StringShape = omega arith
-one_deep (ArrayShape first rest) = omega arith
-one_deep (ObjectShape shapes extra) = omega arith
+one_deep (OfKinds simple arrays objects) = omega arith
 
 -- a way to join two shapes that is no deeper than both
 pub record Shallow (joined : Shape → Shape → Shape) : Type 0 where
@@ -63,9 +57,9 @@ others-low : (k : ℕ) (shapes : FieldShapes) (extra : Bool) (others kept : Fiel
 others-low k shapes extra NoFieldShapes kept h further = further
 others-low k shapes extra (AndFieldShape n needed s others) kept h further = optional-low k (extra || mentions n shapes) n s (with_other_fields shapes extra others kept) (omega arith) (others-low k shapes extra others kept (omega arith) further)
 
-simple-low : (k : ℕ) (test : Bool) (s : Shape) → 1 ≤ k → depth s ≤ k → depth (if test then s else Any) ≤ k
-simple-low k true s h fits = fits
-simple-low k false s h fits = h
+or_any-low : (k : ℕ) (test : Bool) (s : Shape) → 1 ≤ k → depth s ≤ k → depth (if test then s else Any) ≤ k
+or_any-low k true s h fits = fits
+or_any-low k false s h fits = h
 
 module _ (joined : Shape → Shape → Shape) (low : Shallow joined) where
   each-low : (k : ℕ) (s : Shape) (others : Shapes) → depth s ≤ k → depth_of_elements others ≤ k → depth (joined_with_each joined s others) ≤ k
@@ -85,18 +79,13 @@ module _ (joined : Shape → Shape → Shape) (low : Shallow joined) where
       let one : 1 ≤ k = omega (arith, one_deep rest) in
       low.keeps k (joined (joined_with_each joined Never further) rest) last (low.keeps k (joined_with_each joined Never further) rest (each-low k Never further one h) i) j
 
-  array-low : (k : ℕ) (first : Shapes) (rest b : Shape) → depth_of_elements first ≤ k → depth rest ≤ k → depth b ≤ suc k → depth (join_array joined first rest b) ≤ suc k
-  array-low k first rest Any h i j = omega arith
-  array-low k first rest Never h i j = omega arith
-  array-low k first rest NullShape h i j = omega arith
-  array-low k first rest BooleanShape h i j = omega arith
-  array-low k first rest IntegerShape h i j = omega arith
-  array-low k first rest StringShape h i j = omega arith
-  array-low k first rest (ArrayShape others last) h i j =
-      let front : depth_of_elements (common_joins joined first others) ≤ k = common-low k first others h (omega arith) in
-      let behind : depth (joined (joined (joined_with_each joined Never (further_places first others)) rest) last) ≤ k = rest-low k (further_places first others) rest last (further-low k first others h (omega arith)) i (omega arith) in
+  arrays-low : (k : ℕ) (a b : Arrays) → depth_of_arrays a ≤ k → depth_of_arrays b ≤ k → depth_of_arrays (join_arrays joined a b) ≤ k
+  arrays-low k WithoutArrays b h i = i
+  arrays-low k (ArraysOf first rest) WithoutArrays h i = h
+  arrays-low k (ArraysOf first rest) (ArraysOf others last) h i =
+      let front : depth_of_elements (common_joins joined first others) ≤ k = common-low k first others (omega arith) (omega arith) in
+      let behind : depth (joined (joined (joined_with_each joined Never (further_places first others)) rest) last) ≤ k = rest-low k (further_places first others) rest last (further-low k first others (omega arith) (omega arith)) (omega arith) (omega arith) in
       omega arith
-  array-low k first rest (ObjectShape shapes extra) h i j = omega arith
 
   keep-low : (k : ℕ) (n : List ℕ) (needed : Bool) (s : Shape) (more : Bool) (mention : Option (Bool × Shape)) (kept : FieldShapes) → depth s ≤ k → MentionWithin k mention → depth_of_fields kept ≤ k → depth_of_fields (keep_joined joined n needed s more mention kept) ≤ k
   keep-low k n needed s more None kept h i j = unless-low k more n false s kept h j
@@ -108,27 +97,18 @@ module _ (joined : Shape → Shape → Shape) (low : Shallow joined) where
   fields-low k NoFieldShapes others more h i = omega arith
   fields-low k (AndFieldShape n needed s shapes) others more h i = keep-low k n needed s more (mention_of n others) (joined_fields joined shapes others more) (omega arith) (mention-low k n others i) (fields-low k shapes others more (omega arith) i)
 
-  object-low : (k : ℕ) (shapes : FieldShapes) (extra : Bool) (b : Shape) → depth_of_fields shapes ≤ k → depth b ≤ suc k → depth (join_object joined shapes extra b) ≤ suc k
-  object-low k shapes extra Any h i = omega arith
-  object-low k shapes extra Never h i = omega arith
-  object-low k shapes extra NullShape h i = omega arith
-  object-low k shapes extra BooleanShape h i = omega arith
-  object-low k shapes extra IntegerShape h i = omega arith
-  object-low k shapes extra StringShape h i = omega arith
-  object-low k shapes extra (ArrayShape first rest) h i = omega arith
-  object-low k shapes extra (ObjectShape others more) h i =
-      let all : depth_of_fields (with_other_fields shapes extra others (joined_fields joined shapes others more)) ≤ k = others-low k shapes extra others (joined_fields joined shapes others more) (omega arith) (fields-low k shapes others more h (omega arith)) in
-      omega arith
+  objects-low : (k : ℕ) (a b : Objects) → depth_of_objects a ≤ k → depth_of_objects b ≤ k → depth_of_objects (join_objects joined a b) ≤ k
+  objects-low k WithoutObjects b h i = i
+  objects-low k (ObjectsOf shapes extra) WithoutObjects h i = h
+  objects-low k (ObjectsOf shapes extra) (ObjectsOf others more) h i = others-low k shapes extra others (joined_fields joined shapes others more) i (fields-low k shapes others more h i)
 
   kinds-low : (k : ℕ) (a b : Shape) → depth a ≤ suc k → depth b ≤ suc k → depth (join_kinds joined a b) ≤ suc k
   kinds-low k Any b h i = omega arith
-  kinds-low k Never b h i = omega arith
-  kinds-low k NullShape b h i = simple-low (suc k) (is_null_shape b) NullShape (omega arith) h
-  kinds-low k BooleanShape b h i = simple-low (suc k) (is_boolean_shape b) BooleanShape (omega arith) h
-  kinds-low k IntegerShape b h i = simple-low (suc k) (is_integer_shape b) IntegerShape (omega arith) h
-  kinds-low k StringShape b h i = simple-low (suc k) (is_string_shape b) StringShape (omega arith) h
-  kinds-low k (ArrayShape first rest) b h i = array-low k first rest b (omega arith) (omega arith) i
-  kinds-low k (ObjectShape shapes extra) b h i = object-low k shapes extra b (omega arith) i
+  kinds-low k (OfKinds some others more) Any h i = omega arith
+  kinds-low k (OfKinds some others more) (OfKinds simple arrays objects) h i =
+      let front : depth_of_arrays (join_arrays joined others arrays) ≤ k = arrays-low k others arrays (omega arith) (omega arith) in
+      let behind : depth_of_objects (join_objects joined more objects) ≤ k = objects-low k more objects (omega arith) (omega arith) in
+      or_any-low (suc k) (same_kinds some others more simple arrays objects) (OfKinds (either some simple) (join_arrays joined others arrays) (join_objects joined more objects)) (omega arith) (omega arith)
 
 either-low : (k : ℕ) (live other : Bool) (s a b : Shape) → depth s ≤ k → depth a ≤ k → depth b ≤ k → depth (if live then if other then s else a else b) ≤ k
 either-low k true true s a b h i j = h
@@ -176,17 +156,10 @@ module _ (f g : Shape → Shape → Shape) (k : ℕ) (low : Shallow f) (agree : 
       agree.same (f (joined_with_each f Never further) rest) last (low.keeps k (joined_with_each f Never further) rest inner i) j
       ∙ ap (λ x. g x last) (agree.same (joined_with_each f Never further) rest inner i ∙ ap (λ x. g x rest) (each-same Never further one h))
 
-  array-same : (first : Shapes) (rest b : Shape) → depth_of_elements first ≤ k → depth rest ≤ k → depth b ≤ suc k → join_array f first rest b ≡ join_array g first rest b
-  array-same first rest Any h i j = refl
-  array-same first rest Never h i j = refl
-  array-same first rest NullShape h i j = refl
-  array-same first rest BooleanShape h i j = refl
-  array-same first rest IntegerShape h i j = refl
-  array-same first rest StringShape h i j = refl
-  array-same first rest (ArrayShape others last) h i j =
-      let fits : depth_of_elements others ≤ k = omega arith in
-      rw (common-same first others h fits, rest-same (further_places first others) rest last (further-low k first others h fits) i (omega arith)) refl
-  array-same first rest (ObjectShape shapes extra) h i j = refl
+  arrays-same : (a b : Arrays) → depth_of_arrays a ≤ k → depth_of_arrays b ≤ k → join_arrays f a b ≡ join_arrays g a b
+  arrays-same WithoutArrays b h i = refl
+  arrays-same (ArraysOf first rest) WithoutArrays h i = refl
+  arrays-same (ArraysOf first rest) (ArraysOf others last) h i = rw (common-same first others (omega arith) (omega arith), rest-same (further_places first others) rest last (further-low k first others (omega arith) (omega arith)) (omega arith) (omega arith)) refl
 
   keep-same : (n : List ℕ) (needed : Bool) (s : Shape) (more : Bool) (mention : Option (Bool × Shape)) (kept : FieldShapes) → depth s ≤ k → MentionWithin k mention → keep_joined f n needed s more mention kept ≡ keep_joined g n needed s more mention kept
   keep-same n needed s more None kept h i = refl
@@ -198,25 +171,18 @@ module _ (f g : Shape → Shape → Shape) (k : ℕ) (low : Shallow f) (agree : 
       keep-same n needed s more (mention_of n others) (joined_fields f shapes others more) (omega arith) (mention-low k n others i)
       ∙ ap (keep_joined g n needed s more (mention_of n others)) (fields-same shapes others more (omega arith) i)
 
-  object-same : (shapes : FieldShapes) (extra : Bool) (b : Shape) → depth_of_fields shapes ≤ k → depth b ≤ suc k → join_object f shapes extra b ≡ join_object g shapes extra b
-  object-same shapes extra Any h i = refl
-  object-same shapes extra Never h i = refl
-  object-same shapes extra NullShape h i = refl
-  object-same shapes extra BooleanShape h i = refl
-  object-same shapes extra IntegerShape h i = refl
-  object-same shapes extra StringShape h i = refl
-  object-same shapes extra (ArrayShape first rest) h i = refl
-  object-same shapes extra (ObjectShape others more) h i = ap (λ kept. ObjectShape (with_other_fields shapes extra others kept) (extra || more)) (fields-same shapes others more h (omega arith))
+  objects-same : (a b : Objects) → depth_of_objects a ≤ k → depth_of_objects b ≤ k → join_objects f a b ≡ join_objects g a b
+  objects-same WithoutObjects b h i = refl
+  objects-same (ObjectsOf shapes extra) WithoutObjects h i = refl
+  objects-same (ObjectsOf shapes extra) (ObjectsOf others more) h i = ap (λ kept. ObjectsOf (with_other_fields shapes extra others kept) (extra || more)) (fields-same shapes others more h i)
 
   kinds-same : (a b : Shape) → depth a ≤ suc k → depth b ≤ suc k → join_kinds f a b ≡ join_kinds g a b
   kinds-same Any b h i = refl
-  kinds-same Never b h i = refl
-  kinds-same NullShape b h i = refl
-  kinds-same BooleanShape b h i = refl
-  kinds-same IntegerShape b h i = refl
-  kinds-same StringShape b h i = refl
-  kinds-same (ArrayShape first rest) b h i = array-same first rest b (omega arith) (omega arith) i
-  kinds-same (ObjectShape shapes extra) b h i = object-same shapes extra b (omega arith) i
+  kinds-same (OfKinds some others more) Any h i = refl
+  kinds-same (OfKinds some others more) (OfKinds simple arrays objects) h i =
+      let same_arrays : join_arrays f others arrays ≡ join_arrays g others arrays = arrays-same others arrays (omega arith) (omega arith) in
+      let same_objects : join_objects f more objects ≡ join_objects g more objects = objects-same more objects (omega arith) (omega arith) in
+      rw (same_arrays, same_objects) refl
 
 -- the depth for which a join is made doesn't matter, where neither shape is deeper
 pub within-same : (n m : ℕ) (a b : Shape) → depth a ≤ n → depth b ≤ n → depth a ≤ m → depth b ≤ m → join_within n a b ≡ join_within m a b

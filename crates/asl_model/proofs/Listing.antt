@@ -1,15 +1,16 @@
 -- The list of a certificate's shapes: what stands in it, and how what is written for it is spelled out.
-use Rattle.std.proofs.Common.{◌≡◌, ℕ, zero, suc, List, [], ◌∷◌, ◌++◌, map, slice_get, Bool, true, false, ◌||◌, not, is_some, Option, Some, None, option_map, unwrap_or, IfSome, if◌then◌else◌, refl, sym, ap, ap₂, subst, ◌∙◌, append_assoc, append-nil}
+use Rattle.std.proofs.Common.{◌≡◌, ℕ, zero, suc, pos, IsTrue, bytes_eq, codes, List, [], ◌∷◌, ◌++◌, map, slice_get, Bool, true, false, ◌||◌, not, is_some, Option, Some, None, option_map, unwrap_or, IfSome, if◌then◌else◌, refl, sym, ap, ap₂, subst, ◌∙◌, append_assoc, append-nil, arith}
+use Rattle.std.proofs.lemmas.Bool.{false≢true}
 use Rattle.std.specs.List.{AllByRecursion}
-use Rattle.asl_model.specs.Tree.{Tree, Boolean, Array, Object, Trees, AndTree, Fields, AndField}
-use Rattle.asl_model.specs.Shape.{Shape, Any, Never, NullShape, BooleanShape, IntegerShape, StringShape, ArrayShape, ObjectShape, Shapes, NoShapes, AndShape, FieldShapes, NoFieldShapes, AndFieldShape, IsProperShape, AreProperShapes, AreProperFields}
+use Rattle.asl_model.specs.Tree.{Tree, Boolean, Integer, Array, Object, AndTree, Fields, NoFields, AndField}
+use Rattle.asl_model.specs.Shape.{Shape, Any, OfKinds, Arrays, WithoutArrays, ArraysOf, Objects, WithoutObjects, ObjectsOf, Shapes, NoShapes, AndShape, FieldShapes, NoFieldShapes, AndFieldShape, type_names, IsProperShape, AreProperArrays, AreProperObjects, AreProperShapes, AreProperFields}
 use Rattle.asl_model.specs.ShapeOrder.{is_any_shape}
 use Rattle.asl_model.specs.ShapeFlow.{how_many_shapes}
 use Rattle.asl_model.specs.Certificate.{StateShapes, Certificate}
 use Rattle.asl_model.specs.RecordShapes.{HoldsForState, HoldsForCertificate}
-use Rattle.asl_model.specs.References.{spelled_out, each_spelled_out, values_spelled_out, has_wrong_number, one_has_wrong_number, a_field_has_wrong_number}
-use Rattle.asl_model.specs.Written.{some_shapes, some_fields, needed_names, some_names, as_texts, array_fields, object_fields, written_shape, written_shapes, written_fields}
-use Rattle.asl_model.specs.WrittenNumbered.{same_shape, place_of, with_last, list_after, list_after_places, list_after_fields, list_after_all, list_after_item, list_after_state, list_after_states, shapes_listed, reference, referring, places_referring, fields_referring, written_over}
+use Rattle.asl_model.specs.References.{reference_among, held_under, NoShape, spelled_out, keywords_spelled_out, number_wrong_under, each_spelled_out, values_spelled_out, has_wrong_number, one_has_wrong_number, a_field_has_wrong_number}
+use Rattle.asl_model.specs.Written.{field_if, some_shapes, some_fields, needed_names, some_names, as_texts, type_written, type_field, are_closed, written_kinds, written_shape, with_written_arrays, with_written_objects, written_shapes, written_fields}
+use Rattle.asl_model.specs.WrittenNumbered.{same_shape, place_of, with_last, is_listed, with_last_if_listed, list_after, list_after_arrays, list_after_objects, list_after_places, list_after_fields, list_after_all, list_after_item, list_after_state, list_after_states, shapes_listed, reference, referring, places_referring, fields_referring, with_arrays_over, with_objects_over, written_over}
 use Rattle.asl_model.proofs.SameShapes.{same_are, same_itself}
 
 -- ---- places
@@ -48,16 +49,9 @@ placed_last s (t ∷ listed) = go (same_shape s t) (placed_last s listed)
 
 -- ---- what is there
 
--- the shape has no parts, or stands in the list
+-- the shape stands in the list where it is to be listed
 abbrev pub IsThere : List Shape → Shape → Type 0
-IsThere listed Any = Unit {0}
-IsThere listed Never = Unit {0}
-IsThere listed NullShape = Unit {0}
-IsThere listed BooleanShape = Unit {0}
-IsThere listed IntegerShape = Unit {0}
-IsThere listed StringShape = Unit {0}
-IsThere listed (ArrayShape first rest) = IsListed listed (ArrayShape first rest)
-IsThere listed (ObjectShape fields extra) = IsListed listed (ObjectShape fields extra)
+IsThere listed s = IsTrue (is_listed s) → IsListed listed s
 
 -- so for shapes of first elements, and for those of fields
 abbrev pub PlacesAreThere : List Shape → Shapes → Type 0
@@ -68,26 +62,26 @@ abbrev pub FieldsAreThere : List Shape → FieldShapes → Type 0
 FieldsAreThere listed NoFieldShapes = Unit {0}
 FieldsAreThere listed (AndFieldShape n needed s fields) = IsThere listed s × FieldsAreThere listed fields
 
--- the shape has parts, and they are there
+-- for the parts of arrays, and for those of objects
+abbrev pub ArraysAreThere : List Shape → Arrays → Type 0
+ArraysAreThere listed WithoutArrays = Unit {0}
+ArraysAreThere listed (ArraysOf first rest) = PlacesAreThere listed first × IsThere listed rest
+
+abbrev pub ObjectsAreThere : List Shape → Objects → Type 0
+ObjectsAreThere listed WithoutObjects = Unit {0}
+ObjectsAreThere listed (ObjectsOf fields extra) = FieldsAreThere listed fields
+
+-- for those of a shape
+abbrev pub KindsAreThere : List Shape → Shape → Type 0
+KindsAreThere listed Any = Unit {0}
+KindsAreThere listed (OfKinds simple arrays objects) = ArraysAreThere listed arrays × ObjectsAreThere listed objects
+
+-- the shape is to be listed, and its parts are there
 abbrev pub PartsAreThere : List Shape → Shape → Type 0
-PartsAreThere listed Any = ⊥
-PartsAreThere listed Never = ⊥
-PartsAreThere listed NullShape = ⊥
-PartsAreThere listed BooleanShape = ⊥
-PartsAreThere listed IntegerShape = ⊥
-PartsAreThere listed StringShape = ⊥
-PartsAreThere listed (ArrayShape first rest) = PlacesAreThere listed first × IsThere listed rest
-PartsAreThere listed (ObjectShape fields extra) = FieldsAreThere listed fields
+PartsAreThere listed s = IsTrue (is_listed s) × KindsAreThere listed s
 
 pub there_more : (s : Shape) (listed more : List Shape) → IsThere listed s → IsThere (listed ++ more) s
-there_more Any listed more h = tt
-there_more Never listed more h = tt
-there_more NullShape listed more h = tt
-there_more BooleanShape listed more h = tt
-there_more IntegerShape listed more h = tt
-there_more StringShape listed more h = tt
-there_more (ArrayShape first rest) listed more h = (h.0, placed_more (ArrayShape first rest) listed more h.0 h.1)
-there_more (ObjectShape fields extra) listed more h = (h.0, placed_more (ObjectShape fields extra) listed more h.0 h.1)
+there_more s listed more h is = ((h is).0, placed_more s listed more (h is).0 (h is).1)
 
 pub places_more : (first : Shapes) (listed more : List Shape) → PlacesAreThere listed first → PlacesAreThere (listed ++ more) first
 places_more NoShapes listed more h = tt
@@ -96,6 +90,18 @@ places_more (AndShape s first) listed more h = (there_more s listed more h.0, pl
 pub fields_more : (fields : FieldShapes) (listed more : List Shape) → FieldsAreThere listed fields → FieldsAreThere (listed ++ more) fields
 fields_more NoFieldShapes listed more h = tt
 fields_more (AndFieldShape n needed s fields) listed more h = (there_more s listed more h.0, fields_more fields listed more h.1)
+
+arrays_more : (arrays : Arrays) (listed more : List Shape) → ArraysAreThere listed arrays → ArraysAreThere (listed ++ more) arrays
+arrays_more WithoutArrays listed more h = tt
+arrays_more (ArraysOf first rest) listed more h = (places_more first listed more h.0, there_more rest listed more h.1)
+
+objects_more : (objects : Objects) (listed more : List Shape) → ObjectsAreThere listed objects → ObjectsAreThere (listed ++ more) objects
+objects_more WithoutObjects listed more h = tt
+objects_more (ObjectsOf fields extra) listed more h = fields_more fields listed more h
+
+pub parts_more : (s : Shape) (listed more : List Shape) → PartsAreThere listed s → PartsAreThere (listed ++ more) s
+parts_more Any listed more h = h
+parts_more (OfKinds simple arrays objects) listed more h = (h.0, (arrays_more arrays listed more h.1.0, objects_more objects listed more h.1.1))
 
 -- Behind those shapes, each of the others has parts, which are there by then, and is proper.
 abbrev pub AreBehind : List Shape → List Shape → Type 0
@@ -128,32 +134,45 @@ goes_last listed s behind parts proper = go (place_of s listed) refl
     go (Some i) is = (goes_none listed behind, (i, is))
     go None is = (record { more = s ∷ []; whole = refl; behind = behind_last [] listed s behind parts proper }, placed_last s listed)
 
+goes_last_if_listed : (listed : List Shape) (s : Shape) → AreBehind [] listed → KindsAreThere listed s → IsProperShape s → Goes listed (with_last_if_listed s listed) × IsThere (with_last_if_listed s listed) s
+goes_last_if_listed listed s behind parts proper = go (is_listed s) refl
+  where
+    go : (b : Bool) → is_listed s ≡ b → Goes listed (if b then with_last s listed else listed) × (IsTrue (is_listed s) → IsListed (if b then with_last s listed else listed) s)
+    go true is = let l = goes_last listed s behind (is, parts) proper in (l.0, λ h. l.1)
+    go false is = (goes_none listed behind, λ h. absurd (cc))
+
 there_later : (s : Shape) (a b : List Shape) → Goes a b → IsThere a s → IsThere b s
 there_later s a b g h = subst (λ l. IsThere l s) (sym g.whole) (there_more s a g.more h)
 
 pub places_later : (first : Shapes) (a b : List Shape) → Goes a b → PlacesAreThere a first → PlacesAreThere b first
 places_later first a b g h = subst (λ l. PlacesAreThere l first) (sym g.whole) (places_more first a g.more h)
 
+arrays_later : (arrays : Arrays) (a b : List Shape) → Goes a b → ArraysAreThere a arrays → ArraysAreThere b arrays
+arrays_later arrays a b g h = subst (λ l. ArraysAreThere l arrays) (sym g.whole) (arrays_more arrays a g.more h)
+
 mutual
   pub walked : (listed : List Shape) (s : Shape) → AreBehind [] listed → IsProperShape s → Goes listed (list_after listed s) × IsThere (list_after listed s) s
-  walked listed Any h p = (goes_none listed h, tt)
-  walked listed Never h p = (goes_none listed h, tt)
-  walked listed NullShape h p = (goes_none listed h, tt)
-  walked listed BooleanShape h p = (goes_none listed h, tt)
-  walked listed IntegerShape h p = (goes_none listed h, tt)
-  walked listed StringShape h p = (goes_none listed h, tt)
-  walked listed (ArrayShape first rest) h p =
+  walked listed Any h p = (goes_none listed h, λ is. absurd (false≢true is))
+  walked listed (OfKinds simple arrays objects) h p =
+      let one = list_after_arrays listed arrays in
+      let two = list_after_objects one objects in
+      let a = walked_arrays listed arrays h p.1 in
+      let o = walked_objects one objects a.0.behind p.2 in
+      let l = goes_last_if_listed two (OfKinds simple arrays objects) o.0.behind (arrays_later arrays one two o.0 a.1, o.1) p in
+      (goes_then listed two _ (goes_then listed one two a.0 o.0) l.0, l.1)
+
+  walked_arrays : (listed : List Shape) (arrays : Arrays) → AreBehind [] listed → AreProperArrays arrays → Goes listed (list_after_arrays listed arrays) × ArraysAreThere (list_after_arrays listed arrays) arrays
+  walked_arrays listed WithoutArrays h p = (goes_none listed h, tt)
+  walked_arrays listed (ArraysOf first rest) h p =
       let one = list_after_places listed first in
       let two = list_after one rest in
       let f = walked_places listed first h p.0 in
       let r = walked one rest f.0.behind p.1 in
-      let l = goes_last two (ArrayShape first rest) r.0.behind (places_later first one two r.0 f.1, r.1) p in
-      (goes_then listed two (with_last (ArrayShape first rest) two) (goes_then listed one two f.0 r.0) l.0, l.1)
-  walked listed (ObjectShape fields extra) h p =
-      let one = list_after_fields listed fields in
-      let f = walked_fields listed fields h p in
-      let l = goes_last one (ObjectShape fields extra) f.0.behind f.1 p in
-      (goes_then listed one (with_last (ObjectShape fields extra) one) f.0 l.0, l.1)
+      (goes_then listed one two f.0 r.0, (places_later first one two r.0 f.1, r.1))
+
+  walked_objects : (listed : List Shape) (objects : Objects) → AreBehind [] listed → AreProperObjects objects → Goes listed (list_after_objects listed objects) × ObjectsAreThere (list_after_objects listed objects) objects
+  walked_objects listed WithoutObjects h p = (goes_none listed h, tt)
+  walked_objects listed (ObjectsOf fields extra) h p = walked_fields listed fields h p
 
   pub walked_places : (listed : List Shape) (first : Shapes) → AreBehind [] listed → AreProperShapes first → Goes listed (list_after_places listed first) × PlacesAreThere (list_after_places listed first) first
   walked_places listed NoShapes h p = (goes_none listed h, tt)
@@ -267,26 +286,59 @@ reference_out listed s i is =
     let found = element_written listed i s (placed s listed i is) in
     record { same = ap (λ o. unwrap_or o (Boolean true)) found; right = ap (λ o. not (is_some o) || false) found }
 
-listed_out : (listed : List Shape) (s : Shape) → IsListed listed s → IsOut (written_all listed) (referring listed s) (written_shape s)
-listed_out listed s h = subst (λ o. IsOut (written_all listed) (unwrap_or (option_map reference o) (written_shape s)) (written_shape s)) (sym h.1) (reference_out listed s h.0 h.1)
+-- the keywords are spelled out as these, and are no reference
+record AreOut (listed : List Tree) (fs whole : Fields) : Type 0 where
+  alone : reference_among fs ≡ None
+  same : keywords_spelled_out listed fs ≡ whole
+  items : number_wrong_under listed (codes "items") fs ≡ false
+  first : number_wrong_under listed (codes "prefixItems") fs ≡ false
+  properties : number_wrong_under listed (codes "properties") fs ≡ false
 
--- a shape without parts, written out or not
-plain_out : (listed : List Shape) (s : Shape) → IsOut (written_all listed) (written_shape s) (written_shape s) → IsOut (written_all listed) (referring listed s) (written_shape s)
-plain_out listed s out = go (place_of s listed) refl
-  where
-    go : (o : Option ℕ) → place_of s listed ≡ o → IsOut (written_all listed) (unwrap_or (option_map reference o) (written_shape s)) (written_shape s)
-    go None is = out
-    go (Some i) is = reference_out listed s i is
+-- a keyword that holds no shape
+other_out : (listed : List Tree) (n : List ℕ) (t : Tree) → bytes_eq n (codes "shape") ≡ false → held_under n ≡ NoShape → AreOut listed (AndField n t NoFields) (AndField n t NoFields)
+other_out listed n t e h = record { alone = rw e refl; same = rw h refl; items = grind arith; first = grind arith; properties = grind arith }
+
+alone_in_front : (n : List ℕ) (t : Tree) (fs : Fields) → reference_among (AndField n t NoFields) ≡ None → reference_among (AndField n t fs) ≡ None
+alone_in_front n t NoFields h = h
+alone_in_front n t (AndField m u fs) h = refl
+
+right_in_front : (b wrong further : Bool) → (elim b [ true ↦ wrong | false ↦ false ]) ≡ false → further ≡ false → (elim b [ true ↦ wrong | false ↦ further ]) ≡ false
+right_in_front b wrong further h k = grind arith
+
+-- one more keyword in front
+front_out : (listed : List Tree) (wanted : Bool) (n : List ℕ) (t u : Tree) (fs gs : Fields) → AreOut listed (AndField n t NoFields) (AndField n u NoFields) → AreOut listed fs gs → AreOut listed (field_if wanted n t fs) (field_if wanted n u gs)
+front_out listed false n t u fs gs own further = further
+front_out listed true n t u fs gs own further = let e = own.same in let g = further.same in record {
+  alone = alone_in_front n t fs own.alone;
+  same = cc;
+  items = right_in_front (bytes_eq n (codes "items")) _ _ own.items further.items;
+  first = right_in_front (bytes_eq n (codes "prefixItems")) _ _ own.first further.first;
+  properties = right_in_front (bytes_eq n (codes "properties")) _ _ own.properties further.properties;
+}
+
+type_out : (listed : List Tree) (names : List (List ℕ)) → AreOut listed (type_field names) (type_field names)
+type_out listed names = other_out listed (codes "type") (type_written names) refl refl
+
+kinds_out : (listed : List Tree) (closed : Bool) (names : List (List ℕ)) (fs gs : Fields) → AreOut listed fs gs → IsOut listed (written_kinds closed names fs) (written_kinds closed names gs)
+kinds_out listed closed [] fs gs h = record { same = refl; right = refl }
+kinds_out listed closed (n ∷ names) fs gs h =
+    let out = front_out listed closed (codes "additionalProperties") (Boolean false) (Boolean false) fs gs (other_out listed (codes "additionalProperties") (Boolean false) refl refl) h in
+    record { same = rw (out.alone, out.same) refl; right = rw (out.alone, out.items, out.first, out.properties) refl }
+
+-- a shape that isn't listed is written without references
+plain_out : (listed : List Tree) (s : Shape) → is_listed s ≡ false → IsOut listed (written_shape s) (written_shape s)
+plain_out listed Any e = record { same = refl; right = refl }
+plain_out listed (OfKinds simple WithoutArrays WithoutObjects) e = kinds_out listed false (type_names simple WithoutArrays WithoutObjects) _ _ (type_out listed (type_names simple WithoutArrays WithoutObjects))
+plain_out listed (OfKinds simple (ArraysOf first rest) objects) e = absurd (cc)
+plain_out listed (OfKinds simple WithoutArrays (ObjectsOf fields extra)) e = absurd (cc)
 
 pub referring_out : (listed : List Shape) (s : Shape) → IsThere listed s → IsOut (written_all listed) (referring listed s) (written_shape s)
-referring_out listed Any h = plain_out listed Any (record { same = refl; right = refl })
-referring_out listed Never h = plain_out listed Never (record { same = refl; right = refl })
-referring_out listed NullShape h = plain_out listed NullShape (record { same = refl; right = refl })
-referring_out listed BooleanShape h = plain_out listed BooleanShape (record { same = refl; right = refl })
-referring_out listed IntegerShape h = plain_out listed IntegerShape (record { same = refl; right = refl })
-referring_out listed StringShape h = plain_out listed StringShape (record { same = refl; right = refl })
-referring_out listed (ArrayShape first rest) h = listed_out listed (ArrayShape first rest) h
-referring_out listed (ObjectShape fields extra) h = listed_out listed (ObjectShape fields extra) h
+referring_out listed s h = go (place_of s listed) refl (is_listed s) refl
+  where
+    go : (o : Option ℕ) → place_of s listed ≡ o → (b : Bool) → is_listed s ≡ b → IsOut (written_all listed) (unwrap_or (option_map reference o) (written_shape s)) (written_shape s)
+    go None at true is = let found = (h is).1 in absurd (cc)
+    go None at false is = plain_out (written_all listed) s is
+    go (Some i) at b is = reference_out listed s i at
 
 places_out : (listed : List Shape) (first : Shapes) → PlacesAreThere listed first → (each_spelled_out (written_all listed) (places_referring listed first) ≡ written_shapes first) × (one_has_wrong_number (written_all listed) (places_referring listed first) ≡ false)
 places_out listed NoShapes h = (refl, refl)
@@ -302,109 +354,44 @@ fields_out listed (AndFieldShape n needed s fields) h =
     let further = fields_out listed fields h.1 in
     (ap₂ (AndField n) own.same further.0, ap₂ (λ a b. a || b) own.right further.1)
 
-array_same : (listed : List Tree) (a b : Bool) (items : Tree) (n : ℕ) (first : Trees) → spelled_out listed (Object (array_fields a b items n (Array first))) ≡ Object (array_fields a b (spelled_out listed items) n (Array (each_spelled_out listed first)))
-array_same listed true true items n first = refl
-array_same listed true false items n first = refl
-array_same listed false true items n first = refl
-array_same listed false false items n first = refl
+arrays_out : (listed : List Shape) (arrays : Arrays) (fs gs : Fields) → ArraysAreThere listed arrays → AreOut (written_all listed) fs gs → AreOut (written_all listed) (with_arrays_over listed arrays fs) (with_written_arrays arrays gs)
+arrays_out listed WithoutArrays fs gs h out = out
+arrays_out listed (ArraysOf first rest) fs gs h out =
+    let p = places_out listed first h.0 in
+    let r = referring_out listed rest h.1 in
+    let b = some_shapes first in
+    let number = Integer (pos (how_many_shapes first)) in
+    front_out (written_all listed) (not (is_any_shape rest)) (codes "items") (referring listed rest) (written_shape rest) _ _ (record { alone = refl; same = rw r.same refl; items = r.right; first = refl; properties = refl })
+    (front_out (written_all listed) b (codes "minItems") number number _ _ (other_out (written_all listed) (codes "minItems") number refl refl)
+    (front_out (written_all listed) b (codes "prefixItems") (Array (places_referring listed first)) (Array (written_shapes first)) fs gs (record { alone = refl; same = rw p.0 refl; items = refl; first = p.1; properties = refl }) out))
 
-or_none : (a b : Bool) → a ≡ false → b ≡ false → (a || b) ≡ false
-or_none a b h k = rw (h, k) refl
-
-array_right : (listed : List Tree) (a b : Bool) (items : Tree) (n : ℕ) (first : Trees) → has_wrong_number listed items ≡ false → one_has_wrong_number listed first ≡ false → has_wrong_number listed (Object (array_fields a b items n (Array first))) ≡ false
-array_right listed true true items n first h k = or_none (has_wrong_number listed items) (one_has_wrong_number listed first || false) h (or_none (one_has_wrong_number listed first) false k refl)
-array_right listed true false items n first h k = or_none (has_wrong_number listed items) false h refl
-array_right listed false true items n first h k = or_none (one_has_wrong_number listed first) false k refl
-array_right listed false false items n first h k = refl
-
-object_same : (listed : List Tree) (a b c : Bool) (properties : Fields) (names : Trees) → spelled_out listed (Object (object_fields a b c (Object properties) names)) ≡ Object (object_fields a b c (Object (values_spelled_out listed properties)) names)
-object_same listed true true true properties names = refl
-object_same listed true true false properties names = refl
-object_same listed true false true properties names = refl
-object_same listed true false false properties names = refl
-object_same listed false true true properties names = refl
-object_same listed false true false properties names = refl
-object_same listed false false true properties names = refl
-object_same listed false false false properties names = refl
-
-object_right : (listed : List Tree) (a b c : Bool) (properties : Fields) (names : Trees) → a_field_has_wrong_number listed properties ≡ false → has_wrong_number listed (Object (object_fields a b c (Object properties) names)) ≡ false
-object_right listed true true true properties names h = h
-object_right listed true true false properties names h = h
-object_right listed true false true properties names h = refl
-object_right listed true false false properties names h = refl
-object_right listed false true true properties names h = h
-object_right listed false true false properties names h = h
-object_right listed false false true properties names h = refl
-object_right listed false false false properties names h = refl
+objects_out : (listed : List Shape) (objects : Objects) (fs gs : Fields) → ObjectsAreThere listed objects → AreOut (written_all listed) fs gs → AreOut (written_all listed) (with_objects_over listed objects fs) (with_written_objects objects gs)
+objects_out listed WithoutObjects fs gs h out = out
+objects_out listed (ObjectsOf fields extra) fs gs h out =
+    let p = fields_out listed fields h in
+    let names = Array (as_texts (needed_names fields)) in
+    front_out (written_all listed) (some_fields fields) (codes "properties") (Object (fields_referring listed fields)) (Object (written_fields fields)) _ _ (record { alone = refl; same = rw p.0 refl; items = refl; first = refl; properties = p.1 })
+    (front_out (written_all listed) (some_names (needed_names fields)) (codes "required") names names fs gs (other_out (written_all listed) (codes "required") names refl refl) out)
 
 -- a shape whose parts are there, written over them
 pub over_out : (listed : List Shape) (s : Shape) → PartsAreThere listed s → IsOut (written_all listed) (written_over listed s) (written_shape s)
-over_out listed Any h = elim h [ ]
-over_out listed Never h = elim h [ ]
-over_out listed NullShape h = elim h [ ]
-over_out listed BooleanShape h = elim h [ ]
-over_out listed IntegerShape h = elim h [ ]
-over_out listed StringShape h = elim h [ ]
-over_out listed (ArrayShape first rest) h =
-    let p = places_out listed first h.0 in
-    let r = referring_out listed rest h.1 in
-    let a = not (is_any_shape rest) in
-    let b = some_shapes first in
-    let n = how_many_shapes first in
-    record {
-      same = array_same (written_all listed) a b (referring listed rest) n (places_referring listed first) ∙ (ap (λ t. Object (array_fields a b t n (Array (each_spelled_out (written_all listed) (places_referring listed first))))) r.same ∙ ap (λ ts. Object (array_fields a b (written_shape rest) n (Array ts))) p.0);
-      right = array_right (written_all listed) a b (referring listed rest) n (places_referring listed first) r.right p.1;
-    }
-over_out listed (ObjectShape fields extra) h =
-    let p = fields_out listed fields h in
-    let b = some_fields fields in
-    let c = some_names (needed_names fields) in
-    let names = as_texts (needed_names fields) in
-    record {
-      same = object_same (written_all listed) extra b c (fields_referring listed fields) names ∙ ap (λ fs. Object (object_fields extra b c (Object fs) names)) p.0;
-      right = object_right (written_all listed) extra b c (fields_referring listed fields) names p.1;
-    }
+over_out listed Any h = record { same = refl; right = refl }
+over_out listed (OfKinds simple arrays objects) h =
+    let names = type_names simple arrays objects in
+    kinds_out (written_all listed) (are_closed objects) names _ _ (arrays_out listed arrays _ _ h.1.0 (objects_out listed objects _ _ h.1.1 (type_out (written_all listed) names)))
 
 -- ---- behind the shapes so far
 
--- the shape has no parts
-abbrev IsPlain : Shape → Type 0
-IsPlain Any = Unit {0}
-IsPlain Never = Unit {0}
-IsPlain NullShape = Unit {0}
-IsPlain BooleanShape = Unit {0}
-IsPlain IntegerShape = Unit {0}
-IsPlain StringShape = Unit {0}
-IsPlain (ArrayShape first rest) = ⊥
-IsPlain (ObjectShape fields extra) = ⊥
+differs : (done : List Shape) (s t : Shape) → is_listed s ≡ false → PartsAreThere done t → same_shape s t ≡ false
+differs done s t plain h = go (same_shape s t) refl
+  where
+    go : (b : Bool) → same_shape s t ≡ b → same_shape s t ≡ false
+    go true e = let same = same_are s t e in let is = h.0 in absurd (cc)
+    go false e = e
 
-differs : (done : List Shape) (s t : Shape) → IsPlain s → PartsAreThere done t → same_shape s t ≡ false
-differs done s Any p h = elim h [ ]
-differs done s Never p h = elim h [ ]
-differs done s NullShape p h = elim h [ ]
-differs done s BooleanShape p h = elim h [ ]
-differs done s IntegerShape p h = elim h [ ]
-differs done s StringShape p h = elim h [ ]
-differs done Any (ArrayShape first rest) p h = refl
-differs done Never (ArrayShape first rest) p h = refl
-differs done NullShape (ArrayShape first rest) p h = refl
-differs done BooleanShape (ArrayShape first rest) p h = refl
-differs done IntegerShape (ArrayShape first rest) p h = refl
-differs done StringShape (ArrayShape first rest) p h = refl
-differs done (ArrayShape places further) (ArrayShape first rest) p h = elim p [ ]
-differs done (ObjectShape others more) (ArrayShape first rest) p h = elim p [ ]
-differs done Any (ObjectShape fields extra) p h = refl
-differs done Never (ObjectShape fields extra) p h = refl
-differs done NullShape (ObjectShape fields extra) p h = refl
-differs done BooleanShape (ObjectShape fields extra) p h = refl
-differs done IntegerShape (ObjectShape fields extra) p h = refl
-differs done StringShape (ObjectShape fields extra) p h = refl
-differs done (ArrayShape places further) (ObjectShape fields extra) p h = elim p [ ]
-differs done (ObjectShape others more) (ObjectShape fields extra) p h = elim p [ ]
-
-unlisted : (done left : List Shape) (s : Shape) → IsPlain s → AreBehind done left → place_of s left ≡ None
-unlisted done [] s p h = refl
-unlisted done (t ∷ left) s p h = rw (differs done s t p h.0, unlisted (done ++ t ∷ []) left s p h.2) refl
+unlisted : (done left : List Shape) (s : Shape) → is_listed s ≡ false → AreBehind done left → place_of s left ≡ None
+unlisted done [] s plain h = refl
+unlisted done (t ∷ left) s plain h = rw (differs done s t plain h.0, unlisted (done ++ t ∷ []) left s plain h.2) refl
 
 front_behind : (done listed more : List Shape) → AreBehind done (listed ++ more) → AreBehind done listed
 front_behind done [] more h = tt
@@ -412,21 +399,12 @@ front_behind done (t ∷ listed) more h = (h.0, h.1, front_behind (done ++ t ∷
 
 -- what is written with the shapes so far stays so with more
 module _ (listed more : List Shape) (behind : AreBehind [] (listed ++ more)) where
-  plain_same : (s : Shape) → IsPlain s → referring (listed ++ more) s ≡ referring listed s
-  plain_same s p = ap (λ o. unwrap_or (option_map reference o) (written_shape s)) (unlisted [] (listed ++ more) s p behind ∙ sym (unlisted [] listed s p (front_behind [] listed more behind)))
-
-  listed_same : (s : Shape) → IsListed listed s → referring (listed ++ more) s ≡ referring listed s
-  listed_same s h = ap (λ o. unwrap_or (option_map reference o) (written_shape s)) (placed_more s listed more h.0 h.1 ∙ sym h.1)
-
   refer_more : (s : Shape) → IsThere listed s → referring (listed ++ more) s ≡ referring listed s
-  refer_more Any h = plain_same Any tt
-  refer_more Never h = plain_same Never tt
-  refer_more NullShape h = plain_same NullShape tt
-  refer_more BooleanShape h = plain_same BooleanShape tt
-  refer_more IntegerShape h = plain_same IntegerShape tt
-  refer_more StringShape h = plain_same StringShape tt
-  refer_more (ArrayShape first rest) h = listed_same (ArrayShape first rest) h
-  refer_more (ObjectShape fields extra) h = listed_same (ObjectShape fields extra) h
+  refer_more s h = ap (λ o. unwrap_or (option_map reference o) (written_shape s)) (go (is_listed s) refl)
+    where
+      go : (b : Bool) → is_listed s ≡ b → place_of s (listed ++ more) ≡ place_of s listed
+      go true is = placed_more s listed more (h is).0 (h is).1 ∙ sym (h is).1
+      go false is = unlisted [] (listed ++ more) s is behind ∙ sym (unlisted [] listed s is (front_behind [] listed more behind))
 
   places_refer_more : (first : Shapes) → PlacesAreThere listed first → places_referring (listed ++ more) first ≡ places_referring listed first
   places_refer_more NoShapes h = refl
@@ -436,12 +414,16 @@ module _ (listed more : List Shape) (behind : AreBehind [] (listed ++ more)) whe
   fields_refer_more NoFieldShapes h = refl
   fields_refer_more (AndFieldShape n needed s fields) h = ap₂ (AndField n) (refer_more s h.0) (fields_refer_more fields h.1)
 
+  arrays_more_same : (arrays : Arrays) (fs : Fields) → ArraysAreThere listed arrays → with_arrays_over (listed ++ more) arrays fs ≡ with_arrays_over listed arrays fs
+  arrays_more_same WithoutArrays fs h = refl
+  arrays_more_same (ArraysOf first rest) fs h = rw (refer_more rest h.1, places_refer_more first h.0) refl
+
+  objects_more_same : (objects : Objects) (fs : Fields) → ObjectsAreThere listed objects → with_objects_over (listed ++ more) objects fs ≡ with_objects_over listed objects fs
+  objects_more_same WithoutObjects fs h = refl
+  objects_more_same (ObjectsOf fields extra) fs h = rw (fields_refer_more fields h) refl
+
   pub over_more : (s : Shape) → PartsAreThere listed s → written_over (listed ++ more) s ≡ written_over listed s
   over_more Any h = refl
-  over_more Never h = refl
-  over_more NullShape h = refl
-  over_more BooleanShape h = refl
-  over_more IntegerShape h = refl
-  over_more StringShape h = refl
-  over_more (ArrayShape first rest) h = rw (refer_more rest h.1, places_refer_more first h.0) refl
-  over_more (ObjectShape fields extra) h = rw (fields_refer_more fields h) refl
+  over_more (OfKinds simple arrays objects) h =
+      let types = type_field (type_names simple arrays objects) in
+      rw (objects_more_same objects types h.1.1, arrays_more_same arrays (with_objects_over listed objects types) h.1.0) refl

@@ -7,12 +7,11 @@ use Rattle.serde_json.specs.Find.{as_i64}
 use Rattle.asl_model.specs.Tree.{Tree, Integer, Array, Object, Trees, NoTrees, AndTree, Fields, NoFields, AndField}
 use Rattle.asl_model.specs.Shape.{Shape, IsProperShape}
 use Rattle.asl_model.specs.Json.{tree_of, elements_of, members_of}
-use Rattle.asl_model.specs.ShapeSpelling.{SpellsShape}
 use Rattle.asl_model.specs.Certificate.{TaskShapes, Declared, StateShapes, Certificate}
 use Rattle.asl_model.specs.Records.{RecordRow, StandsForDeclared, StandsForCertificate, shape_misfits, shapes_misfits, shape_from, shapes_from, object_complaints, entries_complaints, entries_from, task_rows, task_from, state_rows, state_from}
 use Rattle.asl_model.specs.RecordShapes.{HoldsForTask, HoldsForDeclared, HoldsForState, HoldsForCertificate}
 use Rattle.asl_model.specs.Written.{written_shape, written_list, written_entries, written_task, written_declared, written_state, written_certificate}
-use Rattle.asl_model.proofs.SpellingWritten.{written_spells}
+use Rattle.asl_model.proofs.SpellingWritten.{IsSpelled, written_spells}
 
 -- ---- the value of which a tree was made
 
@@ -120,10 +119,6 @@ item_in (json.item v vs) t ts e = let same = by (tree_of v) (elements_of vs) e i
     by (Some u) (Some us) h = (cc, cc)
 
 -- ---- shapes
-
--- the tree that is written for the shape spells it
-abbrev pub IsSpelled : Shape → Type 0
-IsSpelled s = SpellsShape (written_shape s) s
 
 -- the value is what is written for the shape, and is read as it
 pub record IsShape (listed : Option (List Tree)) (v : Data) (s : Shape) : Type 0 where

@@ -1,9 +1,9 @@
 -- What `inhabited` tells: where it is false, no tree has the shape.
-use Rattle.std.proofs.Common.{Bool, true, false, ◌&&◌, ◌||◌, not, Option, Some, None, refl, sym, ◌∙◌, ap}
+use Rattle.std.proofs.Common.{Bool, true, false, ◌&&◌, ◌||◌, not, Option, Some, None, refl, sym, ◌∙◌, ap, arith}
 use Rattle.std.specs.Prelude.{IsTrue}
 use Rattle.std.proofs.lemmas.Bool.{and_parts, and_from, false≢true}
 use Rattle.asl_model.specs.Tree.{Tree, Null, Boolean, Integer, Text, Array, Object, Trees, NoTrees, AndTree, Fields, field_named}
-use Rattle.asl_model.specs.Shape.{Shape, Any, Never, NullShape, BooleanShape, IntegerShape, StringShape, ArrayShape, ObjectShape, Shapes, NoShapes, AndShape, FieldShapes, NoFieldShapes, AndFieldShape, Has, has, elements_have, fields_have, there_and, all_mentioned, inhabited, all_inhabited, needed_inhabited}
+use Rattle.asl_model.specs.Shape.{Shape, Any, OfKinds, Arrays, WithoutArrays, ArraysOf, Objects, WithoutObjects, ObjectsOf, Shapes, NoShapes, AndShape, FieldShapes, NoFieldShapes, AndFieldShape, Has, has, arrays_have, objects_have, elements_have, fields_have, there_and, all_mentioned, inhabited, some_array, some_object, all_inhabited, needed_inhabited}
 
 -- one more needed field whose shape is inhabited where the field is there
 one_more_needed : (needed live others : Bool) (value : Option Tree) (test : Tree → Bool) → ((t : Tree) → IsTrue (test t) → IsTrue live) → IsTrue (there_and needed test value) → IsTrue others → IsTrue ((not needed || live) && others)
@@ -15,23 +15,24 @@ mutual
   -- a shape that a tree has is inhabited
   pub has-inhabited : (s : Shape) (t : Tree) → Has s t → IsTrue (inhabited s)
   has-inhabited Any t h = refl
-  has-inhabited Never t h = absurd (false≢true h)
-  has-inhabited NullShape t h = refl
-  has-inhabited BooleanShape t h = refl
-  has-inhabited IntegerShape t h = refl
-  has-inhabited StringShape t h = refl
-  has-inhabited (ArrayShape first rest) Null h = absurd (false≢true h)
-  has-inhabited (ArrayShape first rest) (Boolean b) h = absurd (false≢true h)
-  has-inhabited (ArrayShape first rest) (Integer n) h = absurd (false≢true h)
-  has-inhabited (ArrayShape first rest) (Text s) h = absurd (false≢true h)
-  has-inhabited (ArrayShape first rest) (Array ts) h = elements_have-inhabited first (has rest) ts h
-  has-inhabited (ArrayShape first rest) (Object fs) h = absurd (false≢true h)
-  has-inhabited (ObjectShape shapes extra) Null h = absurd (false≢true h)
-  has-inhabited (ObjectShape shapes extra) (Boolean b) h = absurd (false≢true h)
-  has-inhabited (ObjectShape shapes extra) (Integer n) h = absurd (false≢true h)
-  has-inhabited (ObjectShape shapes extra) (Text s) h = absurd (false≢true h)
-  has-inhabited (ObjectShape shapes extra) (Array ts) h = absurd (false≢true h)
-  has-inhabited (ObjectShape shapes extra) (Object fs) h = fields_have-inhabited shapes fs (and_parts (fields_have shapes fs) (extra || all_mentioned shapes fs) h).0
+  has-inhabited (OfKinds simple arrays objects) Null h = grind arith
+  has-inhabited (OfKinds simple arrays objects) (Boolean b) h = grind arith
+  has-inhabited (OfKinds simple arrays objects) (Integer n) h = grind arith
+  has-inhabited (OfKinds simple arrays objects) (Text s) h = grind arith
+  has-inhabited (OfKinds simple arrays objects) (Array ts) h =
+      let live : IsTrue (some_array arrays) = arrays_have-inhabited arrays ts h in
+      grind arith
+  has-inhabited (OfKinds simple arrays objects) (Object fs) h =
+      let live : IsTrue (some_object objects) = objects_have-inhabited objects fs h in
+      grind arith
+
+  pub arrays_have-inhabited : (arrays : Arrays) (ts : Trees) → IsTrue (arrays_have arrays ts) → IsTrue (some_array arrays)
+  arrays_have-inhabited WithoutArrays ts h = absurd (false≢true h)
+  arrays_have-inhabited (ArraysOf first rest) ts h = elements_have-inhabited first (has rest) ts h
+
+  pub objects_have-inhabited : (objects : Objects) (fs : Fields) → IsTrue (objects_have objects fs) → IsTrue (some_object objects)
+  objects_have-inhabited WithoutObjects fs h = absurd (false≢true h)
+  objects_have-inhabited (ObjectsOf shapes extra) fs h = fields_have-inhabited shapes fs (and_parts (fields_have shapes fs) (extra || all_mentioned shapes fs) h).0
 
   elements_have-inhabited : (first : Shapes) (further : Tree → Bool) (ts : Trees) → IsTrue (elements_have first further ts) → IsTrue (all_inhabited first)
   elements_have-inhabited NoShapes further ts h = refl

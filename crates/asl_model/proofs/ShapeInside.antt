@@ -1,53 +1,52 @@
 -- `sub` true means inside: every tree of the first shape has the second.
-use Rattle.std.proofs.Common.{◌≡◌, ℕ, List, Bool, true, false, ◌&&◌, ◌||◌, not, Option, Some, None, refl}
+use Rattle.std.proofs.Common.{◌≡◌, ℕ, List, Bool, true, false, ◌&&◌, ◌||◌, not, Option, Some, None, refl, arith}
 use Rattle.std.specs.Prelude.{IsTrue, bytes_eq}
 use Rattle.std.proofs.lemmas.Bool.{and_parts, and_from, false≢true}
 use Rattle.std.proofs.lemmas.Slice.Eq.{bytes_eq-Decides}
-use Rattle.asl_model.specs.Tree.{Tree, Array, Object, Trees, NoTrees, AndTree, Fields, NoFields, AndField, field_named}
-use Rattle.asl_model.specs.Shape.{Shape, Any, Never, NullShape, BooleanShape, IntegerShape, StringShape, ArrayShape, ObjectShape, Shapes, NoShapes, AndShape, FieldShapes, NoFieldShapes, AndFieldShape, Has, Inside, has, elements_have, each_element, fields_have, there_and, mentions, all_mentioned, inhabited}
-use Rattle.asl_model.specs.ShapeOrder.{sub, elements_sub, fields_sub, mention_fits, mention_of, each_shape, others_never_there, array_shape_where, object_shape_where, is_any_shape, is_null_shape, is_boolean_shape, is_integer_shape, is_string_shape}
-use Rattle.asl_model.proofs.ShapeInhabited.{has-inhabited, not_inhabited-has}
+use Rattle.asl_model.specs.Tree.{Tree, Null, Boolean, Integer, Text, Array, Object, Trees, NoTrees, AndTree, Fields, NoFields, AndField, field_named}
+use Rattle.asl_model.specs.Shape.{Simple, Shape, Any, OfKinds, Arrays, WithoutArrays, ArraysOf, Objects, WithoutObjects, ObjectsOf, Shapes, NoShapes, AndShape, FieldShapes, NoFieldShapes, AndFieldShape, Has, Inside, has, arrays_have, objects_have, elements_have, each_element, fields_have, there_and, mentions, all_mentioned, inhabited, all_inhabited, needed_inhabited}
+use Rattle.asl_model.specs.ShapeOrder.{sub, simple_sub, arrays_sub, objects_sub, elements_sub, fields_sub, mention_fits, mention_of, each_shape, others_never_there, takes_all, takes_all_arrays, takes_all_objects, asks_nothing}
+use Rattle.asl_model.proofs.ShapeInhabited.{arrays_have-inhabited, objects_have-inhabited, not_inhabited-has}
 
 -- what is left of a choice whose first part fails
 or_right : (x y : Bool) → IsTrue x → IsTrue (not x || y) → IsTrue y
 or_right true y e h = h
 or_right false y e h = absurd (false≢true e)
 
--- where a tree has the first shape, what `sub` asks besides holds
-besides : (a : Shape) (y : Bool) (t : Tree) → Has a t → IsTrue (not (inhabited a) || y) → IsTrue y
-besides a y t m h = or_right (inhabited a) y (has-inhabited a t m) h
+-- a field that isn't needed and may be every tree
+optional_holds : (needed : Bool) (s : Shape) (value : Option Tree) → IsTrue (not needed) → ((t : Tree) → Has s t) → IsTrue (there_and needed (has s) value)
+optional_holds needed s None free every = free
+optional_holds needed s (Some t) free every = every t
 
-any_has : (s : Shape) (t : Tree) → IsTrue (is_any_shape s) → Has s t
-any_has Any t h = refl
-any_has s t h = absurd (false≢true h)
+every_element : (test : Tree → Bool) → ((t : Tree) → IsTrue (test t)) → (ts : Trees) → IsTrue (each_element test ts)
+every_element test every NoTrees = refl
+every_element test every (AndTree t ts) = and_from (test t) (each_element test ts) (every t) (every_element test every ts)
 
-pub only_null : (a : Shape) → IsTrue (is_null_shape a) → a ≡ NullShape
-only_null NullShape h = refl
-only_null a h = absurd (false≢true h)
+mutual
+  -- every tree has a shape that takes all
+  pub takes_all-has : (s : Shape) → IsTrue (takes_all s) → (t : Tree) → Has s t
+  takes_all-has Any h t = refl
+  takes_all-has (OfKinds simple arrays objects) h Null = grind arith
+  takes_all-has (OfKinds simple arrays objects) h (Boolean b) = grind arith
+  takes_all-has (OfKinds simple arrays objects) h (Integer n) = grind arith
+  takes_all-has (OfKinds simple arrays objects) h (Text s) = grind arith
+  takes_all-has (OfKinds simple arrays objects) h (Array ts) = takes_all-arrays arrays (grind arith) ts
+  takes_all-has (OfKinds simple arrays objects) h (Object fs) = takes_all-objects objects (grind arith) fs
 
-pub only_boolean : (a : Shape) → IsTrue (is_boolean_shape a) → a ≡ BooleanShape
-only_boolean BooleanShape h = refl
-only_boolean a h = absurd (false≢true h)
+  takes_all-arrays : (arrays : Arrays) → IsTrue (takes_all_arrays arrays) → (ts : Trees) → IsTrue (arrays_have arrays ts)
+  takes_all-arrays WithoutArrays h ts = absurd (false≢true h)
+  takes_all-arrays (ArraysOf NoShapes rest) h ts = every_element (has rest) (takes_all-has rest h) ts
+  takes_all-arrays (ArraysOf (AndShape s first) rest) h ts = absurd (false≢true h)
 
-pub only_integer : (a : Shape) → IsTrue (is_integer_shape a) → a ≡ IntegerShape
-only_integer IntegerShape h = refl
-only_integer a h = absurd (false≢true h)
+  takes_all-objects : (objects : Objects) → IsTrue (takes_all_objects objects) → (fs : Fields) → IsTrue (objects_have objects fs)
+  takes_all-objects WithoutObjects h fs = absurd (false≢true h)
+  takes_all-objects (ObjectsOf shapes extra) h fs =
+      let free : IsTrue (fields_have shapes fs) = asks_nothing-have shapes (grind arith) fs in
+      grind arith
 
-pub only_string : (a : Shape) → IsTrue (is_string_shape a) → a ≡ StringShape
-only_string StringShape h = refl
-only_string a h = absurd (false≢true h)
-
--- arrays: what the parts' test gives for the elements
-arrays_inside : (first : Shapes) (rest : Shape) (test : Shapes → Shape → Bool) (a : Shape) (t : Tree) → ((others : Shapes) (further : Shape) (ts : Trees) → IsTrue (test others further) → IsTrue (elements_have others (has further) ts) → IsTrue (elements_have first (has rest) ts)) → IsTrue (array_shape_where test a) → Has a t → Has (ArrayShape first rest) t
-arrays_inside first rest test (ArrayShape others further) (Array ts) each h m = each others further ts h m
-arrays_inside first rest test (ArrayShape others further) t each h m = absurd (false≢true m)
-arrays_inside first rest test a t each h m = absurd (false≢true h)
-
--- objects: what the parts' test gives for the fields
-objects_inside : (shapes : FieldShapes) (extra : Bool) (test : FieldShapes → Bool → Bool) (a : Shape) (t : Tree) → ((others : FieldShapes) (more : Bool) (fs : Fields) → IsTrue (test others more) → IsTrue (fields_have others fs && (more || all_mentioned others fs)) → IsTrue (fields_have shapes fs && (extra || all_mentioned shapes fs))) → IsTrue (object_shape_where test a) → Has a t → Has (ObjectShape shapes extra) t
-objects_inside shapes extra test (ObjectShape others more) (Object fs) each h m = each others more fs h m
-objects_inside shapes extra test (ObjectShape others more) t each h m = absurd (false≢true m)
-objects_inside shapes extra test a t each h m = absurd (false≢true h)
+  asks_nothing-have : (shapes : FieldShapes) → IsTrue (asks_nothing shapes) → (fs : Fields) → IsTrue (fields_have shapes fs)
+  asks_nothing-have NoFieldShapes h fs = refl
+  asks_nothing-have (AndFieldShape n needed s shapes) h fs = and_from (there_and needed (has s) (field_named n fs)) (fields_have shapes fs) (optional_holds needed s (field_named n fs) (grind arith) (takes_all-has s (grind arith))) (asks_nothing-have shapes (grind arith) fs)
 
 -- each element has some shape that passes the test
 further_inside : (test : Shape → Bool) (goal : Tree → Bool) → ((a : Shape) → IsTrue (test a) → (t : Tree) → Has a t → IsTrue (goal t)) → (others : Shapes) (further : Shape) (ts : Trees) → IsTrue (each_shape test others) → IsTrue (test further) → IsTrue (elements_have others (has further) ts) → IsTrue (each_element goal ts)
@@ -109,15 +108,15 @@ unmentioned-absent n others fs e h = go (field_named n fs) refl
     go (Some t) at = absurd (mentions-mention n others e (there-mentioned n others fs t at h))
 
 -- one field: the first object's mention of it holds, and fits the second's
-field_inside : (needed : Bool) (s : Shape) (more : Bool) (mention : Option (Bool × Shape)) (value : Option Tree) → ((a : Shape) → IsTrue (sub a s) → (t : Tree) → Has a t → Has s t) → ((m : Bool × Shape) → mention ≡ Some m → IsTrue (there_and m.0 (has m.1) value)) → (mention ≡ None → IsTrue (not more) → value ≡ None) → IsTrue (mention_fits needed (λ other. sub other s) (is_any_shape s) more mention) → IsTrue (there_and needed (has s) value)
-field_inside needed s more None None inside holds closed fits = (and_parts (not needed) (is_any_shape s || not more) fits).0
-field_inside needed s more None (Some t) inside holds closed fits = go (is_any_shape s) refl
+field_inside : (needed : Bool) (s : Shape) (more : Bool) (mention : Option (Bool × Shape)) (value : Option Tree) → ((a : Shape) → IsTrue (sub a s) → (t : Tree) → Has a t → Has s t) → ((m : Bool × Shape) → mention ≡ Some m → IsTrue (there_and m.0 (has m.1) value)) → (mention ≡ None → IsTrue (not more) → value ≡ None) → IsTrue (mention_fits needed (λ other. sub other s) (takes_all s) more mention) → IsTrue (there_and needed (has s) value)
+field_inside needed s more None None inside holds closed fits = (and_parts (not needed) (takes_all s || not more) fits).0
+field_inside needed s more None (Some t) inside holds closed fits = go (takes_all s) refl
   where
-    go : (any : Bool) → is_any_shape s ≡ any → Has s t
-    go true any = any_has s t any
+    go : (any : Bool) → takes_all s ≡ any → Has s t
+    go true any = takes_all-has s any t
     go false some =
         let gone : None ≡ None → IsTrue (not more) → Some t ≡ None = closed in
-        absurd (cc (gone refl (rw some at (and_parts (not needed) (is_any_shape s || not more) fits).1)))
+        absurd (cc (gone refl (rw some at (and_parts (not needed) (takes_all s || not more) fits).1)))
 field_inside needed s more (Some m) None inside holds closed fits = go needed m.0 (and_parts (not needed || m.0) (sub m.1 s) fits).0 (holds m refl)
   where
     go : (here there : Bool) → IsTrue (not here || there) → IsTrue (not there) → IsTrue (not here)
@@ -169,24 +168,52 @@ pub closed_absent : (n : List ℕ) (others : FieldShapes) (more : Bool) (fs : Fi
 closed_absent n others true fs mentioned none shut = absurd (false≢true shut)
 closed_absent n others false fs mentioned none shut = unmentioned-absent n others fs none mentioned
 
+-- a simple kind of the first is one of the second
+simple-inside : (a b : Simple) → IsTrue (simple_sub a b) → (IsTrue a.null → IsTrue b.null) × (IsTrue a.boolean → IsTrue b.boolean) × (IsTrue a.integer → IsTrue b.integer) × (IsTrue a.text → IsTrue b.text)
+simple-inside a b h =
+    let null = and_parts (not a.null || b.null) ((not a.boolean || b.boolean) && ((not a.integer || b.integer) && (not a.text || b.text))) h in
+    let boolean = and_parts (not a.boolean || b.boolean) ((not a.integer || b.integer) && (not a.text || b.text)) null.1 in
+    let integer = and_parts (not a.integer || b.integer) (not a.text || b.text) boolean.1 in
+    (λ m. or_right a.null b.null m null.0, λ m. or_right a.boolean b.boolean m boolean.0, λ m. or_right a.integer b.integer m integer.0, λ m. or_right a.text b.text m integer.1)
+
+-- a tree has the second shape by its kind
+kinds_inside : (simple some : Simple) (arrays others : Arrays) (objects more : Objects) → (IsTrue some.null → IsTrue simple.null) × (IsTrue some.boolean → IsTrue simple.boolean) × (IsTrue some.integer → IsTrue simple.integer) × (IsTrue some.text → IsTrue simple.text) → (t : Tree) → ((ts : Trees) → IsTrue (arrays_have others ts) → IsTrue (arrays_have arrays ts)) → ((fs : Fields) → IsTrue (objects_have more fs) → IsTrue (objects_have objects fs)) → Has (OfKinds some others more) t → Has (OfKinds simple arrays objects) t
+kinds_inside simple some arrays others objects more each Null in_arrays in_objects m = each.0 m
+kinds_inside simple some arrays others objects more each (Boolean b) in_arrays in_objects m = each.1 m
+kinds_inside simple some arrays others objects more each (Integer n) in_arrays in_objects m = each.2 m
+kinds_inside simple some arrays others objects more each (Text s) in_arrays in_objects m = each.3 m
+kinds_inside simple some arrays others objects more each (Array ts) in_arrays in_objects m = in_arrays ts m
+kinds_inside simple some arrays others objects more each (Object fs) in_arrays in_objects m = in_objects fs m
+
 mutual
   -- every tree of the first shape has the second, by the second's form
   inside : (b a : Shape) → IsTrue (sub a b) → (t : Tree) → Has a t → Has b t
   inside Any a h t m = refl
-  inside Never a h t m = absurd (not_inhabited-has a t h m)
-  inside NullShape a h t m = rw (only_null a (besides a (is_null_shape a) t m h)) at m
-  inside BooleanShape a h t m = rw (only_boolean a (besides a (is_boolean_shape a) t m h)) at m
-  inside IntegerShape a h t m = rw (only_integer a (besides a (is_integer_shape a) t m h)) at m
-  inside StringShape a h t m = rw (only_string a (besides a (is_string_shape a) t m h)) at m
-  inside (ArrayShape first rest) a h t m =
-      let test : Shapes → Shape → Bool = λ others further. elements_sub others further first (λ s. sub s rest) in
-      arrays_inside first rest test a t (λ others further ts. elements_inside first others further ts (λ s. sub s rest) (has rest) (inside rest)) (besides a (array_shape_where test a) t m h) m
-  inside (ObjectShape shapes extra) a h t m =
-      let test : FieldShapes → Bool → Bool = λ others more. fields_sub others more shapes && (extra || (not more && others_never_there shapes others)) in
-      objects_inside shapes extra test a t (λ others more fs tested member.
-      let tests = and_parts (fields_sub others more shapes) (extra || (not more && others_never_there shapes others)) tested in
-      let both = and_parts (fields_have others fs) (more || all_mentioned others fs) member in
-      and_from (fields_have shapes fs) (extra || all_mentioned shapes fs) (fields_inside shapes others more fs tests.0 both.0 both.1) (others_inside shapes others extra more fs both.0 both.1 tests.1)) (besides a (object_shape_where test a) t m h) m
+  inside (OfKinds simple arrays objects) Any h t m = takes_all-has (OfKinds simple arrays objects) h t
+  inside (OfKinds simple arrays objects) (OfKinds some others more) h t m =
+      let kinds = and_parts (simple_sub some simple) (arrays_sub others arrays && objects_sub more objects) h in
+      let parts = and_parts (arrays_sub others arrays) (objects_sub more objects) kinds.1 in
+      kinds_inside simple some arrays others objects more (simple-inside some simple kinds.0) t (λ ts. arrays_inside arrays others ts parts.0) (λ fs. objects_inside objects more fs parts.1) m
+
+  arrays_inside : (arrays others : Arrays) (ts : Trees) → IsTrue (arrays_sub others arrays) → IsTrue (arrays_have others ts) → IsTrue (arrays_have arrays ts)
+  arrays_inside arrays WithoutArrays ts h m = absurd (false≢true m)
+  arrays_inside WithoutArrays (ArraysOf others further) ts h m =
+      let live : IsTrue (all_inhabited others) = arrays_have-inhabited (ArraysOf others further) ts m in
+      absurd (grind arith)
+  arrays_inside (ArraysOf first rest) (ArraysOf others further) ts h m =
+      let live : IsTrue (all_inhabited others) = arrays_have-inhabited (ArraysOf others further) ts m in
+      elements_inside first others further ts (λ s. sub s rest) (has rest) (inside rest) (or_right (all_inhabited others) (elements_sub others further first (λ s. sub s rest)) live h) m
+
+  objects_inside : (objects others : Objects) (fs : Fields) → IsTrue (objects_sub others objects) → IsTrue (objects_have others fs) → IsTrue (objects_have objects fs)
+  objects_inside objects WithoutObjects fs h m = absurd (false≢true m)
+  objects_inside WithoutObjects (ObjectsOf others more) fs h m =
+      let live : IsTrue (needed_inhabited others) = objects_have-inhabited (ObjectsOf others more) fs m in
+      absurd (grind arith)
+  objects_inside (ObjectsOf shapes extra) (ObjectsOf others more) fs h m =
+      let live : IsTrue (needed_inhabited others) = objects_have-inhabited (ObjectsOf others more) fs m in
+      let tests = and_parts (fields_sub others more shapes) (extra || (not more && others_never_there shapes others)) (or_right (needed_inhabited others) (fields_sub others more shapes && (extra || (not more && others_never_there shapes others))) live h) in
+      let both = and_parts (fields_have others fs) (more || all_mentioned others fs) m in
+      and_from (fields_have shapes fs) (extra || all_mentioned shapes fs) (fields_inside shapes others more fs tests.0 both.0 both.1) (others_inside shapes others extra more fs both.0 both.1 tests.1)
 
   elements_inside : (first others : Shapes) (further : Shape) (ts : Trees) (test : Shape → Bool) (goal : Tree → Bool) → ((a : Shape) → IsTrue (test a) → (t : Tree) → Has a t → IsTrue (goal t)) → IsTrue (elements_sub others further first test) → IsTrue (elements_have others (has further) ts) → IsTrue (elements_have first goal ts)
   elements_inside NoShapes others further ts test goal last h m =
@@ -202,7 +229,7 @@ mutual
   fields_inside : (shapes others : FieldShapes) (more : Bool) (fs : Fields) → IsTrue (fields_sub others more shapes) → IsTrue (fields_have others fs) → IsTrue (more || all_mentioned others fs) → IsTrue (fields_have shapes fs)
   fields_inside NoFieldShapes others more fs h m mentioned = refl
   fields_inside (AndFieldShape n needed s shapes) others more fs h m mentioned =
-      let tests = and_parts (mention_fits needed (λ other. sub other s) (is_any_shape s) more (mention_of n others)) (fields_sub others more shapes) h in
+      let tests = and_parts (mention_fits needed (λ other. sub other s) (takes_all s) more (mention_of n others)) (fields_sub others more shapes) h in
       and_from (there_and needed (has s) (field_named n fs)) (fields_have shapes fs) (field_inside needed s more (mention_of n others) (field_named n fs) (λ a. inside s a) (λ mention e. mention_holds n others fs mention e m) (closed_absent n others more fs mentioned) tests.0) (fields_inside shapes others more fs tests.1 m mentioned)
 
 -- where `sub` is true, every tree of the first shape has the second

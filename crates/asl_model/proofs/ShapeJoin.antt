@@ -1,13 +1,13 @@
 -- Both shapes are inside their join.
-use Rattle.std.proofs.Common.{◌≡◌, ℕ, zero, suc, max, List, Bool, true, false, ◌&&◌, ◌||◌, not, Option, Some, None, refl, sym, ◌∙◌}
+use Rattle.std.proofs.Common.{◌≡◌, ℕ, zero, suc, max, List, Bool, true, false, ◌&&◌, ◌||◌, not, Option, Some, None, refl, sym, ◌∙◌, ◌⊎◌, inl, inr}
 use Rattle.std.specs.Prelude.{IsTrue, bytes_eq, if◌then◌else◌}
 use Rattle.std.proofs.lemmas.Bool.{and_parts, and_from, false≢true}
 use Rattle.std.proofs.lemmas.Slice.Eq.{bytes_eq-Decides}
 use Rattle.asl_model.specs.Tree.{Tree, Null, Boolean, Integer, Text, Array, Object, Trees, NoTrees, AndTree, Fields, field_named}
-use Rattle.asl_model.specs.Shape.{Shape, Any, Never, NullShape, BooleanShape, IntegerShape, StringShape, ArrayShape, ObjectShape, Shapes, NoShapes, AndShape, FieldShapes, NoFieldShapes, AndFieldShape, Has, Inside, has, elements_have, each_element, fields_have, there_and, mentions, all_mentioned, inhabited}
-use Rattle.asl_model.specs.ShapeOrder.{mention_of, is_null_shape, is_boolean_shape, is_integer_shape, is_string_shape, with_optional_unless, common_joins, further_places, joined_with_each, keep_joined, joined_fields, with_other_fields, join_array, join_object, join_kinds, join_within, join, depth}
+use Rattle.asl_model.specs.Shape.{Shape, Any, OfKinds, Never, Arrays, WithoutArrays, ArraysOf, Objects, WithoutObjects, ObjectsOf, Shapes, NoShapes, AndShape, FieldShapes, NoFieldShapes, AndFieldShape, Has, Inside, has, arrays_have, objects_have, elements_have, each_element, fields_have, there_and, mentions, all_mentioned, inhabited}
+use Rattle.asl_model.specs.ShapeOrder.{mention_of, with_optional_unless, common_joins, further_places, joined_with_each, keep_joined, joined_fields, with_other_fields, either, join_arrays, join_objects, same_kinds, join_kinds, join_within, join, depth}
 use Rattle.asl_model.proofs.ShapeInhabited.{has-inhabited}
-use Rattle.asl_model.proofs.ShapeInside.{only_null, only_boolean, only_integer, only_string, all_mentioned-from, there-mentioned, mention_holds, closed_absent}
+use Rattle.asl_model.proofs.ShapeInside.{all_mentioned-from, there-mentioned, mention_holds, closed_absent}
 use Rattle.asl_model.proofs.ShapeFields.{have-set, mentions-set, mentions-set_same}
 
 -- a way to join two shapes that both are inside
@@ -195,104 +195,71 @@ mentioned-joined-right joined shapes others false false fs h = all_mentioned-fro
 
 -- By kinds
 
-kind-left : (test : Bool) (s : Shape) (t : Tree) → Has s t → Has (if test then s else Any) t
-kind-left true s t m = m
-kind-left false s t m = refl
+in_either : (a b : Bool) → IsTrue a ⊎ IsTrue b → IsTrue (a || b)
+in_either a b (inl h) = rw h refl
+in_either true b (inr h) = refl
+in_either false b (inr h) = h
 
-kind-right : (test : Bool) (s b : Shape) (t : Tree) → (IsTrue test → b ≡ s) → Has b t → Has (if test then s else Any) t
-kind-right true s b t is m = rw (is refl) at m
-kind-right false s b t is m = refl
+or_any : (test : Bool) (s : Shape) (t : Tree) → Has s t → Has (if test then s else Any) t
+or_any true s t m = m
+or_any false s t m = refl
 
 module _ (joined : Shape → Shape → Shape) (above : IsAbove joined) where
-  join_array-left : (first : Shapes) (rest b : Shape) (t : Tree) → Has (ArrayShape first rest) t → Has (join_array joined first rest b) t
-  join_array-left first rest Any t m = refl
-  join_array-left first rest Never t m = refl
-  join_array-left first rest NullShape t m = refl
-  join_array-left first rest BooleanShape t m = refl
-  join_array-left first rest IntegerShape t m = refl
-  join_array-left first rest StringShape t m = refl
-  join_array-left first rest (ArrayShape others last) Null m = absurd (false≢true m)
-  join_array-left first rest (ArrayShape others last) (Boolean b) m = absurd (false≢true m)
-  join_array-left first rest (ArrayShape others last) (Integer i) m = absurd (false≢true m)
-  join_array-left first rest (ArrayShape others last) (Text s) m = absurd (false≢true m)
-  join_array-left first rest (ArrayShape others last) (Array ts) m =
+  arrays-left : (a b : Arrays) (ts : Trees) → IsTrue (arrays_have a ts) → IsTrue (arrays_have (join_arrays joined a b) ts)
+  arrays-left WithoutArrays b ts m = absurd (false≢true m)
+  arrays-left (ArraysOf first rest) WithoutArrays ts m = m
+  arrays-left (ArraysOf first rest) (ArraysOf others last) ts m =
       let up = rest_above joined above (further_places first others) rest last in
       array-left joined above first others rest (joined (joined (joined_with_each joined Never (further_places first others)) rest) last) ts up.0 up.1 m
-  join_array-left first rest (ArrayShape others last) (Object fs) m = absurd (false≢true m)
-  join_array-left first rest (ObjectShape shapes extra) t m = refl
 
-  join_array-right : (first : Shapes) (rest b : Shape) (t : Tree) → Has b t → Has (join_array joined first rest b) t
-  join_array-right first rest Any t m = refl
-  join_array-right first rest Never t m = refl
-  join_array-right first rest NullShape t m = refl
-  join_array-right first rest BooleanShape t m = refl
-  join_array-right first rest IntegerShape t m = refl
-  join_array-right first rest StringShape t m = refl
-  join_array-right first rest (ArrayShape others last) Null m = absurd (false≢true m)
-  join_array-right first rest (ArrayShape others last) (Boolean b) m = absurd (false≢true m)
-  join_array-right first rest (ArrayShape others last) (Integer i) m = absurd (false≢true m)
-  join_array-right first rest (ArrayShape others last) (Text s) m = absurd (false≢true m)
-  join_array-right first rest (ArrayShape others last) (Array ts) m =
+  arrays-right : (a b : Arrays) (ts : Trees) → IsTrue (arrays_have b ts) → IsTrue (arrays_have (join_arrays joined a b) ts)
+  arrays-right WithoutArrays b ts m = m
+  arrays-right (ArraysOf first rest) WithoutArrays ts m = absurd (false≢true m)
+  arrays-right (ArraysOf first rest) (ArraysOf others last) ts m =
       let up = rest_above joined above (further_places first others) rest last in
       array-right joined above first others last (joined (joined (joined_with_each joined Never (further_places first others)) rest) last) ts up.0 up.2 m
-  join_array-right first rest (ArrayShape others last) (Object fs) m = absurd (false≢true m)
-  join_array-right first rest (ObjectShape shapes extra) t m = refl
 
-  join_object-left : (shapes : FieldShapes) (extra : Bool) (b : Shape) (t : Tree) → Has (ObjectShape shapes extra) t → Has (join_object joined shapes extra b) t
-  join_object-left shapes extra Any t m = refl
-  join_object-left shapes extra Never t m = refl
-  join_object-left shapes extra NullShape t m = refl
-  join_object-left shapes extra BooleanShape t m = refl
-  join_object-left shapes extra IntegerShape t m = refl
-  join_object-left shapes extra StringShape t m = refl
-  join_object-left shapes extra (ArrayShape first rest) t m = refl
-  join_object-left shapes extra (ObjectShape others more) Null m = absurd (false≢true m)
-  join_object-left shapes extra (ObjectShape others more) (Boolean b) m = absurd (false≢true m)
-  join_object-left shapes extra (ObjectShape others more) (Integer i) m = absurd (false≢true m)
-  join_object-left shapes extra (ObjectShape others more) (Text s) m = absurd (false≢true m)
-  join_object-left shapes extra (ObjectShape others more) (Array ts) m = absurd (false≢true m)
-  join_object-left shapes extra (ObjectShape others more) (Object fs) m =
+  objects-left : (a b : Objects) (fs : Fields) → IsTrue (objects_have a fs) → IsTrue (objects_have (join_objects joined a b) fs)
+  objects-left WithoutObjects b fs m = absurd (false≢true m)
+  objects-left (ObjectsOf shapes extra) WithoutObjects fs m = m
+  objects-left (ObjectsOf shapes extra) (ObjectsOf others more) fs m =
       let both = and_parts (fields_have shapes fs) (extra || all_mentioned shapes fs) m in
       let whole : FieldShapes = with_other_fields shapes extra others (joined_fields joined shapes others more) in
       and_from (fields_have whole fs) ((extra || more) || all_mentioned whole fs) (others-left shapes extra others (joined_fields joined shapes others more) fs both.1 (joined-left joined above shapes others more fs both.0)) (mentioned-joined-left joined shapes others extra more fs both.1)
 
-  join_object-right : (shapes : FieldShapes) (extra : Bool) (b : Shape) (t : Tree) → Has b t → Has (join_object joined shapes extra b) t
-  join_object-right shapes extra Any t m = refl
-  join_object-right shapes extra Never t m = refl
-  join_object-right shapes extra NullShape t m = refl
-  join_object-right shapes extra BooleanShape t m = refl
-  join_object-right shapes extra IntegerShape t m = refl
-  join_object-right shapes extra StringShape t m = refl
-  join_object-right shapes extra (ArrayShape first rest) t m = refl
-  join_object-right shapes extra (ObjectShape others more) Null m = absurd (false≢true m)
-  join_object-right shapes extra (ObjectShape others more) (Boolean b) m = absurd (false≢true m)
-  join_object-right shapes extra (ObjectShape others more) (Integer i) m = absurd (false≢true m)
-  join_object-right shapes extra (ObjectShape others more) (Text s) m = absurd (false≢true m)
-  join_object-right shapes extra (ObjectShape others more) (Array ts) m = absurd (false≢true m)
-  join_object-right shapes extra (ObjectShape others more) (Object fs) m =
+  objects-right : (a b : Objects) (fs : Fields) → IsTrue (objects_have b fs) → IsTrue (objects_have (join_objects joined a b) fs)
+  objects-right WithoutObjects b fs m = m
+  objects-right (ObjectsOf shapes extra) WithoutObjects fs m = absurd (false≢true m)
+  objects-right (ObjectsOf shapes extra) (ObjectsOf others more) fs m =
       let both = and_parts (fields_have others fs) (more || all_mentioned others fs) m in
       let whole : FieldShapes = with_other_fields shapes extra others (joined_fields joined shapes others more) in
       and_from (fields_have whole fs) ((extra || more) || all_mentioned whole fs) (others-right shapes extra others (joined_fields joined shapes others more) fs both.0 (joined-right joined above shapes others more fs both.0 both.1)) (mentioned-joined-right joined shapes others extra more fs both.1)
 
   kinds-left : (a b : Shape) (t : Tree) → Has a t → Has (join_kinds joined a b) t
   kinds-left Any b t m = refl
-  kinds-left Never b t m = refl
-  kinds-left NullShape b t m = kind-left (is_null_shape b) NullShape t m
-  kinds-left BooleanShape b t m = kind-left (is_boolean_shape b) BooleanShape t m
-  kinds-left IntegerShape b t m = kind-left (is_integer_shape b) IntegerShape t m
-  kinds-left StringShape b t m = kind-left (is_string_shape b) StringShape t m
-  kinds-left (ArrayShape first rest) b t m = join_array-left first rest b t m
-  kinds-left (ObjectShape shapes extra) b t m = join_object-left shapes extra b t m
+  kinds-left (OfKinds some others more) Any t m = refl
+  kinds-left (OfKinds some others more) (OfKinds simple arrays objects) t m = or_any (same_kinds some others more simple arrays objects) (OfKinds (either some simple) (join_arrays joined others arrays) (join_objects joined more objects)) t (go t m)
+    where
+      go : (t : Tree) → Has (OfKinds some others more) t → Has (OfKinds (either some simple) (join_arrays joined others arrays) (join_objects joined more objects)) t
+      go Null h = in_either some.null simple.null (inl h)
+      go (Boolean b) h = in_either some.boolean simple.boolean (inl h)
+      go (Integer n) h = in_either some.integer simple.integer (inl h)
+      go (Text s) h = in_either some.text simple.text (inl h)
+      go (Array ts) h = arrays-left others arrays ts h
+      go (Object fs) h = objects-left more objects fs h
 
   kinds-right : (a b : Shape) (t : Tree) → Has b t → Has (join_kinds joined a b) t
   kinds-right Any b t m = refl
-  kinds-right Never b t m = refl
-  kinds-right NullShape b t m = kind-right (is_null_shape b) NullShape b t (only_null b) m
-  kinds-right BooleanShape b t m = kind-right (is_boolean_shape b) BooleanShape b t (only_boolean b) m
-  kinds-right IntegerShape b t m = kind-right (is_integer_shape b) IntegerShape b t (only_integer b) m
-  kinds-right StringShape b t m = kind-right (is_string_shape b) StringShape b t (only_string b) m
-  kinds-right (ArrayShape first rest) b t m = join_array-right first rest b t m
-  kinds-right (ObjectShape shapes extra) b t m = join_object-right shapes extra b t m
+  kinds-right (OfKinds some others more) Any t m = refl
+  kinds-right (OfKinds some others more) (OfKinds simple arrays objects) t m = or_any (same_kinds some others more simple arrays objects) (OfKinds (either some simple) (join_arrays joined others arrays) (join_objects joined more objects)) t (go t m)
+    where
+      go : (t : Tree) → Has (OfKinds simple arrays objects) t → Has (OfKinds (either some simple) (join_arrays joined others arrays) (join_objects joined more objects)) t
+      go Null h = in_either some.null simple.null (inr h)
+      go (Boolean b) h = in_either some.boolean simple.boolean (inr h)
+      go (Integer n) h = in_either some.integer simple.integer (inr h)
+      go (Text s) h = in_either some.text simple.text (inr h)
+      go (Array ts) h = arrays-right others arrays ts h
+      go (Object fs) h = objects-right more objects fs h
 
 within-left : (n : ℕ) (a b : Shape) → ((t : Tree) → Has a t → Has (join_kinds (join_within n) a b) t) → Inside a (join_within (suc n) a b)
 within-left n a b kinds t m = rw (has-inhabited a t m) (go (inhabited b))

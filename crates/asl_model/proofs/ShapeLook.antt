@@ -1,13 +1,13 @@
 -- Where `look` answers a shape, the path names in every tree of the first shape a tree of that one.
-use Rattle.std.proofs.Common.{◌≡◌, ℕ, zero, suc, List, [], ◌∷◌, Bool, true, false, ◌||◌, Option, Some, None, Result, Ok, Err, refl}
+use Rattle.std.proofs.Common.{◌≡◌, ℕ, zero, suc, List, [], ◌∷◌, Bool, true, false, ◌||◌, Option, Some, None, Result, Ok, Err, refl, arith}
 use Rattle.std.specs.Prelude.{IsTrue}
 use Rattle.std.proofs.lemmas.Bool.{and_parts, false≢true}
-use Rattle.asl_model.specs.Tree.{Tree, Null, Boolean, Integer, Text, Array, Object, Trees, NoTrees, AndTree, field_named, element}
+use Rattle.asl_model.specs.Tree.{Tree, Array, Object, Trees, NoTrees, AndTree, Fields, field_named, element}
 use Rattle.asl_model.specs.Path.{Segment, Name, Index, Names, names_itself, names_in_field, names_in_element}
-use Rattle.asl_model.specs.Shape.{Shape, Any, Never, NullShape, BooleanShape, IntegerShape, StringShape, ArrayShape, ObjectShape, Shapes, NoShapes, AndShape, FieldShapes, Has, has, elements_have, fields_have, there_and, all_mentioned}
+use Rattle.asl_model.specs.Shape.{Shape, Any, OfKinds, Arrays, WithoutArrays, ArraysOf, Objects, WithoutObjects, ObjectsOf, Shapes, NoShapes, AndShape, FieldShapes, Has, has, elements_have, fields_have, there_and, all_mentioned}
 use Rattle.asl_model.specs.ShapeOrder.{mention_of}
-use Rattle.asl_model.specs.ShapeFlow.{look, look_at, through, one_further, part_at, place_at, if_needed}
-use Rattle.asl_model.proofs.ShapeInhabited.{has-inhabited}
+use Rattle.asl_model.specs.ShapeFlow.{look, look_at, through, one_further, part_at, place_at, place_in, field_in, arrays_alone, objects_alone, if_needed}
+use Rattle.asl_model.proofs.ShapeInhabited.{has-inhabited, arrays_have-inhabited, objects_have-inhabited}
 use Rattle.asl_model.proofs.ShapeInside.{mention_holds}
 
 -- what a segment names in a tree has the shape, and each path goes on from it
@@ -22,16 +22,6 @@ place-element zero (AndShape s others) part further (AndTree t ts) e h =
     (t, refl, rw is at (and_parts (has s t) (elements_have others further ts) h).0)
 place-element (suc i) (AndShape s others) part further (AndTree t ts) e h = place-element i others part further ts e (and_parts (has s t) (elements_have others further ts) h).1
 
-place-reached : (i : ℕ) (first : Shapes) (rest part : Shape) (v : Tree) → place_at i first ≡ Some part → Has (ArrayShape first rest) v → Reached (Index i) part v
-place-reached i first rest part Null e h = absurd (false≢true h)
-place-reached i first rest part (Boolean b) e h = absurd (false≢true h)
-place-reached i first rest part (Integer n) e h = absurd (false≢true h)
-place-reached i first rest part (Text t) e h = absurd (false≢true h)
-place-reached i first rest part (Object fs) e h = absurd (false≢true h)
-place-reached i first rest part (Array ts) e h =
-    let found = place-element i first part (has rest) ts e h in
-    (found.0, found.2, λ q w names. names_in_element found.1 names)
-
 -- a needed field that a mention has is there, with its shape
 needed-there : (mention : Option (Bool × Shape)) (value : Option Tree) (part : Shape) → if_needed mention ≡ Some part → ((m : Bool × Shape) → mention ≡ Some m → IsTrue (there_and m.0 (has m.1) value)) → (u : Tree) × (value ≡ Some u) × Has part u
 needed-there None value part e holds = absurd (cc)
@@ -41,28 +31,42 @@ needed-there (Some (true, s)) (Some u) part e holds =
     (u, refl, rw is at (holds (true, s) refl))
 needed-there (Some (false, s)) value part e holds = absurd (cc)
 
-field-reached : (n : List ℕ) (shapes : FieldShapes) (extra : Bool) (part : Shape) (v : Tree) → if_needed (mention_of n shapes) ≡ Some part → Has (ObjectShape shapes extra) v → Reached (Name n) part v
-field-reached n shapes extra part Null e h = absurd (false≢true h)
-field-reached n shapes extra part (Boolean b) e h = absurd (false≢true h)
-field-reached n shapes extra part (Integer m) e h = absurd (false≢true h)
-field-reached n shapes extra part (Text t) e h = absurd (false≢true h)
-field-reached n shapes extra part (Array ts) e h = absurd (false≢true h)
-field-reached n shapes extra part (Object fs) e h =
-    let held = (and_parts (fields_have shapes fs) (extra || all_mentioned shapes fs) h).0 in
-    let found = needed-there (mention_of n shapes) (field_named n fs) part e (λ m at. mention_holds n shapes fs m at held) in
-    (found.0, found.2, λ q w names. names_in_field found.1 names)
+-- each tree of a shape that arrays alone have is one of those
+pub alone-array : (s : Shape) (first : Shapes) (rest : Shape) (v : Tree) → arrays_alone s ≡ ArraysOf first rest → Has s v → (ts : Trees) × (v ≡ Array ts) × IsTrue (elements_have first (has rest) ts)
+alone-array Any first rest v e h = absurd (cc)
+alone-array (OfKinds simple arrays objects) first rest (Array ts) e h =
+    let is : arrays ≡ ArraysOf first rest = grind arith in
+    (ts, refl, rw is at h)
+alone-array (OfKinds simple arrays objects) first rest (Object fs) e h = absurd (grind (arith, objects_have-inhabited objects fs h))
+alone-array (OfKinds simple arrays objects) first rest v e h = absurd (grind arith)
+
+-- each of one that objects alone have, of those
+pub alone-object : (s : Shape) (shapes : FieldShapes) (extra : Bool) (v : Tree) → objects_alone s ≡ ObjectsOf shapes extra → Has s v → (fs : Fields) × (v ≡ Object fs) × IsTrue (fields_have shapes fs) × IsTrue (extra || all_mentioned shapes fs)
+alone-object Any shapes extra v e h = absurd (cc)
+alone-object (OfKinds simple arrays objects) shapes extra (Object fs) e h =
+    let is : objects ≡ ObjectsOf shapes extra = grind arith in
+    let both = and_parts (fields_have shapes fs) (extra || all_mentioned shapes fs) (rw is at h) in
+    (fs, refl, both.0, both.1)
+alone-object (OfKinds simple arrays objects) shapes extra (Array ts) e h = absurd (grind (arith, arrays_have-inhabited arrays ts h))
+alone-object (OfKinds simple arrays objects) shapes extra v e h = absurd (grind arith)
+
+place-reached : (i : ℕ) (arrays : Arrays) (s part : Shape) (v : Tree) → arrays_alone s ≡ arrays → place_in i arrays ≡ Some part → Has s v → Reached (Index i) part v
+place-reached i WithoutArrays s part v alone e h = absurd (cc)
+place-reached i (ArraysOf first rest) s part v alone e h =
+    let one = alone-array s first rest v alone h in
+    let found = place-element i first part (has rest) one.0 e one.2 in
+    (found.0, found.2, λ q w names. rw (one.1) (names_in_element found.1 names))
+
+field-reached : (n : List ℕ) (objects : Objects) (s part : Shape) (v : Tree) → objects_alone s ≡ objects → field_in n objects ≡ Some part → Has s v → Reached (Name n) part v
+field-reached n WithoutObjects s part v alone e h = absurd (cc)
+field-reached n (ObjectsOf shapes extra) s part v alone e h =
+    let one = alone-object s shapes extra v alone h in
+    let found = needed-there (mention_of n shapes) (field_named n one.0) part e (λ m at. mention_holds n shapes one.0 m at one.2) in
+    (found.0, found.2, λ q w names. rw (one.1) (names_in_field found.1 names))
 
 part-reached : (segment : Segment) (s part : Shape) (v : Tree) → part_at segment s ≡ Some part → Has s v → Reached segment part v
-part-reached segment Any part v e h = absurd (cc)
-part-reached segment Never part v e h = absurd (cc)
-part-reached segment NullShape part v e h = absurd (cc)
-part-reached segment BooleanShape part v e h = absurd (cc)
-part-reached segment IntegerShape part v e h = absurd (cc)
-part-reached segment StringShape part v e h = absurd (cc)
-part-reached (Name n) (ArrayShape first rest) part v e h = absurd (cc)
-part-reached (Index i) (ArrayShape first rest) part v e h = place-reached i first rest part v e h
-part-reached (Name n) (ObjectShape shapes extra) part v e h = field-reached n shapes extra part v e h
-part-reached (Index i) (ObjectShape shapes extra) part v e h = absurd (cc)
+part-reached (Name n) s part v e h = field-reached n (objects_alone s) s part v refl e h
+part-reached (Index i) s part v e h = place-reached i (arrays_alone s) s part v refl e h
 
 -- a refusal counted further stays one
 further-Ok : (r : Result Shape ℕ) (t : Shape) → one_further r ≡ Ok t → r ≡ Ok t

@@ -5,17 +5,17 @@ use Rattle.std.specs.Option.{option_map}
 use Rattle.std.specs.Prelude.{option_and_then}
 use Rattle.std.proofs.lemmas.Bool.{and_parts, and_from, false≢true}
 use Rattle.std.proofs.lemmas.Slice.Eq.{bytes_eq-Decides}
-use Rattle.asl_model.specs.Tree.{Tree, Null, Boolean, Integer, Text, Array, Object, Trees, NoTrees, AndTree, Fields, field_named, element}
+use Rattle.asl_model.specs.Tree.{Tree, Array, Object, Trees, NoTrees, AndTree, Fields, field_named, element}
 use Rattle.asl_model.specs.Path.{Segment, Name, Index}
 use Rattle.asl_model.specs.Placing.{placed, built, only_field, in_or_built, set_field, set_element}
-use Rattle.asl_model.specs.Shape.{Shape, Any, Never, NullShape, BooleanShape, IntegerShape, StringShape, ArrayShape, ObjectShape, Shapes, NoShapes, AndShape, FieldShapes, NoFieldShapes, AndFieldShape, Has, has, elements_have, fields_have, there_and, all_mentioned}
+use Rattle.asl_model.specs.Shape.{Shape, Arrays, WithoutArrays, ArraysOf, Objects, WithoutObjects, ObjectsOf, ArrayShape, ObjectShape, Shapes, NoShapes, AndShape, FieldShapes, NoFieldShapes, AndFieldShape, Has, has, elements_have, fields_have, there_and, all_mentioned}
 use Rattle.asl_model.specs.ShapeOrder.{mention_of, set_mention, join}
-use Rattle.asl_model.specs.ShapeFlow.{put, put_under, put_in_place, put_mentioned, array_with, object_with, around, built_shape, join_results, set_place, place_at}
+use Rattle.asl_model.specs.ShapeFlow.{arrays_alone, objects_alone, put, put_in_arrays, put_in_objects, put_in_place, put_mentioned, array_with, object_with, around, built_shape, join_results, set_place, place_at}
 use Rattle.asl_model.proofs.ShapeInhabited.{has-inhabited}
 use Rattle.asl_model.proofs.ShapeInside.{mention_holds, closed_absent}
 use Rattle.asl_model.proofs.ShapeFields.{set-have, set-mentioned}
 use Rattle.asl_model.proofs.ShapeJoin.{join_above}
-use Rattle.asl_model.proofs.ShapeLook.{place-element}
+use Rattle.asl_model.proofs.ShapeLook.{place-element, alone-array, alone-object}
 
 -- there is a tree, and it has the shape
 abbrev pub GivesOne : Shape → Option Tree → Type 0
@@ -56,8 +56,8 @@ set_element-has (suc i) (AndShape o others) further s r u (AndTree t ts) at h m 
     let both = and_parts (has o t) (elements_have others further ts) h in
     and_from (has o t) (elements_have (set_place i r others) further (set_element i u ts)) both.0 (set_element-has i others further s r u ts at both.1 m)
 
-put_in_array : (go_on : Shape → Result Shape ℕ) (place : Tree → Option Tree) → Goes go_on place → (i : ℕ) (first : Shapes) (rest r : Shape) (ts : Trees) → put_in_place go_on i first rest (place_at i first) ≡ Ok r → IsTrue (elements_have first (has rest) ts) → GivesOne r (option_map (λ u. Array (set_element i u ts)) (option_and_then place (element i ts)))
-put_in_array go_on place goes i first rest r ts e h = at_place (place_at i first) refl e
+put_in_element : (go_on : Shape → Result Shape ℕ) (place : Tree → Option Tree) → Goes go_on place → (i : ℕ) (first : Shapes) (rest r : Shape) (ts : Trees) → put_in_place go_on i first rest (place_at i first) ≡ Ok r → IsTrue (elements_have first (has rest) ts) → GivesOne r (option_map (λ u. Array (set_element i u ts)) (option_and_then place (element i ts)))
+put_in_element go_on place goes i first rest r ts e h = at_place (place_at i first) refl e
   where
     with_result : (s : Shape) (inner : Result Shape ℕ) → place_at i first ≡ Some s → go_on s ≡ inner → array_with i first rest inner ≡ Ok r → GivesOne r (option_map (λ u. Array (set_element i u ts)) (option_and_then place (element i ts)))
     with_result s (Ok w) at is e' =
@@ -100,9 +100,9 @@ field-gives go_on place goes extra path w x (Some (false, s)) (Some v) r m itsel
     let given = goes s parts.0 v parts.2 (holds (false, s) refl) in
     (given.0, given.1, rw parts.4 at (join_above.left parts.0 parts.1 given.0 given.2))
 
-put_in_object : (n : List ℕ) (shapes : FieldShapes) (extra : Bool) (r : Shape) (inner : Result Shape ℕ) (value : Option Tree) (fs : Fields) → ((t : Shape) → inner ≡ Ok t → GivesOne t value) → object_with n shapes extra inner ≡ Ok r → IsTrue (fields_have shapes fs) → IsTrue (extra || all_mentioned shapes fs) → GivesOne r (option_map (λ u. Object (set_field n u fs)) value)
-put_in_object n shapes extra r (Err k) value fs gives e h mentioned = absurd (cc)
-put_in_object n shapes extra r (Ok w) value fs gives e h mentioned =
+put_in_field : (n : List ℕ) (shapes : FieldShapes) (extra : Bool) (r : Shape) (inner : Result Shape ℕ) (value : Option Tree) (fs : Fields) → ((t : Shape) → inner ≡ Ok t → GivesOne t value) → object_with n shapes extra inner ≡ Ok r → IsTrue (fields_have shapes fs) → IsTrue (extra || all_mentioned shapes fs) → GivesOne r (option_map (λ u. Object (set_field n u fs)) value)
+put_in_field n shapes extra r (Err k) value fs gives e h mentioned = absurd (cc)
+put_in_field n shapes extra r (Ok w) value fs gives e h mentioned =
     let given = gives w refl in
     let whole : ObjectShape (set_mention n true w shapes) extra ≡ r = cc in
     let member : Has (ObjectShape (set_mention n true w shapes) extra) (Object (set_field n given.0 fs)) = and_from (fields_have (set_mention n true w shapes) (set_field n given.0 fs)) (extra || all_mentioned (set_mention n true w shapes) (set_field n given.0 fs)) (set-have n true w given.0 shapes fs h given.2) (others extra given.0 mentioned) in
@@ -112,41 +112,32 @@ put_in_object n shapes extra r (Ok w) value fs gives e h mentioned =
     others true u all = refl
     others false u all = set-mentioned n true w u shapes fs all
 
--- a tree under a segment
-put_under-gives : (go_on : Shape → Result Shape ℕ) (segment : Segment) (path : List Segment) (w s r : Shape) (x v : Tree) → Goes go_on (placed path x) → Has w x → ((t : Shape) (v' : Tree) → path ≡ [] → w ≡ t → GivesOne t (placed path x v')) → put_under go_on segment path w s ≡ Ok r → Has s v → GivesOne r (placed (segment ∷ path) x v)
-put_under-gives go_on segment path w Any r x v goes m itself e h = absurd (cc)
-put_under-gives go_on segment path w Never r x v goes m itself e h = absurd (cc)
-put_under-gives go_on segment path w NullShape r x v goes m itself e h = absurd (cc)
-put_under-gives go_on segment path w BooleanShape r x v goes m itself e h = absurd (cc)
-put_under-gives go_on segment path w IntegerShape r x v goes m itself e h = absurd (cc)
-put_under-gives go_on segment path w StringShape r x v goes m itself e h = absurd (cc)
-put_under-gives go_on (Name n) path w (ArrayShape first rest) r x v goes m itself e h = absurd (cc)
-put_under-gives go_on (Index i) path w (ObjectShape shapes extra) r x v goes m itself e h = absurd (cc)
-put_under-gives go_on (Index i) path w (ArrayShape first rest) r x Null goes m itself e h = absurd (false≢true h)
-put_under-gives go_on (Index i) path w (ArrayShape first rest) r x (Boolean b) goes m itself e h = absurd (false≢true h)
-put_under-gives go_on (Index i) path w (ArrayShape first rest) r x (Integer k) goes m itself e h = absurd (false≢true h)
-put_under-gives go_on (Index i) path w (ArrayShape first rest) r x (Text s) goes m itself e h = absurd (false≢true h)
-put_under-gives go_on (Index i) path w (ArrayShape first rest) r x (Array ts) goes m itself e h = put_in_array go_on (placed path x) goes i first rest r ts e h
-put_under-gives go_on (Index i) path w (ArrayShape first rest) r x (Object fs) goes m itself e h = absurd (false≢true h)
-put_under-gives go_on (Name n) path w (ObjectShape shapes extra) r x Null goes m itself e h = absurd (false≢true h)
-put_under-gives go_on (Name n) path w (ObjectShape shapes extra) r x (Boolean b) goes m itself e h = absurd (false≢true h)
-put_under-gives go_on (Name n) path w (ObjectShape shapes extra) r x (Integer k) goes m itself e h = absurd (false≢true h)
-put_under-gives go_on (Name n) path w (ObjectShape shapes extra) r x (Text s) goes m itself e h = absurd (false≢true h)
-put_under-gives go_on (Name n) path w (ObjectShape shapes extra) r x (Array ts) goes m itself e h = absurd (false≢true h)
-put_under-gives go_on (Name n) path w (ObjectShape shapes extra) r x (Object fs) goes m itself e h =
-    let both = and_parts (fields_have shapes fs) (extra || all_mentioned shapes fs) h in
-    put_in_object n shapes extra r (put_mentioned go_on extra path w (mention_of n shapes)) (in_or_built (placed path x) (built path x) (field_named n fs)) fs (λ t at. field-gives go_on (placed path x) goes extra path w x (mention_of n shapes) (field_named n fs) t m itself (λ mention found. mention_holds n shapes fs mention found both.0) (closed_absent n shapes extra fs both.1) at) e both.0 both.1
-
 -- placing at the empty path gives the tree itself
 itself_placed : (path : List Segment) (w : Shape) (x : Tree) → Has w x → (t : Shape) (v : Tree) → path ≡ [] → w ≡ t → GivesOne t (placed path x v)
 itself_placed [] w x m t v e is = (x, refl, rw is at m)
 itself_placed (segment ∷ path) w x m t v e is = absurd (cc)
+
+-- Trees under a segment
+
+put_in_arrays-gives : (go_on : Shape → Result Shape ℕ) (i : ℕ) (path : List Segment) (arrays : Arrays) (s r : Shape) (x v : Tree) → Goes go_on (placed path x) → arrays_alone s ≡ arrays → put_in_arrays go_on i arrays ≡ Ok r → Has s v → GivesOne r (placed (Index i ∷ path) x v)
+put_in_arrays-gives go_on i path WithoutArrays s r x v goes alone e h = absurd (cc)
+put_in_arrays-gives go_on i path (ArraysOf first rest) s r x v goes alone e h =
+    let one = alone-array s first rest v alone h in
+    rw (one.1) (put_in_element go_on (placed path x) goes i first rest r one.0 e one.2)
+
+put_in_objects-gives : (go_on : Shape → Result Shape ℕ) (n : List ℕ) (path : List Segment) (objects : Objects) (w s r : Shape) (x v : Tree) → Goes go_on (placed path x) → Has w x → objects_alone s ≡ objects → put_in_objects go_on n path w objects ≡ Ok r → Has s v → GivesOne r (placed (Name n ∷ path) x v)
+put_in_objects-gives go_on n path WithoutObjects w s r x v goes m alone e h = absurd (cc)
+put_in_objects-gives go_on n path (ObjectsOf shapes extra) w s r x v goes m alone e h =
+    let one = alone-object s shapes extra v alone h in
+    let mention = mention_of n shapes in
+    let value = field_named n one.0 in
+    let inner : (t : Shape) → put_mentioned go_on extra path w mention ≡ Ok t → GivesOne t (in_or_built (placed path x) (built path x) value) = λ t at. field-gives go_on (placed path x) goes extra path w x mention value t m (itself_placed path w x m) (λ found there. mention_holds n shapes one.0 found there one.2) (closed_absent n shapes extra one.0 one.3) at in
+    rw (one.1) (put_in_field n shapes extra r (put_mentioned go_on extra path w mention) (in_or_built (placed path x) (built path x) value) one.0 inner e one.2 one.3)
 
 pub put-gives : (path : List Segment) (w s r : Shape) (x v : Tree) → put path w s ≡ Ok r → Has w x → Has s v → GivesOne r (placed path x v)
 put-gives [] w s r x v e m h =
     let found : Ok w ≡ Ok r = rw (has-inhabited s v h, has-inhabited w x m) at e in
     let is : w ≡ r = cc in
     (x, refl, rw is at m)
-put-gives (segment ∷ path) w s r x v e m h =
-    let found : put_under (put path w) segment path w s ≡ Ok r = rw (has-inhabited s v h, has-inhabited w x m) at e in
-    put_under-gives (put path w) segment path w s r x v (λ s' r' v' e' h'. put-gives path w s' r' x v' e' m h') m (itself_placed path w x m) found h
+put-gives (Name n ∷ path) w s r x v e m h = put_in_objects-gives (put path w) n path (objects_alone s) w s r x v (λ s' r' v' e' h'. put-gives path w s' r' x v' e' m h') m refl (rw (has-inhabited s v h, has-inhabited w x m) at e) h
+put-gives (Index i ∷ path) w s r x v e m h = put_in_arrays-gives (put path w) i path (arrays_alone s) s r x v (λ s' r' v' e' h'. put-gives path w s' r' x v' e' m h') refl (rw (has-inhabited s v h, has-inhabited w x m) at e) h

@@ -1,12 +1,12 @@
 -- Where `rule_shape` answers a shape, the rule's test is true or false of every tree, and those of which it is true
 -- have that shape.
-use Rattle.std.proofs.Common.{◌≡◌, ℕ, zero, suc, List, [], ◌∷◌, Bool, true, false, ◌||◌, not, Option, Some, None, Result, Ok, Err, refl, sym, ◌∙◌, subst}
+use Rattle.std.proofs.Common.{◌≡◌, ℕ, zero, suc, List, [], ◌∷◌, Bool, true, false, ◌||◌, not, Option, Some, None, Result, Ok, Err, refl, sym, ◌∙◌, subst, arith}
 use Rattle.std.specs.Prelude.{IsTrue, is_some, option_and_then, if◌then◌else◌}
 use Rattle.std.proofs.lemmas.Bool.{and_parts, and_from, false≢true}
-use Rattle.asl_model.specs.Tree.{Tree, Null, Boolean, Integer, Text, Array, Object, Trees, NoTrees, AndTree, Fields, field_named, element}
+use Rattle.asl_model.specs.Tree.{Tree, Array, Object, Trees, NoTrees, AndTree, Fields, field_named, element}
 use Rattle.asl_model.specs.Path.{Segment, Name, Index, child, named_by}
 use Rattle.asl_model.specs.Test.{Test, And, Or, Not, Compare, StringMatches, IsOfKind, IsPresent, Tests, NoTests, AndTest, Operand, Constant, AtPath, truth, all_true, some_true, and_truth, or_truth, same_truth, operand_value, compares, matches, as_text, is_of_kind}
-use Rattle.asl_model.specs.Shape.{Shape, Any, Never, NullShape, BooleanShape, IntegerShape, StringShape, ArrayShape, ObjectShape, Shapes, NoShapes, AndShape, FieldShapes, Has, has, elements_have, fields_have, all_mentioned}
+use Rattle.asl_model.specs.Shape.{Shape, Any, OfKinds, ArraysOf, ObjectsOf, ArrayShape, Shapes, NoShapes, AndShape, FieldShapes, Has, has, elements_have, fields_have, all_mentioned}
 use Rattle.asl_model.specs.ShapeOrder.{mention_of, set_mention}
 use Rattle.asl_model.specs.ShapeFlow.{look, place_at, set_place, narrow_mention, narrow_place, narrow_under, where_present, if_found, both_found, operand_shape, unless_none, where_inhabited, narrowed_by, true_of, each_true_of, each_found, rule_shape}
 use Rattle.asl_model.proofs.ShapeInhabited.{has-inhabited}
@@ -62,25 +62,11 @@ mention-narrowed go_on present keeps n shapes extra u fs at here h mentioned = g
 -- a tree in which the segment names nothing has no shape of presence to have
 under-narrowed : (go_on : Shape → Shape) (present : Tree → Bool) → Keeps go_on present → (segment : Segment) (s : Shape) (v u : Tree) → child segment v ≡ Some u → IsTrue (present u) → Has s v → Has (narrow_under go_on segment s) v
 under-narrowed go_on present keeps segment Any v u at here h = refl
-under-narrowed go_on present keeps segment Never v u at here h = absurd (false≢true h)
-under-narrowed go_on present keeps segment NullShape Null u at here h = absurd (cc)
-under-narrowed go_on present keeps segment NullShape v u at here h = absurd (false≢true h)
-under-narrowed go_on present keeps segment BooleanShape (Boolean b) u at here h = absurd (cc)
-under-narrowed go_on present keeps segment BooleanShape v u at here h = absurd (false≢true h)
-under-narrowed go_on present keeps segment IntegerShape (Integer n) u at here h = absurd (cc)
-under-narrowed go_on present keeps segment IntegerShape v u at here h = absurd (false≢true h)
-under-narrowed go_on present keeps segment StringShape (Text t) u at here h = absurd (cc)
-under-narrowed go_on present keeps segment StringShape v u at here h = absurd (false≢true h)
-under-narrowed go_on present keeps (Name n) (ArrayShape first rest) (Array ts) u at here h = absurd (cc)
-under-narrowed go_on present keeps (Name n) (ArrayShape first rest) v u at here h = absurd (false≢true h)
-under-narrowed go_on present keeps (Index i) (ArrayShape first rest) (Array ts) u at here h = place-narrowed go_on present keeps i first rest u ts at here h
-under-narrowed go_on present keeps (Index i) (ArrayShape first rest) v u at here h = absurd (false≢true h)
-under-narrowed go_on present keeps (Name n) (ObjectShape shapes extra) (Object fs) u at here h =
+under-narrowed go_on present keeps (Index i) (OfKinds simple (ArraysOf first rest) objects) (Array ts) u at here h = place-narrowed go_on present keeps i first rest u ts at here h
+under-narrowed go_on present keeps (Name n) (OfKinds simple arrays (ObjectsOf shapes extra)) (Object fs) u at here h =
     let both = and_parts (fields_have shapes fs) (extra || all_mentioned shapes fs) h in
     mention-narrowed go_on present keeps n shapes extra u fs at here both.0 both.1
-under-narrowed go_on present keeps (Name n) (ObjectShape shapes extra) v u at here h = absurd (false≢true h)
-under-narrowed go_on present keeps (Index i) (ObjectShape shapes extra) (Object fs) u at here h = absurd (cc)
-under-narrowed go_on present keeps (Index i) (ObjectShape shapes extra) v u at here h = absurd (false≢true h)
+under-narrowed go_on present keeps segment s v u at here h = absurd (grind arith)
 
 -- a tree in which the path names something keeps its shape narrowed
 present-narrowed : (path : List Segment) (s : Shape) (v : Tree) → IsTrue (is_some (named_by path v)) → Has s v → Has (where_present path s) v

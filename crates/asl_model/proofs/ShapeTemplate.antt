@@ -9,14 +9,13 @@ use Rattle.asl_model.specs.Path.{Segment, Name, Index, named_by}
 use Rattle.asl_model.specs.Intrinsic.{Reference, InInput, ItemIndex, InItem, Function, StatesArray, StatesArrayLength, StatesFormat, Call, CallOf, Argument, NullArgument, BooleanArgument, IntegerArgument, TextArgument, PathArgument, CallArgument, Arguments, NoArguments, AndArgument, Pieces, literal_pieces, Item, referred, call_value, argument_value, argument_values, applied, array_length, length_of, formatted, holes_filled, joined_by_holes, format_text}
 use Rattle.asl_model.specs.Template.{Template, Literal, FromPath, FromCall, ArrayTemplate, ObjectTemplate, Templates, NoTemplates, AndTemplate, FieldTemplates, NoFieldTemplates, AndFieldTemplate, Failure, below, unless_value, failures, element_failures, field_failures, filled, elements_filled, fields_filled, template_value}
 use Rattle.asl_model.specs.Faults.{DataFlowError, ParameterPathFailure, IntrinsicFailure}
-use Rattle.asl_model.specs.Shape.{Shape, Never, NullShape, BooleanShape, IntegerShape, StringShape, ArrayShape, Shapes, NoShapes, AndShape, Has, has, elements_have, fields_have, all_mentioned, inhabited}
-use Rattle.asl_model.specs.ShapeOrder.{is_null_shape, is_boolean_shape, is_integer_shape, is_string_shape}
-use Rattle.asl_model.specs.ShapeFlow.{ItemHas, look, literal, literals, literal_fields, Doubt, or_missing, reference_shape, unless_doubtful, is_formattable, all_formattable, is_array_shape, how_many_shapes, and_argument, array_length_of, fits_holes, format_of, value_shape, call_shape, argument_shape, argument_shapes, doubts_at, or_may_fail, or_none, doubts, element_doubts, field_doubts, filled_shape, filled_elements, filled_fields, unless_doubts, template_shape}
+use Rattle.asl_model.specs.Shape.{Shape, Any, OfKinds, Never, NullShape, BooleanShape, IntegerShape, StringShape, Arrays, WithoutArrays, ArraysOf, ArrayShape, Shapes, NoShapes, AndShape, Has, has, has_arrays, each_element, elements_have, fields_have, all_mentioned, inhabited}
+use Rattle.asl_model.specs.ShapeFlow.{arrays_alone, ItemHas, look, literal, literals, literal_fields, Doubt, or_missing, reference_shape, unless_doubtful, is_formattable, all_formattable, is_array_shape, how_many_shapes, and_argument, array_length_of, fits_holes, format_of, value_shape, call_shape, argument_shape, argument_shapes, doubts_at, or_may_fail, or_none, doubts, element_doubts, field_doubts, filled_shape, filled_elements, filled_fields, unless_doubts, template_shape}
 use Rattle.asl_model.proofs.PlacingExactly.{found}
 use Rattle.asl_model.proofs.FindingScopes.{append-none}
-use Rattle.asl_model.proofs.ShapeInhabited.{has-inhabited}
+use Rattle.asl_model.proofs.ShapeInhabited.{has-inhabited, arrays_have-inhabited, objects_have-inhabited, no_tree}
 use Rattle.asl_model.proofs.ShapeFields.{have-set_front, set_front-mentioned}
-use Rattle.asl_model.proofs.ShapeLook.{look-names}
+use Rattle.asl_model.proofs.ShapeLook.{look-names, alone-array}
 use Rattle.asl_model.proofs.ShapePut.{GivesOne}
 
 -- a path that is found names a tree of its shape
@@ -46,36 +45,23 @@ reference-gives (InItem path) input (Some s) r v (Some it) e h m = look-gives pa
 
 -- Calls
 
--- what has a shape of one kind
-null-word : (t : Tree) → Has NullShape t → (word : List ℕ) × (format_text t ≡ Some word)
-null-word Null h = (_, refl)
-null-word t h = absurd (false≢true h)
-
-boolean-word : (t : Tree) → Has BooleanShape t → (word : List ℕ) × (format_text t ≡ Some word)
-boolean-word (Boolean b) h = (_, refl)
-boolean-word t h = absurd (false≢true h)
-
-integer-word : (t : Tree) → Has IntegerShape t → (word : List ℕ) × (format_text t ≡ Some word)
-integer-word (Integer n) h = (_, refl)
-integer-word t h = absurd (false≢true h)
-
-text-word : (t : Tree) → Has StringShape t → (word : List ℕ) × (format_text t ≡ Some word)
-text-word (Text s) h = (_, refl)
-text-word t h = absurd (false≢true h)
-
-kind-word : (s : Shape) (t : Tree) → IsTrue (false || is_null_shape s || is_boolean_shape s || is_integer_shape s || is_string_shape s) → Has s t → (word : List ℕ) × (format_text t ≡ Some word)
-kind-word NullShape t h m = null-word t m
-kind-word BooleanShape t h m = boolean-word t m
-kind-word IntegerShape t h m = integer-word t m
-kind-word StringShape t h m = text-word t m
-kind-word s t h m = absurd (false≢true h)
-
+-- neither an array nor an object has a shape that can be put in a text
 formattable-word : (s : Shape) (t : Tree) → IsTrue (is_formattable s) → Has s t → (word : List ℕ) × (format_text t ≡ Some word)
-formattable-word s t h m = kind-word s t (rw (has-inhabited s t m) at h) m
+formattable-word s Null h m = (_, refl)
+formattable-word s (Boolean b) h m = (_, refl)
+formattable-word s (Integer n) h m = (_, refl)
+formattable-word s (Text w) h m = (w, refl)
+formattable-word Any t h m = absurd (false≢true h)
+formattable-word (OfKinds simple arrays objects) (Array ts) h m = absurd (grind (arith, arrays_have-inhabited arrays ts m))
+formattable-word (OfKinds simple arrays objects) (Object fs) h m = absurd (grind (arith, objects_have-inhabited objects fs m))
+
+-- one tree more than there are shapes
+none-further : (t : Tree) (ts : Trees) → IsTrue (elements_have NoShapes (has Never) (AndTree t ts)) → ⊥
+none-further t ts h = no_tree Never refl t (and_parts (has Never t) (each_element (has Never) ts) h).0
 
 holes-fill : (first : List ℕ) (pieces : List (List ℕ)) (shapes : Shapes) (ts : Trees) → length pieces ≡ how_many_shapes shapes → IsTrue (all_formattable shapes) → IsTrue (elements_have shapes (has Never) ts) → (text : List ℕ) × (holes_filled first pieces ts ≡ Some text)
 holes-fill first [] NoShapes NoTrees e h m = (first, refl)
-holes-fill first [] NoShapes (AndTree t ts) e h m = absurd (false≢true m)
+holes-fill first [] NoShapes (AndTree t ts) e h m = absurd (none-further t ts m)
 holes-fill first [] (AndShape s others) ts e h m = absurd (omega arith)
 holes-fill first (piece ∷ pieces) NoShapes ts e h m = absurd (omega arith)
 holes-fill first (piece ∷ pieces) (AndShape s others) NoTrees e h m = absurd (false≢true m)
@@ -112,16 +98,17 @@ format-gives literal_text (AndShape s others) (AndTree t ts) r e m = go literal_
         fitting l at is
     go l false at e' = absurd (cc)
 
-array-number : (s : Shape) (t : Tree) → IsTrue (is_array_shape s) → Has s t → GivesOne IntegerShape (length_of t)
-array-number (ArrayShape first rest) (Array ts) h m = (Integer (pos (count ts)), refl, refl)
-array-number (ArrayShape first rest) t h m = absurd (false≢true m)
-array-number s t h m = absurd (false≢true h)
+array-number : (arrays : Arrays) (s : Shape) (t : Tree) → arrays_alone s ≡ arrays → IsTrue (has_arrays arrays) → Has s t → GivesOne IntegerShape (length_of t)
+array-number WithoutArrays s t e h m = absurd (false≢true h)
+array-number (ArraysOf first rest) s t e h m =
+    let one = alone-array s first rest t e m in
+    (Integer (pos (count one.0)), ap length_of (one.1), refl)
 
 number-gives : (shapes : Shapes) (values : Trees) (r : Shape) → array_length_of (Some shapes) ≡ Some r → IsTrue (elements_have shapes (has Never) values) → GivesOne r (array_length values)
 number-gives NoShapes values r e m = absurd (cc)
 number-gives (AndShape s (AndShape other others)) values r e m = absurd (cc)
 number-gives (AndShape s NoShapes) NoTrees r e m = absurd (false≢true m)
-number-gives (AndShape s NoShapes) (AndTree t (AndTree u ts)) r e m = absurd (false≢true (and_parts (has s t) false m).1)
+number-gives (AndShape s NoShapes) (AndTree t (AndTree u ts)) r e m = absurd (none-further u ts (and_parts (has s t) (elements_have NoShapes (has Never) (AndTree u ts)) m).1)
 number-gives (AndShape s NoShapes) (AndTree t NoTrees) r e m = go (not (inhabited s) || is_array_shape s) refl e
   where
     member : Has s t
@@ -130,7 +117,7 @@ number-gives (AndShape s NoShapes) (AndTree t NoTrees) r e m = go (not (inhabite
     go : (fits : Bool) → (not (inhabited s) || is_array_shape s) ≡ fits → (if fits then Some IntegerShape else None) ≡ Some r → GivesOne r (length_of t)
     go true at e' =
         let is : IntegerShape ≡ r = cc in
-        subst (λ (z : Shape). GivesOne z (length_of t)) is (array-number s t (rw (has-inhabited s t member) at at) member)
+        subst (λ (z : Shape). GivesOne z (length_of t)) is (array-number (arrays_alone s) s t refl (rw (has-inhabited s t member) at at) member)
     go false at e' = absurd (cc)
 
 value-gives : (function : Function) (literal_text : Option Pieces) (shapes : Shapes) (values : Trees) (r : Shape) → value_shape function literal_text (Some shapes) ≡ Some r → IsTrue (elements_have shapes (has Never) values) → GivesOne r (applied function literal_text values)

@@ -4,7 +4,7 @@ use Rattle.std.specs.Prelude.{IsTrue, bytes_eq}
 use Rattle.std.proofs.lemmas.Bool.{and_parts, and_from, or_cases, or_left, or_right, false≢true}
 use Rattle.std.proofs.lemmas.Slice.Eq.{bytes_eq-Decides}
 use Rattle.asl_model.specs.Tree.{Tree, Null, Boolean, Integer, Text, Array, Object, Trees, NoTrees, AndTree, Fields, NoFields, AndField, field_named}
-use Rattle.asl_model.specs.Shape.{Shape, Any, Never, NullShape, BooleanShape, IntegerShape, StringShape, ArrayShape, ObjectShape, Shapes, NoShapes, AndShape, FieldShapes, NoFieldShapes, AndFieldShape, Has, has, elements_have, each_element, fields_have, there_and, mentions, all_mentioned, IsMentioned, mentioned_first, mentioned_later, AreMentioned, none_to_mention, and_mentioned, IsValid, any_is_valid, null_is_valid, boolean_is_valid, integer_is_valid, string_is_valid, array_is_valid, open_object_is_valid, closed_object_is_valid, HasValidElements, no_further_element, further_element_is_valid, first_element_is_valid, HasValidFields, no_field_mentioned, present_field_is_valid, absent_field_is_valid}
+use Rattle.asl_model.specs.Shape.{Shape, Any, OfKinds, WithoutArrays, ArraysOf, WithoutObjects, ObjectsOf, Shapes, NoShapes, AndShape, FieldShapes, NoFieldShapes, AndFieldShape, Has, has, elements_have, each_element, fields_have, there_and, mentions, all_mentioned, IsMentioned, mentioned_first, mentioned_later, AreMentioned, none_to_mention, and_mentioned, IsValid, any_is_valid, null_is_valid, boolean_is_valid, integer_is_valid, text_is_valid, array_is_valid, open_object_is_valid, closed_object_is_valid, HasValidElements, no_further_element, further_element_is_valid, first_element_is_valid, HasValidFields, no_field_mentioned, present_field_is_valid, absent_field_is_valid}
 
 -- ---- mentions
 
@@ -40,10 +40,10 @@ mutual
   -- a tree that is valid passes
   valid_has : {s : Shape} {t : Tree} → IsValid s t → Has s t
   valid_has any_is_valid = refl
-  valid_has null_is_valid = refl
-  valid_has boolean_is_valid = refl
-  valid_has integer_is_valid = refl
-  valid_has string_is_valid = refl
+  valid_has (null_is_valid h) = h
+  valid_has (boolean_is_valid h) = h
+  valid_has (integer_is_valid h) = h
+  valid_has (text_is_valid h) = h
   valid_has (array_is_valid h) = valid_elements h
   valid_has (open_object_is_valid {shapes = shapes} {fs = fs} h) = and_from (fields_have shapes fs) true (valid_fields h) refl
   valid_has (closed_object_is_valid {shapes = shapes} {fs = fs} h mentioned) = and_from (fields_have shapes fs) (all_mentioned shapes fs) (valid_fields h) (mentions_found mentioned)
@@ -79,22 +79,17 @@ mutual
   -- a tree that passes is valid
   has_valid : (s : Shape) (t : Tree) → Has s t → IsValid s t
   has_valid Any t h = any_is_valid
-  has_valid Never t h = absurd (false≢true h)
-  has_valid NullShape Null h = null_is_valid
-  has_valid NullShape t h = absurd (false≢true h)
-  has_valid BooleanShape (Boolean b) h = boolean_is_valid
-  has_valid BooleanShape t h = absurd (false≢true h)
-  has_valid IntegerShape (Integer n) h = integer_is_valid
-  has_valid IntegerShape t h = absurd (false≢true h)
-  has_valid StringShape (Text s) h = string_is_valid
-  has_valid StringShape t h = absurd (false≢true h)
-  has_valid (ArrayShape first rest) (Array ts) h = array_is_valid (elements_valid first rest ts (has_valid rest) h)
-  has_valid (ArrayShape first rest) t h = absurd (false≢true h)
-  has_valid (ObjectShape shapes true) (Object fs) h = open_object_is_valid (fields_valid shapes fs (and_parts (fields_have shapes fs) true h).0)
-  has_valid (ObjectShape shapes false) (Object fs) h =
+  has_valid (OfKinds simple arrays objects) Null h = null_is_valid h
+  has_valid (OfKinds simple arrays objects) (Boolean b) h = boolean_is_valid h
+  has_valid (OfKinds simple arrays objects) (Integer n) h = integer_is_valid h
+  has_valid (OfKinds simple arrays objects) (Text s) h = text_is_valid h
+  has_valid (OfKinds simple WithoutArrays objects) (Array ts) h = absurd (false≢true h)
+  has_valid (OfKinds simple (ArraysOf first rest) objects) (Array ts) h = array_is_valid (elements_valid first rest ts (has_valid rest) h)
+  has_valid (OfKinds simple arrays WithoutObjects) (Object fs) h = absurd (false≢true h)
+  has_valid (OfKinds simple arrays (ObjectsOf shapes true)) (Object fs) h = open_object_is_valid (fields_valid shapes fs (and_parts (fields_have shapes fs) true h).0)
+  has_valid (OfKinds simple arrays (ObjectsOf shapes false)) (Object fs) h =
       let both = and_parts (fields_have shapes fs) (all_mentioned shapes fs) h in
       closed_object_is_valid (fields_valid shapes fs both.0) (found_mentions fs shapes both.1)
-  has_valid (ObjectShape shapes extra) t h = absurd (false≢true h)
 
   -- so are elements
   elements_valid : (first : Shapes) (rest : Shape) (ts : Trees) → ((t : Tree) → Has rest t → IsValid rest t) → IsTrue (elements_have first (has rest) ts) → HasValidElements first rest ts

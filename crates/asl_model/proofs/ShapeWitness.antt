@@ -1,6 +1,7 @@
--- Where `inhabited` is true of a proper shape, a proper tree has it: null for any and for null, false, 0, the empty
--- text, the array of the witnesses of the first elements, the object of those of the needed fields.
-use Rattle.std.proofs.Common.{◌≡◌, ℕ, List, [], Bool, true, false, ◌||◌, Some, None, refl, sym, Ordering}
+-- Where `inhabited` is true of a proper shape, a proper tree has it: of the first of these that
+-- it takes the array of the witnesses of the first elements, false, 0, null, the object of those of the needed fields, the
+-- empty text.
+use Rattle.std.proofs.Common.{◌≡◌, ℕ, List, [], Bool, true, false, ◌||◌, Some, None, refl, sym, Ordering, arith}
 use Rattle.std.specs.Prelude.{IsTrue, bytes_eq, if◌then◌else◌, pos}
 use Rattle.std.specs.Ordering.{nat_cmp, match_ordering}
 use Rattle.std.specs.declared.cmp.Ordering.TheVariants.{Less, Equal, Greater}
@@ -9,7 +10,7 @@ use Rattle.std.proofs.lemmas.Bool.{and_parts, and_from, false≢true}
 use Rattle.std.proofs.lemmas.Cmp.{nat_list_cmp_total, tied_itself}
 use Rattle.std.proofs.lemmas.Slice.Eq.{bytes_eq-Decides}
 use Rattle.asl_model.specs.Tree.{Tree, Null, Boolean, Integer, Text, Array, Object, Trees, NoTrees, AndTree, Fields, NoFields, AndField, field_named, before_fields, comes_before, IsProper, AreProper, HasProperFields}
-use Rattle.asl_model.specs.Shape.{Shape, Any, Never, NullShape, BooleanShape, IntegerShape, StringShape, ArrayShape, ObjectShape, Shapes, NoShapes, AndShape, FieldShapes, NoFieldShapes, AndFieldShape, Has, has, elements_have, fields_have, there_and, mentions, all_mentioned, before_mentions, IsProperShape, AreProperShapes, AreProperFields, inhabited, all_inhabited, needed_inhabited}
+use Rattle.asl_model.specs.Shape.{Simple, Shape, Any, OfKinds, Arrays, WithoutArrays, ArraysOf, Objects, WithoutObjects, ObjectsOf, Shapes, NoShapes, AndShape, FieldShapes, NoFieldShapes, AndFieldShape, Has, has, arrays_have, objects_have, elements_have, fields_have, there_and, mentions, all_mentioned, before_mentions, IsProperShape, AreProperArrays, AreProperObjects, AreProperShapes, AreProperFields, inhabited, some_array, some_object, all_inhabited, needed_inhabited}
 use Rattle.asl_model.proofs.ShapeInside.{all_mentioned-from}
 
 comes_before-Less : (m n : List ℕ) → IsTrue (comes_before m n) → slice_cmp nat_cmp m n ≡ Less
@@ -60,17 +61,26 @@ unfolding BeforeAll
 before_all n NoFieldShapes h proper = tt
 before_all n (AndFieldShape m needed s shapes) h proper = (h, before_all n shapes (before_more n m shapes h proper.1) proper.3)
 
+-- the first of the trees that is taken: of an array, a truth value, a number, null, an object, and else of a text
+first_taken : Bool → Simple → Bool → Tree → Tree → Tree
+first_taken arrays simple objects array object =
+    if arrays then array else (if simple.boolean then Boolean false else (if simple.integer then Integer (pos 0) else (if simple.null then Null else (if objects then object else Text []))))
+
 mutual
+  unfolding first_taken
+
   -- a tree that has the shape, where one has
   pub witness : Shape → Tree
   witness Any = Null
-  witness Never = Null
-  witness NullShape = Null
-  witness BooleanShape = Boolean false
-  witness IntegerShape = Integer (pos 0)
-  witness StringShape = Text []
-  witness (ArrayShape first rest) = Array (witnesses first)
-  witness (ObjectShape shapes extra) = Object (needed_witnesses shapes)
+  witness (OfKinds simple arrays objects) = first_taken (some_array arrays) simple (some_object objects) (Array (array_witness arrays)) (Object (object_witness objects))
+
+  array_witness : Arrays → Trees
+  array_witness WithoutArrays = NoTrees
+  array_witness (ArraysOf first rest) = witnesses first
+
+  object_witness : Objects → Fields
+  object_witness WithoutObjects = NoFields
+  object_witness (ObjectsOf shapes extra) = needed_witnesses shapes
 
   witnesses : Shapes → Trees
   witnesses NoShapes = NoTrees
@@ -79,6 +89,32 @@ mutual
   needed_witnesses : FieldShapes → Fields
   needed_witnesses NoFieldShapes = NoFields
   needed_witnesses (AndFieldShape n needed s shapes) = if needed then AndField n (witness s) (needed_witnesses shapes) else needed_witnesses shapes
+
+-- what holds of each tree that may be the first holds of it
+taken-proper : (arrays : Bool) (simple : Simple) (objects : Bool) (array object : Tree) → IsProper array → IsProper object → IsProper (first_taken arrays simple objects array object)
+unfolding first_taken
+taken-proper arrays simple objects array object a o = go arrays simple.boolean simple.integer simple.null objects
+  where
+    go : (x b i n y : Bool) → IsProper (if x then array else (if b then Boolean false else (if i then Integer (pos 0) else (if n then Null else (if y then object else Text [])))))
+    go true b i n y = a
+    go false true i n y = tt
+    go false false true n y = tt
+    go false false false true y = tt
+    go false false false false true = o
+    go false false false false false = ([], (refl, refl))
+
+-- the first that is taken has the shape
+taken-has : (simple : Simple) (arrays : Arrays) (objects : Objects) (ts : Trees) (fs : Fields) → (IsTrue (some_array arrays) → IsTrue (arrays_have arrays ts)) → (IsTrue (some_object objects) → IsTrue (objects_have objects fs)) → IsTrue (inhabited (OfKinds simple arrays objects)) → Has (OfKinds simple arrays objects) (first_taken (some_array arrays) simple (some_object objects) (Array ts) (Object fs))
+unfolding first_taken
+taken-has simple arrays objects ts fs a o h = go (some_array arrays) refl simple.boolean refl simple.integer refl simple.null refl (some_object objects) refl
+  where
+    go : (x : Bool) → some_array arrays ≡ x → (b : Bool) → simple.boolean ≡ b → (i : Bool) → simple.integer ≡ i → (n : Bool) → simple.null ≡ n → (y : Bool) → some_object objects ≡ y → Has (OfKinds simple arrays objects) (if x then Array ts else (if b then Boolean false else (if i then Integer (pos 0) else (if n then Null else (if y then Object fs else Text [])))))
+    go true ex b eb i ei n en y ey = a ex
+    go false ex true eb i ei n en y ey = eb
+    go false ex false eb true ei n en y ey = ei
+    go false ex false eb false ei true en y ey = en
+    go false ex false eb false ei false en true ey = o ey
+    go false ex false eb false ei false en false ey = grind arith
 
 before_needed : (n : List ℕ) (shapes : FieldShapes) → BeforeAll n shapes → IsTrue (before_fields n (needed_witnesses shapes))
 unfolding BeforeAll witness
@@ -116,13 +152,15 @@ mutual
 
   witness-proper : (s : Shape) → IsProperShape s → IsProper (witness s)
   witness-proper Any proper = tt
-  witness-proper Never proper = tt
-  witness-proper NullShape proper = tt
-  witness-proper BooleanShape proper = tt
-  witness-proper IntegerShape proper = tt
-  witness-proper StringShape proper = ([], (refl, refl))
-  witness-proper (ArrayShape first rest) proper = witnesses-proper first proper.0
-  witness-proper (ObjectShape shapes extra) proper = needed-proper shapes proper
+  witness-proper (OfKinds simple arrays objects) proper = taken-proper (some_array arrays) simple (some_object objects) (Array (array_witness arrays)) (Object (object_witness objects)) (array-proper arrays proper.1) (object-proper objects proper.2)
+
+  array-proper : (arrays : Arrays) → AreProperArrays arrays → AreProper (array_witness arrays)
+  array-proper WithoutArrays proper = tt
+  array-proper (ArraysOf first rest) proper = witnesses-proper first proper.0
+
+  object-proper : (objects : Objects) → AreProperObjects objects → HasProperFields (object_witness objects)
+  object-proper WithoutObjects proper = tt
+  object-proper (ObjectsOf shapes extra) proper = needed-proper shapes proper
 
   witnesses-proper : (first : Shapes) → AreProperShapes first → AreProper (witnesses first)
   witnesses-proper NoShapes proper = tt
@@ -138,13 +176,15 @@ mutual
 
   witness-has : (s : Shape) → IsProperShape s → IsTrue (inhabited s) → Has s (witness s)
   witness-has Any proper h = refl
-  witness-has Never proper h = absurd (false≢true h)
-  witness-has NullShape proper h = refl
-  witness-has BooleanShape proper h = refl
-  witness-has IntegerShape proper h = refl
-  witness-has StringShape proper h = refl
-  witness-has (ArrayShape first rest) proper h = witnesses-have first (has rest) proper.0 h
-  witness-has (ObjectShape shapes extra) proper h = and_from (fields_have shapes (needed_witnesses shapes)) (extra || all_mentioned shapes (needed_witnesses shapes)) (needed-have shapes proper h) (closed extra)
+  witness-has (OfKinds simple arrays objects) proper h = taken-has simple arrays objects (array_witness arrays) (object_witness objects) (array-has arrays proper.1) (object-has objects proper.2) h
+
+  array-has : (arrays : Arrays) → AreProperArrays arrays → IsTrue (some_array arrays) → IsTrue (arrays_have arrays (array_witness arrays))
+  array-has WithoutArrays proper h = absurd (false≢true h)
+  array-has (ArraysOf first rest) proper h = witnesses-have first (has rest) proper.0 h
+
+  object-has : (objects : Objects) → AreProperObjects objects → IsTrue (some_object objects) → IsTrue (objects_have objects (object_witness objects))
+  object-has WithoutObjects proper h = absurd (false≢true h)
+  object-has (ObjectsOf shapes extra) proper h = and_from (fields_have shapes (needed_witnesses shapes)) (extra || all_mentioned shapes (needed_witnesses shapes)) (needed-have shapes proper h) (closed extra)
     where
       closed : (more : Bool) → IsTrue (more || all_mentioned shapes (needed_witnesses shapes))
       closed true = refl

@@ -1,86 +1,48 @@
 -- A proper shape is spelled by the tree that is written for it.
-use Rattle.std.proofs.Common.{◌≡◌, ℕ, suc, ℤ, pos, List, [], ◌∷◌, ◌++◌, Bool, true, false, not, Some, None, IsTrue, if◌then◌else◌, bytes_eq, Ordering, Less, Equal, Greater, refl, ap, ap₂, ◌∙◌}
+use Rattle.std.proofs.Common.{◌≡◌, ℕ, suc, pos, List, [], ◌∷◌, ◌++◌, Bool, true, false, not, codes, Some, IsTrue, if◌then◌else◌, bytes_eq, Ordering, Less, Equal, Greater, refl, ap, ap₂, subst, ◌∙◌, arith}
 use Rattle.std.specs.Ordering.{nat_cmp, match_ordering, int_eq, ordering_reverse}
 use Rattle.std.specs.Cmp.Lexicographic.{slice_cmp}
 use Rattle.std.proofs.lemmas.Bool.{and_from, or_from, not_from_false, false≢true}
 use Rattle.std.proofs.lemmas.Bool.Decides.{Decides-int_eq}
 use Rattle.std.proofs.lemmas.Cmp.{nat_list_cmp_total, nat_list_eq_equiv}
-use Rattle.asl_model.specs.Tree.{Tree, Integer, Array, Object, Trees, comes_before, count}
-use Rattle.asl_model.specs.Shape.{Shape, Any, Never, NullShape, BooleanShape, IntegerShape, StringShape, ArrayShape, ObjectShape, Shapes, NoShapes, AndShape, FieldShapes, NoFieldShapes, AndFieldShape, mentions, before_mentions, insert_mention, IsProperShape, AreProperShapes, AreProperFields}
-use Rattle.asl_model.specs.ShapeSpelling.{shape_of, shapes_of, element_shapes, properties_of, field_shapes, shape_faults, shapes_faults, element_faults, properties_faults, field_faults, min_items_faults, element_count, required_faults, texts_among, are_texts, are_distinct, is_among, with_mention_needed, with_needed, with_all_needed, unless, NotAShape, MinItems, SpellsShape}
-use Rattle.asl_model.specs.ShapeOrder.{is_any_shape}
+use Rattle.asl_model.specs.Tree.{Tree, Array, Object, Trees, comes_before, count}
+use Rattle.asl_model.specs.Shape.{Simple, Shape, Any, Never, OfKinds, WithoutArrays, ArraysOf, Objects, WithoutObjects, ObjectsOf, ArrayShape, ObjectShape, type_names, at_most_one, Shapes, NoShapes, AndShape, FieldShapes, NoFieldShapes, AndFieldShape, mentions, before_mentions, insert_mention, IsProperShape, AreProperShapes, AreProperFields}
+use Rattle.asl_model.specs.ShapeSpelling.{shape_of, element_shapes, properties_of, field_shapes, shape_faults, element_faults, properties_faults, field_faults, required_faults, texts_among, are_texts, are_distinct, is_among, with_mention_needed, with_needed, with_all_needed, unless, NotAShape, MinItems, SpellsShape}
 use Rattle.asl_model.specs.ShapeFlow.{how_many_shapes}
-use Rattle.asl_model.specs.Written.{some_shapes, some_fields, needed_names, some_names, as_texts, array_fields, object_fields, written_shape, written_shapes, written_fields}
+use Rattle.asl_model.specs.Written.{some_fields, needed_names, some_names, as_texts, type_field, object_fields, closed_first, written_shape, written_shapes, written_fields}
 use Rattle.asl_model.proofs.ShapeWitness.{comes_before-trans, comes_before-other, bytes_eq-comm}
 
+-- the tree that is written for the shape spells it
+abbrev pub IsSpelled : Shape → Type 0
+IsSpelled s = SpellsShape (written_shape s) s
+
 -- ---- arrays
-
-array_reads : (a b : Bool) (items : Tree) (n : ℕ) (first : Tree) → shape_of (Object (array_fields a b items n first)) ≡ ArrayShape (if b then shapes_of first else NoShapes) (if a then shape_of items else Any)
-array_reads true true items n first = refl
-array_reads true false items n first = refl
-array_reads false true items n first = refl
-array_reads false false items n first = refl
-
-array_wrong : (a b : Bool) (items : Tree) (n : ℕ) (first : Tree) → shape_faults (Object (array_fields a b items n first)) ≡ (if b then shapes_faults first else []) ++ ((if a then shape_faults items else []) ++ min_items_faults (if b then Some (Integer (pos n)) else None) (if b then element_count (Some first) else 0))
-array_wrong true true items n first = refl
-array_wrong true false items n first = refl
-array_wrong false true items n first = refl
-array_wrong false false items n first = refl
-
-any_back : (s : Shape) → is_any_shape s ≡ true → Any ≡ s
-any_back Any e = refl
-any_back Never e = absurd (false≢true e)
-any_back NullShape e = absurd (false≢true e)
-any_back BooleanShape e = absurd (false≢true e)
-any_back IntegerShape e = absurd (false≢true e)
-any_back StringShape e = absurd (false≢true e)
-any_back (ArrayShape first rest) e = absurd (false≢true e)
-any_back (ObjectShape shapes extra) e = absurd (false≢true e)
-
-items_back : (a : Bool) (s : Shape) (t : Tree) → is_any_shape s ≡ a → shape_of t ≡ s → (if not a then shape_of t else Any) ≡ s
-items_back true s t e h = any_back s e
-items_back false s t e h = h
-
-items_right : (a : Bool) (t : Tree) → shape_faults t ≡ [] → (if a then shape_faults t else []) ≡ []
-items_right true t h = h
-items_right false t h = refl
-
-first_back : (first : Shapes) → element_shapes (written_shapes first) ≡ first → (if some_shapes first then shapes_of (Array (written_shapes first)) else NoShapes) ≡ first
-first_back NoShapes h = refl
-first_back (AndShape s others) h = h
 
 counted : (first : Shapes) → count (written_shapes first) ≡ how_many_shapes first
 counted NoShapes = refl
 counted (AndShape s others) = ap suc (counted others)
 
-int_same : (n : ℤ) → int_eq n n ≡ true
-int_same n = (Decides-int_eq n n).1 refl
+-- the trees of shapes spell them
+record SpellShapes (first : Shapes) : Type 0 where
+  none_wrong : element_faults (written_shapes first) ≡ []
+  same : element_shapes (written_shapes first) ≡ first
 
-first_right : (first : Shapes) → element_faults (written_shapes first) ≡ [] → ((if some_shapes first then shapes_faults (Array (written_shapes first)) else []) ≡ []) × (min_items_faults (if some_shapes first then Some (Integer (pos (how_many_shapes first))) else None) (if some_shapes first then element_count (Some (Array (written_shapes first))) else 0) ≡ [])
-first_right NoShapes h = (refl, refl)
-first_right (AndShape s others) h = (h, ap (λ n. unless (int_eq (pos (how_many_shapes (AndShape s others))) (pos n)) MinItems) (counted (AndShape s others)) ∙ ap (λ b. unless b MinItems) (int_same (pos (how_many_shapes (AndShape s others)))))
+number_right : (first : Shapes) → unless (int_eq (pos (how_many_shapes first)) (pos (count (written_shapes first)))) MinItems ≡ []
+number_right first = rw (counted first, (Decides-int_eq (pos (how_many_shapes first)) (pos (how_many_shapes first))).1 refl) refl
+
+array_spells : (first : Shapes) (rest : Shape) → SpellShapes first → IsSpelled rest → IsSpelled (ArrayShape first rest)
+array_spells NoShapes Any f r = record { none_wrong = refl; same = refl }
+array_spells NoShapes (OfKinds simple arrays objects) f r = record { none_wrong = rw r.none_wrong refl; same = ap (ArrayShape NoShapes) r.same }
+array_spells (AndShape s others) Any f r = record { none_wrong = rw (f.none_wrong, number_right (AndShape s others)) refl; same = ap (λ first. ArrayShape first Any) f.same }
+array_spells (AndShape s others) (OfKinds simple arrays objects) f r = record { none_wrong = rw (f.none_wrong, r.none_wrong, number_right (AndShape s others)) refl; same = ap₂ ArrayShape f.same r.same }
 
 -- ---- objects
 
-object_reads : (extra p r : Bool) (properties : Tree) (names : Trees) → shape_of (Object (object_fields extra p r properties names)) ≡ ObjectShape (with_all_needed extra (if r then texts_among names else []) (if p then properties_of properties else NoFieldShapes)) extra
-object_reads true true true properties names = refl
-object_reads true true false properties names = refl
-object_reads true false true properties names = refl
-object_reads true false false properties names = refl
-object_reads false true true properties names = refl
-object_reads false true false properties names = refl
-object_reads false false true properties names = refl
-object_reads false false false properties names = refl
+object_reads : (extra p r : Bool) (properties : Tree) (names : Trees) → shape_of (Object (closed_first (not extra) (object_fields p r properties names (type_field (codes "object" ∷ []))))) ≡ ObjectShape (with_all_needed extra (if r then texts_among names else []) (if p then properties_of properties else NoFieldShapes)) extra
+object_reads extra p r properties names = grind arith
 
-object_wrong : (extra p r : Bool) (properties : Tree) (names : Trees) → shape_faults (Object (object_fields extra p r properties names)) ≡ (if p then properties_faults properties else []) ++ ((if r then required_faults (Some (Array names)) else []) ++ [])
-object_wrong true true true properties names = refl
-object_wrong true true false properties names = refl
-object_wrong true false true properties names = refl
-object_wrong true false false properties names = refl
-object_wrong false true true properties names = refl
-object_wrong false true false properties names = refl
-object_wrong false false true properties names = refl
-object_wrong false false false properties names = refl
+object_wrong : (extra p r : Bool) (properties : Tree) (names : Trees) → shape_faults (Object (closed_first (not extra) (object_fields p r properties names (type_field (codes "object" ∷ []))))) ≡ (if p then properties_faults properties else []) ++ ((if r then required_faults (Some (Array names)) else []) ++ [])
+object_wrong extra p r properties names = grind arith
 
 -- the fields, none of them needed
 abbrev unneeded : FieldShapes → FieldShapes
@@ -117,8 +79,7 @@ before_needed n (AndFieldShape m false s shapes) h p = before_needed n shapes (b
 -- ---- needed names
 
 front_in_both : (n : List ℕ) (b : Bool) (s : Shape) (test : Bool) (these others : FieldShapes) → (if test then AndFieldShape n b s these else AndFieldShape n b s others) ≡ AndFieldShape n b s (if test then these else others)
-front_in_both n b s true these others = refl
-front_in_both n b s false these others = refl
+front_in_both n b s test these others = grind arith
 
 -- a mention stays in front of the needed fields whose names come behind
 past_one : (extra : Bool) (n : List ℕ) (b : Bool) (s : Shape) (m : List ℕ) (shapes : FieldShapes) → IsTrue (comes_before n m) → with_needed extra m (AndFieldShape n b s shapes) ≡ AndFieldShape n b s (with_needed extra m shapes)
@@ -167,66 +128,61 @@ names_right : (ns : List (List ℕ)) → are_distinct ns ≡ true → (if some_n
 names_right [] d = refl
 names_right (n ∷ ns) d = ap (λ b. unless b NotAShape) (and_from _ _ (texts_right (n ∷ ns)) (ap are_distinct (texts_back (n ∷ ns)) ∙ d))
 
-properties_back : (shapes : FieldShapes) → field_shapes (written_fields shapes) ≡ unneeded shapes → (if some_fields shapes then properties_of (Object (written_fields shapes)) else NoFieldShapes) ≡ unneeded shapes
-properties_back NoFieldShapes h = refl
-properties_back (AndFieldShape n needed s shapes) h = h
+-- the trees of the mentioned fields spell these
+record SpellFields (shapes : FieldShapes) : Type 0 where
+  none_wrong : field_faults (written_fields shapes) ≡ []
+  same : field_shapes (written_fields shapes) ≡ unneeded shapes
 
-properties_right : (shapes : FieldShapes) → field_faults (written_fields shapes) ≡ [] → (if some_fields shapes then properties_faults (Object (written_fields shapes)) else []) ≡ []
+properties_back : (shapes : FieldShapes) → SpellFields shapes → (if some_fields shapes then properties_of (Object (written_fields shapes)) else NoFieldShapes) ≡ unneeded shapes
+properties_back NoFieldShapes h = refl
+properties_back (AndFieldShape n needed s shapes) h = h.same
+
+properties_right : (shapes : FieldShapes) → SpellFields shapes → (if some_fields shapes then properties_faults (Object (written_fields shapes)) else []) ≡ []
 properties_right NoFieldShapes h = refl
-properties_right (AndFieldShape n needed s shapes) h = h
+properties_right (AndFieldShape n needed s shapes) h = h.none_wrong
+
+object_spells : (shapes : FieldShapes) (extra : Bool) → AreProperFields shapes → SpellFields shapes → IsSpelled (ObjectShape shapes extra)
+object_spells shapes extra p h =
+    let ns = needed_names shapes in
+    let properties = Object (written_fields shapes) in
+    record {
+      none_wrong = object_wrong extra (some_fields shapes) (some_names ns) properties (as_texts ns) ∙ rw (properties_right shapes h, names_right ns (distinct_needed shapes p)) refl;
+      same = object_reads extra (some_fields shapes) (some_names ns) properties (as_texts ns) ∙ rw (names_back ns, properties_back shapes h, restored extra shapes p) refl;
+    }
 
 -- ---- all shapes
 
-mutual
-  pub shape_back : (s : Shape) → IsProperShape s → shape_of (written_shape s) ≡ s
-  shape_back Any p = refl
-  shape_back Never p = refl
-  shape_back NullShape p = refl
-  shape_back BooleanShape p = refl
-  shape_back IntegerShape p = refl
-  shape_back StringShape p = refl
-  shape_back (ArrayShape first rest) p =
-      array_reads (not (is_any_shape rest)) (some_shapes first) (written_shape rest) (how_many_shapes first) (Array (written_shapes first))
-      ∙ ap₂ ArrayShape (first_back first (shapes_back first p.0)) (items_back (is_any_shape rest) rest (written_shape rest) refl (shape_back rest p.1))
-  shape_back (ObjectShape shapes extra) p =
-      object_reads extra (some_fields shapes) (some_names (needed_names shapes)) (Object (written_fields shapes)) (as_texts (needed_names shapes))
-      ∙ ap₂ (λ ns fs. ObjectShape (with_all_needed extra ns fs) extra) (names_back (needed_names shapes)) (properties_back shapes (fields_back shapes p))
-      ∙ ap (λ fs. ObjectShape fs extra) (restored extra shapes p)
+simple_back : (simple : Simple) → IsTrue (at_most_one (type_names simple WithoutArrays WithoutObjects)) → shape_of (written_shape (OfKinds simple WithoutArrays WithoutObjects)) ≡ OfKinds simple WithoutArrays WithoutObjects
+simple_back simple h = grind arith
 
-  shapes_back : (first : Shapes) → AreProperShapes first → element_shapes (written_shapes first) ≡ first
-  shapes_back NoShapes p = refl
-  shapes_back (AndShape s others) p = ap₂ AndShape (shape_back s p.0) (shapes_back others p.1)
+simple_right : (simple : Simple) → IsTrue (at_most_one (type_names simple WithoutArrays WithoutObjects)) → shape_faults (written_shape (OfKinds simple WithoutArrays WithoutObjects)) ≡ []
+simple_right simple h = grind arith
 
-  fields_back : (shapes : FieldShapes) → AreProperFields shapes → field_shapes (written_fields shapes) ≡ unneeded shapes
-  fields_back NoFieldShapes p = refl
-  fields_back (AndFieldShape n needed s shapes) p = ap₂ (AndFieldShape n false) (shape_back s p.2) (fields_back shapes p.3)
+array_alone : (simple : Simple) (first : Shapes) (rest : Shape) (objects : Objects) → IsTrue (at_most_one (type_names simple (ArraysOf first rest) objects)) → ArrayShape first rest ≡ OfKinds simple (ArraysOf first rest) objects
+array_alone simple first rest objects h = grind arith
 
-both_none : {A : Type 0} {xs ys : List A} → xs ≡ [] → ys ≡ [] → xs ++ ys ≡ []
-both_none e f = ap₂ ◌++◌ e f
+object_alone : (simple : Simple) (shapes : FieldShapes) (extra : Bool) → IsTrue (at_most_one (type_names simple WithoutArrays (ObjectsOf shapes extra))) → ObjectShape shapes extra ≡ OfKinds simple WithoutArrays (ObjectsOf shapes extra)
+object_alone simple shapes extra h = grind arith
 
 mutual
-  pub shape_right : (s : Shape) → IsProperShape s → shape_faults (written_shape s) ≡ []
-  shape_right Any p = refl
-  shape_right Never p = refl
-  shape_right NullShape p = refl
-  shape_right BooleanShape p = refl
-  shape_right IntegerShape p = refl
-  shape_right StringShape p = refl
-  shape_right (ArrayShape first rest) p =
-      let firsts = first_right first (shapes_right first p.0) in
-      array_wrong (not (is_any_shape rest)) (some_shapes first) (written_shape rest) (how_many_shapes first) (Array (written_shapes first))
-      ∙ both_none firsts.0 (both_none (items_right (not (is_any_shape rest)) (written_shape rest) (shape_right rest p.1)) firsts.1)
-  shape_right (ObjectShape shapes extra) p =
-      object_wrong extra (some_fields shapes) (some_names (needed_names shapes)) (Object (written_fields shapes)) (as_texts (needed_names shapes))
-      ∙ both_none (properties_right shapes (fields_right shapes p)) (both_none (names_right (needed_names shapes) (distinct_needed shapes p)) refl)
+  pub written_spells : (s : Shape) → IsProperShape s → IsSpelled s
+  written_spells Any p = record { none_wrong = refl; same = refl }
+  written_spells (OfKinds simple WithoutArrays WithoutObjects) p = record { none_wrong = simple_right simple p.0; same = simple_back simple p.0 }
+  written_spells (OfKinds simple (ArraysOf first rest) objects) p =
+      subst IsSpelled (array_alone simple first rest objects p.0) (array_spells first rest (shapes_spell first p.1.0) (written_spells rest p.1.1))
+  written_spells (OfKinds simple WithoutArrays (ObjectsOf shapes extra)) p =
+      subst IsSpelled (object_alone simple shapes extra p.0) (object_spells shapes extra p.2 (fields_spell shapes p.2))
 
-  shapes_right : (first : Shapes) → AreProperShapes first → element_faults (written_shapes first) ≡ []
-  shapes_right NoShapes p = refl
-  shapes_right (AndShape s others) p = both_none (shape_right s p.0) (shapes_right others p.1)
+  shapes_spell : (first : Shapes) → AreProperShapes first → SpellShapes first
+  shapes_spell NoShapes p = record { none_wrong = refl; same = refl }
+  shapes_spell (AndShape s others) p =
+      let one = written_spells s p.0 in
+      let more = shapes_spell others p.1 in
+      record { none_wrong = rw (one.none_wrong, more.none_wrong) refl; same = ap₂ AndShape one.same more.same }
 
-  fields_right : (shapes : FieldShapes) → AreProperFields shapes → field_faults (written_fields shapes) ≡ []
-  fields_right NoFieldShapes p = refl
-  fields_right (AndFieldShape n needed s shapes) p = both_none (shape_right s p.2) (fields_right shapes p.3)
-
-pub written_spells : (s : Shape) → IsProperShape s → SpellsShape (written_shape s) s
-written_spells s p = record { none_wrong = shape_right s p; same = shape_back s p }
+  fields_spell : (shapes : FieldShapes) → AreProperFields shapes → SpellFields shapes
+  fields_spell NoFieldShapes p = record { none_wrong = refl; same = refl }
+  fields_spell (AndFieldShape n needed s shapes) p =
+      let one = written_spells s p.2 in
+      let more = fields_spell shapes p.3 in
+      record { none_wrong = rw (one.none_wrong, more.none_wrong) refl; same = ap₂ (AndFieldShape n false) one.same more.same }

@@ -122,7 +122,7 @@ module _ (around : Surroundings) (settings : Settings) where
   target_told m (lets_wait eff) e = next_there settings.next m _ e
   target_told m (lets_succeed eff) e = absurd (cc)
   target_told m makes_outputs e = next_there settings.next m _ e
-  target_told m (makes_items eff found there) e = next_there settings.next m _ e
+  target_told m (makes_items eff found parts there) e = next_there settings.next m _ e
 
   -- so does what a catcher hands on
   caught_told : (kind : Kind) (catcher : Catcher) → Contains settings.catchers catcher → Contains (targets_of (StateOf settings kind)) catcher.next
@@ -183,7 +183,7 @@ module _ (machine : Scope) (declared : Declared) (certificate : Certificate) (we
   started_there {n} {settings = settings} {child = child} state (starts_branch {branches = branches} {i = i} eff b) =
       let w = branch_at b in
       leads_there (start_of child) (has_branch state.has_scope state.among b) (subst (λ c. HasNamed c (start_of c)) w.1 (well.leads.branch_starts state.scope (scope_is state.has_scope) n settings branches (is_found state (scope_is state.has_scope)) i w.0))
-  started_there {n} {settings = settings} {child = child} state (starts_item {items = items} {selector = selector} eff found flows) =
+  started_there {n} {settings = settings} {child = child} state (starts_item {items = items} {selector = selector} eff found parts flows) =
       leads_there (start_of child) (has_processor state.has_scope state.among) (well.leads.processor_starts state.scope (scope_is state.has_scope) n settings items selector child (is_found state (scope_is state.has_scope)))
 
   -- ---- entries

@@ -6,20 +6,20 @@ use Rattle.serde_json.specs.Data as json
 use Rattle.asl_model.specs.Certificate.{StateShapes, Certificate}
 use Rattle.asl_model.specs.Json.{value_of, items_of, members_for}
 use Rattle.asl_model.specs.RecordShapes.{HoldsForState, HoldsForCertificate}
-use Rattle.asl_model.specs.Shape.{Shape, Any, Never, NullShape, BooleanShape, IntegerShape, StringShape, ArrayShape, ObjectShape, Shapes, NoShapes, AndShape, FieldShapes, NoFieldShapes, AndFieldShape}
+use Rattle.asl_model.specs.Shape.{Shape, Any, OfKinds, Arrays, WithoutArrays, ArraysOf, Objects, WithoutObjects, ObjectsOf, type_names, Shapes, NoShapes, AndShape, FieldShapes, NoFieldShapes, AndFieldShape}
 use Rattle.asl_model.specs.ShapeFlow.{how_many_shapes}
-use Rattle.asl_model.specs.ShapeOrder.{is_any_shape, depth, depth_of_elements, depth_of_fields}
-use Rattle.asl_model.specs.Tree.{Tree, Array, Trees, Object, Fields, NoFields, AndField}
-use Rattle.asl_model.specs.Written.{field_if, some_shapes, some_fields, needed_names, some_names, as_texts, array_fields, object_fields, written_shape, written_shapes, written_fields, written_list, written_entries, with_branches, with_item, written_state, written_certificate}
+use Rattle.asl_model.specs.ShapeOrder.{is_any_shape, depth, depth_of_arrays, depth_of_objects, depth_of_elements, depth_of_fields}
+use Rattle.asl_model.specs.Tree.{Tree, Boolean, Array, Trees, Object, Fields, NoFields, AndField}
+use Rattle.asl_model.specs.Written.{field_if, some_shapes, some_fields, needed_names, some_names, as_texts, type_field, array_fields, object_fields, are_closed, written_kinds, written_shape, with_written_arrays, with_written_objects, written_shapes, written_fields, written_list, written_entries, with_branches, with_item, written_state, written_certificate}
 
 -- how deep a tree nests, and the deepest of several
 abbrev pub nesting : Tree → ℕ
 nesting t = json.depth (value_of t)
 
-abbrev elements_nesting : Trees → ℕ
+abbrev pub elements_nesting : Trees → ℕ
 elements_nesting ts = json.items_depth (items_of ts)
 
-abbrev fields_nesting : Fields → ℕ
+abbrev pub fields_nesting : Fields → ℕ
 fields_nesting fs = json.members_depth (members_for fs)
 
 -- ---- shapes
@@ -32,32 +32,46 @@ texts_nest : (k : ℕ) (ns : List (List ℕ)) → elements_nesting (as_texts ns)
 texts_nest k [] = omega arith
 texts_nest k (n ∷ ns) = omega (arith, texts_nest k ns)
 
-array_nests : (k : ℕ) (has_items has_first : Bool) (items : Tree) (number : ℕ) (first : Trees) → nesting items ≤ suc k → elements_nesting first ≤ k → fields_nesting (array_fields has_items has_first items number (Array first)) ≤ suc k
-array_nests k has_items has_first items number first h further =
+pub array_nests : (k : ℕ) (has_items has_first : Bool) (items : Tree) (number : ℕ) (first : Trees) (others : Fields) → nesting items ≤ suc k → elements_nesting first ≤ k → fields_nesting others ≤ suc k → fields_nesting (array_fields has_items has_first items number (Array first) others) ≤ suc k
+array_nests k has_items has_first items number first others h further rest =
     field_if_nests (suc k) has_items (codes "items") items _ h
     (field_if_nests (suc k) has_first (codes "minItems") _ _ (omega arith)
-    (field_if_nests (suc k) has_first (codes "prefixItems") (Array first) _ (omega arith) (omega arith)))
+    (field_if_nests (suc k) has_first (codes "prefixItems") (Array first) others (omega arith) rest))
 
-object_nests : (k : ℕ) (extra has_fields has_needed : Bool) (properties : Fields) (names : List (List ℕ)) → fields_nesting properties ≤ k → fields_nesting (object_fields extra has_fields has_needed (Object properties) (as_texts names)) ≤ suc k
-object_nests k extra has_fields has_needed properties names h =
-    field_if_nests (suc k) (not extra) (codes "additionalProperties") _ _ (omega arith)
-    (field_if_nests (suc k) has_fields (codes "properties") (Object properties) _ (omega arith)
-    (field_if_nests (suc k) has_needed (codes "required") (Array (as_texts names)) _ (omega (arith, texts_nest k names)) (omega arith)))
+pub object_nests : (k : ℕ) (has_fields has_needed : Bool) (properties : Fields) (names : List (List ℕ)) (others : Fields) → fields_nesting properties ≤ k → fields_nesting others ≤ suc k → fields_nesting (object_fields has_fields has_needed (Object properties) (as_texts names) others) ≤ suc k
+object_nests k has_fields has_needed properties names others h rest =
+    field_if_nests (suc k) has_fields (codes "properties") (Object properties) _ (omega arith)
+    (field_if_nests (suc k) has_needed (codes "required") (Array (as_texts names)) others (omega (arith, texts_nest k names)) rest)
+
+pub type_nests : (k : ℕ) (names : List (List ℕ)) → fields_nesting (type_field names) ≤ suc k
+type_nests k [] = omega arith
+type_nests k (n ∷ []) = omega arith
+type_nests k (n ∷ m ∷ names) = omega (arith, texts_nest k (n ∷ m ∷ names))
+
+pub kinds_nest : (k : ℕ) (closed : Bool) (names : List (List ℕ)) (keywords : Fields) → fields_nesting keywords ≤ suc k → nesting (written_kinds closed names keywords) ≤ 2 + k
+kinds_nest k closed [] keywords h = omega arith
+kinds_nest k closed (n ∷ names) keywords h =
+    omega (arith, field_if_nests (suc k) closed (codes "additionalProperties") (Boolean false) keywords (omega arith) h)
 
 mutual
   -- what is written of a shape
   pub shape_nests : (s : Shape) → nesting (written_shape s) ≤ 2 * depth s
   shape_nests Any = omega arith
-  shape_nests Never = omega arith
-  shape_nests NullShape = omega arith
-  shape_nests BooleanShape = omega arith
-  shape_nests IntegerShape = omega arith
-  shape_nests StringShape = omega arith
-  shape_nests (ArrayShape first rest) =
-      let k : ℕ = 2 * max (depth_of_elements first) (depth rest) in
-      omega (arith, array_nests k (not (is_any_shape rest)) (some_shapes first) (written_shape rest) (how_many_shapes first) (written_shapes first) (omega (arith, shape_nests rest)) (omega (arith, shapes_nest first)))
-  shape_nests (ObjectShape shapes extra) =
-      omega (arith, object_nests (2 * depth_of_fields shapes) extra (some_fields shapes) (some_names (needed_names shapes)) (written_fields shapes) (needed_names shapes) (fields_nest shapes))
+  shape_nests (OfKinds simple arrays objects) =
+      let names = type_names simple arrays objects in
+      let k : ℕ = 2 * max (depth_of_arrays arrays) (depth_of_objects objects) in
+      let keywords = with_written_arrays arrays (with_written_objects objects (type_field names)) in
+      omega (arith, kinds_nest k (are_closed objects) names keywords (arrays_nest k arrays _ (omega arith) (objects_nest k objects _ (omega arith) (type_nests k names))))
+
+  arrays_nest : (k : ℕ) (arrays : Arrays) (others : Fields) → 2 * depth_of_arrays arrays ≤ k → fields_nesting others ≤ suc k → fields_nesting (with_written_arrays arrays others) ≤ suc k
+  arrays_nest k WithoutArrays others h rest = rest
+  arrays_nest k (ArraysOf first further) others h rest =
+      array_nests k (not (is_any_shape further)) (some_shapes first) (written_shape further) (how_many_shapes first) (written_shapes first) others (omega (arith, shape_nests further)) (omega (arith, shapes_nest first)) rest
+
+  objects_nest : (k : ℕ) (objects : Objects) (others : Fields) → 2 * depth_of_objects objects ≤ k → fields_nesting others ≤ suc k → fields_nesting (with_written_objects objects others) ≤ suc k
+  objects_nest k WithoutObjects others h rest = rest
+  objects_nest k (ObjectsOf shapes extra) others h rest =
+      object_nests k (some_fields shapes) (some_names (needed_names shapes)) (written_fields shapes) (needed_names shapes) others (omega (arith, fields_nest shapes)) rest
 
   shapes_nest : (first : Shapes) → elements_nesting (written_shapes first) ≤ 2 * depth_of_elements first
   shapes_nest NoShapes = omega arith

@@ -10,8 +10,7 @@ use Rattle.asl_model.specs.Machine.{Catcher, Settings, Delay, Seconds, SecondsPa
 use Rattle.asl_model.specs.Machine.{TimestampPath, Scope, Kind, Pass, Task, Choice, Wait, Succeed}
 use Rattle.asl_model.specs.Machine.{Fail, Parallel, Map, Scopes, NoScopes, AndScope, start_of}
 use Rattle.asl_model.specs.Shape.{Shape, Never, Shapes, ArrayShape, inhabited}
-use Rattle.asl_model.specs.ShapeOrder.{is_integer_shape, is_string_shape}
-use Rattle.asl_model.specs.ShapeFlow.{look, literal, rule_shape, leave, Flow}
+use Rattle.asl_model.specs.ShapeFlow.{is_integer_shape, is_string_shape, look, literal, rule_shape, leave, Flow}
 use Rattle.asl_model.specs.Certificate.{StateShapes, takes_of}
 use Rattle.asl_model.specs.Finding.{Surroundings, Breach, FindingFault, PathMayBeMissing, WrongKind, ResultMayNotFit}
 use Rattle.asl_model.specs.Finding.{NoDefault, PayloadNotTaken, OutputNotCertified, NextInput, ScopeOutput, BranchInput}

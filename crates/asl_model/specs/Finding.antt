@@ -10,10 +10,11 @@ use Rattle.asl_model.specs.Machine.{Catcher, Settings, Delay, Seconds, SecondsPa
 use Rattle.asl_model.specs.Machine.{Scope, ScopeOf, States, NoStates, AndState, State, StateOf, Kind, Pass}
 use Rattle.asl_model.specs.Machine.{Task, Choice, Wait, Succeed, Fail, Parallel, Map, Scopes, NoScopes}
 use Rattle.asl_model.specs.Machine.{AndScope, start_of, is_task, names_state, names_task}
-use Rattle.asl_model.specs.Shape.{Shape, Any, Never, NullShape, BooleanShape, IntegerShape, StringShape, ArrayShape}
-use Rattle.asl_model.specs.Shape.{ObjectShape, Shapes, NoShapes, AndShape, NoFieldShapes, AndFieldShape, inhabited}
-use Rattle.asl_model.specs.ShapeOrder.{sub, join, joined_with_each, is_integer_shape, is_string_shape}
-use Rattle.asl_model.specs.ShapeFlow.{look, put, literal, template_shape, rule_shape, leave, Flow, FlowFault, MissingAt}
+use Rattle.asl_model.specs.Shape.{Shape, Never, StringShape, ArrayShape, ObjectShape, Arrays, WithoutArrays, ArraysOf}
+use Rattle.asl_model.specs.Shape.{Shapes, NoShapes, AndShape, NoFieldShapes, AndFieldShape, inhabited}
+use Rattle.asl_model.specs.ShapeOrder.{sub, join, joined_with_each}
+use Rattle.asl_model.specs.ShapeFlow.{look, put, literal, arrays_alone, is_integer_shape, is_string_shape}
+use Rattle.asl_model.specs.ShapeFlow.{template_shape, rule_shape, leave, Flow, FlowFault, MissingAt}
 use Rattle.asl_model.specs.ShapeFlow.{FailsAt, MisfitAt, flow_then, through_path, through_template, template_flow}
 use Rattle.asl_model.specs.Certificate.{TaskShapes, Declared, StateShapes, Certificate, under, certified}
 use Rattle.asl_model.specs.Certificate.{branches_in, is_map, branch_end, item_end, takes_of, gives_of}
@@ -205,16 +206,14 @@ at_each_place s (AndShape other others) = AndShape s (at_each_place s others)
 abbrev pub map_result : Shape → Shapes → Shape → Shape
 map_result item first rest = ArrayShape (at_each_place item first) (if inhabited rest then item else Never)
 
--- the shapes of an array's first elements and of its further ones, where the shape is one of arrays
+-- the shapes of the first elements and of the further ones
+abbrev pub elements_of : Arrays → Option (Shapes × Shape)
+elements_of WithoutArrays = None
+elements_of (ArraysOf first rest) = Some (first, rest)
+
+-- those of a shape that arrays alone have
 abbrev pub array_parts : Shape → Option (Shapes × Shape)
-array_parts Any = None
-array_parts Never = None
-array_parts NullShape = None
-array_parts BooleanShape = None
-array_parts IntegerShape = None
-array_parts StringShape = None
-array_parts (ArrayShape first rest) = Some (first, rest)
-array_parts (ObjectShape shapes extra) = None
+array_parts s = elements_of (arrays_alone s)
 
 -- goes on with the shapes of the elements of what `ItemsPath` names
 abbrev pub with_elements : (Shapes × Shape → List Breach) → Option (Shapes × Shape) → List Breach

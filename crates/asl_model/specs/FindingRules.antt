@@ -14,7 +14,8 @@ use Rattle.asl_model.specs.Machine.{Catcher, Settings, Delay, SecondsPath, Times
 use Rattle.asl_model.specs.Machine.{AndState, State, StateOf, Kind, Pass, Task, Choice, Wait, Succeed}
 use Rattle.asl_model.specs.Machine.{Parallel, Map, Scopes, AndScope, start_of, states_of}
 use Rattle.asl_model.specs.Shape.{Shape, Never, ArrayShape, Shapes, inhabited}
-use Rattle.asl_model.specs.ShapeOrder.{sub, is_integer_shape, is_string_shape}
+use Rattle.asl_model.specs.ShapeOrder.{sub}
+use Rattle.asl_model.specs.ShapeFlow.{is_integer_shape, is_string_shape}
 use Rattle.asl_model.specs.ShapeFlow.{look, put, literal, reference_shape, call_shape, Doubt, MayFail}
 use Rattle.asl_model.specs.ShapeFlow.{MayBeMissing, is_array_shape, rule_shape, through_path}
 use Rattle.asl_model.specs.ShapeFlow.{through_template, through_placing, WithResult, WithInput, leaving, leave}
@@ -24,7 +25,7 @@ use Rattle.asl_model.specs.Finding.{FindingFault, NotCertified, NotAState, TaskU
 use Rattle.asl_model.specs.Finding.{PathMayBeMissing, WrongKind, ResultMayNotFit, IntrinsicMayFail, NoDefault}
 use Rattle.asl_model.specs.Finding.{PayloadNotTaken, OutputNotCertified, NextInput, ScopeOutput, BranchInput}
 use Rattle.asl_model.specs.Finding.{CatchInput, Finding, Surroundings, effective_flow, as_first_elements}
-use Rattle.asl_model.specs.Finding.{element_shape, item_flow, map_result, error_output_shape, error_placed_shape}
+use Rattle.asl_model.specs.Finding.{array_parts, element_shape, item_flow, map_result, error_output_shape, error_placed_shape}
 
 -- ---- the states of a machine
 
@@ -118,9 +119,10 @@ pub data Makes (around : Surroundings) (settings : Settings) : Kind → Shape �
   makes_outputs : {branches : Scopes}
       → Makes around settings (Parallel branches) (ArrayShape (as_first_elements around.entry.branches) Never)
       (next_target settings.next)
-  makes_items : {items : List Segment} {selector : Option Template} {processor : Scope} {s item : Shape}
+  makes_items : {items : List Segment} {selector : Option Template} {processor : Scope} {s named item : Shape}
       {first : Shapes} {rest : Shape}
-      → IsEffective around settings s → look items s ≡ Ok (ArrayShape first rest) → around.entry.item ≡ Some item
+      → IsEffective around settings s → look items s ≡ Ok named → array_parts named ≡ Some (first, rest)
+      → around.entry.item ≡ Some item
       → Makes around settings (Map items selector processor) (map_result item first rest)
       (next_target settings.next)
 
@@ -169,9 +171,9 @@ pub data Evaluates (around : Surroundings) (settings : Settings) : Kind → Fiel
       → through_path (codes "InputPath") settings.input_path around.entry.input ≡ Ok s
       → settings.parameters ≡ Some template
       → Evaluates around settings kind (codes "Parameters") template s None
-  evaluates_item_selector : {items : List Segment} {selector : Template} {processor : Scope} {s : Shape}
+  evaluates_item_selector : {items : List Segment} {selector : Template} {processor : Scope} {s named : Shape}
       {first : Shapes} {rest : Shape}
-      → IsEffective around settings s → look items s ≡ Ok (ArrayShape first rest)
+      → IsEffective around settings s → look items s ≡ Ok named → array_parts named ≡ Some (first, rest)
       → IsTrue (inhabited (element_shape first rest))
       → Evaluates around settings (Map items (Some selector) processor) (codes "ItemSelector") selector s
       (Some (element_shape first rest))
@@ -219,9 +221,9 @@ pub data Puts (around : Surroundings) (settings : Settings) (kind : Kind) : Fiel
 pub data Starts (around : Surroundings) (settings : Settings) : Kind → FieldName → Scope → Shape → Type 0 where
   starts_branch : {branches : Scopes} {branch : Scope} {i : ℕ} {s : Shape} → IsEffective around settings s
       → IsBranch branch i branches → Starts around settings (Parallel branches) (codes "Branches") branch s
-  starts_item : {items : List Segment} {selector : Option Template} {processor : Scope} {s input : Shape}
+  starts_item : {items : List Segment} {selector : Option Template} {processor : Scope} {s named input : Shape}
       {first : Shapes} {rest : Shape}
-      → IsEffective around settings s → look items s ≡ Ok (ArrayShape first rest)
+      → IsEffective around settings s → look items s ≡ Ok named → array_parts named ≡ Some (first, rest)
       → item_flow selector s (element_shape first rest) ≡ Ok input
       → Starts around settings (Map items selector processor) (codes "ItemProcessor") processor input
 

@@ -1,23 +1,32 @@
 -- Shapes, and which trees have them (a subset of JSON Schema 2020-12, Core and Validation).
-use Rattle.std.specs.Prelude.{◌≡◌, ℤ, Bool, true, false, ◌&&◌, ◌||◌, not, IsTrue}
-use Rattle.std.specs.Prelude.{IsUtf8, Option, Some, None, bytes_eq, if◌then◌else◌}
+use Rattle.std.specs.Prelude.{◌≡◌, ℕ, ℤ, List, [], ◌∷◌, Bool, true, false, ◌&&◌, ◌||◌, not, IsTrue}
+use Rattle.std.specs.Prelude.{IsUtf8, Option, Some, None, bytes_eq, codes, if◌then◌else◌}
 use Rattle.asl_model.specs.Names.{FieldName, Bytes}
 use Rattle.asl_model.specs.Tree.{Tree, Null, Boolean, Integer, Text, Array, Object, Trees, NoTrees}
 use Rattle.asl_model.specs.Tree.{AndTree, Fields, NoFields, AndField, field_named, comes_before}
 
+-- of which of the four simple kinds a tree may be
+pub record Simple : Type 0 where
+  pub null : Bool
+  pub boolean : Bool
+  pub integer : Bool
+  pub text : Bool
+
 mutual
-  -- what is said of a tree
+  -- what is said of a tree: nothing; or of which kinds it may be, and what it looks like as an array or an object
   pub data Shape : Type 0 where
     Any : Shape
-    Never : Shape
-    NullShape : Shape
-    BooleanShape : Shape
-    IntegerShape : Shape
-    StringShape : Shape
-    -- the shapes of the first elements, and the shape of each further one
-    ArrayShape : Shapes → Shape → Shape
-    -- the mentioned fields, and whether there may be others
-    ObjectShape : FieldShapes → Bool → Shape
+    OfKinds : Simple → Arrays → Objects → Shape
+
+  -- no arrays; or those with these shapes of the first elements, and that of each further one
+  pub data Arrays : Type 0 where
+    WithoutArrays : Arrays
+    ArraysOf : Shapes → Shape → Arrays
+
+  -- no objects; or those with these mentioned fields, and whether there may be others
+  pub data Objects : Type 0 where
+    WithoutObjects : Objects
+    ObjectsOf : FieldShapes → Bool → Objects
 
   -- shapes in order, each of one place
   pub data Shapes : Type 0 where
@@ -29,59 +38,37 @@ mutual
     NoFieldShapes : FieldShapes
     AndFieldShape : FieldName → Bool → Shape → FieldShapes → FieldShapes
 
--- the tree is an array whose elements pass the test
-abbrev pub array_where : (Trees → Bool) → Tree → Bool
-array_where test Null = false
-array_where test (Boolean b) = false
-array_where test (Integer n) = false
-array_where test (Text s) = false
-array_where test (Array ts) = test ts
-array_where test (Object fs) = false
+-- none of the simple kinds
+abbrev pub no_simple : Simple
+no_simple = record { null = false; boolean = false; integer = false; text = false }
 
--- the tree is an object whose fields pass the test
-abbrev pub object_where : (Fields → Bool) → Tree → Bool
-object_where test Null = false
-object_where test (Boolean b) = false
-object_where test (Integer n) = false
-object_where test (Text s) = false
-object_where test (Array ts) = false
-object_where test (Object fs) = test fs
+-- the shape of no tree
+abbrev pub Never : Shape
+Never = OfKinds no_simple WithoutArrays WithoutObjects
 
--- the tree is null
-abbrev pub is_null : Tree → Bool
-is_null Null = true
-is_null (Boolean b) = false
-is_null (Integer n) = false
-is_null (Text s) = false
-is_null (Array ts) = false
-is_null (Object fs) = false
+-- the shape of null
+abbrev pub NullShape : Shape
+NullShape = OfKinds (record no_simple { null = true }) WithoutArrays WithoutObjects
 
--- the tree is a truth value
-abbrev pub is_boolean : Tree → Bool
-is_boolean Null = false
-is_boolean (Boolean b) = true
-is_boolean (Integer n) = false
-is_boolean (Text s) = false
-is_boolean (Array ts) = false
-is_boolean (Object fs) = false
+-- of truth values
+abbrev pub BooleanShape : Shape
+BooleanShape = OfKinds (record no_simple { boolean = true }) WithoutArrays WithoutObjects
 
--- the tree is a whole number
-abbrev pub is_integer : Tree → Bool
-is_integer Null = false
-is_integer (Boolean b) = false
-is_integer (Integer n) = true
-is_integer (Text s) = false
-is_integer (Array ts) = false
-is_integer (Object fs) = false
+-- of whole numbers
+abbrev pub IntegerShape : Shape
+IntegerShape = OfKinds (record no_simple { integer = true }) WithoutArrays WithoutObjects
 
--- the tree is a text
-abbrev pub is_text : Tree → Bool
-is_text Null = false
-is_text (Boolean b) = false
-is_text (Integer n) = false
-is_text (Text s) = true
-is_text (Array ts) = false
-is_text (Object fs) = false
+-- of texts
+abbrev pub StringShape : Shape
+StringShape = OfKinds (record no_simple { text = true }) WithoutArrays WithoutObjects
+
+-- of arrays alone
+abbrev pub ArrayShape : Shapes → Shape → Shape
+ArrayShape first rest = OfKinds no_simple (ArraysOf first rest) WithoutObjects
+
+-- of objects alone
+abbrev pub ObjectShape : FieldShapes → Bool → Shape
+ObjectShape shapes extra = OfKinds no_simple WithoutArrays (ObjectsOf shapes extra)
 
 -- every element passes the test
 abbrev pub each_element : (Tree → Bool) → Trees → Bool
@@ -107,13 +94,22 @@ abbrev mutual
   -- the tree has the shape
   pub has : Shape → Tree → Bool
   has Any t = true
-  has Never t = false
-  has NullShape t = is_null t
-  has BooleanShape t = is_boolean t
-  has IntegerShape t = is_integer t
-  has StringShape t = is_text t
-  has (ArrayShape first rest) t = array_where (elements_have first (has rest)) t
-  has (ObjectShape shapes extra) t = object_where (λ fs. fields_have shapes fs && (extra || all_mentioned shapes fs)) t
+  has (OfKinds simple arrays objects) Null = simple.null
+  has (OfKinds simple arrays objects) (Boolean b) = simple.boolean
+  has (OfKinds simple arrays objects) (Integer n) = simple.integer
+  has (OfKinds simple arrays objects) (Text s) = simple.text
+  has (OfKinds simple arrays objects) (Array ts) = arrays_have arrays ts
+  has (OfKinds simple arrays objects) (Object fs) = objects_have objects fs
+
+  -- the array of these elements is one of those arrays
+  pub arrays_have : Arrays → Trees → Bool
+  arrays_have WithoutArrays ts = false
+  arrays_have (ArraysOf first rest) ts = elements_have first (has rest) ts
+
+  -- the object of these fields is one of those objects
+  pub objects_have : Objects → Fields → Bool
+  objects_have WithoutObjects fs = false
+  objects_have (ObjectsOf shapes extra) fs = fields_have shapes fs && (extra || all_mentioned shapes fs)
 
   -- there are as many elements as first shapes, or more; each of those has its shape, each further one passes the test
   pub elements_have : Shapes → (Tree → Bool) → Trees → Bool
@@ -149,21 +145,27 @@ pub data AreMentioned : Fields → FieldShapes → Type 0 where
       → AreMentioned fs shapes → AreMentioned (AndField n t fs) shapes
 
 mutual
-  -- The tree is valid against the shape. Every tree is against Any, and none against Never; a tree of one of the four
-  -- simple kinds is against the shape of that kind; an array whose elements are, against theirs; an object whose
-  -- mentioned fields are, against theirs, where it may have other fields or has none. There is no other case.
+  -- The tree is valid against the shape. Every tree is against Any. Against a shape of kinds a tree of a simple kind is
+  -- where the shape takes that kind; an array whose elements are, against those of its arrays; an object whose
+  -- mentioned fields are, against those of its objects, where it may have other fields or has none. There is no other
+  -- case.
   pub data IsValid : Shape → Tree → Type 0 where
     any_is_valid : {t : Tree} → IsValid Any t
-    null_is_valid : IsValid NullShape Null
-    boolean_is_valid : {b : Bool} → IsValid BooleanShape (Boolean b)
-    integer_is_valid : {n : ℤ} → IsValid IntegerShape (Integer n)
-    string_is_valid : {s : Bytes} → IsValid StringShape (Text s)
-    array_is_valid : {first : Shapes} {rest : Shape} {ts : Trees} → HasValidElements first rest ts
-        → IsValid (ArrayShape first rest) (Array ts)
-    open_object_is_valid : {shapes : FieldShapes} {fs : Fields} → HasValidFields shapes fs
-        → IsValid (ObjectShape shapes true) (Object fs)
-    closed_object_is_valid : {shapes : FieldShapes} {fs : Fields} → HasValidFields shapes fs → AreMentioned fs shapes
-        → IsValid (ObjectShape shapes false) (Object fs)
+    null_is_valid : {simple : Simple} {arrays : Arrays} {objects : Objects} → IsTrue simple.null
+        → IsValid (OfKinds simple arrays objects) Null
+    boolean_is_valid : {simple : Simple} {arrays : Arrays} {objects : Objects} {b : Bool} → IsTrue simple.boolean
+        → IsValid (OfKinds simple arrays objects) (Boolean b)
+    integer_is_valid : {simple : Simple} {arrays : Arrays} {objects : Objects} {n : ℤ} → IsTrue simple.integer
+        → IsValid (OfKinds simple arrays objects) (Integer n)
+    text_is_valid : {simple : Simple} {arrays : Arrays} {objects : Objects} {s : Bytes} → IsTrue simple.text
+        → IsValid (OfKinds simple arrays objects) (Text s)
+    array_is_valid : {simple : Simple} {first : Shapes} {rest : Shape} {objects : Objects} {ts : Trees}
+        → HasValidElements first rest ts → IsValid (OfKinds simple (ArraysOf first rest) objects) (Array ts)
+    open_object_is_valid : {simple : Simple} {arrays : Arrays} {shapes : FieldShapes} {fs : Fields}
+        → HasValidFields shapes fs → IsValid (OfKinds simple arrays (ObjectsOf shapes true)) (Object fs)
+    closed_object_is_valid : {simple : Simple} {arrays : Arrays} {shapes : FieldShapes} {fs : Fields}
+        → HasValidFields shapes fs → AreMentioned fs shapes
+        → IsValid (OfKinds simple arrays (ObjectsOf shapes false)) (Object fs)
 
   -- each of the first elements is there and valid against its own shape, and each further one against that of the rest
   pub data HasValidElements : Shapes → Shape → Trees → Type 0 where
@@ -194,17 +196,53 @@ insert_mention n needed s (AndFieldShape m other t shapes) =
     if comes_before n m then AndFieldShape n needed s (AndFieldShape m other t shapes)
     else AndFieldShape m other t (insert_mention n needed s shapes)
 
+-- whether there are arrays
+abbrev pub has_arrays : Arrays → Bool
+has_arrays WithoutArrays = false
+has_arrays (ArraysOf first rest) = true
+
+-- whether there are objects
+abbrev pub has_objects : Objects → Bool
+has_objects WithoutObjects = false
+has_objects (ObjectsOf shapes extra) = true
+
+-- one more name in front, where the test holds
+abbrev pub name_if : Bool → List ℕ → List (List ℕ) → List (List ℕ)
+name_if wanted name names = if wanted then name ∷ names else names
+
+-- the names of the types that take them, in byte order
+abbrev pub type_names : Simple → Arrays → Objects → List (List ℕ)
+type_names simple arrays objects =
+    name_if (has_arrays arrays) (codes "array")
+    (name_if simple.boolean (codes "boolean")
+    (name_if simple.integer (codes "integer")
+    (name_if simple.null (codes "null")
+    (name_if (has_objects objects) (codes "object")
+    (name_if simple.text (codes "string") [])))))
+
+-- there is one name at most
+abbrev pub at_most_one : List (List ℕ) → Bool
+at_most_one [] = true
+at_most_one (n ∷ []) = true
+at_most_one (n ∷ m ∷ names) = false
+
 abbrev mutual
-  -- its names are UTF-8, and each object mentions its names once, in byte order; depth has no limit here
+  -- it takes trees of one kind at most; its names are UTF-8, and each object mentions its names once, in byte order;
+  -- depth has no limit here
   pub IsProperShape : Shape → Type 0
   IsProperShape Any = Unit {0}
-  IsProperShape Never = Unit {0}
-  IsProperShape NullShape = Unit {0}
-  IsProperShape BooleanShape = Unit {0}
-  IsProperShape IntegerShape = Unit {0}
-  IsProperShape StringShape = Unit {0}
-  IsProperShape (ArrayShape first rest) = AreProperShapes first × IsProperShape rest
-  IsProperShape (ObjectShape shapes extra) = AreProperFields shapes
+  IsProperShape (OfKinds simple arrays objects) =
+      IsTrue (at_most_one (type_names simple arrays objects)) × AreProperArrays arrays × AreProperObjects objects
+
+  -- the shapes of the elements are proper
+  pub AreProperArrays : Arrays → Type 0
+  AreProperArrays WithoutArrays = Unit {0}
+  AreProperArrays (ArraysOf first rest) = AreProperShapes first × IsProperShape rest
+
+  -- the mentioned fields are proper
+  pub AreProperObjects : Objects → Type 0
+  AreProperObjects WithoutObjects = Unit {0}
+  AreProperObjects (ObjectsOf shapes extra) = AreProperFields shapes
 
   -- each of them is proper
   pub AreProperShapes : Shapes → Type 0
@@ -217,17 +255,25 @@ abbrev mutual
   AreProperFields (AndFieldShape n needed s shapes) =
       IsUtf8 n × IsTrue (before_mentions n shapes) × IsProperShape s × AreProperFields shapes
 
+-- some of the simple kinds
+abbrev pub some_simple : Simple → Bool
+some_simple simple = simple.null || (simple.boolean || (simple.integer || simple.text))
+
 abbrev mutual
   -- whether some tree has the shape
   pub inhabited : Shape → Bool
   inhabited Any = true
-  inhabited Never = false
-  inhabited NullShape = true
-  inhabited BooleanShape = true
-  inhabited IntegerShape = true
-  inhabited StringShape = true
-  inhabited (ArrayShape first rest) = all_inhabited first
-  inhabited (ObjectShape shapes extra) = needed_inhabited shapes
+  inhabited (OfKinds simple arrays objects) = some_simple simple || (some_array arrays || some_object objects)
+
+  -- whether there is an array
+  pub some_array : Arrays → Bool
+  some_array WithoutArrays = false
+  some_array (ArraysOf first rest) = all_inhabited first
+
+  -- whether there is an object
+  pub some_object : Objects → Bool
+  some_object WithoutObjects = false
+  some_object (ObjectsOf shapes extra) = needed_inhabited shapes
 
   -- every one of the shapes is inhabited
   pub all_inhabited : Shapes → Bool

@@ -17,11 +17,12 @@ use Rattle.asl_model.specs.Template.{NoTemplates, AndTemplate, FieldTemplates, N
 use Rattle.asl_model.specs.Test.{Test, And, Or, Not, Compare, StringMatches, IsOfKind, IsPresent}
 use Rattle.asl_model.specs.Test.{Tests, NoTests, AndTest, Operand, Constant, AtPath}
 use Rattle.asl_model.specs.Machine.{Settings, Kind, Pass, Task, Choice, Wait, Succeed, Fail, Parallel, Map}
-use Rattle.asl_model.specs.Shape.{Shape, Any, Never, NullShape, BooleanShape, IntegerShape}
-use Rattle.asl_model.specs.Shape.{StringShape, ArrayShape, ObjectShape, Shapes, NoShapes, AndShape}
-use Rattle.asl_model.specs.Shape.{FieldShapes, NoFieldShapes, AndFieldShape, Has, inhabited}
-use Rattle.asl_model.specs.ShapeOrder.{mention_of, set_mention, join, array_shape_where, is_null_shape}
-use Rattle.asl_model.specs.ShapeOrder.{is_boolean_shape, is_integer_shape, is_string_shape}
+use Rattle.asl_model.specs.Shape.{Simple, Shape, Any, OfKinds, Never, NullShape, BooleanShape, IntegerShape}
+use Rattle.asl_model.specs.Shape.{StringShape, ArrayShape, ObjectShape, Arrays, WithoutArrays, ArraysOf, Objects}
+use Rattle.asl_model.specs.Shape.{WithoutObjects, ObjectsOf, Shapes, NoShapes, AndShape, FieldShapes}
+use Rattle.asl_model.specs.Shape.{NoFieldShapes, AndFieldShape, Has, has_arrays, no_simple, some_simple, some_array}
+use Rattle.asl_model.specs.Shape.{some_object, inhabited}
+use Rattle.asl_model.specs.ShapeOrder.{mention_of, set_mention, join, same_simple}
 
 -- Paths
 
@@ -36,18 +37,30 @@ place_at i NoShapes = None
 place_at zero (AndShape s others) = Some s
 place_at (suc i) (AndShape s others) = place_at i others
 
+-- the arrays of a shape, where no other trees have it
+abbrev pub arrays_alone : Shape → Arrays
+arrays_alone Any = WithoutArrays
+arrays_alone (OfKinds simple arrays objects) = if some_simple simple || some_object objects then WithoutArrays else arrays
+
+-- the objects of a shape, where no other trees have it
+abbrev pub objects_alone : Shape → Objects
+objects_alone Any = WithoutObjects
+objects_alone (OfKinds simple arrays objects) = if some_simple simple || some_array arrays then WithoutObjects else objects
+
+-- the shape at a position of these arrays
+abbrev pub place_in : ℕ → Arrays → Option Shape
+place_in i WithoutArrays = None
+place_in i (ArraysOf first rest) = place_at i first
+
+-- the shape of a needed field of these objects
+abbrev pub field_in : FieldName → Objects → Option Shape
+field_in n WithoutObjects = None
+field_in n (ObjectsOf shapes extra) = if_needed (mention_of n shapes)
+
 -- the shape of what a segment names in every tree of a shape
 abbrev pub part_at : Segment → Shape → Option Shape
-part_at segment Any = None
-part_at segment Never = None
-part_at segment NullShape = None
-part_at segment BooleanShape = None
-part_at segment IntegerShape = None
-part_at segment StringShape = None
-part_at (Name n) (ArrayShape first rest) = None
-part_at (Index i) (ArrayShape first rest) = place_at i first
-part_at (Name n) (ObjectShape shapes extra) = if_needed (mention_of n shapes)
-part_at (Index i) (ObjectShape shapes extra) = None
+part_at (Name n) s = field_in n (objects_alone s)
+part_at (Index i) s = place_in i (arrays_alone s)
 
 -- a refusal behind a segment, counted with it
 abbrev pub one_further : {A : Type 0} → Result A ℕ → Result A ℕ
@@ -126,20 +139,22 @@ abbrev pub put_mentioned : (Shape → Result Shape ℕ) → Bool → List Segmen
 put_mentioned go_on extra path w None = put_unmentioned extra path w
 put_mentioned go_on extra path w (Some mention) = put_or_built mention.0 (go_on mention.1) (built_shape path w)
 
+-- what is placed in a field of these objects
+abbrev pub put_in_objects : (Shape → Result Shape ℕ) → FieldName → List Segment → Shape → Objects → Result Shape ℕ
+put_in_objects go_on n path w WithoutObjects = Err 0
+put_in_objects go_on n path w (ObjectsOf shapes extra) =
+    object_with n shapes extra (put_mentioned go_on extra path w (mention_of n shapes))
+
+-- at a position of these arrays
+abbrev pub put_in_arrays : (Shape → Result Shape ℕ) → ℕ → Arrays → Result Shape ℕ
+put_in_arrays go_on i WithoutArrays = Err 0
+put_in_arrays go_on i (ArraysOf first rest) = put_in_place go_on i first rest (place_at i first)
+
 -- the shape of a tree with one placed under a segment, or the refusal; the function goes on behind the segment, with
 -- the path
 abbrev pub put_under : (Shape → Result Shape ℕ) → Segment → List Segment → Shape → Shape → Result Shape ℕ
-put_under go_on segment path w Any = Err 0
-put_under go_on segment path w Never = Err 0
-put_under go_on segment path w NullShape = Err 0
-put_under go_on segment path w BooleanShape = Err 0
-put_under go_on segment path w IntegerShape = Err 0
-put_under go_on segment path w StringShape = Err 0
-put_under go_on (Name n) path w (ArrayShape first rest) = Err 0
-put_under go_on (Index i) path w (ArrayShape first rest) = put_in_place go_on i first rest (place_at i first)
-put_under go_on (Name n) path w (ObjectShape shapes extra) =
-    object_with n shapes extra (put_mentioned go_on extra path w (mention_of n shapes))
-put_under go_on (Index i) path w (ObjectShape shapes extra) = Err 0
+put_under go_on (Name n) path w s = put_in_objects go_on n path w (objects_alone s)
+put_under go_on (Index i) path w s = put_in_arrays go_on i (arrays_alone s)
 
 -- The shape of every tree of the first shape with a tree of the second placed at the path, or the number of the
 -- segment where it may not fit
@@ -206,18 +221,33 @@ abbrev pub unless_doubtful : Result Shape Doubt → Option Shape
 unless_doubtful (Ok s) = Some s
 unless_doubtful (Err doubt) = None
 
--- an argument of `States.Format` that can be put in a text, or that never comes
+-- an argument of `States.Format` that can be put in a text, or that never comes: no array or object is one
 abbrev pub is_formattable : Shape → Bool
-is_formattable s = not (inhabited s) || is_null_shape s || is_boolean_shape s || is_integer_shape s || is_string_shape s
+is_formattable Any = false
+is_formattable (OfKinds simple arrays objects) = not (some_array arrays) && not (some_object objects)
 
 -- each of the arguments can be put in a text, or never comes
 abbrev pub all_formattable : Shapes → Bool
 all_formattable NoShapes = true
 all_formattable (AndShape s others) = is_formattable s && all_formattable others
 
--- the shape is one of arrays
+-- arrays alone have the shape
 abbrev pub is_array_shape : Shape → Bool
-is_array_shape s = array_shape_where (λ first rest. true) s
+is_array_shape s = has_arrays (arrays_alone s)
+
+-- trees of these simple kinds alone have the shape
+abbrev pub is_only : Simple → Shape → Bool
+is_only kinds Any = false
+is_only kinds (OfKinds simple arrays objects) =
+    same_simple simple kinds && (not (some_array arrays) && not (some_object objects))
+
+-- whole numbers alone have the shape
+abbrev pub is_integer_shape : Shape → Bool
+is_integer_shape s = is_only (record no_simple { integer = true }) s
+
+-- texts alone have the shape
+abbrev pub is_string_shape : Shape → Bool
+is_string_shape s = is_only (record no_simple { text = true }) s
 
 -- how many shapes there are
 abbrev pub how_many_shapes : Shapes → ℕ
@@ -361,18 +391,21 @@ abbrev pub narrow_place : (Shape → Shape) → ℕ → Shapes → Shape → Opt
 narrow_place go_on i first rest None = ArrayShape first rest
 narrow_place go_on i first rest (Some s) = ArrayShape (set_place i (go_on s) first) rest
 
+-- the objects in which the field is there, narrowed
+abbrev pub narrow_objects : (Shape → Shape) → FieldName → Objects → Shape
+narrow_objects go_on n WithoutObjects = Never
+narrow_objects go_on n (ObjectsOf shapes extra) = narrow_mention go_on n shapes extra (mention_of n shapes)
+
+-- the arrays in which the position is there, narrowed where it has a shape of its own
+abbrev pub narrow_arrays : (Shape → Shape) → ℕ → Arrays → Shape
+narrow_arrays go_on i WithoutArrays = Never
+narrow_arrays go_on i (ArraysOf first rest) = narrow_place go_on i first rest (place_at i first)
+
 -- the shape of the trees in which the segment names something; the function narrows what it names
 abbrev pub narrow_under : (Shape → Shape) → Segment → Shape → Shape
 narrow_under go_on segment Any = Any
-narrow_under go_on segment Never = Never
-narrow_under go_on segment NullShape = Never
-narrow_under go_on segment BooleanShape = Never
-narrow_under go_on segment IntegerShape = Never
-narrow_under go_on segment StringShape = Never
-narrow_under go_on (Name n) (ArrayShape first rest) = Never
-narrow_under go_on (Index i) (ArrayShape first rest) = narrow_place go_on i first rest (place_at i first)
-narrow_under go_on (Name n) (ObjectShape shapes extra) = narrow_mention go_on n shapes extra (mention_of n shapes)
-narrow_under go_on (Index i) (ObjectShape shapes extra) = Never
+narrow_under go_on (Name n) (OfKinds simple arrays objects) = narrow_objects go_on n objects
+narrow_under go_on (Index i) (OfKinds simple arrays objects) = narrow_arrays go_on i arrays
 
 -- the shape of the trees of a shape in which the path names something
 abbrev pub where_present : List Segment → Shape → Shape

@@ -4,9 +4,10 @@
 use Rattle.std.specs.Prelude.{ℕ, zero, suc, max, Bool, true, false, ◌&&◌, ◌||◌}
 use Rattle.std.specs.Prelude.{not, Option, Some, None, bytes_eq, if◌then◌else◌}
 use Rattle.asl_model.specs.Names.{FieldName}
-use Rattle.asl_model.specs.Shape.{Shape, Any, Never, NullShape, BooleanShape, IntegerShape, StringShape}
-use Rattle.asl_model.specs.Shape.{ArrayShape, ObjectShape, Shapes, NoShapes, AndShape, FieldShapes}
-use Rattle.asl_model.specs.Shape.{NoFieldShapes, AndFieldShape, inhabited, mentions, insert_mention}
+use Rattle.asl_model.specs.Shape.{Simple, Shape, Any, OfKinds, Never, Arrays, WithoutArrays, ArraysOf, Objects}
+use Rattle.asl_model.specs.Shape.{WithoutObjects, ObjectsOf, Shapes, NoShapes, AndShape, FieldShapes, NoFieldShapes}
+use Rattle.asl_model.specs.Shape.{AndFieldShape, has_arrays, has_objects, some_simple, inhabited, all_inhabited}
+use Rattle.asl_model.specs.Shape.{needed_inhabited, mentions, insert_mention}
 
 -- the first mention of a field: whether it is needed, and its shape
 abbrev pub mention_of : FieldName → FieldShapes → Option (Bool × Shape)
@@ -16,79 +17,27 @@ mention_of n (AndFieldShape m needed s shapes) = if bytes_eq m n then Some (need
 -- the shape is Any
 abbrev pub is_any_shape : Shape → Bool
 is_any_shape Any = true
-is_any_shape Never = false
-is_any_shape NullShape = false
-is_any_shape BooleanShape = false
-is_any_shape IntegerShape = false
-is_any_shape StringShape = false
-is_any_shape (ArrayShape first rest) = false
-is_any_shape (ObjectShape shapes extra) = false
+is_any_shape (OfKinds simple arrays objects) = false
 
--- the shape is that of null
-abbrev pub is_null_shape : Shape → Bool
-is_null_shape Any = false
-is_null_shape Never = false
-is_null_shape NullShape = true
-is_null_shape BooleanShape = false
-is_null_shape IntegerShape = false
-is_null_shape StringShape = false
-is_null_shape (ArrayShape first rest) = false
-is_null_shape (ObjectShape shapes extra) = false
+-- all of the simple kinds
+abbrev pub every_simple : Simple → Bool
+every_simple simple = simple.null && (simple.boolean && (simple.integer && simple.text))
 
--- the shape is that of truth values
-abbrev pub is_boolean_shape : Shape → Bool
-is_boolean_shape Any = false
-is_boolean_shape Never = false
-is_boolean_shape NullShape = false
-is_boolean_shape BooleanShape = true
-is_boolean_shape IntegerShape = false
-is_boolean_shape StringShape = false
-is_boolean_shape (ArrayShape first rest) = false
-is_boolean_shape (ObjectShape shapes extra) = false
+-- the simple kinds of either
+abbrev pub either : Simple → Simple → Simple
+either a b =
+    record {
+      null = a.null || b.null;
+      boolean = a.boolean || b.boolean;
+      integer = a.integer || b.integer;
+      text = a.text || b.text;
+    }
 
--- the shape is that of whole numbers
-abbrev pub is_integer_shape : Shape → Bool
-is_integer_shape Any = false
-is_integer_shape Never = false
-is_integer_shape NullShape = false
-is_integer_shape BooleanShape = false
-is_integer_shape IntegerShape = true
-is_integer_shape StringShape = false
-is_integer_shape (ArrayShape first rest) = false
-is_integer_shape (ObjectShape shapes extra) = false
-
--- the shape is that of texts
-abbrev pub is_string_shape : Shape → Bool
-is_string_shape Any = false
-is_string_shape Never = false
-is_string_shape NullShape = false
-is_string_shape BooleanShape = false
-is_string_shape IntegerShape = false
-is_string_shape StringShape = true
-is_string_shape (ArrayShape first rest) = false
-is_string_shape (ObjectShape shapes extra) = false
-
--- the shape is one of arrays, and its parts pass the test
-abbrev pub array_shape_where : (Shapes → Shape → Bool) → Shape → Bool
-array_shape_where test Any = false
-array_shape_where test Never = false
-array_shape_where test NullShape = false
-array_shape_where test BooleanShape = false
-array_shape_where test IntegerShape = false
-array_shape_where test StringShape = false
-array_shape_where test (ArrayShape first rest) = test first rest
-array_shape_where test (ObjectShape shapes extra) = false
-
--- the shape is one of objects, and its parts pass the test
-abbrev pub object_shape_where : (FieldShapes → Bool → Bool) → Shape → Bool
-object_shape_where test Any = false
-object_shape_where test Never = false
-object_shape_where test NullShape = false
-object_shape_where test BooleanShape = false
-object_shape_where test IntegerShape = false
-object_shape_where test StringShape = false
-object_shape_where test (ArrayShape first rest) = false
-object_shape_where test (ObjectShape shapes extra) = test shapes extra
+-- the simple kinds of the first are among those of the second
+abbrev pub simple_sub : Simple → Simple → Bool
+simple_sub a b =
+    (not a.null || b.null)
+    && ((not a.boolean || b.boolean) && ((not a.integer || b.integer) && (not a.text || b.text)))
 
 -- every one of the shapes passes the test
 abbrev pub each_shape : (Shape → Bool) → Shapes → Bool
@@ -101,30 +50,60 @@ others_never_there shapes NoFieldShapes = true
 others_never_there shapes (AndFieldShape n needed s others) =
     (mentions n shapes || not (inhabited s)) && others_never_there shapes others
 
--- A field that is needed or not, with a test of its shape and whether that shape is Any, against the mention of it
--- in another object shape, which has `extra` or not: where it is mentioned there, it is needed there if it is needed
--- here, and its shape there passes the test; where it isn't, it isn't needed here, and its shape here is Any, unless
--- the other object can't have it.
+abbrev mutual
+  -- every tree has the shape: it is Any, or takes all trees of each kind
+  pub takes_all : Shape → Bool
+  takes_all Any = true
+  takes_all (OfKinds simple arrays objects) =
+      every_simple simple && (takes_all_arrays arrays && takes_all_objects objects)
+
+  -- each array is among these
+  pub takes_all_arrays : Arrays → Bool
+  takes_all_arrays WithoutArrays = false
+  takes_all_arrays (ArraysOf NoShapes rest) = takes_all rest
+  takes_all_arrays (ArraysOf (AndShape s first) rest) = false
+
+  -- each object is among these
+  pub takes_all_objects : Objects → Bool
+  takes_all_objects WithoutObjects = false
+  takes_all_objects (ObjectsOf shapes extra) = extra && asks_nothing shapes
+
+  -- no field is needed, and each may be every tree
+  pub asks_nothing : FieldShapes → Bool
+  asks_nothing NoFieldShapes = true
+  asks_nothing (AndFieldShape n needed s shapes) = not needed && (takes_all s && asks_nothing shapes)
+
+-- A field that is needed or not, with a test of its shape and whether that shape takes every tree, against the mention
+-- of it in another object shape, which has `extra` or not: where it is mentioned there, it is needed there if it is
+-- needed here, and its shape there passes the test; where it isn't, it isn't needed here, and its shape here takes every
+-- tree, unless the other object can't have it.
 abbrev pub mention_fits : Bool → (Shape → Bool) → Bool → Bool → Option (Bool × Shape) → Bool
 mention_fits needed test any extra None = not needed && (any || not extra)
 mention_fits needed test any extra (Some mention) = (not needed || mention.0) && test mention.1
 
 abbrev mutual
-  -- Every tree of the first shape is seen to have the second: the first isn't inhabited, or the second is Any, or
-  -- they are of the same kind, and part by part the first is inside the second.
+  -- Every tree of the first shape is seen to have the second: the second is Any, or takes all trees of each kind where
+  -- the first is Any; else kind by kind the first is inside the second.
   pub sub : Shape → Shape → Bool
   sub a Any = true
-  sub a Never = not (inhabited a)
-  sub a NullShape = not (inhabited a) || is_null_shape a
-  sub a BooleanShape = not (inhabited a) || is_boolean_shape a
-  sub a IntegerShape = not (inhabited a) || is_integer_shape a
-  sub a StringShape = not (inhabited a) || is_string_shape a
-  sub a (ArrayShape first rest) =
-      not (inhabited a) || array_shape_where (λ others further. elements_sub others further first (λ s. sub s rest)) a
-  sub a (ObjectShape shapes extra) =
-      not (inhabited a)
-      || object_shape_where
-      (λ others more. fields_sub others more shapes && (extra || (not more && others_never_there shapes others))) a
+  sub Any (OfKinds simple arrays objects) = takes_all (OfKinds simple arrays objects)
+  sub (OfKinds some others more) (OfKinds simple arrays objects) =
+      simple_sub some simple && (arrays_sub others arrays && objects_sub more objects)
+
+  -- The first arrays are none, or part by part inside the second.
+  pub arrays_sub : Arrays → Arrays → Bool
+  arrays_sub WithoutArrays arrays = true
+  arrays_sub (ArraysOf others further) WithoutArrays = not (all_inhabited others)
+  arrays_sub (ArraysOf others further) (ArraysOf first rest) =
+      not (all_inhabited others) || elements_sub others further first (λ s. sub s rest)
+
+  -- The first objects are none, or field by field inside the second.
+  pub objects_sub : Objects → Objects → Bool
+  objects_sub WithoutObjects objects = true
+  objects_sub (ObjectsOf others more) WithoutObjects = not (needed_inhabited others)
+  objects_sub (ObjectsOf others more) (ObjectsOf shapes extra) =
+      not (needed_inhabited others)
+      || (fields_sub others more shapes && (extra || (not more && others_never_there shapes others)))
 
   -- The first array shape (its first elements, its further ones) is not shorter than the second's first elements;
   -- place by place it is inside these, and all its further ones pass the test of the second's further ones.
@@ -138,7 +117,7 @@ abbrev mutual
   pub fields_sub : FieldShapes → Bool → FieldShapes → Bool
   fields_sub others more NoFieldShapes = true
   fields_sub others more (AndFieldShape n needed s shapes) =
-      mention_fits needed (λ other. sub other s) (is_any_shape s) more (mention_of n others)
+      mention_fits needed (λ other. sub other s) (takes_all s) more (mention_of n others)
       && fields_sub others more shapes
 
 -- the mentions, without this one if it is to be left out
@@ -157,16 +136,20 @@ abbrev pub set_mention : FieldName → Bool → Shape → FieldShapes → FieldS
 set_mention n needed s shapes = insert_mention n needed s (without_mention n shapes)
 
 abbrev mutual
-  -- how many shapes stand inside each other, the outermost counted
+  -- how many shapes stand inside each other, the outermost counted; of several kinds it is one shape
   pub depth : Shape → ℕ
   depth Any = 1
-  depth Never = 1
-  depth NullShape = 1
-  depth BooleanShape = 1
-  depth IntegerShape = 1
-  depth StringShape = 1
-  depth (ArrayShape first rest) = suc (max (depth_of_elements first) (depth rest))
-  depth (ObjectShape shapes extra) = suc (depth_of_fields shapes)
+  depth (OfKinds simple arrays objects) = suc (max (depth_of_arrays arrays) (depth_of_objects objects))
+
+  -- the depth of the deepest element's shape
+  pub depth_of_arrays : Arrays → ℕ
+  depth_of_arrays WithoutArrays = 0
+  depth_of_arrays (ArraysOf first rest) = max (depth_of_elements first) (depth rest)
+
+  -- the depth of the deepest mentioned field's shape
+  pub depth_of_objects : Objects → ℕ
+  depth_of_objects WithoutObjects = 0
+  depth_of_objects (ObjectsOf shapes extra) = depth_of_fields shapes
 
   -- the depth of the deepest one
   pub depth_of_elements : Shapes → ℕ
@@ -221,41 +204,47 @@ with_other_fields shapes extra NoFieldShapes kept = kept
 with_other_fields shapes extra (AndFieldShape n needed s others) kept =
     with_optional_unless (extra || mentions n shapes) n s (with_other_fields shapes extra others kept)
 
--- an array shape joined with another shape
-abbrev pub join_array : (Shape → Shape → Shape) → Shapes → Shape → Shape → Shape
-join_array joined first rest Any = Any
-join_array joined first rest Never = Any
-join_array joined first rest NullShape = Any
-join_array joined first rest BooleanShape = Any
-join_array joined first rest IntegerShape = Any
-join_array joined first rest StringShape = Any
-join_array joined first rest (ArrayShape others further) =
-    ArrayShape (common_joins joined first others)
+-- the arrays of either, part by part where both have some
+abbrev pub join_arrays : (Shape → Shape → Shape) → Arrays → Arrays → Arrays
+join_arrays joined WithoutArrays arrays = arrays
+join_arrays joined (ArraysOf first rest) WithoutArrays = ArraysOf first rest
+join_arrays joined (ArraysOf first rest) (ArraysOf others further) =
+    ArraysOf (common_joins joined first others)
     (joined (joined (joined_with_each joined Never (further_places first others)) rest) further)
-join_array joined first rest (ObjectShape shapes extra) = Any
 
--- an object shape joined with another shape
-abbrev pub join_object : (Shape → Shape → Shape) → FieldShapes → Bool → Shape → Shape
-join_object joined shapes extra Any = Any
-join_object joined shapes extra Never = Any
-join_object joined shapes extra NullShape = Any
-join_object joined shapes extra BooleanShape = Any
-join_object joined shapes extra IntegerShape = Any
-join_object joined shapes extra StringShape = Any
-join_object joined shapes extra (ArrayShape first rest) = Any
-join_object joined shapes extra (ObjectShape others more) =
-    ObjectShape (with_other_fields shapes extra others (joined_fields joined shapes others more)) (extra || more)
+-- the objects of either, field by field where both have some
+abbrev pub join_objects : (Shape → Shape → Shape) → Objects → Objects → Objects
+join_objects joined WithoutObjects objects = objects
+join_objects joined (ObjectsOf shapes extra) WithoutObjects = ObjectsOf shapes extra
+join_objects joined (ObjectsOf shapes extra) (ObjectsOf others more) =
+    ObjectsOf (with_other_fields shapes extra others (joined_fields joined shapes others more)) (extra || more)
 
--- the join of two shapes of which trees are there: a kind with itself part by part, and Any for all else
+-- both are true, or none is
+abbrev pub same_truth : Bool → Bool → Bool
+same_truth true b = b
+same_truth false b = not b
+
+-- the same simple kinds
+abbrev pub same_simple : Simple → Simple → Bool
+same_simple a b =
+    same_truth a.null b.null
+    && (same_truth a.boolean b.boolean && (same_truth a.integer b.integer && same_truth a.text b.text))
+
+-- the same kinds, of which there are some
+abbrev pub same_kinds : Simple → Arrays → Objects → Simple → Arrays → Objects → Bool
+same_kinds some others more simple arrays objects =
+    (some_simple some || (has_arrays others || has_objects more))
+    && (same_simple some simple
+    && (same_truth (has_arrays others) (has_arrays arrays) && same_truth (has_objects more) (has_objects objects)))
+
+-- the join of two shapes of which trees are there: kind by kind where they are of the same kinds, and Any for all else
 abbrev pub join_kinds : (Shape → Shape → Shape) → Shape → Shape → Shape
 join_kinds joined Any b = Any
-join_kinds joined Never b = Any
-join_kinds joined NullShape b = if is_null_shape b then NullShape else Any
-join_kinds joined BooleanShape b = if is_boolean_shape b then BooleanShape else Any
-join_kinds joined IntegerShape b = if is_integer_shape b then IntegerShape else Any
-join_kinds joined StringShape b = if is_string_shape b then StringShape else Any
-join_kinds joined (ArrayShape first rest) b = join_array joined first rest b
-join_kinds joined (ObjectShape shapes extra) b = join_object joined shapes extra b
+join_kinds joined (OfKinds some others more) Any = Any
+join_kinds joined (OfKinds some others more) (OfKinds simple arrays objects) =
+    if same_kinds some others more simple arrays objects
+    then OfKinds (either some simple) (join_arrays joined others arrays) (join_objects joined more objects)
+    else Any
 
 -- the join of two shapes that are at most so deep: where one isn't inhabited, the other
 abbrev pub join_within : ℕ → Shape → Shape → Shape

@@ -3,8 +3,9 @@
 use Rattle.std.specs.Prelude.{ℕ, pos, List, [], ◌∷◌, Bool, true, false, not, if◌then◌else◌, Option, Some, None, codes}
 use Rattle.asl_model.specs.Tree.{Tree, Boolean, Integer, Text, Array, Object, Trees}
 use Rattle.asl_model.specs.Tree.{NoTrees, AndTree, Fields, NoFields, AndField}
-use Rattle.asl_model.specs.Shape.{Shape, Any, Never, NullShape, BooleanShape, IntegerShape, StringShape, ArrayShape}
-use Rattle.asl_model.specs.Shape.{ObjectShape, Shapes, NoShapes, AndShape, FieldShapes, NoFieldShapes, AndFieldShape}
+use Rattle.asl_model.specs.Shape.{Shape, Any, OfKinds, Arrays, WithoutArrays, ArraysOf, Objects, WithoutObjects}
+use Rattle.asl_model.specs.Shape.{ObjectsOf, Shapes, NoShapes, AndShape, FieldShapes, NoFieldShapes, AndFieldShape}
+use Rattle.asl_model.specs.Shape.{type_names}
 use Rattle.asl_model.specs.ShapeOrder.{is_any_shape}
 use Rattle.asl_model.specs.ShapeFlow.{how_many_shapes}
 use Rattle.asl_model.specs.Certificate.{TaskShapes, Declared, StateShapes, Certificate}
@@ -12,10 +13,6 @@ use Rattle.asl_model.specs.Certificate.{TaskShapes, Declared, StateShapes, Certi
 -- the fields with one more in front, where the test holds
 abbrev pub field_if : Bool → List ℕ → Tree → Fields → Fields
 field_if wanted n t fs = if wanted then AndField n t fs else fs
-
--- the field `type` alone
-abbrev pub type_field : List ℕ → Fields
-type_field word = AndField (codes "type") (Text word) NoFields
 
 -- ---- shapes
 
@@ -44,35 +41,65 @@ abbrev pub as_texts : List (List ℕ) → Trees
 as_texts [] = NoTrees
 as_texts (n ∷ ns) = AndTree (Text n) (as_texts ns)
 
--- an array's keywords: `items` where it isn't Any, `minItems` and `prefixItems` where there are any
-abbrev pub array_fields : Bool → Bool → Tree → ℕ → Tree → Fields
-array_fields has_items has_first items number first =
+-- the value of `type`: a name, or the list of names
+abbrev pub type_written : List (List ℕ) → Tree
+type_written [] = Array NoTrees
+type_written (n ∷ []) = Text n
+type_written (n ∷ m ∷ names) = Array (as_texts (n ∷ m ∷ names))
+
+-- `type`, behind the other keywords
+abbrev pub type_field : List (List ℕ) → Fields
+type_field names = AndField (codes "type") (type_written names) NoFields
+
+-- an array's keywords in front: `items` where it isn't Any, `minItems` and `prefixItems` where there are any
+abbrev pub array_fields : Bool → Bool → Tree → ℕ → Tree → Fields → Fields
+array_fields has_items has_first items number first others =
     field_if has_items (codes "items") items
     (field_if has_first (codes "minItems") (Integer (pos number))
-    (field_if has_first (codes "prefixItems") first (type_field (codes "array"))))
+    (field_if has_first (codes "prefixItems") first others))
 
--- an object's: `additionalProperties` where there are no others, `properties` and `required` where there are any
-abbrev pub object_fields : Bool → Bool → Bool → Tree → Trees → Fields
-object_fields extra has_fields has_needed properties names =
-    field_if (not extra) (codes "additionalProperties") (Boolean false)
-    (field_if has_fields (codes "properties") properties
-    (field_if has_needed (codes "required") (Array names) (type_field (codes "object"))))
+-- two of an object's keywords in front: `properties` and `required` where there are any
+abbrev pub object_fields : Bool → Bool → Tree → Trees → Fields → Fields
+object_fields has_fields has_needed properties names others =
+    field_if has_fields (codes "properties") properties
+    (field_if has_needed (codes "required") (Array names) others)
+
+-- `additionalProperties` in front, where there may be no other fields
+abbrev pub closed_first : Bool → Fields → Fields
+closed_first closed others = field_if closed (codes "additionalProperties") (Boolean false) others
+
+-- whether the objects have no other fields than those mentioned
+abbrev pub are_closed : Objects → Bool
+are_closed WithoutObjects = false
+are_closed (ObjectsOf shapes extra) = not extra
+
+-- the tree of a shape without types is false; of another the object of those keywords
+abbrev pub written_kinds : Bool → List (List ℕ) → Fields → Tree
+written_kinds closed [] keywords = Boolean false
+written_kinds closed (n ∷ names) keywords = Object (closed_first closed keywords)
 
 abbrev mutual
   -- the tree that is written for a shape
   pub written_shape : Shape → Tree
   written_shape Any = Boolean true
-  written_shape Never = Boolean false
-  written_shape NullShape = Object (type_field (codes "null"))
-  written_shape BooleanShape = Object (type_field (codes "boolean"))
-  written_shape IntegerShape = Object (type_field (codes "integer"))
-  written_shape StringShape = Object (type_field (codes "string"))
-  written_shape (ArrayShape first rest) =
-      Object (array_fields (not (is_any_shape rest)) (some_shapes first) (written_shape rest) (how_many_shapes first)
-      (Array (written_shapes first)))
-  written_shape (ObjectShape shapes extra) =
-      Object (object_fields extra (some_fields shapes) (some_names (needed_names shapes))
-      (Object (written_fields shapes)) (as_texts (needed_names shapes)))
+  written_shape (OfKinds simple arrays objects) =
+      let names = type_names simple arrays objects in
+      written_kinds (are_closed objects) names
+      (with_written_arrays arrays (with_written_objects objects (type_field names)))
+
+  -- the keywords for arrays in front of others
+  pub with_written_arrays : Arrays → Fields → Fields
+  with_written_arrays WithoutArrays others = others
+  with_written_arrays (ArraysOf first rest) others =
+      array_fields (not (is_any_shape rest)) (some_shapes first) (written_shape rest) (how_many_shapes first)
+      (Array (written_shapes first)) others
+
+  -- those for objects
+  pub with_written_objects : Objects → Fields → Fields
+  with_written_objects WithoutObjects others = others
+  with_written_objects (ObjectsOf shapes extra) others =
+      object_fields (some_fields shapes) (some_names (needed_names shapes)) (Object (written_fields shapes))
+      (as_texts (needed_names shapes)) others
 
   -- for each of the shapes
   pub written_shapes : Shapes → Trees

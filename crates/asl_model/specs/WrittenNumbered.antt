@@ -2,50 +2,41 @@
 -- objects in it is listed once, in the order in which a walk through the certificate has them whole, and stands
 -- everywhere as a reference. The walk goes through the output, then the states by name: the branches of each, its
 -- input, its item, its output. In a shape it goes through the parts first.
-use Rattle.std.specs.Prelude.{ℕ, suc, pos, List, [], ◌∷◌, ◌++◌, Bool, true, false, not, ◌&&◌}
+use Rattle.std.specs.Prelude.{ℕ, suc, pos, List, [], ◌∷◌, ◌++◌, Bool, true, false, not, ◌&&◌, ◌||◌}
 use Rattle.std.specs.Prelude.{if◌then◌else◌, Option, Some, None, is_some, option_map, bytes_eq, codes}
 use Rattle.std.specs.Option.{unwrap_or}
 use Rattle.asl_model.specs.Tree.{Tree, Integer, Array, Object, Trees, NoTrees, AndTree, Fields, NoFields, AndField}
-use Rattle.asl_model.specs.Shape.{Shape, Any, Never, NullShape, BooleanShape, IntegerShape, StringShape, ArrayShape}
-use Rattle.asl_model.specs.Shape.{ObjectShape, Shapes, NoShapes, AndShape, FieldShapes, NoFieldShapes, AndFieldShape}
-use Rattle.asl_model.specs.ShapeOrder.{is_any_shape, is_null_shape, is_boolean_shape, is_integer_shape}
-use Rattle.asl_model.specs.ShapeOrder.{is_string_shape, array_shape_where, object_shape_where}
+use Rattle.asl_model.specs.Shape.{Shape, Any, OfKinds, Arrays, WithoutArrays, ArraysOf, Objects, WithoutObjects}
+use Rattle.asl_model.specs.Shape.{ObjectsOf, Shapes, NoShapes, AndShape, FieldShapes, NoFieldShapes, AndFieldShape}
+use Rattle.asl_model.specs.Shape.{has_arrays, has_objects, type_names}
+use Rattle.asl_model.specs.ShapeOrder.{is_any_shape, same_truth, same_simple}
 use Rattle.asl_model.specs.ShapeFlow.{how_many_shapes}
 use Rattle.asl_model.specs.Certificate.{StateShapes, Certificate}
 use Rattle.asl_model.specs.Written.{some_shapes, some_fields, needed_names, some_names, as_texts}
-use Rattle.asl_model.specs.Written.{array_fields, object_fields, written_shape, certificate_written}
+use Rattle.asl_model.specs.Written.{type_field, array_fields, object_fields, are_closed, written_kinds}
+use Rattle.asl_model.specs.Written.{written_shape, certificate_written}
 
 -- ---- the same shape
 
--- the shape is Never
-abbrev pub is_never_shape : Shape → Bool
-is_never_shape Any = false
-is_never_shape Never = true
-is_never_shape NullShape = false
-is_never_shape BooleanShape = false
-is_never_shape IntegerShape = false
-is_never_shape StringShape = false
-is_never_shape (ArrayShape first rest) = false
-is_never_shape (ObjectShape fields extra) = false
-
--- both are true, or none is
-abbrev pub same_truth : Bool → Bool → Bool
-same_truth true b = b
-same_truth false b = not b
-
 abbrev mutual
-  -- the shapes are of one kind and have the same parts
+  -- the shapes take the same kinds, with the same parts
   pub same_shape : Shape → Shape → Bool
   same_shape Any t = is_any_shape t
-  same_shape Never t = is_never_shape t
-  same_shape NullShape t = is_null_shape t
-  same_shape BooleanShape t = is_boolean_shape t
-  same_shape IntegerShape t = is_integer_shape t
-  same_shape StringShape t = is_string_shape t
-  same_shape (ArrayShape first rest) t =
-      array_shape_where (λ places further. same_shapes first places && same_shape rest further) t
-  same_shape (ObjectShape fields extra) t =
-      object_shape_where (λ others more. same_fields fields others && same_truth extra more) t
+  same_shape (OfKinds some others more) Any = false
+  same_shape (OfKinds some others more) (OfKinds simple arrays objects) =
+      same_simple some simple && (same_arrays others arrays && same_objects more objects)
+
+  -- part by part
+  pub same_arrays : Arrays → Arrays → Bool
+  same_arrays WithoutArrays arrays = not (has_arrays arrays)
+  same_arrays (ArraysOf first rest) WithoutArrays = false
+  same_arrays (ArraysOf first rest) (ArraysOf places further) = same_shapes first places && same_shape rest further
+
+  -- part by part
+  pub same_objects : Objects → Objects → Bool
+  same_objects WithoutObjects objects = not (has_objects objects)
+  same_objects (ObjectsOf fields extra) WithoutObjects = false
+  same_objects (ObjectsOf fields extra) (ObjectsOf others more) = same_fields fields others && same_truth extra more
 
   -- place by place
   pub same_shapes : Shapes → Shapes → Bool
@@ -73,18 +64,31 @@ place_of s (t ∷ listed) = if same_shape s t then Some 0 else option_map suc (p
 abbrev pub with_last : Shape → List Shape → List Shape
 with_last s listed = if is_some (place_of s listed) then listed else listed ++ s ∷ []
 
+-- the shape is listed: it takes arrays or objects
+abbrev pub is_listed : Shape → Bool
+is_listed Any = false
+is_listed (OfKinds simple arrays objects) = has_arrays arrays || has_objects objects
+
+-- the list with the shape behind it where it is listed, unless it is there
+abbrev pub with_last_if_listed : Shape → List Shape → List Shape
+with_last_if_listed s listed = if is_listed s then with_last s listed else listed
+
 abbrev mutual
   -- the list after a walk through the shape
   pub list_after : List Shape → Shape → List Shape
   list_after listed Any = listed
-  list_after listed Never = listed
-  list_after listed NullShape = listed
-  list_after listed BooleanShape = listed
-  list_after listed IntegerShape = listed
-  list_after listed StringShape = listed
-  list_after listed (ArrayShape first rest) =
-      with_last (ArrayShape first rest) (list_after (list_after_places listed first) rest)
-  list_after listed (ObjectShape fields extra) = with_last (ObjectShape fields extra) (list_after_fields listed fields)
+  list_after listed (OfKinds simple arrays objects) =
+      with_last_if_listed (OfKinds simple arrays objects) (list_after_objects (list_after_arrays listed arrays) objects)
+
+  -- through the shapes of elements
+  pub list_after_arrays : List Shape → Arrays → List Shape
+  list_after_arrays listed WithoutArrays = listed
+  list_after_arrays listed (ArraysOf first rest) = list_after (list_after_places listed first) rest
+
+  -- through those of an object's fields
+  pub list_after_objects : List Shape → Objects → List Shape
+  list_after_objects listed WithoutObjects = listed
+  list_after_objects listed (ObjectsOf fields extra) = list_after_fields listed fields
 
   -- through the shapes of first elements
   pub list_after_places : List Shape → Shapes → List Shape
@@ -142,20 +146,27 @@ fields_referring listed NoFieldShapes = NoFields
 fields_referring listed (AndFieldShape n needed s fields) =
     AndField n (referring listed s) (fields_referring listed fields)
 
+-- the keywords for arrays in front of others, with references for the parts
+abbrev pub with_arrays_over : List Shape → Arrays → Fields → Fields
+with_arrays_over listed WithoutArrays others = others
+with_arrays_over listed (ArraysOf first rest) others =
+    array_fields (not (is_any_shape rest)) (some_shapes first) (referring listed rest) (how_many_shapes first)
+    (Array (places_referring listed first)) others
+
+-- those for objects
+abbrev pub with_objects_over : List Shape → Objects → Fields → Fields
+with_objects_over listed WithoutObjects others = others
+with_objects_over listed (ObjectsOf fields extra) others =
+    object_fields (some_fields fields) (some_names (needed_names fields))
+    (Object (fields_referring listed fields)) (as_texts (needed_names fields)) others
+
 -- a shape with references for its parts
 abbrev pub written_over : List Shape → Shape → Tree
 written_over listed Any = written_shape Any
-written_over listed Never = written_shape Never
-written_over listed NullShape = written_shape NullShape
-written_over listed BooleanShape = written_shape BooleanShape
-written_over listed IntegerShape = written_shape IntegerShape
-written_over listed StringShape = written_shape StringShape
-written_over listed (ArrayShape first rest) =
-    Object (array_fields (not (is_any_shape rest)) (some_shapes first) (referring listed rest) (how_many_shapes first)
-    (Array (places_referring listed first)))
-written_over listed (ObjectShape fields extra) =
-    Object (object_fields extra (some_fields fields) (some_names (needed_names fields))
-    (Object (fields_referring listed fields)) (as_texts (needed_names fields)))
+written_over listed (OfKinds simple arrays objects) =
+    let names = type_names simple arrays objects in
+    written_kinds (are_closed objects) names
+    (with_arrays_over listed arrays (with_objects_over listed objects (type_field names)))
 
 -- the tree of a certificate that lists its shapes
 abbrev pub written_numbered : Certificate → Tree

@@ -11,8 +11,8 @@ use Rattle.std.specs.Prelude.{IsSome, IfOk}
 use Rattle.std.specs.String.{string_cmp}
 use Rattle.indexmap.specs.IndexMap.{insert_entry}
 use Rattle.asl_model.specs.Shape as model
-use Rattle.asl_model.specs.Shape.{inhabited, all_inhabited, needed_inhabited, mentions}
-use Rattle.asl_model.specs.ShapeOrder.{sub, elements_sub, fields_sub, each_shape, others_never_there, mention_of, mention_fits, is_any_shape}
+use Rattle.asl_model.specs.Shape.{inhabited, some_simple, some_array, some_object, all_inhabited, needed_inhabited, mentions}
+use Rattle.asl_model.specs.ShapeOrder.{sub, simple_sub, arrays_sub, objects_sub, elements_sub, fields_sub, each_shape, others_never_there, mention_of, mention_fits, takes_all}
 use Rattle.asl_tree.specs.declared.OutOfMemory.{OutOfMemory}
 use Rattle.asl_shape.proofs.Lookups.{same_name, picked}
 use Rattle.asl_numbered.specs.declared.node.Node.{Node}
@@ -263,11 +263,11 @@ fields-inside table inner more (f ∷ outer) =
     swapped false true = refl
     swapped false false = refl
 
-    go : (o : Option NodeField) → (mention_fits f.1.needed (λ s. sub s (shape_at table f.1.shape)) (is_any_shape (shape_at table f.1.shape)) more (option_map (λ (x : NodeField). (x.needed, shape_at table x.shape)) o) && (mentions_fit_in table inner more outer && all_inside table (field_tasks inner outer)))
+    go : (o : Option NodeField) → (mention_fits f.1.needed (λ s. sub s (shape_at table f.1.shape)) (takes_all (shape_at table f.1.shape)) more (option_map (λ (x : NodeField). (x.needed, shape_at table x.shape)) o) && (mentions_fit_in table inner more outer && all_inside table (field_tasks inner outer)))
         ≡ ((mention_fits_in table f.1 more o && mentions_fit_in table inner more outer) && all_inside table (with_field_task o f.1 (field_tasks inner outer)))
     go None =
-        ap (λ b. (not f.1.needed && b) && (mentions_fit_in table inner more outer && all_inside table (field_tasks inner outer))) (swapped (is_any_shape (shape_at table f.1.shape)) more)
-        ∙ sym (and_assoc (not f.1.needed && (not more || is_any_shape (shape_at table f.1.shape))) (mentions_fit_in table inner more outer) (all_inside table (field_tasks inner outer)))
+        ap (λ b. (not f.1.needed && b) && (mentions_fit_in table inner more outer && all_inside table (field_tasks inner outer))) (swapped (takes_all (shape_at table f.1.shape)) more)
+        ∙ sym (and_assoc (not f.1.needed && (not more || takes_all (shape_at table f.1.shape))) (mentions_fit_in table inner more outer) (all_inside table (field_tasks inner outer)))
     go (Some other) = middle (not f.1.needed || other.needed) (sub (shape_at table other.shape) (shape_at table f.1.shape)) (mentions_fit_in table inner more outer) (all_inside table (field_tasks inner outer))
 
 -- ---- two nodes
@@ -285,6 +285,23 @@ rests_on_kinds ns p inner outer answer tasks some first second is = rests_known 
 pub below-table : (ns : List Node) (n : ℕ) (node : Node) → n < length (expansions ns) → IsNodeAt ns n node → AreBelow (length (expansions ns)) (parts node)
 below-table ns n node h is = below-wider n (length (expansions ns)) (parts node) (omega (arith, h)) is.below.each
 
+-- what is compared of one kind alone, and whether that kind has trees
+one_kind : (a b : Bool) → ((not a || b) && true) ≡ (not (a || false) || b)
+one_kind true true = refl
+one_kind true false = refl
+one_kind false b = refl
+
+or_false : (a : Bool) → (not a) ≡ (not a || false)
+or_false true = refl
+or_false false = refl
+
+none_alone : (a : Bool) → (not a && true) ≡ (not (a || false) || false)
+none_alone true = refl
+none_alone false = refl
+
+list-sub : (ns : List Node) (places bounds : Vec ℕ Global) (further rest : ℕ) → sub (shape_over (expansions ns) (nodes.List places further)) (shape_over (expansions ns) (nodes.List bounds rest)) ≡ (not (inhabited (shape_over (expansions ns) (nodes.List places further))) || elements_sub (shapes_at (expansions ns) places.items) (shape_at (expansions ns) further) (shapes_at (expansions ns) bounds.items) (λ s. sub s (shape_at (expansions ns) rest)))
+list-sub ns places bounds further rest = one_kind (all_inhabited (shapes_at (expansions ns) places.items)) _
+
 pub list_rests : (ns : List Node) (p : Pair) (inner : Node) (bounds : Vec ℕ Global) (rest : ℕ) (answer : Bool) (old new : List Task) → IsWithin (expansions ns) p → inhabited (shape_at (expansions ns) p.first) ≡ true → IsNodeAt ns p.first inner → IsNodeAt ns p.second (nodes.List bounds rest) → ListLooked inner bounds.items rest p answer old new → RestsOn ns p answer old new
 list_rests ns p (nodes.List places further) bounds rest true old new within some first second h =
     let table = expansions ns in
@@ -296,11 +313,13 @@ list_rests ns p (nodes.List places further) bounds rest true old new within some
     let are = comparisons-append table p.first tasks last (place-comparisons table p.first places.items bounds.items rest own.1 (omega (arith, within.first)) other.1 other.0) inside_last in
     let counted : length (tasks ++ last) ≡ suc (length places.items) = length-append tasks last ∙ rw (place-count places.items bounds.items rest) (omega arith) in
     let wide = width_within ns p.first (nodes.List places further) first.at in
-    let is = settled ns p (nodes.List places further) (nodes.List bounds rest) _ some first second refl ∙ places-inside table places.items bounds.items further rest h.0 in
+    let is = settled ns p (nodes.List places further) (nodes.List bounds rest) _ some first second (list-sub ns places bounds further rest) ∙ places-inside table places.items bounds.items further rest h.0 in
     rests-on ns p old new (tasks ++ last) within are (omega (arith, counted, wide)) is h.1
 list_rests ns p (nodes.List places further) bounds rest false old new within some first second h =
-    let is = settled ns p (nodes.List places further) (nodes.List bounds rest) _ some first second refl ∙ places-outside (expansions ns) places.items bounds.items further rest h.0 in
+    let is = settled ns p (nodes.List places further) (nodes.List bounds rest) _ some first second (list-sub ns places bounds further rest) ∙ places-outside (expansions ns) places.items bounds.items further rest h.0 in
     rests-not ns p old new within is h.1
+list_rests ns p (nodes.Object others more) bounds rest answer old new within some first second h =
+    rw (h.0, h.1) (rests_on_kinds ns p (nodes.Object others more) (nodes.List bounds rest) false old some first second (or_false (needed_inhabited (fields_at (expansions ns) others.entries))))
 list_rests ns p node bounds rest answer old new within some first second h =
     rw (h.0, h.1) (rests_on_kinds ns p node (nodes.List bounds rest) false old some first second refl)
 
@@ -338,6 +357,8 @@ object_rests ns p (nodes.Object others more) fields extra answer old new within 
         rw is_so (rests-on ns p old new tasks within are (omega (arith, few, wide)) (is ∙ ap (λ b. b && all_inside table tasks) is_so) (h.1 ∙ ap (λ b. old ++ Conclude p ∷ cond b tasks []) is_so))
     go false isnt =
         rw isnt (rests-not ns p old new within (is ∙ ap (λ b. b && all_inside table tasks) isnt) (h.1 ∙ ap (λ b. old ++ Conclude p ∷ cond b tasks []) isnt))
+object_rests ns p (nodes.List places further) fields extra answer old new within some first second h =
+    rw (h.0, h.1) (rests_on_kinds ns p (nodes.List places further) (nodes.Object fields extra) false old some first second (none_alone (all_inhabited (shapes_at (expansions ns) places.items))))
 object_rests ns p node fields extra answer old new within some first second h =
     rw (h.0, h.1) (rests_on_kinds ns p node (nodes.Object fields extra) false old some first second refl)
 
@@ -364,16 +385,34 @@ kind_looked ns p inner outer answer tasks some first second is =
 
 -- ---- the pair itself
 
+-- arrays and objects of which there are none are inside all
+no-array : (others arrays : model.Arrays) → some_array others ≡ false → arrays_sub others arrays ≡ true
+no-array model.WithoutArrays arrays h = refl
+no-array (model.ArraysOf others further) model.WithoutArrays h = rw h refl
+no-array (model.ArraysOf others further) (model.ArraysOf first rest) h = rw h refl
+
+no-object : (others objects : model.Objects) → some_object others ≡ false → objects_sub others objects ≡ true
+no-object model.WithoutObjects objects h = refl
+no-object (model.ObjectsOf others more) model.WithoutObjects h = rw h refl
+no-object (model.ObjectsOf others more) (model.ObjectsOf shapes extra) h = rw h refl
+
+no-simple : (a b : model.Simple) → some_simple a ≡ false → simple_sub a b ≡ true
+no-simple a b h =
+    let null : a.null ≡ false = grind arith in
+    let boolean : a.boolean ≡ false = grind arith in
+    let integer : a.integer ≡ false = grind arith in
+    let text : a.text ≡ false = grind arith in
+    rw (null, boolean, integer, text) refl
+
 -- the shape without a tree is inside every shape, and so is each that has none
 none-inside : (a b : model.Shape) → inhabited a ≡ false → sub a b ≡ true
 none-inside a model.Any h = refl
-none-inside a model.Never h = rw h refl
-none-inside a model.NullShape h = rw h refl
-none-inside a model.BooleanShape h = rw h refl
-none-inside a model.IntegerShape h = rw h refl
-none-inside a model.StringShape h = rw h refl
-none-inside a (model.ArrayShape first rest) h = rw h refl
-none-inside a (model.ObjectShape shapes extra) h = rw h refl
+none-inside model.Any (model.OfKinds simple arrays objects) h = absurd (cc)
+none-inside (model.OfKinds some others more) (model.OfKinds simple arrays objects) h =
+    let none : some_simple some ≡ false = grind arith in
+    let empty : some_array others ≡ false = grind arith in
+    let bare : some_object more ≡ false = grind arith in
+    rw (no-simple some simple none, no-array others arrays empty, no-object more objects bare) refl
 
 pub rests_on_none : (ns : List Node) (p : Pair) (tasks : List Task) (flag : Bool) → flag ≡ inhabited (shape_at (expansions ns) p.first) → flag ≡ false → RestsOn ns p true tasks tasks
 rests_on_none ns p tasks flag is none = rests_known ns p true tasks (none-inside (shape_at (expansions ns) p.first) (shape_at (expansions ns) p.second) (sym is ∙ none))

@@ -8,8 +8,8 @@ use Rattle.std.specs.Map.{lookup}
 use Rattle.std.specs.Prelude.{if◌then◌else◌}
 use Rattle.indexmap.specs.IndexMap.{insert_entry}
 use Rattle.asl_model.specs.Shape as model
-use Rattle.asl_model.specs.Shape.{Shape, Shapes, NoShapes, AndShape, FieldShapes, NoFieldShapes, AndFieldShape, ArrayShape, ObjectShape, inhabited}
-use Rattle.asl_model.specs.ShapeOrder.{depth, depth_of_elements, depth_of_fields, mention_of, further_places, common_joins, joined_with_each, join}
+use Rattle.asl_model.specs.Shape.{Shape, Any, OfKinds, Arrays, WithoutArrays, ArraysOf, Objects, WithoutObjects, ObjectsOf, Shapes, NoShapes, AndShape, FieldShapes, NoFieldShapes, AndFieldShape, inhabited}
+use Rattle.asl_model.specs.ShapeOrder.{depth, depth_of_arrays, depth_of_objects, depth_of_elements, depth_of_fields, mention_of, further_places, common_joins, joined_with_each, join}
 use Rattle.asl_model.proofs.JoinFuel.{one_deep, further-low, join-low, join_each-low, join-first_uninhabited, join-second_uninhabited}
 use Rattle.asl_numbered.specs.declared.node.NodeField.{NodeField}
 use Rattle.asl_numbered.specs.declared.pair.Pair.{Pair}
@@ -18,7 +18,7 @@ use Rattle.asl_numbered.specs.declared.joining.JoinTask.TheVariants.{Join, Nothi
 use Rattle.asl_shape.specs.View.{shapes_of}
 use Rattle.asl_numbered.specs.Comparison.{IsWithin}
 use Rattle.asl_numbered.specs.Expansion.{shape_at, shapes_at, Keeps}
-use Rattle.asl_numbered.specs.Joins.{joint, Shows, IsJoin, AreJoins, place_joins, Step, JoinStep, NothingStep, WithStep, step_of, steps_of, joined_last, done, all_done, IsFed, AreEachFed, places_cost, each_cost, rest_cost, with_field_cost, fields_cost, parts_cost, cost_within, cost_of, last_of, step_cost, work_left, place_joinings, joinings_with, field_joinings, field_joining, found_in, AreEachTasksWithin, AreLeft, Moves}
+use Rattle.asl_numbered.specs.Joins.{joint, Shows, IsJoin, AreJoins, place_joins, Step, JoinStep, NothingStep, WithStep, step_of, steps_of, joined_last, done, all_done, IsFed, AreEachFed, places_cost, each_cost, rest_cost, with_field_cost, fields_cost, arrays_cost, objects_cost, parts_cost, cost_within, cost_of, last_of, step_cost, work_left, place_joinings, joinings_with, field_joinings, field_joining, found_in, AreEachTasksWithin, AreLeft, Moves}
 use Rattle.asl_numbered.proofs.Comparisons.{within_kept}
 use Rattle.asl_numbered.proofs.Expansions.{keeps_longer, kept_shape}
 use Rattle.asl_numbered.proofs.Remembered.{same, each_kept, each_put, each_found}
@@ -221,15 +221,28 @@ module _ (f g : Shape → Shape → ℕ) (k : ℕ) (less : AtMost k f g) where
           let here = less.most s m.1 (omega (arith, h)) low in
           omega (arith, here, behind)
 
-  parts-less : (a b : Shape) → depth a ≤ suc k → depth b ≤ suc k → parts_cost f a b ≤ parts_cost g a b
-  parts-less (ArrayShape first rest) (ArrayShape others further) h i =
+  arrays-less : (a b : Arrays) → depth_of_arrays a ≤ k → depth_of_arrays b ≤ k → arrays_cost f a b ≤ arrays_cost g a b
+  arrays-less WithoutArrays b h i = omega arith
+  arrays-less (ArraysOf first rest) WithoutArrays h i = omega arith
+  arrays-less (ArraysOf first rest) (ArraysOf others further) h i =
       let own : depth_of_elements first ≤ k = omega (arith, h) in
       let other : depth_of_elements others ≤ k = omega (arith, i) in
       let front = places-less first others own other in
       let behind = rest-less (further_places first others) rest further (further-low k first others own other) (omega (arith, h)) (omega (arith, i)) in
       omega (arith, front, behind)
-  parts-less (ObjectShape shapes extra) (ObjectShape others more) h i = fields-less shapes others (omega (arith, h)) (omega (arith, i))
-  parts-less a b h i = omega arith
+
+  objects-less : (a b : Objects) → depth_of_objects a ≤ k → depth_of_objects b ≤ k → objects_cost f a b ≤ objects_cost g a b
+  objects-less WithoutObjects b h i = omega arith
+  objects-less (ObjectsOf shapes extra) WithoutObjects h i = omega arith
+  objects-less (ObjectsOf shapes extra) (ObjectsOf others more) h i = fields-less shapes others h i
+
+  parts-less : (a b : Shape) → depth a ≤ suc k → depth b ≤ suc k → parts_cost f a b ≤ parts_cost g a b
+  parts-less Any b h i = omega arith
+  parts-less (OfKinds some others more) Any h i = omega arith
+  parts-less (OfKinds some others more) (OfKinds simple arrays objects) h i =
+      let front = arrays-less others arrays (omega (arith, h)) (omega (arith, i)) in
+      let behind = objects-less more objects (omega (arith, h)) (omega (arith, i)) in
+      omega (arith, front, behind)
 
 -- a greater depth gives no smaller count
 cost-deeper : (n m : ℕ) (a b : Shape) → n ≤ m → depth a ≤ n → depth b ≤ n → cost_within n a b ≤ cost_within m a b

@@ -215,6 +215,10 @@ fields_each_work table (f ∷ fs) os found =
 
 -- ---- what the parts lead to
 
+never-joined : (table : List Shape) (b : Node) → model.Any ≡ join_kinds join model.Never (shape_over table b)
+never-joined table nodes.Any = refl
+never-joined table b = refl
+
 -- tasks that find the joins of the parts of a pair, and don't cost more than these, lead to its join
 parts-lead : (table : List Shape) (p : Pair) (numbers : List ℕ) (joins : List Shape) (tasks old new : List JoinTask) → IsWithin table p → AreInhabited table p → AreBelow (length table) numbers → AreParts table tasks → ArePartsOf (shape_at table p.first) (shape_at table p.second) joins → all_done (steps_of table tasks) (found_in table numbers) ≡ found_in table numbers ++ joins → work_left (steps_of table tasks) (found_in table numbers) ≤ 1 + parts_cost cost_of (shape_at table p.first) (shape_at table p.second) → new ≡ old ++ Finish p (length numbers) ∷ tasks → Moves table table (Join p) old new numbers numbers
 parts-lead table p numbers joins tasks old new within some below are of finds cost made =
@@ -286,6 +290,7 @@ module _ (ns : List Node) (p : Pair) (within : IsWithin (expansions ns) p) (some
     looked nodes.Bool nodes.Bool first second h = kind-looked nodes.Bool nodes.Bool nodes.Bool first second refl refl h
     looked nodes.Int nodes.Int first second h = kind-looked nodes.Int nodes.Int nodes.Int first second refl refl h
     looked nodes.Text nodes.Text first second h = kind-looked nodes.Text nodes.Text nodes.Text first second refl refl h
+    looked nodes.Never b first second h = kind-looked nodes.Never b nodes.Any first second refl (never-joined table b) h
     looked a b first second h = kind-looked a b nodes.Any first second refl refl h
 
 -- the same where memory may run out

@@ -14,7 +14,7 @@ use Rattle.std.specs.Ordering.{is_eq, match_ordering}
 use Rattle.std.specs.Slice.Iter.{iter_rest, iter_steps}
 use Rattle.std.specs.declared.slice.Iter.{Iter}
 use Rattle.asl_model.specs.Shape as model
-use Rattle.asl_model.specs.Shape.{Shape, FieldShapes, NoFieldShapes, AndFieldShape, ArrayShape, ObjectShape, insert_mention}
+use Rattle.asl_model.specs.Shape.{Shape, OfKinds, WithoutArrays, ArraysOf, WithoutObjects, ObjectsOf, FieldShapes, NoFieldShapes, AndFieldShape, ArrayShape, ObjectShape, insert_mention}
 use Rattle.asl_model.specs.ShapeOrder.{mention_of, set_mention, without_mention, further_places, common_joins, joined_with_each, keep_joined, joined_fields, with_optional_unless, with_other_fields, join_kinds, join}
 use Rattle.asl_model.proofs.JoinFuel.{join-inhabited}
 use Rattle.asl_tree.proofs.Texts.{after_first}
@@ -280,8 +280,8 @@ module _ (fields : List Entry) (extra : Bool) (others now left : List Entry) (e 
 
 -- the parts of two shapes of one kind are the joins by that kind
 abbrev PartsAre : Shape → Shape → List Shape → Type 0
-PartsAre (ArrayShape first rest) (ArrayShape others further) found = found ≡ join (join (joined_with_each join model.Never (further_places first others)) rest) further ∷ place_joins first others
-PartsAre (ObjectShape shapes extra) (ObjectShape others more) found = found ≡ field_joins shapes others
+PartsAre (OfKinds some (ArraysOf first rest) WithoutObjects) (OfKinds simple (ArraysOf others further) WithoutObjects) found = found ≡ join (join (joined_with_each join model.Never (further_places first others)) rest) further ∷ place_joins first others
+PartsAre (OfKinds some WithoutArrays (ObjectsOf shapes extra)) (OfKinds simple WithoutArrays (ObjectsOf others more)) found = found ≡ field_joins shapes others
 PartsAre a b found = ⊥
 
 parts-are : {a b : Shape} {found : List Shape} → ArePartsOf a b found → PartsAre a b found

@@ -27,17 +27,17 @@ proper_fields table (f ∷ (g ∷ fs)) h order = (IsUtf8-string_bytes f.0, (rw o
 
 proper_over : (table : List model.Shape) (node : Node) → AreProper table → HasFieldsInOrder node → model.IsProperShape (shape_over table node)
 proper_over table Any h order = tt
-proper_over table Never h order = tt
-proper_over table Null h order = tt
-proper_over table Truth h order = tt
-proper_over table Int h order = tt
-proper_over table Text h order = tt
-proper_over table (Elements first rest) h order = (proper_places table first.items h, h rest)
-proper_over table (Object fields extra) h order = proper_fields table fields.entries h order
+proper_over table Never h order = (refl, tt, tt)
+proper_over table Null h order = (refl, tt, tt)
+proper_over table Truth h order = (refl, tt, tt)
+proper_over table Int h order = (refl, tt, tt)
+proper_over table Text h order = (refl, tt, tt)
+proper_over table (Elements first rest) h order = (refl, (proper_places table first.items h, h rest), tt)
+proper_over table (Object fields extra) h order = (refl, tt, proper_fields table fields.entries h order)
 
 proper_last : (table : List model.Shape) (s : model.Shape) → AreProper table → model.IsProperShape s → AreProper (table ++ s ∷ [])
 proper_last [] s h own zero = own
-proper_last [] s h own (suc n) = tt
+proper_last [] s h own (suc n) = (refl, tt, tt)
 proper_last (t ∷ table) s h own zero = h 0
 proper_last (t ∷ table) s h own (suc n) = proper_last table s (λ m. h (suc m)) own n
 
@@ -48,4 +48,4 @@ proper_after table (e ∷ es) order h =
     proper_after (table ++ shape_over table e.0 ∷ []) es (λ n f at. order (suc n) f at) (proper_last table (shape_over table e.0) h own)
 
 pub all_proper : (es : List (Node × Bool)) → IsTable es → (n : ℕ) → model.IsProperShape (shape_at (shapes_in es) n)
-all_proper es table = proper_after [] es (λ n e at. (table.ordered n e at).ordered) (λ n. tt)
+all_proper es table = proper_after [] es (λ n e at. (table.ordered n e at).ordered) (λ n. (refl, tt, tt))

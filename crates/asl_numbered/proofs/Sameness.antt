@@ -1,5 +1,5 @@
 -- When two nodes are equal: where the shapes that they stand for are, over a table in which no shape stands twice.
-use Rattle.std.proofs.Common.{◌≡◌, ℕ, List, [], ◌∷◌, length, Bool, true, ◌&&◌, String, Global, string_bytes, bytes_eq, refl}
+use Rattle.std.proofs.Common.{◌≡◌, ℕ, List, [], ◌∷◌, length, Bool, true, ◌&&◌, String, Global, string_bytes, bytes_eq, refl, arith}
 use Rattle.std.proofs.lemmas.Bool.{and_parts, and_from, eqb-true, eq-eqb}
 use Rattle.std.proofs.lemmas.Slice.Eq.{bytes_eq-Decides}
 use Rattle.std.specs.Cmp.{booleans_Decides}
@@ -89,15 +89,15 @@ module _ (table : List model.Shape) (distinct : AreDistinct table) where
   alike-equal Any Any h i e = refl
   alike-equal Any y h i e = absurd (cc)
   alike-equal Never Never h i e = refl
-  alike-equal Never y h i e = absurd (cc)
+  alike-equal Never y h i e = absurd (grind arith)
   alike-equal Null Null h i e = refl
-  alike-equal Null y h i e = absurd (cc)
+  alike-equal Null y h i e = absurd (grind arith)
   alike-equal Truth Truth h i e = refl
-  alike-equal Truth y h i e = absurd (cc)
+  alike-equal Truth y h i e = absurd (grind arith)
   alike-equal Int Int h i e = refl
-  alike-equal Int y h i e = absurd (cc)
+  alike-equal Int y h i e = absurd (grind arith)
   alike-equal Text Text h i e = refl
-  alike-equal Text y h i e = absurd (cc)
+  alike-equal Text y h i e = absurd (grind arith)
   alike-equal (Elements first rest) (Elements others further) h i e =
       let front : shapes_at table first.items ≡ shapes_at table others.items = cc in
       let behind : shape_at table rest ≡ shape_at table further = cc in

@@ -7,7 +7,7 @@ use Rattle.std.specs.List.{AllByRecursion}
 use Rattle.std.specs.Map.{lookup}
 use Rattle.std.specs.String.{string_cmp}
 use Rattle.asl_model.specs.Shape as model
-use Rattle.asl_model.specs.ShapeOrder.{sub, is_any_shape, others_never_there}
+use Rattle.asl_model.specs.ShapeOrder.{sub, takes_all, others_never_there}
 use Rattle.asl_numbered.specs.declared.node.Node.{Node}
 use Rattle.asl_numbered.specs.declared.node.Node.TheVariants.{Any, Never, Null, Bool as Truth, Int, Text, List as Elements, Object}
 use Rattle.asl_numbered.specs.declared.node.NodeField.{NodeField}
@@ -137,7 +137,7 @@ field_tasks inner (f ∷ outer) = with_field_task (lookup (is_at (string_cmp f.0
 
 -- the field fits its mention in an object that has `more` or not, but for its shape where that mentions it
 abbrev pub mention_fits_in : List model.Shape → NodeField → Bool → Option NodeField → Bool
-mention_fits_in table field more None = not field.needed && (not more || is_any_shape (shape_at table field.shape))
+mention_fits_in table field more None = not field.needed && (not more || takes_all (shape_at table field.shape))
 mention_fits_in table field more (Some other) = not field.needed || other.needed
 
 -- all of them do

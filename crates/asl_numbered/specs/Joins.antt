@@ -7,7 +7,7 @@ use Rattle.std.specs.List.{AllByRecursion}
 use Rattle.std.specs.Map.{lookup}
 use Rattle.std.specs.String.{string_cmp}
 use Rattle.asl_model.specs.Shape as model
-use Rattle.asl_model.specs.Shape.{Shape, Shapes, NoShapes, AndShape, FieldShapes, NoFieldShapes, AndFieldShape, ArrayShape, ObjectShape, inhabited}
+use Rattle.asl_model.specs.Shape.{Shape, Any, OfKinds, Arrays, WithoutArrays, ArraysOf, Objects, WithoutObjects, ObjectsOf, Shapes, NoShapes, AndShape, FieldShapes, NoFieldShapes, AndFieldShape, ArrayShape, ObjectShape, inhabited}
 use Rattle.asl_model.specs.ShapeOrder.{depth, mention_of, further_places, joined_with_each, joined_fields, with_other_fields, join}
 use Rattle.asl_numbered.specs.declared.node.Node.{Node}
 use Rattle.asl_numbered.specs.declared.node.Node.TheVariants as nodes
@@ -132,11 +132,23 @@ abbrev pub fields_cost : (Shape → Shape → ℕ) → FieldShapes → FieldShap
 fields_cost cost NoFieldShapes others = 0
 fields_cost cost (AndFieldShape n needed s shapes) others = with_field_cost cost s (mention_of n others) (fields_cost cost shapes others)
 
+-- so many join the parts of arrays
+abbrev pub arrays_cost : (Shape → Shape → ℕ) → Arrays → Arrays → ℕ
+arrays_cost cost WithoutArrays arrays = 0
+arrays_cost cost (ArraysOf first rest) WithoutArrays = 0
+arrays_cost cost (ArraysOf first rest) (ArraysOf others further) = places_cost cost first others + rest_cost cost (further_places first others) rest further
+
+-- so many join those of objects
+abbrev pub objects_cost : (Shape → Shape → ℕ) → Objects → Objects → ℕ
+objects_cost cost WithoutObjects objects = 0
+objects_cost cost (ObjectsOf shapes extra) WithoutObjects = 0
+objects_cost cost (ObjectsOf shapes extra) (ObjectsOf others more) = fields_cost cost shapes others
+
 -- so many join the parts of two shapes
 abbrev pub parts_cost : (Shape → Shape → ℕ) → Shape → Shape → ℕ
-parts_cost cost (ArrayShape first rest) (ArrayShape others further) = places_cost cost first others + rest_cost cost (further_places first others) rest further
-parts_cost cost (ObjectShape shapes extra) (ObjectShape others more) = fields_cost cost shapes others
-parts_cost cost a b = 0
+parts_cost cost Any b = 0
+parts_cost cost (OfKinds some others more) Any = 0
+parts_cost cost (OfKinds some others more) (OfKinds simple arrays objects) = arrays_cost cost others arrays + objects_cost cost more objects
 
 -- at most so many join two shapes that are at most so deep
 abbrev pub cost_within : ℕ → Shape → Shape → ℕ

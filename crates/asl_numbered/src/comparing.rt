@@ -296,7 +296,7 @@ fn others_never_there(
 }
 
 fn is_any(table: &Table, number: usize) -> bool
-    ensures { result ≡ model.is_any_shape (shape_at (expansions table.now) number) }
+    ensures { result ≡ model.takes_all (shape_at (expansions table.now) number) }
 {
     matches!(table.node(number), Some(Node::Any))
 }

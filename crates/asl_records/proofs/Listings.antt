@@ -18,7 +18,7 @@ use Rattle.asl_records.specs.declared.listing.Task.{Task}
 use Rattle.asl_records.specs.declared.listing.Task.TheVariants.{Visit, List as Put}
 use Rattle.asl_records.proofs.Kept.{Entry}
 use Rattle.asl_records.proofs.Numberings.{next_below}
-use Rattle.asl_records.proofs.Walks.{step_of, steps_of, done, all_done, AreEachFed, done-append, fed-append, fed-front, fed-behind, work, work-append, some_cost, tasks_done, tasks_fed, tasks_work, nothing_more, placed_there}
+use Rattle.asl_records.proofs.Walks.{step_of, steps_of, done, all_done, AreEachFed, done-append, fed-append, fed-front, fed-behind, work, work-append, some_cost, tasks_done, tasks_fed, tasks_work, nothing_more}
 
 -- the number of a task
 abbrev pub number_of : Task → ℕ
@@ -150,7 +150,7 @@ module _ (nodes : List Node) (final : List Shape) (tasks front new : List Task) 
       by (Some place) is same =
           let s = shape_at (expansions nodes) n in
           let at : place_of s shown ≡ Some place = sym (going.placed.places n within-table) ∙ is in
-          let idle = nothing_more shown s going.behind (placed_there shown s place at) in
+          let idle = nothing_more shown s going.behind (λ _. (place, at)) in
           go_on nodes final tasks front (Visit n) listing split going [] new listing (none-added new same) going.placed going.behind tt tt (sym idle)
       by None is opened =
           let node = opened.node in

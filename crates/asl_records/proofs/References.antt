@@ -9,7 +9,7 @@ use Rattle.asl_model.specs.RecordShapes.{HoldsForState, HoldsForCertificate}
 use Rattle.asl_model.specs.ShapeFlow.{how_many_shapes}
 use Rattle.asl_model.specs.ShapeOrder.{is_any_shape}
 use Rattle.asl_model.specs.Tree as json
-use Rattle.asl_model.specs.Written.{written_shape, written_list, written_entries, written_state, certificate_written, some_shapes, array_fields, needed_names, as_texts}
+use Rattle.asl_model.specs.Written.{written_shape, written_list, written_entries, written_state, certificate_written, some_shapes, type_field, array_fields, needed_names, as_texts}
 use Rattle.asl_model.specs.WrittenNumbered.{same_shape, place_of, shapes_listed, reference, referring, places_referring, fields_referring, written_over, written_numbered}
 use Rattle.asl_numbered.specs.Expansion.{expansions, shape_at, shapes_at, fields_at, shape_over}
 use Rattle.asl_numbered.specs.declared.node.Node.{Node}
@@ -96,7 +96,7 @@ some_first written table (t ∷ ts) (n ∷ ns) e = refl
 
 -- a shape of lists over its parts
 pub list_over : (listed table : List Shape) (node : Node) (number : ℕ) (first : Vec ℕ Global) (rest : ℕ) (ts : List Tree) (items : json.Tree) (has_items : Bool) → shape_over table node ≡ shape_at table number → node ≡ Elements first rest → trees.elements_view ts ≡ written_list (referring listed) (map (shape_at table) first.items)
-    → items ≡ referring listed (shape_at table rest) → has_items ≡ not (is_any_shape (shape_at table rest)) → json.Object (array_fields has_items (is_some ts) items (length ts) (json.Array (trees.elements_view ts))) ≡ written_over listed (shape_at table number)
+    → items ≡ referring listed (shape_at table rest) → has_items ≡ not (is_any_shape (shape_at table rest)) → json.Object (array_fields has_items (is_some ts) items (length ts) (json.Array (trees.elements_view ts)) (type_field (codes "array" ∷ []))) ≡ written_over listed (shape_at table number)
 list_over listed table node number first rest ts items has_items level is e f g =
     rw (some_first (referring listed) table ts first.items e, how_many (referring listed) table ts first.items e, e, places_referred listed table first.items, f, g) (ap (written_over listed) (ap (shape_over table) (sym is) ∙ level))
 

@@ -1,10 +1,10 @@
 -- What is left to do when shapes are listed, as steps over shapes: what they list, and that they end.
 use Rattle.std.proofs.Common.{◌≡◌, ◌<◌, ◌+◌, ℕ, suc, List, [], ◌∷◌, ◌++◌, map, Bool, true, false, if◌then◌else◌, Option, Some, None, option_map, String, Global, refl, sym, ap, ◌∙◌, subst, append_assoc, arith}
 use Rattle.std.proofs.lemmas.List.{map-append}
-use Rattle.asl_model.specs.Shape.{Shape, Any, Never, NullShape, BooleanShape, IntegerShape, StringShape, ArrayShape, ObjectShape, Shapes, NoShapes, AndShape, FieldShapes, NoFieldShapes, AndFieldShape, IsProperShape}
-use Rattle.asl_model.specs.WrittenNumbered.{same_shape, place_of, with_last, list_after, list_after_places, list_after_fields}
+use Rattle.asl_model.specs.Shape.{Shape, Any, OfKinds, Arrays, WithoutArrays, ArraysOf, ArrayShape, Objects, WithoutObjects, ObjectsOf, ObjectShape, Shapes, NoShapes, AndShape, FieldShapes, NoFieldShapes, AndFieldShape, IsProperShape}
+use Rattle.asl_model.specs.WrittenNumbered.{same_shape, place_of, with_last, list_after, list_after_objects, list_after_places, list_after_fields}
 use Rattle.asl_model.proofs.SameShapes.{same_are}
-use Rattle.asl_model.proofs.Listing.{IsThere, PlacesAreThere, FieldsAreThere, PartsAreThere, AreBehind, places_more, fields_more, there_more, places_later, walked, walked_places, walked_fields}
+use Rattle.asl_model.proofs.Listing.{IsThere, PlacesAreThere, FieldsAreThere, ObjectsAreThere, PartsAreThere, AreBehind, parts_more, places_later, walked, walked_places, walked_fields}
 use Rattle.asl_numbered.specs.Expansion.{shape_at, shapes_at, fields_at, shape_over, numbers_in}
 use Rattle.asl_numbered.specs.declared.node.Node.{Node}
 use Rattle.asl_numbered.specs.declared.node.Node.TheVariants.{Any as AnyNode, Never as NeverNode, Null, Bool as Truth, Int, Text, List as Elements, Object}
@@ -14,16 +14,6 @@ use Rattle.asl_records.specs.declared.listing.Task.{Task}
 use Rattle.asl_records.specs.declared.listing.Task.TheVariants.{Visit, List as Put}
 
 -- ---- a walk through a shape that is there lists nothing
-
-parts_more : (s : Shape) (listed more : List Shape) → PartsAreThere listed s → PartsAreThere (listed ++ more) s
-parts_more Any listed more h = elim h [ ]
-parts_more Never listed more h = elim h [ ]
-parts_more NullShape listed more h = elim h [ ]
-parts_more BooleanShape listed more h = elim h [ ]
-parts_more IntegerShape listed more h = elim h [ ]
-parts_more StringShape listed more h = elim h [ ]
-parts_more (ArrayShape first rest) listed more h = (places_more first listed more h.0, there_more rest listed more h.1)
-parts_more (ObjectShape fields extra) listed more h = fields_more fields listed more h
 
 -- the parts of a listed shape are there
 parts_behind : (done left : List Shape) (s : Shape) (i : ℕ) → AreBehind done left → place_of s left ≡ Some i → PartsAreThere (done ++ left) s
@@ -38,17 +28,19 @@ parts_behind done (t ∷ left) s i h at = go (same_shape s t) refl (place_of s l
 mutual
   pub nothing_more : (listed : List Shape) (s : Shape) → AreBehind [] listed → IsThere listed s → list_after listed s ≡ listed
   nothing_more listed Any h there = refl
-  nothing_more listed Never h there = refl
-  nothing_more listed NullShape h there = refl
-  nothing_more listed BooleanShape h there = refl
-  nothing_more listed IntegerShape h there = refl
-  nothing_more listed StringShape h there = refl
-  nothing_more listed (ArrayShape first rest) h there =
-      let parts = parts_behind [] listed (ArrayShape first rest) there.0 h there.1 in
-      rw (no_more_places listed first h parts.0, nothing_more listed rest h parts.1, there.1) refl
-  nothing_more listed (ObjectShape fields extra) h there =
-      let parts = parts_behind [] listed (ObjectShape fields extra) there.0 h there.1 in
-      rw (no_more_fields listed fields h parts, there.1) refl
+  nothing_more listed (OfKinds simple WithoutArrays WithoutObjects) h there = refl
+  nothing_more listed (OfKinds simple (ArraysOf first rest) objects) h there =
+      let at = there refl in
+      let parts = parts_behind [] listed (OfKinds simple (ArraysOf first rest) objects) at.0 h at.1 in
+      rw (no_more_places listed first h parts.1.0.0, nothing_more listed rest h parts.1.0.1, no_more_objects listed objects h parts.1.1, at.1) refl
+  nothing_more listed (OfKinds simple WithoutArrays (ObjectsOf fields extra)) h there =
+      let at = there refl in
+      let parts = parts_behind [] listed (OfKinds simple WithoutArrays (ObjectsOf fields extra)) at.0 h at.1 in
+      rw (no_more_fields listed fields h parts.1.1, at.1) refl
+
+  no_more_objects : (listed : List Shape) (objects : Objects) → AreBehind [] listed → ObjectsAreThere listed objects → list_after_objects listed objects ≡ listed
+  no_more_objects listed WithoutObjects h there = refl
+  no_more_objects listed (ObjectsOf fields extra) h there = no_more_fields listed fields h there
 
   no_more_places : (listed : List Shape) (first : Shapes) → AreBehind [] listed → PlacesAreThere listed first → list_after_places listed first ≡ listed
   no_more_places listed NoShapes h there = refl
@@ -57,16 +49,6 @@ mutual
   no_more_fields : (listed : List Shape) (fields : FieldShapes) → AreBehind [] listed → FieldsAreThere listed fields → list_after_fields listed fields ≡ listed
   no_more_fields listed NoFieldShapes h there = refl
   no_more_fields listed (AndFieldShape n needed s fields) h there = rw (nothing_more listed s h there.0) (no_more_fields listed fields h there.1)
-
-pub placed_there : (listed : List Shape) (s : Shape) (i : ℕ) → place_of s listed ≡ Some i → IsThere listed s
-placed_there listed Any i at = tt
-placed_there listed Never i at = tt
-placed_there listed NullShape i at = tt
-placed_there listed BooleanShape i at = tt
-placed_there listed IntegerShape i at = tt
-placed_there listed StringShape i at = tt
-placed_there listed (ArrayShape first rest) i at = (i, at)
-placed_there listed (ObjectShape fields extra) i at = (i, at)
 
 -- ---- steps
 
@@ -123,13 +105,15 @@ abbrev mutual
   -- at most so many steps go through the shape
   pub walk_cost : Shape → ℕ
   walk_cost Any = 1
-  walk_cost Never = 1
-  walk_cost NullShape = 1
-  walk_cost BooleanShape = 1
-  walk_cost IntegerShape = 1
-  walk_cost StringShape = 1
-  walk_cost (ArrayShape first rest) = 2 + (walk_cost rest + places_cost first)
-  walk_cost (ObjectShape fields extra) = 2 + fields_cost fields
+  walk_cost (OfKinds simple arrays objects) = 2 + (arrays_cost arrays + objects_cost objects)
+
+  pub arrays_cost : Arrays → ℕ
+  arrays_cost WithoutArrays = 0
+  arrays_cost (ArraysOf first rest) = walk_cost rest + places_cost first
+
+  pub objects_cost : Objects → ℕ
+  objects_cost WithoutObjects = 0
+  objects_cost (ObjectsOf fields extra) = fields_cost fields
 
   pub places_cost : Shapes → ℕ
   places_cost NoShapes = 0
@@ -153,13 +137,7 @@ work-append (step ∷ front) more = ap (λ n. step_cost step + n) (work-append f
 
 pub some_cost : (s : Shape) → 0 < walk_cost s
 some_cost Any = omega arith
-some_cost Never = omega arith
-some_cost NullShape = omega arith
-some_cost BooleanShape = omega arith
-some_cost IntegerShape = omega arith
-some_cost StringShape = omega arith
-some_cost (ArrayShape first rest) = omega arith
-some_cost (ObjectShape fields extra) = omega arith
+some_cost (OfKinds simple arrays objects) = omega arith
 
 -- ---- walks through places and fields
 
@@ -221,18 +199,18 @@ module _ (table : List Shape) where
       let further = shape_at table rest in
       let one = list_after_places listed places in
       let own : IsProperShape (ArrayShape places further) = subst IsProperShape (sym level) (proper n) in
-      let f = walked_places listed places behind own.0 in
-      let r = walked one further f.0.behind own.1 in
-      let parts : PartsAreThere (list_after one further) (ArrayShape places further) = (places_later places one (list_after one further) r.0 f.1, r.1) in
+      let f = walked_places listed places behind own.1.0 in
+      let r = walked one further f.0.behind own.1.1 in
+      let parts : PartsAreThere (list_after one further) (ArrayShape places further) = (refl, ((places_later places one (list_after one further) r.0 f.1, r.1), tt)) in
       let all = steps_of table (visits first.items) in
       let there : PartsAreThere (list_after (all_done all listed) further) (ArrayShape places further) = subst (λ l. PartsAreThere (list_after l further) (ArrayShape places further)) (sym (places_done first.items listed)) parts in
       ((proper n, subst (PartsAreThere (list_after (all_done all listed) further)) level there), (proper rest, visits_fed first.items listed proper))
   tasks_fed n (Object fields extra) listed proper behind level =
       let shapes = fields_at table fields.entries in
       let own : IsProperShape (ObjectShape shapes extra) = subst IsProperShape (sym level) (proper n) in
-      let f = walked_fields listed shapes behind own in
+      let f = walked_fields listed shapes behind own.2 in
       let all = steps_of table (visits (numbers_in fields.entries)) in
-      let there : PartsAreThere (all_done all listed) (ObjectShape shapes extra) = subst (λ l. PartsAreThere l (ObjectShape shapes extra)) (sym (fields_done fields.entries listed)) f.1 in
+      let there : PartsAreThere (all_done all listed) (ObjectShape shapes extra) = subst (λ l. PartsAreThere l (ObjectShape shapes extra)) (sym (fields_done fields.entries listed)) (refl, (tt, f.1)) in
       ((proper n, subst (PartsAreThere (all_done all listed)) level there), visits_fed (numbers_in fields.entries) listed proper)
 
   pub tasks_work : (n : ℕ) (node : Node) → work (steps_of table (tasks_at n node)) < walk_cost (shape_over table node)

@@ -7,7 +7,7 @@ use Rattle.std.specs.List.Sorted.{IsStrictlySortedBy}
 use Rattle.std.specs.Map.{lookup, keys_of}
 use Rattle.asl_model.specs.Shape as model
 use Rattle.asl_model.specs.Shape.{NoShapes, AndShape, inhabited, mentions}
-use Rattle.asl_model.specs.ShapeOrder.{depth, depth_of_elements, depth_of_fields, further_places, common_joins, keep_joined, joined_fields, joined_with_each, join_kinds, join_object, mention_of, with_optional_unless, with_other_fields, join}
+use Rattle.asl_model.specs.ShapeOrder.{depth, depth_of_elements, depth_of_fields, further_places, common_joins, keep_joined, joined_fields, joined_with_each, join_kinds, mention_of, with_optional_unless, with_other_fields, join}
 use Rattle.asl_model.proofs.JoinFuel.{join-low, join_each-low, join-first_uninhabited, join-second_uninhabited, join-inhabited}
 use Rattle.asl_tree.proofs.Texts.{after_first}
 use Rattle.asl_tree.specs.declared.OutOfMemory.{OutOfMemory}
@@ -142,7 +142,7 @@ pub by_kinds : (r : Result Shape OutOfMemory) (a b : model.Shape) → inhabited 
 by_kinds (Ok s) a b some also is = is ∙ sym (join-inhabited a b some also)
 by_kinds (Err e) a b some also is = tt
 
-pub of_object : (r : Result Shape OutOfMemory) (first : Shape) (fields : BTreeMap (String Global) Field) (extra : Bool) (b : model.Shape) → first ≡ TheViews.Object fields extra → IfOk r (λ s. view s ≡ join_object join (fields_view fields.entries) extra b) → IfOk r (λ s. view s ≡ join_kinds join (view first) b)
+pub of_object : (r : Result Shape OutOfMemory) (first : Shape) (fields : BTreeMap (String Global) Field) (extra : Bool) (b : model.Shape) → first ≡ TheViews.Object fields extra → IfOk r (λ s. view s ≡ join_kinds join (model.ObjectShape (fields_view fields.entries) extra) b) → IfOk r (λ s. view s ≡ join_kinds join (view first) b)
 of_object (Ok s) first fields extra b at is = is ∙ sym (ap (λ a. join_kinds join a b) (ap view at ∙ view_object fields extra))
 of_object (Err e) first fields extra b at is = tt
 

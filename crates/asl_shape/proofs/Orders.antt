@@ -27,4 +27,4 @@ pub and_needed_orderly : (m : String Global × Field) (ms : List (String Global 
 and_needed_orderly m ms h others = record { orderly = ((λ yes. (h yes).orderly), others.orderly) }
 
 pub object_orderly : (fields : BTreeMap (String Global) Field) (extra : Bool) → AreInOrder (fields_view fields.entries) → NeededOrderly (fields_view fields.entries) → Orderly (view (TheViews.Object fields extra))
-object_orderly fields extra order h = rw (view_object fields extra) (record { orderly = (order, h.orderly) })
+object_orderly fields extra order h = rw (view_object fields extra) (record { orderly = (refl, tt, (order, h.orderly)) })

@@ -4,20 +4,23 @@ use Rattle.std.proofs.Common.{◌≡◌, ℕ, List, Bool, true, false, ◌&&◌,
 use Rattle.std.specs.Prelude.{IsTrue, if◌then◌else◌}
 use Rattle.std.proofs.lemmas.Bool.{and_parts, and_from, false≢true}
 use Rattle.asl_model.specs.Tree.{Tree, Null, Boolean, Integer, Text, Array, Object, Trees, NoTrees, AndTree, Fields, NoFields, AndField, field_named, IsProper}
-use Rattle.asl_model.specs.Shape.{Shape, Any, Never, NullShape, BooleanShape, IntegerShape, StringShape, ArrayShape, ObjectShape, Shapes, NoShapes, AndShape, FieldShapes, NoFieldShapes, AndFieldShape, Has, has, elements_have, each_element, fields_have, there_and, mentions, all_mentioned, before_mentions, IsProperShape, AreProperShapes, AreProperFields, inhabited, all_inhabited, needed_inhabited}
-use Rattle.asl_shape.specs.Known.{AreInOrder, IsOrderly, AreOrderly, AreNeededOrderly}
+use Rattle.asl_model.specs.Shape.{Simple, Shape, Any, OfKinds, Never, Arrays, WithoutArrays, ArraysOf, Objects, WithoutObjects, ObjectsOf, Shapes, NoShapes, AndShape, FieldShapes, NoFieldShapes, AndFieldShape, Has, has, arrays_have, objects_have, elements_have, each_element, fields_have, there_and, mentions, all_mentioned, before_mentions, type_names, IsProperShape, AreProperArrays, AreProperObjects, AreProperShapes, AreProperFields, inhabited, some_simple, some_array, some_object, all_inhabited, needed_inhabited}
+use Rattle.asl_model.proofs.ShapeInhabited.{no_tree}
+use Rattle.asl_shape.specs.Known.{AreInOrder, IsOrderly, AreOrderlyArrays, AreOrderlyObjects, AreOrderly, AreNeededOrderly}
 
 abbrev mutual
   -- the shape with Never for further elements and for each field that isn't needed
   pruned : Shape → Shape
   pruned Any = Any
-  pruned Never = Never
-  pruned NullShape = NullShape
-  pruned BooleanShape = BooleanShape
-  pruned IntegerShape = IntegerShape
-  pruned StringShape = StringShape
-  pruned (ArrayShape first rest) = ArrayShape (all_pruned first) Never
-  pruned (ObjectShape shapes extra) = ObjectShape (fields_pruned shapes) extra
+  pruned (OfKinds simple arrays objects) = OfKinds simple (arrays_pruned arrays) (objects_pruned objects)
+
+  arrays_pruned : Arrays → Arrays
+  arrays_pruned WithoutArrays = WithoutArrays
+  arrays_pruned (ArraysOf first rest) = ArraysOf (all_pruned first) Never
+
+  objects_pruned : Objects → Objects
+  objects_pruned WithoutObjects = WithoutObjects
+  objects_pruned (ObjectsOf shapes extra) = ObjectsOf (fields_pruned shapes) extra
 
   all_pruned : Shapes → Shapes
   all_pruned NoShapes = NoShapes
@@ -33,18 +36,26 @@ before_pruned n (AndFieldShape m needed s shapes) h = h
 
 one_proper : (needed : Bool) (s : Shape) → (IsTrue needed → IsProperShape s) → IsProperShape (if needed then s else Never)
 one_proper true s h = h refl
-one_proper false s h = tt
+one_proper false s h = (refl, tt, tt)
+
+same_names : (simple : Simple) (arrays : Arrays) (objects : Objects) → type_names simple (arrays_pruned arrays) (objects_pruned objects) ≡ type_names simple arrays objects
+same_names simple WithoutArrays WithoutObjects = refl
+same_names simple WithoutArrays (ObjectsOf shapes extra) = refl
+same_names simple (ArraysOf first rest) WithoutObjects = refl
+same_names simple (ArraysOf first rest) (ObjectsOf shapes extra) = refl
 
 mutual
   pruned_proper : (s : Shape) → IsOrderly s → IsProperShape (pruned s)
   pruned_proper Any h = tt
-  pruned_proper Never h = tt
-  pruned_proper NullShape h = tt
-  pruned_proper BooleanShape h = tt
-  pruned_proper IntegerShape h = tt
-  pruned_proper StringShape h = tt
-  pruned_proper (ArrayShape first rest) h = (all_pruned_proper first h, tt)
-  pruned_proper (ObjectShape shapes extra) h = fields_pruned_proper shapes h.0 h.1
+  pruned_proper (OfKinds simple arrays objects) h = (rw (same_names simple arrays objects) h.0, arrays_pruned_proper arrays h.1, objects_pruned_proper objects h.2)
+
+  arrays_pruned_proper : (arrays : Arrays) → AreOrderlyArrays arrays → AreProperArrays (arrays_pruned arrays)
+  arrays_pruned_proper WithoutArrays h = tt
+  arrays_pruned_proper (ArraysOf first rest) h = (all_pruned_proper first h, (refl, tt, tt))
+
+  objects_pruned_proper : (objects : Objects) → AreOrderlyObjects objects → AreProperObjects (objects_pruned objects)
+  objects_pruned_proper WithoutObjects h = tt
+  objects_pruned_proper (ObjectsOf shapes extra) h = fields_pruned_proper shapes h.0 h.1
 
   all_pruned_proper : (ss : Shapes) → AreOrderly ss → AreProperShapes (all_pruned ss)
   all_pruned_proper NoShapes h = tt
@@ -61,16 +72,28 @@ one_inhabited true live now others further f g s e h =
     and_from (inhabited s) further (e ∙ f both.0) (g both.1)
 one_inhabited false live now others further f g s e h = g h
 
+kinds_inhabited : (simple array object array' object' : Bool) → (IsTrue array → IsTrue array') → (IsTrue object → IsTrue object') → IsTrue (simple || (array || object)) → IsTrue (simple || (array' || object'))
+kinds_inhabited true array object array' object' f g h = refl
+kinds_inhabited false true object array' object' f g h = rw (f refl) refl
+kinds_inhabited false false true array' object' f g h = rw (g refl) (or_true array')
+  where
+    or_true : (b : Bool) → (b || true) ≡ true
+    or_true true = refl
+    or_true false = refl
+kinds_inhabited false false false array' object' f g h = absurd (false≢true h)
+
 mutual
   pruned_inhabited : (s : Shape) → IsTrue (inhabited s) → IsTrue (inhabited (pruned s))
   pruned_inhabited Any h = h
-  pruned_inhabited Never h = h
-  pruned_inhabited NullShape h = h
-  pruned_inhabited BooleanShape h = h
-  pruned_inhabited IntegerShape h = h
-  pruned_inhabited StringShape h = h
-  pruned_inhabited (ArrayShape first rest) h = all_pruned_inhabited first h
-  pruned_inhabited (ObjectShape shapes extra) h = fields_pruned_inhabited shapes h
+  pruned_inhabited (OfKinds simple arrays objects) h = kinds_inhabited (some_simple simple) (some_array arrays) (some_object objects) (some_array (arrays_pruned arrays)) (some_object (objects_pruned objects)) (arrays_pruned_inhabited arrays) (objects_pruned_inhabited objects) h
+
+  arrays_pruned_inhabited : (arrays : Arrays) → IsTrue (some_array arrays) → IsTrue (some_array (arrays_pruned arrays))
+  arrays_pruned_inhabited WithoutArrays h = h
+  arrays_pruned_inhabited (ArraysOf first rest) h = all_pruned_inhabited first h
+
+  objects_pruned_inhabited : (objects : Objects) → IsTrue (some_object objects) → IsTrue (some_object (objects_pruned objects))
+  objects_pruned_inhabited WithoutObjects h = h
+  objects_pruned_inhabited (ObjectsOf shapes extra) h = fields_pruned_inhabited shapes h
 
   all_pruned_inhabited : (ss : Shapes) → IsTrue (all_inhabited ss) → IsTrue (all_inhabited (all_pruned ss))
   all_pruned_inhabited NoShapes h = h
@@ -95,32 +118,29 @@ one_there : (needed : Bool) (p s : Shape) (value : Option Tree) → ((t : Tree) 
 one_there true p s None f h = h
 one_there true p s (Some t) f h = f t h
 one_there false p s None f h = h
-one_there false p s (Some t) f h = absurd (false≢true h)
+one_there false p s (Some t) f h = absurd (no_tree Never refl t h)
 
 none_further : (further : Tree → Bool) (ts : Trees) → IsTrue (each_element (has Never) ts) → IsTrue (each_element further ts)
 none_further further NoTrees h = refl
-none_further further (AndTree t ts) h = absurd (false≢true h)
+none_further further (AndTree t ts) h = absurd (no_tree Never refl t (and_parts (has Never t) (each_element (has Never) ts) h).0)
 
 mutual
   pruned_has : (s : Shape) (t : Tree) → Has (pruned s) t → Has s t
   pruned_has Any t h = h
-  pruned_has Never t h = h
-  pruned_has NullShape t h = h
-  pruned_has BooleanShape t h = h
-  pruned_has IntegerShape t h = h
-  pruned_has StringShape t h = h
-  pruned_has (ArrayShape first rest) Null h = h
-  pruned_has (ArrayShape first rest) (Boolean b) h = h
-  pruned_has (ArrayShape first rest) (Integer n) h = h
-  pruned_has (ArrayShape first rest) (Text s) h = h
-  pruned_has (ArrayShape first rest) (Array ts) h = all_pruned_have first (has rest) ts h
-  pruned_has (ArrayShape first rest) (Object fs) h = h
-  pruned_has (ObjectShape shapes extra) Null h = h
-  pruned_has (ObjectShape shapes extra) (Boolean b) h = h
-  pruned_has (ObjectShape shapes extra) (Integer n) h = h
-  pruned_has (ObjectShape shapes extra) (Text s) h = h
-  pruned_has (ObjectShape shapes extra) (Array ts) h = h
-  pruned_has (ObjectShape shapes extra) (Object fs) h =
+  pruned_has (OfKinds simple arrays objects) Null h = h
+  pruned_has (OfKinds simple arrays objects) (Boolean b) h = h
+  pruned_has (OfKinds simple arrays objects) (Integer n) h = h
+  pruned_has (OfKinds simple arrays objects) (Text s) h = h
+  pruned_has (OfKinds simple arrays objects) (Array ts) h = arrays_pruned_have arrays ts h
+  pruned_has (OfKinds simple arrays objects) (Object fs) h = objects_pruned_have objects fs h
+
+  arrays_pruned_have : (arrays : Arrays) (ts : Trees) → IsTrue (arrays_have (arrays_pruned arrays) ts) → IsTrue (arrays_have arrays ts)
+  arrays_pruned_have WithoutArrays ts h = h
+  arrays_pruned_have (ArraysOf first rest) ts h = all_pruned_have first (has rest) ts h
+
+  objects_pruned_have : (objects : Objects) (fs : Fields) → IsTrue (objects_have (objects_pruned objects) fs) → IsTrue (objects_have objects fs)
+  objects_pruned_have WithoutObjects fs h = h
+  objects_pruned_have (ObjectsOf shapes extra) fs h =
       let both = and_parts (fields_have (fields_pruned shapes) fs) (extra || all_mentioned (fields_pruned shapes) fs) h in
       and_from (fields_have shapes fs) (extra || all_mentioned shapes fs) (fields_pruned_have shapes fs both.0) (ap (λ b. extra || b) (sym (all_mentioned_pruned shapes fs)) ∙ both.1)
 

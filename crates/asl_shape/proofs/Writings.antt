@@ -10,7 +10,7 @@ use Rattle.asl_model.specs.Shape as model
 use Rattle.asl_model.specs.ShapeFlow.{how_many_shapes}
 use Rattle.asl_model.specs.ShapeOrder.{is_any_shape}
 use Rattle.asl_model.specs.Tree as json
-use Rattle.asl_model.specs.Written.{some_shapes, some_fields, needed_names, some_names, as_texts, type_field, array_fields, object_fields, written_shape, written_shapes, written_fields}
+use Rattle.asl_model.specs.Written.{some_shapes, some_fields, needed_names, some_names, as_texts, type_field, array_fields, object_fields, closed_first, written_shape, written_shapes, written_fields}
 use Rattle.asl_tree.proofs.Texts.{after_first}
 use Rattle.asl_tree.specs.View as trees
 use Rattle.asl_tree.specs.declared.OutOfMemory.{OutOfMemory}
@@ -42,13 +42,13 @@ field_added (e ∷ es) k t = shown_by (string_cmp k e.0) _ _ _ ∙ rw (field_add
 
 -- ---- keywords
 
-array_made : (has_items has_first : Bool) (items first : json.Tree) (n : ℕ) (bare some more all : json.Fields) → bare ≡ type_field (codes "array") → some ≡ with_field_if has_items (codes "items") items bare → more ≡ with_field_if has_first (codes "minItems") (json.Integer (pos n)) some → all ≡ with_field_if has_first (codes "prefixItems") first more → all ≡ array_fields has_items has_first items n first
+array_made : (has_items has_first : Bool) (items first : json.Tree) (n : ℕ) (bare some more all : json.Fields) → bare ≡ type_field (codes "array" ∷ []) → some ≡ with_field_if has_items (codes "items") items bare → more ≡ with_field_if has_first (codes "minItems") (json.Integer (pos n)) some → all ≡ with_field_if has_first (codes "prefixItems") first more → all ≡ array_fields has_items has_first items n first (type_field (codes "array" ∷ []))
 array_made true true items first n bare some more all e f g h = rw (h, g, f, e) refl
 array_made true false items first n bare some more all e f g h = rw (h, g, f, e) refl
 array_made false true items first n bare some more all e f g h = rw (h, g, f, e) refl
 array_made false false items first n bare some more all e f g h = rw (h, g, f, e) refl
 
-object_made : (extra has_fields has_needed : Bool) (properties : json.Tree) (names : json.Trees) (bare some more all : json.Fields) → bare ≡ type_field (codes "object") → some ≡ with_field_if (not extra) (codes "additionalProperties") (json.Boolean false) bare → more ≡ with_field_if has_fields (codes "properties") properties some → all ≡ with_field_if has_needed (codes "required") (json.Array names) more → all ≡ object_fields extra has_fields has_needed properties names
+object_made : (extra has_fields has_needed : Bool) (properties : json.Tree) (names : json.Trees) (bare some more all : json.Fields) → bare ≡ type_field (codes "object" ∷ []) → some ≡ with_field_if (not extra) (codes "additionalProperties") (json.Boolean false) bare → more ≡ with_field_if has_fields (codes "properties") properties some → all ≡ with_field_if has_needed (codes "required") (json.Array names) more → all ≡ closed_first (not extra) (object_fields has_fields has_needed properties names (type_field (codes "object" ∷ [])))
 object_made true true true properties names bare some more all e f g h = rw (h, g, f, e) refl
 object_made true true false properties names bare some more all e f g h = rw (h, g, f, e) refl
 object_made true false true properties names bare some more all e f g h = rw (h, g, f, e) refl
@@ -58,7 +58,7 @@ object_made false true false properties names bare some more all e f g h = rw (h
 object_made false false true properties names bare some more all e f g h = rw (h, g, f, e) refl
 object_made false false false properties names bare some more all e f g h = rw (h, g, f, e) refl
 
-pub object_tree : (extra has_fields has_needed : Bool) (properties bare some more all : BTreeMap (String Global) Tree) (required : Vec Tree Global) → has_fields ≡ is_some properties.entries → has_needed ≡ is_some required.items → trees.entries_view bare.entries ≡ type_field (codes "object") → trees.entries_view some.entries ≡ with_field_if (not extra) (codes "additionalProperties") (trees.view (tree.Bool false)) (trees.entries_view bare.entries) → trees.entries_view more.entries ≡ with_field_if has_fields (codes "properties") (trees.view (tree.Object properties)) (trees.entries_view some.entries) → trees.entries_view all.entries ≡ with_field_if has_needed (codes "required") (trees.view (tree.List required)) (trees.entries_view more.entries) → trees.view (tree.Object all) ≡ json.Object (object_fields extra (is_some properties.entries) (is_some required.items) (json.Object (trees.entries_view properties.entries)) (trees.elements_view required.items))
+pub object_tree : (extra has_fields has_needed : Bool) (properties bare some more all : BTreeMap (String Global) Tree) (required : Vec Tree Global) → has_fields ≡ is_some properties.entries → has_needed ≡ is_some required.items → trees.entries_view bare.entries ≡ type_field (codes "object" ∷ []) → trees.entries_view some.entries ≡ with_field_if (not extra) (codes "additionalProperties") (trees.view (tree.Bool false)) (trees.entries_view bare.entries) → trees.entries_view more.entries ≡ with_field_if has_fields (codes "properties") (trees.view (tree.Object properties)) (trees.entries_view some.entries) → trees.entries_view all.entries ≡ with_field_if has_needed (codes "required") (trees.view (tree.List required)) (trees.entries_view more.entries) → trees.view (tree.Object all) ≡ json.Object (closed_first (not extra) (object_fields (is_some properties.entries) (is_some required.items) (json.Object (trees.entries_view properties.entries)) (trees.elements_view required.items) (type_field (codes "object" ∷ []))))
 object_tree extra has_fields has_needed properties bare some more all required f n e closed mentioned named =
     rw (view_members all, ← f, ← n) (ap json.Object (object_made extra has_fields has_needed (json.Object (trees.entries_view properties.entries)) (trees.elements_view required.items) (trees.entries_view bare.entries) (trees.entries_view some.entries) (trees.entries_view more.entries) (trees.entries_view all.entries) e (closed ∙ ap (λ t. with_field_if (not extra) (codes "additionalProperties") t (trees.entries_view bare.entries)) (view_truth false)) (mentioned ∙ ap (λ t. with_field_if has_fields (codes "properties") t (trees.entries_view some.entries)) (view_members properties)) (named ∙ ap (λ t. with_field_if has_needed (codes "required") t (trees.entries_view more.entries)) (view_array required))))
 
@@ -83,7 +83,7 @@ some_first [] (s ∷ ss) e = absurd (cc)
 some_first (t ∷ ts) [] e = absurd (cc)
 some_first (t ∷ ts) (s ∷ ss) e = refl
 
-pub list_written : (first : Vec Shape Global) (rest : Box Shape Global) (ts : List Tree) (items : json.Tree) (has_items : Bool) → trees.elements_view ts ≡ written_shapes (shapes_view first.items) → items ≡ written_shape (view rest.value) → has_items ≡ not (is_any_shape (view rest.value)) → json.Object (array_fields has_items (is_some ts) items (length ts) (json.Array (trees.elements_view ts))) ≡ written_shape (view (TheViews.List first rest))
+pub list_written : (first : Vec Shape Global) (rest : Box Shape Global) (ts : List Tree) (items : json.Tree) (has_items : Bool) → trees.elements_view ts ≡ written_shapes (shapes_view first.items) → items ≡ written_shape (view rest.value) → has_items ≡ not (is_any_shape (view rest.value)) → json.Object (array_fields has_items (is_some ts) items (length ts) (json.Array (trees.elements_view ts)) (type_field (codes "array" ∷ []))) ≡ written_shape (view (TheViews.List first rest))
 list_written first rest ts items has_items e f g =
     rw (view_list first rest, some_first ts first.items e, how_many ts first.items e, e, f, g) refl
 
@@ -135,7 +135,7 @@ some_mentioned [] (m ∷ ms) e = absurd (cc)
 some_mentioned (x ∷ es) [] e = absurd (cc)
 some_mentioned (x ∷ es) (m ∷ ms) e = refl
 
-pub object_written : (fields : BTreeMap (String Global) Field) (extra : Bool) (es : List Entry) (ts : List Tree) → trees.entries_view es ≡ written_fields (fields_view fields.entries) → trees.elements_view ts ≡ as_texts (needed_names (fields_view fields.entries)) → json.Object (object_fields extra (is_some es) (is_some ts) (json.Object (trees.entries_view es)) (trees.elements_view ts)) ≡ written_shape (view (TheViews.Object fields extra))
+pub object_written : (fields : BTreeMap (String Global) Field) (extra : Bool) (es : List Entry) (ts : List Tree) → trees.entries_view es ≡ written_fields (fields_view fields.entries) → trees.elements_view ts ≡ as_texts (needed_names (fields_view fields.entries)) → json.Object (closed_first (not extra) (object_fields (is_some es) (is_some ts) (json.Object (trees.entries_view es)) (trees.elements_view ts) (type_field (codes "object" ∷ [])))) ≡ written_shape (view (TheViews.Object fields extra))
 object_written fields extra es ts e f =
     rw (view_object fields extra, some_mentioned es fields.entries e, some_needed ts (needed_names (fields_view fields.entries)) f, e, f) refl
 
@@ -156,5 +156,5 @@ pub and_proper : (s : Shape) (ss : List Shape) → Proper (view s) → AllProper
 and_proper s ss h others = record { proper = (h.proper, others.proper) }
 
 pub object_proper : (fields : BTreeMap (String Global) Field) (extra : Bool) (r : Result Tree OutOfMemory) → FieldsProper (fields_view fields.entries) → IfOk r (λ _. Proper (view (TheViews.Object fields extra)))
-object_proper fields extra (Ok t) h = rw (view_object fields extra) (record { proper = h.proper })
+object_proper fields extra (Ok t) h = rw (view_object fields extra) (record { proper = (refl, tt, h.proper) })
 object_proper fields extra (Err e) h = tt

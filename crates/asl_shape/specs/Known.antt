@@ -1,6 +1,6 @@
 -- What is known of a shape as far as `inhabited` has to look at it, from the maps and texts that it goes through.
 use Rattle.std.specs.Prelude.{IsTrue, IsUtf8}
-use Rattle.asl_model.specs.Shape.{Shape, Any, Never, NullShape, BooleanShape, IntegerShape, StringShape, ArrayShape, ObjectShape, Shapes, NoShapes, AndShape, FieldShapes, NoFieldShapes, AndFieldShape, before_mentions}
+use Rattle.asl_model.specs.Shape.{Shape, Any, OfKinds, Arrays, WithoutArrays, ArraysOf, Objects, WithoutObjects, ObjectsOf, Shapes, NoShapes, AndShape, FieldShapes, NoFieldShapes, AndFieldShape, at_most_one, type_names, before_mentions}
 
 -- the names are UTF-8, each stands once, in byte order
 abbrev pub AreInOrder : FieldShapes → Type 0
@@ -8,16 +8,20 @@ AreInOrder NoFieldShapes = Unit {0}
 AreInOrder (AndFieldShape n needed s shapes) = IsUtf8 n × IsTrue (before_mentions n shapes) × AreInOrder shapes
 
 abbrev mutual
-  -- the names are in order in the shape, and in those of its first elements and of its needed fields, at any depth
+  -- it takes trees of one kind at most, and the names are in order, in the shape and in those of its first elements and
+  -- of its needed fields, at any depth
   pub IsOrderly : Shape → Type 0
   IsOrderly Any = Unit {0}
-  IsOrderly Never = Unit {0}
-  IsOrderly NullShape = Unit {0}
-  IsOrderly BooleanShape = Unit {0}
-  IsOrderly IntegerShape = Unit {0}
-  IsOrderly StringShape = Unit {0}
-  IsOrderly (ArrayShape first rest) = AreOrderly first
-  IsOrderly (ObjectShape shapes extra) = AreInOrder shapes × AreNeededOrderly shapes
+  IsOrderly (OfKinds simple arrays objects) =
+      IsTrue (at_most_one (type_names simple arrays objects)) × AreOrderlyArrays arrays × AreOrderlyObjects objects
+
+  pub AreOrderlyArrays : Arrays → Type 0
+  AreOrderlyArrays WithoutArrays = Unit {0}
+  AreOrderlyArrays (ArraysOf first rest) = AreOrderly first
+
+  pub AreOrderlyObjects : Objects → Type 0
+  AreOrderlyObjects WithoutObjects = Unit {0}
+  AreOrderlyObjects (ObjectsOf shapes extra) = AreInOrder shapes × AreNeededOrderly shapes
 
   pub AreOrderly : Shapes → Type 0
   AreOrderly NoShapes = Unit {0}

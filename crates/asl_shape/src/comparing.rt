@@ -120,7 +120,8 @@ fn others_never_there(outer: &BTreeMap<String, Field>, inner: &BTreeMap<String, 
 }
 
 pub(crate) fn is_any(shape: &Shape) -> bool
-    ensures { result ≡ model.is_any_shape (view shape.now) }
+    ensures any { result ≡ model.is_any_shape (view shape.now) }
+    ensures all { result ≡ model.takes_all (view shape.now) }
 {
     matches!(shape, Shape::Any)
 }

@@ -76,7 +76,8 @@ fn join_list(
     second: &Shape,
 ) -> Result<Shape, OutOfMemory>
     ensures { IfOk result
-        (λ s. view s ≡ model.join_array model.join (shapes_view places.now) (view rest.now) (view second.now)) }
+        (λ s. view s ≡ model.join_kinds model.join
+        (shape.ArrayShape (shapes_view places.now) (view rest.now)) (view second.now)) }
 {
     match second {
         Shape::List {
@@ -171,7 +172,8 @@ fn join_object(
     second: &Shape,
 ) -> Result<Shape, OutOfMemory>
     ensures { IfOk result
-        (λ s. view s ≡ model.join_object model.join (fields_view fields.now.entries) extra (view second.now)) }
+        (λ s. view s ≡ model.join_kinds model.join
+        (shape.ObjectShape (fields_view fields.now.entries) extra) (view second.now)) }
 {
     match second {
         Shape::Object {

@@ -6,7 +6,7 @@ ghost use Rattle.asl_shape.specs.Adding.{is_some, with_field_if};
 ghost use Rattle.asl_shape.specs.Proper.{Proper, AllProper, FieldsProper};
 ghost use Rattle.asl_shape.specs.View.{view, shapes_view, fields_view};
 ghost use Rattle.asl_tree.specs.View as trees;
-ghost use Rattle.std.specs.Prelude.{◌≡◌, IfOk, length, pos};
+ghost use Rattle.std.specs.Prelude.{◌≡◌, IfOk, codes, length, not, pos, [], ◌∷◌};
 
 use crate::comparing::is_any;
 use crate::shape::{Field, Shape};
@@ -114,7 +114,8 @@ pub fn write_array(
     ensures written { IfOk result
         (λ t. trees.view t ≡ json.Object (model.array_fields has_items
         (is_some prefix_items.items) (trees.view items)
-        (length prefix_items.items) (json.Array (trees.elements_view prefix_items.items)))) }
+        (length prefix_items.items) (json.Array (trees.elements_view prefix_items.items))
+        (model.type_field (codes "array" ∷ [])))) }
 {
     let has_first = !prefix_items.is_empty();
     let min_items = Tree::Int(count(&prefix_items));
@@ -142,10 +143,11 @@ pub fn write_object(
     extra: bool,
 ) -> Result<Tree, OutOfMemory>
     ensures written { IfOk result
-        (λ t. trees.view t ≡ json.Object (model.object_fields extra
+        (λ t. trees.view t ≡ json.Object (model.closed_first (not extra) (model.object_fields
         (is_some properties.entries) (is_some required.items)
         (json.Object (trees.entries_view properties.entries))
-        (trees.elements_view required.items))) }
+        (trees.elements_view required.items)
+        (model.type_field (codes "object" ∷ []))))) }
 {
     let has_fields = !properties.is_empty();
     let has_needed = !required.is_empty();
@@ -176,7 +178,7 @@ pub fn write_object(
 
 // The keyword `type` alone.
 fn of_type(alloc: Global, word: &str) -> Result<BTreeMap<String, Tree>, OutOfMemory>
-    ensures { IfOk result (λ m. trees.entries_view m.entries ≡ model.type_field word.now) }
+    ensures { IfOk result (λ m. trees.entries_view m.entries ≡ model.type_field (word.now ∷ [])) }
 {
     let mut keywords = BTreeMap::new(alloc);
     let value = Tree::Text(String::from_str(alloc, word)?);

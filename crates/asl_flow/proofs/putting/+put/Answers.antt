@@ -1,12 +1,16 @@
-use Rattle.std.proofs.Common.{◌≡◌, sym, ◌∙◌, rules, arith, length}
+use Rattle.std.proofs.Common.{◌≡◌, ◌-◌, sym, ap, ◌∙◌, subst, take, drop, rules, arith, length}
+use Rattle.std.proofs.lemmas.List.{take_all}
+use Rattle.asl_model.specs.Path.{Index}
 use Rattle.asl_model.specs.Shape.{Never}
 use Rattle.asl_model.specs.ShapeFlow.{put as put_shape, built_shape}
+use Rattle.asl_flow.specs.Counting.{counted_on}
+use Rattle.asl_flow.specs.Putting.{Answers}
 use Rattle.asl_flow.proofs.Numbered.{still_within, still_shown}
 use Rattle.asl_flow.proofs.NumberedParts.{field_within, object_level}
-use Rattle.asl_flow.proofs.Puts.{answered_in_list, refused_in_object, answered_in_object, nothing_put, second_refused, both_joined, answered}
+use Rattle.asl_flow.proofs.Puts.{answered_in_list, refused_in_object, answered_in_object, nothing_put, put_first, second_refused, both_joined, answered}
 use Rattle.asl_numbered.specs.declared.node.Node.TheVariants.{Object}
 use Rattle.asl_numbered.specs.Expansion.{expansions, shape_at}
-use Rattle.asl_path.specs.View.{segments_view}
+use Rattle.asl_path.specs.View.{segment_view, segments_view}
 use Rattle.asl_flow.proofs.putting.+put.Goals as goal
 
 pub put_in_list-put_place-requires-clause-number :
@@ -87,3 +91,13 @@ put_segments-returns-then-not-are_inhabited-clause-answers t c =
     let table = expansions c.args.shapes.now in
     let neither = sym c.are_inhabited.ensures.as_defined ∙ c.if-not-are_inhabited.true in
     answered c.put_never.new.shapes c.args.at _ Never _ (nothing_put (segments_view c.args.segments.now) (shape_at table c.args.placed) (shape_at table c.args.number) neither) (search rules)
+
+pub put_segments-returns-in-Index-clause-answers :
+    goal.put_segments-returns-in-Index-clause-answers
+put_segments-returns-in-Index-clause-answers t c =
+    let table = expansions c.args.shapes.now in
+    let both = sym c.are_inhabited.ensures.as_defined ∙ c.if-not-are_inhabited.false in
+    let items = c.args.segments.now in
+    let further : take (length items - 1) (drop 1 items) ≡ drop 1 items = search (rules, take_all) in
+    let whole = put_first items _ c.segment-item.result (Index c.in-Index.index) (shape_at table c.args.placed) (shape_at table c.args.number) (omega (arith, c.in-len1-up.len_at_least)) further c.segment-item.is (ap segment_view c.in-Index.is) both in
+    subst (λ r. Answers c.put_in_list.new.shapes (counted_on c.args.at r) c.put_in_list.result) whole c.put_in_list.ensures.answers

@@ -40,7 +40,7 @@ join_shapes-returns-else-not-is_inhabited-2 t c =
 
 pub join_kinds-join_object-requires : goal.join_kinds-join_object-requires
 join_kinds-join_object-requires t c =
-    let shown : depth (view c.args.first.now) ≡ suc (depth_of_fields (fields_view c.in-Object.fields.entries)) = ap (λ s. depth (view s)) c.in-Object.is ∙ ap depth (view_object c.in-Object.fields c.in-Object.extra) in
+    let shown : depth (view c.args.first.now) ≡ suc (max 0 (depth_of_fields (fields_view c.in-Object.fields.entries))) = ap (λ s. depth (view s)) c.in-Object.is ∙ ap depth (view_object c.in-Object.fields c.in-Object.extra) in
     (omega arith, tt)
 
 pub join_kinds-returns-in-Object : goal.join_kinds-returns-in-Object
@@ -52,7 +52,7 @@ pub join_list-join_behind-requires : goal.join_list-join_behind-requires
 join_list-join_behind-requires t c =
     let places = shapes_view c.args.places.now in
     let others = shapes_view c.in-List.others.items in
-    let shown : depth (view c.args.second.now) ≡ suc (max (depth_of_elements others) (depth (view c.in-List.further.value))) = ap (λ s. depth (view s)) c.in-List.is ∙ ap depth (view_list c.in-List.others c.in-List.further) in
+    let shown : depth (view c.args.second.now) ≡ suc (max (max (depth_of_elements others) (depth (view c.in-List.further.value))) 0) = ap (λ s. depth (view s)) c.in-List.is ∙ ap depth (view_list c.in-List.others c.in-List.further) in
     let behind : depth_of_elements (shapes_view c.places_behind-behind.result.now) ≤ max (depth_of_elements places) (depth_of_elements others) =
     rw (c.places_behind-behind.ensures, c.deref-in-List.ensures.value) (further-low _ places others (omega arith) (omega arith)) in
     let further : depth (view c.deref-in-List-2.result.now) ≡ depth (view c.in-List.further.value) = ap (λ s. depth (view s)) c.deref-in-List-2.ensures in

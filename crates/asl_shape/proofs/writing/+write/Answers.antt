@@ -19,7 +19,7 @@ write_shape-returns-in_ok-items-in-List-clause-written t c =
     let rest = c.in-List.rest in
     let prefix = c.in_ok-prefix_items-in-List in
     let items = c.in_ok-items-in-List in
-    let shown = list_written first rest prefix.prefix_items.items (trees.view items.items) (not c.is_any.result) (prefix.ensures.written ∙ ap (λ ss. written_shapes (shapes_view ss)) c.deref.ensures.value) (items.ensures.written ∙ ap (λ s. written_shape (view s)) c.deref-in-List.ensures) (ap not c.is_any.ensures ∙ ap (λ s. not (is_any_shape (view s))) c.deref-in-List-2.ensures) in
+    let shown = list_written first rest prefix.prefix_items.items (trees.view items.items) (not c.is_any.result) (prefix.ensures.written ∙ ap (λ ss. written_shapes (shapes_view ss)) c.deref.ensures.value) (items.ensures.written ∙ ap (λ s. written_shape (view s)) c.deref-in-List.ensures) (ap not c.is_any.ensures.any ∙ ap (λ s. not (is_any_shape (view s))) c.deref-in-List-2.ensures) in
     rw c.in-List.is (subst (λ u. IfOk c.write_array.result (λ t. trees.view t ≡ u)) shown c.write_array.ensures.written)
 
 pub write_shape-returns-in_ok-required-in-Object-clause-written :

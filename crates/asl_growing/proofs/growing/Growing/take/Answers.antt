@@ -3,12 +3,15 @@ use Rattle.asl_numbered.specs.Expansion.{expansions, shape_at, Keeps}
 use Rattle.asl_numbered.proofs.Expansions.{keeps_trans}
 use Rattle.asl_growing.specs.Growing.{IsGrown, Takes, growth_view}
 use Rattle.asl_growing.specs.declared.growing.Growing.{Growing}
-use Rattle.asl_growing.proofs.Grown.{any_grown, grown_kept, join_grown, takes_any, takes_join, takes_nothing}
+use Rattle.asl_growing.proofs.Grown.{any_grown, grown_kept, join_grown, takes_any, takes_join, takes_none, takes_nothing}
 use Rattle.asl_growing.proofs.growing.Growing.take.Goals as goal
 use Rattle.asl_growing.proofs.growing.Growing.take.Goals.{then-self-eq1+in_ok-grown, else-self-eq1}
 
 pub returns-in_err-joined-clause-grown : goal.returns-in_err-joined-clause-grown
 returns-in_err-joined-clause-grown c = grown_kept c.args.store.now c.join_cut.new.store c.args.self.now c.in_err-joined.ensures.keeps c.requires.grown
+
+pub returns-then-self-eq0-clause-takes : goal.returns-then-self-eq0-clause-takes
+returns-then-self-eq0-clause-takes c = takes_none (expansions c.args.store.now) c.args.self.now (shape_at (expansions c.args.store.now) c.args.flowing) c.if-self-eq0.true
 
 pub returns-then-joined-self-clause-takes : goal.returns-then-joined-self-clause-takes
 returns-then-joined-self-clause-takes c = takes_nothing c.args.store.now c.join_cut.new.store c.args.self.now c.args.flowing c.in_ok-joined.joined c.in_ok-joined.ensures.keeps c.requires.grown c.in_ok-joined.ensures.join c.if-joined-self.true
