@@ -137,8 +137,7 @@ module _ (gives : Shape) (settings : Settings) (input : Shape) (branches : List 
   settled-alike (Pass None) = refl
   settled-alike (Pass (Some t)) = refl
   settled-alike (Task resource) = refl
-  settled-alike (Choice rules None) = refl
-  settled-alike (Choice rules (Some next)) = refl
+  settled-alike (Choice rules default) = refl
   settled-alike (Wait delay) = refl
   settled-alike Succeed = refl
   settled-alike (Fail error cause) = refl

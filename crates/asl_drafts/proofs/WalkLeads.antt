@@ -6,12 +6,12 @@ use Rattle.std.specs.Option.{option_to_list}
 use mathlib.Core.Path.{fun_ext}
 use Rattle.asl_model.specs.Certificate.{StateShapes}
 use Rattle.asl_model.specs.Edges.{Destination, ToInput, ToOutput, ToEnd, ToTask, Walked, Flows, Breaks, breaks_unless, walk_then, to_next, to_end, onward, walk_named, walk_delay, to_child, to_branches, walk_items_result, walk_elements, with_elements_walked, walk_items, walk_chosen, walk_rule, walk_rules, walk_default, walk_caught, walk_catchers, walk_result, walk_work, walk_settled, walk}
-use Rattle.asl_model.specs.Finding.{FindingFault, WrongKind, as_first_elements, array_parts, effective_flow, element_shape, error_placed_shape, item_flow, map_result}
+use Rattle.asl_model.specs.Finding.{FindingFault, NoDefault, WrongKind, as_first_elements, array_parts, effective_flow, element_shape, error_placed_shape, item_flow, map_result}
 use Rattle.asl_model.specs.Machine.{Catcher, Settings, Delay, Seconds, SecondsPath, Timestamp, TimestampPath, Scope, StateOf, Kind, Pass, Task, Choice, Wait, Succeed, Fail, Parallel, Map, Scopes, NoScopes, AndScope, start_of, targets_by, targets_of}
 use Rattle.asl_model.specs.Numbering.{kind_outline, scope_outline, scopes_outline}
 use Rattle.asl_model.specs.Path.{Segment}
 use Rattle.asl_model.specs.Shape.{Shape, Never, Shapes, ArrayShape, inhabited}
-use Rattle.asl_model.specs.ShapeFlow.{look, literal, is_integer_shape, is_string_shape, rule_shape, leave, Flow, FlowFault}
+use Rattle.asl_model.specs.ShapeFlow.{look, literal, is_integer_shape, is_string_shape, rule_shape, is_settled, leave, Flow, FlowFault}
 use Rattle.asl_model.specs.Template.{Template}
 use Rattle.asl_model.specs.Test.{Rule}
 use Rattle.asl_model.proofs.Listed.{first_in, later_in}
@@ -130,9 +130,9 @@ module _ (P : List ℕ → Type 0) where
         one None = (tt, tt)
         one (Some r) = chosen-leads kind (codes "Choices") rule.next r lead.0
 
-    default-leads : (kind : Kind) (default : Option (List ℕ)) (s : Shape) → AllByRecursion P (option_to_list default) → AllLead (walk_default settings kind entry.input default s)
-    default-leads kind None s lead = tt
-    default-leads kind (Some to) s lead = chosen-leads kind (codes "Default") to s lead.0
+    default-leads : (kind : Kind) (rules : List Rule) (default : Option (List ℕ)) (s : Shape) → AllByRecursion P (option_to_list default) → AllLead (walk_default settings kind entry.input rules default s)
+    default-leads kind rules None s lead = unless-leads (is_settled rules s) (codes "Default") NoDefault
+    default-leads kind rules (Some to) s lead = chosen-leads kind (codes "Default") to s lead.0
 
     work-leads : (kind : Kind) (s : Shape) → AllByRecursion P (targets_by kind) → ChildrenLead kind → AllLead (walk_work settings kind entry s)
     work-leads (Pass None) s lead children = result-leads (Pass None) s
@@ -140,7 +140,7 @@ module _ (P : List ℕ → Type 0) where
     work-leads (Task resource) s lead children = (tt, tt)
     work-leads (Choice rules default) s lead children =
         let parts = each-of-both P (map (λ (rule : Rule). rule.next) rules) (option_to_list default) lead in
-        both-lead (walk_rules settings (Choice rules default) entry.input rules s) (walk_default settings (Choice rules default) entry.input default s) (rules-lead (Choice rules default) rules s parts.0) (default-leads (Choice rules default) default s parts.1)
+        both-lead (walk_rules settings (Choice rules default) entry.input rules s) (walk_default settings (Choice rules default) entry.input rules default s) (rules-lead (Choice rules default) rules s parts.0) (default-leads (Choice rules default) rules default s parts.1)
     work-leads (Wait delay) s lead children = both-lead (walk_delay delay s) (walk_result settings (Wait delay) entry.input s) (delay-leads delay s) (result-leads (Wait delay) s)
     work-leads Succeed s lead children = then-leads (to_end (codes "Type")) (leave settings Succeed entry.input s) (λ output. (tt, (tt, tt)))
     work-leads (Fail error cause) s lead children = tt
@@ -154,8 +154,7 @@ module _ (P : List ℕ → Type 0) where
     settled-leads gives (Pass None) = tt
     settled-leads gives (Pass (Some t)) = result-leads (Pass (Some t)) (literal t)
     settled-leads gives (Task resource) = result-leads (Task resource) gives
-    settled-leads gives (Choice rules None) = (tt, tt)
-    settled-leads gives (Choice rules (Some to)) = tt
+    settled-leads gives (Choice rules default) = tt
     settled-leads gives (Wait delay) = tt
     settled-leads gives Succeed = tt
     settled-leads gives (Fail error cause) = tt

@@ -1,6 +1,6 @@
 -- Where all that flows through a state is inside what is certified there, and nothing stops it, the certificate is closed
 -- at the state, whatever its type.
-use Rattle.std.proofs.Common.{◌≡◌, ℕ, suc, List, [], ◌∷◌, ◌++◌, length, Bool, true, false, Option, Some, None, Result, Ok, Err, refl, ap, subst, arith}
+use Rattle.std.proofs.Common.{◌≡◌, ℕ, suc, List, [], ◌∷◌, ◌++◌, Contains, length, ◌⊎◌, inl, inr, ◌∙◌, Bool, true, false, Option, Some, None, Result, Ok, Err, refl, sym, ap, subst, arith}
 use Rattle.std.specs.Prelude.{IsTrue, is_some, codes, if◌then◌else◌}
 use Rattle.std.proofs.lemmas.Bool.{false≢true}
 use Rattle.asl_model.specs.Tree.{Tree, Array, Trees, count}
@@ -11,11 +11,13 @@ use Rattle.asl_model.specs.Machine.{Catcher, Settings, Delay, Seconds, SecondsPa
 use Rattle.asl_model.specs.Flow.{effective_input, at_output_path, output_of, chosen, delay_in, branch_inputs, work_of, first_move}
 use Rattle.asl_model.specs.Run.{error_output, error_placed}
 use Rattle.asl_model.specs.Shape.{Shape, Never, ArrayShape, Shapes, Has, has, elements_have, inhabited}
-use Rattle.asl_model.specs.ShapeFlow.{look, put, literal, is_integer_shape, is_string_shape, rule_shape, Flow, output_flow, result_leaves}
+use Rattle.asl_model.specs.ShapeFlow.{look, put, literal, is_integer_shape, is_string_shape, rule_shape, is_settled, Flow, output_flow, result_leaves}
 use Rattle.asl_model.specs.Certificate.{Declared, StateShapes, Certificate, certified, certified_input, input_among, branches_in, is_map, branch_end, item_end, or_never, gives_of, EachHas, OutputFits, WorkFits, CaughtFits, CatchersFit, HasEntry, IsClosedAt}
-use Rattle.asl_model.specs.Finding.{FindingFault, as_first_elements, element_shape, item_flow, map_result, array_parts, error_output_shape, error_placed_shape, effective_flow}
+use Rattle.asl_model.specs.Finding.{FindingFault, NoDefault, as_first_elements, element_shape, item_flow, map_result, array_parts, error_output_shape, error_placed_shape, effective_flow}
 use Rattle.asl_model.specs.Edges.{Walked, breaks_unless, walk_then, to_next, to_end, onward, walk_named, walk_delay, to_child, to_branches, walk_items_result, walk_elements, with_elements_walked, walk_items, walk_chosen, walk_rule, walk_rules, walk_default, walk_caught, walk_catchers, walk_result, walk_work, walk_settled, walk}
 use Rattle.asl_drafts.specs.Fits.{AllFit}
+use Rattle.asl_model.proofs.Listed.{none_in, first_or_later}
+use Rattle.asl_model.proofs.SettledRules.{AllDecided, SomeTrue, settled-true}
 use Rattle.asl_model.proofs.ShapeInhabited.{has-inhabited}
 use Rattle.asl_model.proofs.FindingStates.{number-there, text-there, branches-have, map-has, items-there, items-have, item-told, inputs-give, each-fits, error-has}
 use Rattle.asl_model.proofs.ShapePut.{put-gives}
@@ -136,23 +138,60 @@ module _ (declared : Declared) (certificate : Certificate) (end : Shape) (n : Li
       abbrev ChosenFits : List Rule → Option (List ℕ) → Tree → Type 0
       ChosenFits rules default u = (next : List ℕ) × (chosen rules default u ≡ Ok next) × OutputFits certificate end n (Some next) (at_output_path settings u)
 
-      by-rules : (rules : List Rule) (default : Option (List ℕ)) (s : Shape) (v u : Tree) → Fit (walk_rules settings kind entry.input rules s) → Fit (walk_default settings kind entry.input default s) → IsTrue (is_some default) → Has entry.input v → Has s u → ChosenFits rules default u
-      by-rules [] None s v u f g there h m = absurd (false≢true there)
-      by-rules [] (Some next) s v u f g there h m = (next, refl, one-chosen (codes "Default") next s v u g h m)
-      by-rules (rule ∷ rules) default s v u f g there h m = go (rule_shape rule.test s) refl parts.0 (by-rules rules default s v u parts.1 g there h m)
+      -- the rules that nothing stops are decided
+      rules-decided : (rules : List Rule) (s : Shape) (u : Tree) → Fit (walk_rules settings kind entry.input rules s) → Has s u → AllDecided rules u
+      rules-decided [] s u f m rule c = none_in rule c
+      rules-decided (first ∷ rules) s u f m rule c = go (first_or_later first rule rules c) (rules-decided rules s u parts.1 m rule)
+        where
+          parts : Fit (walk_rule settings kind entry.input first.next (rule_shape first.test s)) × Fit (walk_rules settings kind entry.input rules s)
+          parts = both-fit (walk_rule settings kind entry.input first.next (rule_shape first.test s)) (walk_rules settings kind entry.input rules s) f
+
+          own : (shape : Option Shape) → rule_shape first.test s ≡ shape → Fit (walk_rule settings kind entry.input first.next shape) → (value : Bool) × (truth first.test u ≡ Some value)
+          own None is f' = absurd f'.0
+          own (Some r) is f' =
+              let known = rule-decided first.test s r u is m in
+              (known.0, known.1)
+
+          go : (first ≡ rule) ⊎ Contains rules rule → (Contains rules rule → (value : Bool) × (truth rule.test u ≡ Some value)) → (value : Bool) × (truth rule.test u ≡ Some value)
+          go (inl is) below = subst (λ (r : Rule). (value : Bool) × (truth r.test u ≡ Some value)) is (own (rule_shape first.test s) refl parts.0)
+          go (inr d) below = below d
+
+      by-rules : (rules : List Rule) (default : Option (List ℕ)) (s : Shape) (v u : Tree) → Fit (walk_rules settings kind entry.input rules s) → Fit (walk_default settings kind entry.input all default s) → IsTrue (is_some default) ⊎ SomeTrue rules u → Has entry.input v → Has s u → ChosenFits rules default u
+      by-rules [] None s v u f g (inl there) h m = absurd (false≢true there)
+      by-rules [] None s v u f g (inr (rule, among, is)) h m = none_in rule among
+      by-rules [] (Some next) s v u f g some h m = (next, refl, one-chosen (codes "Default") next s v u g h m)
+      by-rules (rule ∷ rules) default s v u f g some h m = go (rule_shape rule.test s) refl parts.0 (λ later. by-rules rules default s v u parts.1 g later h m)
         where
           parts : Fit (walk_rule settings kind entry.input rule.next (rule_shape rule.test s)) × Fit (walk_rules settings kind entry.input rules s)
           parts = both-fit (walk_rule settings kind entry.input rule.next (rule_shape rule.test s)) (walk_rules settings kind entry.input rules s) f
 
-          by-truth : (r : Shape) (b : Bool) → truth rule.test u ≡ Some b → (IsTrue b → Has r u) → Fit (walk_rule settings kind entry.input rule.next (Some r)) → ChosenFits rules default u → ChosenFits (rule ∷ rules) default u
-          by-truth r true is holds f' below = (rule.next, rw is refl, one-chosen (codes "Choices") rule.next r v u f' h (holds refl))
-          by-truth r false is holds f' below = (below.0, rw is (below.1), below.2)
+          -- where the first rule is false, a later one is true
+          later-true : truth rule.test u ≡ Some false → IsTrue (is_some default) ⊎ SomeTrue (rule ∷ rules) u → IsTrue (is_some default) ⊎ SomeTrue rules u
+          later-true is (inl there) = inl there
+          later-true is (inr (other, among, true_of_it)) = which (first_or_later rule other rules among)
+            where
+              which : (rule ≡ other) ⊎ Contains rules other → IsTrue (is_some default) ⊎ SomeTrue rules u
+              which (inl same) =
+                  let both : Some false ≡ Some true = sym is ∙ (ap (λ (r : Rule). truth r.test u) same ∙ true_of_it) in
+                  absurd (cc)
+              which (inr c) = inr (other, c, true_of_it)
 
-          go : (shape : Option Shape) → rule_shape rule.test s ≡ shape → Fit (walk_rule settings kind entry.input rule.next shape) → ChosenFits rules default u → ChosenFits (rule ∷ rules) default u
+          by-truth : (r : Shape) (b : Bool) → truth rule.test u ≡ Some b → (IsTrue b → Has r u) → Fit (walk_rule settings kind entry.input rule.next (Some r)) → (IsTrue (is_some default) ⊎ SomeTrue rules u → ChosenFits rules default u) → ChosenFits (rule ∷ rules) default u
+          by-truth r true is holds f' below = (rule.next, rw is refl, one-chosen (codes "Choices") rule.next r v u f' h (holds refl))
+          by-truth r false is holds f' below =
+              let next = below (later-true is some) in
+              (next.0, rw is (next.1), next.2)
+
+          go : (shape : Option Shape) → rule_shape rule.test s ≡ shape → Fit (walk_rule settings kind entry.input rule.next shape) → (IsTrue (is_some default) ⊎ SomeTrue rules u → ChosenFits rules default u) → ChosenFits (rule ∷ rules) default u
           go None is f' below = absurd f'.0
           go (Some r) is f' below =
               let truth_known = rule-decided rule.test s r u is m in
               by-truth r truth_known.0 truth_known.1 truth_known.2 f' below
+
+      -- there is a `Default`, or one of the rules is true
+      some-true : (default : Option (List ℕ)) (s : Shape) (u : Tree) → Fit (walk_rules settings kind entry.input all s) → Fit (walk_default settings kind entry.input all default s) → Has s u → IsTrue (is_some default) ⊎ SomeTrue all u
+      some-true None s u f g m = inr (settled-true all s u (unless-fit (is_settled all s) (codes "Default") NoDefault g) (rules-decided all s u f m) m)
+      some-true (Some next) s u f g m = inl refl
 
     -- what the first move comes to, for an effective input
     work-fits : (kind : Kind) (settings : Settings) (s : Shape) (v u : Tree) → length entry.branches ≡ branches_in kind → is_some entry.item ≡ is_map kind → Fit (walk_work settings kind entry s) → Fit (walk_settled (gives_of declared n) settings kind entry) → effective_input settings v ≡ Ok u → Has s u → Has entry.input v → WorkFits declared certificate end n (StateOf settings kind) v (work_of kind settings v)
@@ -160,13 +199,9 @@ module _ (declared : Declared) (certificate : Certificate) (end : Shape) (n : Li
     work-fits (Pass (Some t)) settings s v u long item f g eff m h = rw eff (result-fits settings (literal t) v t g h (literal-has_itself t))
     work-fits (Task resource) settings s v u long item f g eff m h = rw eff (f.0 u m, λ answer given. result-fits settings (gives_of declared n) v answer g h given)
     work-fits (Choice rules default) settings s v u long item f g eff m h =
-        let parts = both-fit (walk_rules settings (Choice rules default) entry.input rules s) (walk_default settings (Choice rules default) entry.input default s) f in
-        let next = by-rules settings rules default rules default s v u parts.0 parts.1 (has_default default g) h m in
+        let parts = both-fit (walk_rules settings (Choice rules default) entry.input rules s) (walk_default settings (Choice rules default) entry.input rules default s) f in
+        let next = by-rules settings rules default rules default s v u parts.0 parts.1 (some-true settings rules default default s u parts.0 parts.1 m) h m in
         rw (eff, next.1) (next.2)
-      where
-        has_default : (fallback : Option (List ℕ)) → Fit (walk_settled (gives_of declared n) settings (Choice rules fallback) entry) → IsTrue (is_some fallback)
-        has_default None f' = absurd f'.0
-        has_default (Some next) f' = refl
     work-fits (Wait delay) settings s v u long item f g eff m h =
         let parts = both-fit (walk_delay delay s) (walk_result settings (Wait delay) entry.input s) f in
         let waits = delay-fits delay s u parts.0 m in

@@ -5,9 +5,9 @@ use Rattle.asl_model.specs.Template.{Template}
 use Rattle.asl_model.specs.Test.{Rule}
 use Rattle.asl_model.specs.Machine.{Catcher, Settings, Delay, Seconds, SecondsPath, Timestamp, TimestampPath, Scope, Kind, Pass, Task, Choice, Wait, Succeed, Fail, Parallel, Map, Scopes, NoScopes, AndScope, start_of}
 use Rattle.asl_model.specs.Shape.{Shape, Never, Shapes, ArrayShape, inhabited}
-use Rattle.asl_model.specs.ShapeFlow.{look, literal, is_integer_shape, is_string_shape, rule_shape, leave, Flow, FlowFault}
+use Rattle.asl_model.specs.ShapeFlow.{look, literal, is_integer_shape, is_string_shape, rule_shape, is_settled, leave, Flow, FlowFault}
 use Rattle.asl_model.specs.Certificate.{takes_of, gives_of}
-use Rattle.asl_model.specs.Finding.{Surroundings, Breach, FindingFault, OutputNotCertified, NextInput, ScopeOutput, BranchInput, PayloadNotTaken, breach_of, breach_unless, breach_unless_sub, breaches_then, effective_flow, next_breaches, end_breaches, output_breaches, result_breaches, kind_breaches, delay_breaches, child_breaches, branch_breaches, item_flow, element_shape, map_result, map_breaches, as_first_elements, array_parts, with_elements, with_items, chosen_breaches, rule_breaches, rules_breaches, default_breaches, error_placed_shape, caught_breaches, catcher_breaches, work_breaches, settled_breaches, flow_breaches}
+use Rattle.asl_model.specs.Finding.{Surroundings, Breach, FindingFault, NoDefault, OutputNotCertified, NextInput, ScopeOutput, BranchInput, PayloadNotTaken, breach_of, breach_unless, breach_unless_sub, breaches_then, effective_flow, next_breaches, end_breaches, output_breaches, result_breaches, kind_breaches, delay_breaches, child_breaches, branch_breaches, item_flow, element_shape, map_result, map_breaches, as_first_elements, array_parts, with_elements, with_items, chosen_breaches, rule_breaches, rules_breaches, default_breaches, error_placed_shape, caught_breaches, catcher_breaches, work_breaches, settled_breaches, flow_breaches}
 use Rattle.asl_model.specs.Edges.{Walked, Breaks, DestinationShapes, destination_shapes, breaks_unless, walk_then, to_next, to_end, onward, walk_result, walk_named, walk_delay, to_child, to_branches, walk_items_result, walk_elements, with_elements_walked, walk_items, walk_chosen, walk_rule, walk_rules, walk_default, walk_caught, walk_catchers, walk_work, walk_settled, walk, breaches_at, breaches_along}
 
 -- those along one walk and then another
@@ -123,9 +123,9 @@ module _ (around : Surroundings) (settings : Settings) where
       both_along here (walk_rule settings kind around.entry.input rule.next (rule_shape rule.test s)) (walk_rules settings kind around.entry.input rules s) (rule_breaches around settings kind rule.next (rule_shape rule.test s)) (rules_breaches around settings kind rules s)
       (rule_along kind rule.next (rule_shape rule.test s)) (rules_along kind rules s)
 
-  default_along : (kind : Kind) (default : Option (List ℕ)) (s : Shape) → breaches_along here (walk_default settings kind around.entry.input default s) ≡ default_breaches around settings kind default s
-  default_along kind None s = refl
-  default_along kind (Some next) s = chosen_along kind (codes "Default") next s
+  default_along : (kind : Kind) (rules : List Rule) (default : Option (List ℕ)) (s : Shape) → breaches_along here (walk_default settings kind around.entry.input rules default s) ≡ default_breaches around settings kind rules default s
+  default_along kind rules None s = unless_along here (is_settled rules s) (codes "Default") NoDefault
+  default_along kind rules (Some next) s = chosen_along kind (codes "Default") next s
 
 module _ (around : Surroundings) (settings : Settings) where
   -- what stands at the destinations of the state's edges
@@ -137,8 +137,8 @@ module _ (around : Surroundings) (settings : Settings) where
   work_along (Pass (Some t)) s = refl
   work_along (Task resource) s = append-nil (breach_unless_sub (codes "Parameters") PayloadNotTaken s (Some (takes_of around.declared around.name)))
   work_along (Choice rules default) s =
-      both_along there (walk_rules settings (Choice rules default) around.entry.input rules s) (walk_default settings (Choice rules default) around.entry.input default s) (rules_breaches around settings (Choice rules default) rules s) (default_breaches around settings (Choice rules default) default s)
-      (rules_along around settings (Choice rules default) rules s) (default_along around settings (Choice rules default) default s)
+      both_along there (walk_rules settings (Choice rules default) around.entry.input rules s) (walk_default settings (Choice rules default) around.entry.input rules default s) (rules_breaches around settings (Choice rules default) rules s) (default_breaches around settings (Choice rules default) rules default s)
+      (rules_along around settings (Choice rules default) rules s) (default_along around settings (Choice rules default) rules default s)
   work_along (Wait delay) s =
       both_along there (walk_delay delay s) (walk_result settings (Wait delay) around.entry.input s) (delay_breaches delay s) (result_breaches around settings (Wait delay) s)
       (delay_along there delay s) (result_along around settings (Wait delay) s)
@@ -153,8 +153,7 @@ module _ (around : Surroundings) (settings : Settings) where
   settled_along (Pass None) = refl
   settled_along (Pass (Some t)) = result_along around settings (Pass (Some t)) (literal t)
   settled_along (Task resource) = result_along around settings (Task resource) (gives_of around.declared around.name)
-  settled_along (Choice rules None) = refl
-  settled_along (Choice rules (Some next)) = refl
+  settled_along (Choice rules default) = refl
   settled_along (Wait delay) = refl
   settled_along Succeed = refl
   settled_along (Fail error cause) = refl

@@ -1,8 +1,8 @@
 -- Worked examples of declared shapes and certificates.
-use Rattle.std.specs.Prelude.{◌≡◌, ℕ, List, [], ◌∷◌, Option, Some, None, option_map, codes, refl}
+use Rattle.std.specs.Prelude.{◌≡◌, ℕ, List, [], ◌∷◌, true, Option, Some, None, option_map, codes, refl}
 use Rattle.serde_json.specs.Read.{read}
 use Rattle.serde_json.proofs.OnLiterals.{serde_json_on_literals}
-use Rattle.asl_model.specs.Shape.{Any, IntegerShape, BooleanShape, ArrayShape, NoShapes}
+use Rattle.asl_model.specs.Shape.{Shape, Any, OfKinds, no_simple, WithoutArrays, WithoutObjects, IntegerShape, BooleanShape, ArrayShape, NoShapes}
 use Rattle.asl_model.specs.Certificate.{Declared, Certificate}
 use Rattle.asl_model.specs.ShapeSpelling.{NotAShape, BadType, MinItems}
 use Rattle.asl_model.specs.Records.{RecordFault, NotObject, MissingField, UnknownField, WrongKind, BadShape, BadVersion, BadNumber, RecordComplaint, declared_from, declared_complaints, certificate_from, certificate_complaints}
@@ -90,7 +90,7 @@ version_no_number : certificate_faults_in (codes "{\"version\":\"1\",\"output\":
 unfolding serde_json_on_literals certificate_faults_in only
 version_no_number = refl
 
-other_version : certificate_faults_in (codes "{\"version\":2,\"output\":true,\"states\":{}}") ≡ only BadVersion [] (codes "version")
+other_version : certificate_faults_in (codes "{\"version\":3,\"output\":true,\"states\":{}}") ≡ only BadVersion [] (codes "version")
 unfolding serde_json_on_literals certificate_faults_in only
 other_version = refl
 
@@ -140,3 +140,36 @@ reference_to_none_listed = refl
 shapes_no_list : certificate_faults_in (codes "{\"version\":1,\"shapes\":true,\"output\":true,\"states\":{}}") ≡ only WrongKind [] (codes "shapes")
 unfolding serde_json_on_literals certificate_faults_in only
 shapes_no_list = refl
+
+-- ---- shapes of several kinds
+
+-- null or an integer
+null_or_integer : Shape
+null_or_integer = OfKinds (record no_simple { null = true; integer = true }) WithoutArrays WithoutObjects
+
+declared_of_two_kinds : declared_in (codes "{\"input\":{\"type\":[\"null\",\"integer\"]},\"tasks\":{\"A\":{\"gives\":{\"type\":[\"integer\",\"null\"]}}}}")
+    ≡ Some (record { input = null_or_integer; tasks = (codes "A", record { takes = Any; gives = null_or_integer }) ∷ [] }, [])
+unfolding serde_json_on_literals declared_in null_or_integer
+declared_of_two_kinds = refl
+
+second_version : certificate_in (codes "{\"version\":2,\"output\":{\"type\":[\"null\",\"integer\"]},\"states\":{}}") ≡ Some (record { output = null_or_integer; states = [] }, [])
+unfolding serde_json_on_literals certificate_in null_or_integer
+second_version = refl
+
+-- the second version may be without such a shape
+second_version_of_one_kind : certificate_in (codes "{\"version\":2,\"output\":{\"type\":\"integer\"},\"states\":{}}") ≡ Some (record { output = IntegerShape; states = [] }, [])
+unfolding serde_json_on_literals certificate_in
+second_version_of_one_kind = refl
+
+second_version_listed : certificate_in (codes "{\"version\":2,\"shapes\":[{\"type\":[\"null\",\"integer\"]}],\"output\":{\"shape\":0},\"states\":{}}") ≡ Some (record { output = null_or_integer; states = [] }, [])
+unfolding serde_json_on_literals certificate_in null_or_integer
+second_version_listed = refl
+
+first_version_output : certificate_faults_in (codes "{\"version\":1,\"output\":{\"type\":[\"null\",\"integer\"]},\"states\":{}}") ≡ only (BadShape BadType) [] (codes "output")
+unfolding serde_json_on_literals certificate_faults_in only
+first_version_output = refl
+
+-- in the first version no list of types may stand in a listed shape, though nothing refers to it
+first_version_listed : certificate_faults_in (codes "{\"version\":1,\"shapes\":[{\"type\":[\"null\",\"integer\"]}],\"output\":true,\"states\":{}}") ≡ only (BadShape BadType) [] (codes "shapes")
+unfolding serde_json_on_literals certificate_faults_in only
+first_version_listed = refl

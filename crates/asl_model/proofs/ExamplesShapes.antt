@@ -16,21 +16,17 @@ use Rattle.asl_model.proofs.ExamplesSettings.{bare, bare_catcher}
 
 -- Shapes and paths
 
-abbrev closed : FieldShapes → Shape
+abbrev pub closed : FieldShapes → Shape
 closed shapes = ObjectShape shapes false
 
-abbrev opened : FieldShapes → Shape
+abbrev pub opened : FieldShapes → Shape
 opened shapes = ObjectShape shapes true
 
-abbrev needed : List ℕ → Shape → FieldShapes → FieldShapes
+abbrev pub needed : List ℕ → Shape → FieldShapes → FieldShapes
 needed n s shapes = AndFieldShape n true s shapes
 
-abbrev optional : List ℕ → Shape → FieldShapes → FieldShapes
+abbrev pub optional : List ℕ → Shape → FieldShapes → FieldShapes
 optional n s shapes = AndFieldShape n false s shapes
-
--- two kinds have no join but Any
-join_kinds_apart : join IntegerShape StringShape ≡ Any
-join_kinds_apart = refl
 
 join_of_objects : join (closed (needed (codes "a") IntegerShape NoFieldShapes)) (closed NoFieldShapes) ≡ closed (optional (codes "a") IntegerShape NoFieldShapes)
 join_of_objects = refl
@@ -48,17 +44,17 @@ put_in_optional : put (Name (codes "a") ∷ Name (codes "b") ∷ []) IntegerShap
 put_in_optional = refl
 
 -- a needed field `a` that no tree can have
-abbrev impossible : Shape
+abbrev pub impossible : Shape
 impossible = closed (needed (codes "a") Never NoFieldShapes)
 
 -- the arrays whose first elements have these two shapes, and the further ones that
-abbrev pair : Shape → Shape → Shape → Shape
+abbrev pub pair : Shape → Shape → Shape → Shape
 pair s t rest = ArrayShape (AndShape s (AndShape t NoShapes)) rest
 
-abbrev one_then : Shape → Shape → Shape
+abbrev pub one_then : Shape → Shape → Shape
 one_then s rest = ArrayShape (AndShape s NoShapes) rest
 
-abbrev each : Shape → Shape
+abbrev pub each : Shape → Shape
 each rest = ArrayShape NoShapes rest
 
 -- what has no tree is inside everything
@@ -68,11 +64,18 @@ sub_of_impossible = refl
 sub_of_any : sub Any (each Any) ≡ false
 sub_of_any = refl
 
--- whole numbers and texts; whatever a tree may be, kind by kind
+-- whole numbers and texts; null and whole numbers; whole numbers and arrays that there are none of; whatever a tree
+-- may be, kind by kind
 abbrev number_or_text : Shape
 number_or_text = OfKinds (record no_simple { integer = true; text = true }) WithoutArrays WithoutObjects
 
-abbrev all_kinds : Shape
+abbrev null_or_number : Shape
+null_or_number = OfKinds (record no_simple { null = true; integer = true }) WithoutArrays WithoutObjects
+
+abbrev number_or_impossible_array : Shape
+number_or_impossible_array = OfKinds (record no_simple { integer = true }) (ArraysOf (AndShape Never NoShapes) Any) WithoutObjects
+
+abbrev pub all_kinds : Shape
 all_kinds = OfKinds (record { null = true; boolean = true; integer = true; text = true }) (ArraysOf NoShapes Any) (ObjectsOf NoFieldShapes true)
 
 -- kind by kind
@@ -115,11 +118,38 @@ sub_each_one = refl
 sub_further : sub (one_then IntegerShape StringShape) (one_then IntegerShape IntegerShape) ≡ false
 sub_further = refl
 
+-- a join goes kind by kind: two kinds give the shape of both, and a kind of both sides stands once
+join_of_kinds : join IntegerShape StringShape ≡ number_or_text
+join_of_kinds = refl
+
+join_of_optional : join null_or_number StringShape ≡ OfKinds (record no_simple { null = true; integer = true; text = true }) WithoutArrays WithoutObjects
+join_of_optional = refl
+
+join_of_array_and_object : join (OfKinds (record no_simple { null = true }) (ArraysOf NoShapes IntegerShape) WithoutObjects) (OfKinds no_simple (ArraysOf NoShapes StringShape) (ObjectsOf NoFieldShapes true)) ≡ OfKinds (record no_simple { null = true }) (ArraysOf NoShapes number_or_text) (ObjectsOf NoFieldShapes true)
+join_of_array_and_object = refl
+
+-- a part that no tree has is dropped, on either side; where one part is left, it is the shape of that kind
+join_without_arrays : join number_or_impossible_array StringShape ≡ number_or_text
+join_without_arrays = refl
+
+join_without_objects : join StringShape (OfKinds (record no_simple { integer = true }) WithoutArrays (ObjectsOf (needed (codes "a") Never NoFieldShapes) false)) ≡ number_or_text
+join_without_objects = refl
+
+join_leaves_one_kind : join number_or_impossible_array IntegerShape ≡ IntegerShape
+join_leaves_one_kind = refl
+
+-- Any joined with a shape of several kinds
+join_of_any : join Any number_or_text ≡ Any
+join_of_any = refl
+
+join_with_any : join number_or_text Any ≡ Any
+join_with_any = refl
+
 -- joins of arrays: place by place, and the further places with both shapes of further elements
-join_of_arrays : join (pair IntegerShape StringShape Never) (one_then BooleanShape Never) ≡ one_then Any StringShape
+join_of_arrays : join (pair IntegerShape StringShape Never) (one_then BooleanShape Never) ≡ one_then (OfKinds (record no_simple { boolean = true; integer = true }) WithoutArrays WithoutObjects) StringShape
 join_of_arrays = refl
 
-join_of_lists : join (each IntegerShape) (each StringShape) ≡ each Any
+join_of_lists : join (each IntegerShape) (each StringShape) ≡ each number_or_text
 join_of_lists = refl
 
 join_with_impossible : join impossible IntegerShape ≡ IntegerShape
@@ -463,7 +493,7 @@ task_payload : findings (ScopeOf (codes "A") (AndState (codes "A") (StateOf keep
 task_payload = refl
 
 -- A finding stands whatever other findings stand: what a Task gives, a literal and the list of a Parallel's answers are
--- compared also where `Parameters` or `InputPath` may name nothing, and a missing `Default` is told too.
+-- compared also where `Parameters` or `InputPath` may name nothing.
 
 -- a state of that type whose `Parameters` looks up a field, with the entry of a state that has no children
 abbrev looking_up : Kind → Scope
@@ -490,8 +520,9 @@ parallel_missing_and_not_certified = refl
 input_missing : looking_up_findings (Pass None) [] ≡ finding (codes "A") (codes "Parameters") PathMayBeMissing ∷ []
 input_missing = refl
 
--- a Choice without rules and without `Default`, whose `InputPath` may name nothing
-no_default_missing : findings (ScopeOf (codes "A") (AndState (codes "A") (StateOf (record (bare None) { input_path = Some k }) (Choice [] None)) NoStates)) of_integers (certificate_of Any (entry (codes "A") IntegerShape Any ∷ [])) ≡ finding (codes "A") (codes "InputPath") PathMayBeMissing ∷ finding (codes "A") (codes "Default") NoDefault ∷ []
+-- a Choice without rules and without `Default`, whose `InputPath` may name nothing: whether two rules stand for the
+-- `Default` hangs on the effective input
+no_default_missing : findings (ScopeOf (codes "A") (AndState (codes "A") (StateOf (record (bare None) { input_path = Some k }) (Choice [] None)) NoStates)) of_integers (certificate_of Any (entry (codes "A") IntegerShape Any ∷ [])) ≡ finding (codes "A") (codes "InputPath") PathMayBeMissing ∷ []
 no_default_missing = refl
 
 -- a Task that catches all errors for a Pass

@@ -4,7 +4,7 @@ use Rattle.std.specs.Fmt.{digits}
 use Rattle.serde_json.proofs.OnLiterals.{serde_json_on_literals}
 use Rattle.asl_model.specs.Certificate.{Certificate}
 use Rattle.asl_model.specs.WrittenNumbered.{written_numbered}
-use Rattle.asl_model.specs.Shape.{Shape, Any, OfKinds, no_simple, ArraysOf, ObjectsOf, Never, IntegerShape, StringShape, ArrayShape, ObjectShape, NoShapes, AndShape, NoFieldShapes, AndFieldShape}
+use Rattle.asl_model.specs.Shape.{Shape, Any, OfKinds, no_simple, WithoutArrays, ArraysOf, WithoutObjects, ObjectsOf, Never, IntegerShape, StringShape, ArrayShape, ObjectShape, NoShapes, AndShape, NoFieldShapes, AndFieldShape}
 use Rattle.asl_model.specs.Json.{compact_text}
 use Rattle.asl_model.specs.Written.{written_shape, written_declared, written_certificate}
 
@@ -32,6 +32,10 @@ any_list = refl
 three_kinds : compact_text (written_shape (OfKinds (record no_simple { null = true }) (ArraysOf NoShapes IntegerShape) (ObjectsOf (AndFieldShape (codes "a") true Any NoFieldShapes) false))) ≡ codes "{\"additionalProperties\":false,\"items\":{\"type\":\"integer\"},\"properties\":{\"a\":true},\"required\":[\"a\"],\"type\":[\"array\",\"null\",\"object\"]}"
 unfolding serde_json_on_literals
 three_kinds = refl
+
+two_simple_kinds : compact_text (written_shape (OfKinds (record no_simple { null = true; text = true }) WithoutArrays WithoutObjects)) ≡ codes "{\"type\":[\"null\",\"string\"]}"
+unfolding serde_json_on_literals
+two_simple_kinds = refl
 
 -- `tasks` and `takes` are always written
 declared : compact_text (written_declared (record { input = IntegerShape; tasks = (codes "T", record { takes = Any; gives = StringShape }) ∷ [] })) ≡ codes "{\"input\":{\"type\":\"integer\"},\"tasks\":{\"T\":{\"gives\":{\"type\":\"string\"},\"takes\":true}}}"
@@ -70,7 +74,19 @@ parts_first : compact_text (written_numbered (record { output = ArrayShape NoSha
 unfolding serde_json_on_literals digits
 parts_first = refl
 
--- where none is of arrays or objects, none is listed
+-- where none is of arrays, of objects or of several kinds, none is listed
 none_listed : compact_text (written_numbered (record { output = Never; states = [] })) ≡ codes "{\"output\":false,\"states\":{},\"version\":1}"
 unfolding serde_json_on_literals digits
 none_listed = refl
+
+-- ---- certificates with shapes of several kinds
+
+-- their version is the second
+second_version : compact_text (written_certificate (record { output = ArrayShape NoShapes (OfKinds (record no_simple { null = true; text = true }) WithoutArrays WithoutObjects); states = [] })) ≡ codes "{\"output\":{\"items\":{\"type\":[\"null\",\"string\"]},\"type\":\"array\"},\"states\":{},\"version\":2}"
+unfolding serde_json_on_literals digits
+second_version = refl
+
+-- one of several simple kinds is listed too, and one of a single kind isn't
+several_listed : compact_text (written_numbered (record { output = IntegerShape; states = (codes "A", record { input = OfKinds (record no_simple { null = true; text = true }) WithoutArrays WithoutObjects; output = IntegerShape; branches = []; item = None }) ∷ [] })) ≡ codes "{\"output\":{\"type\":\"integer\"},\"shapes\":[{\"type\":[\"null\",\"string\"]}],\"states\":{\"A\":{\"input\":{\"shape\":0},\"output\":{\"type\":\"integer\"}}},\"version\":2}"
+unfolding serde_json_on_literals digits
+several_listed = refl

@@ -7,7 +7,7 @@ use Rattle.asl_model.specs.Test.{Rule}
 use Rattle.asl_model.specs.Machine.{Catcher, Settings, SecondsPath, TimestampPath, Scope, Kind, Task, Choice, Map, Scopes, start_of}
 use Rattle.asl_model.specs.Shape.{Shape, Never, Arrays, WithoutArrays, ArraysOf, Shapes, has_arrays, inhabited}
 use Rattle.asl_model.specs.ShapeOrder.{sub}
-use Rattle.asl_model.specs.ShapeFlow.{look, put, arrays_alone, is_integer_shape, is_string_shape, Doubt, template_shape, rule_shape, FlowFault, MissingAt, MisfitAt, Flow, flow_then, doubt_fault, template_flow, through_template, path_flow, through_path, leave}
+use Rattle.asl_model.specs.ShapeFlow.{look, put, arrays_alone, is_integer_shape, is_string_shape, Doubt, template_shape, rule_shape, is_settled, FlowFault, MissingAt, MisfitAt, Flow, flow_then, doubt_fault, template_flow, through_template, path_flow, through_path, leave}
 use Rattle.asl_model.specs.Certificate.{takes_of}
 use Rattle.asl_model.specs.Finding.{FindingFault, PathMayBeMissing, WrongKind, ResultMayNotFit, NoDefault, PayloadNotTaken, OutputNotCertified, NextInput, ScopeOutput, BranchInput, CatchInput, Breach, breach_unless, breach_unless_sub, breach_of, breaches_then, Surroundings, effective_flow, kind_breaches, delay_breaches, child_breaches, branch_breaches, element_shape, item_flow, elements_of, array_parts, with_elements, with_items, rule_breaches, rules_breaches, default_breaches, error_placed_shape, caught_breaches, catcher_breaches, result_breaches, map_breaches, work_breaches, settled_breaches, flow_breaches}
 use Rattle.asl_model.specs.FindingRules.{IsBranch, branch_is_first, branch_is_later, IsEffective, Target, ToState, ToEnd, next_target, Makes, makes_literal, makes_what_it_takes, makes_answer, lets_through, lets_default, lets_wait, lets_succeed, makes_outputs, makes_items, Leaves, Wants, wants_number, wants_text, wants_list, LooksUp, looks_up_input, looks_up_wanted, looks_up_output, Evaluates, evaluates_parameters, evaluates_item_selector, evaluates_result_selector, HasDoubt, Puts, puts_result, puts_error_output, Starts, starts_branch, starts_item, BreaksFlow, path_may_be_missing, template_may_be_missing, rule_may_be_missing, may_be_of_wrong_kind, may_not_fit, may_fail, has_no_default, payload_is_not_taken, output_is_not_certified, is_no_next_input, is_no_scope_output, is_no_branch_input, is_no_catch_input}
@@ -117,8 +117,8 @@ module _ (around : Surroundings) (settings : Settings) (live : IsTrue (inhabited
   made_in {kind} {made} (makes_what_it_takes {s = s} eff) b c = in_work kind s b eff (next_way kind made b c)
   made_in {kind} {made} makes_answer b c = in_settled kind b (next_way kind made b c)
   made_in {kind} {made} (lets_through {rules = rules} {default = default} {rule = rule} {s = s} eff among e) b c =
-      in_work kind s b eff (Contains-append_left (rules_breaches around settings kind rules s) (default_breaches around settings kind default s) b (rule_in kind rules s rule b among (subst (λ o. Contains (rule_breaches around settings kind rule.next o) b) (sym e) c)))
-  made_in {kind} {made} (lets_default {rules = rules} {next = next} {s = s} eff) b c = in_work kind s b eff (Contains-append_right (rules_breaches around settings kind rules s) (default_breaches around settings kind (Some next) s) b c)
+      in_work kind s b eff (Contains-append_left (rules_breaches around settings kind rules s) (default_breaches around settings kind rules default s) b (rule_in kind rules s rule b among (subst (λ o. Contains (rule_breaches around settings kind rule.next o) b) (sym e) c)))
+  made_in {kind} {made} (lets_default {rules = rules} {next = next} {s = s} eff) b c = in_work kind s b eff (Contains-append_right (rules_breaches around settings kind rules s) (default_breaches around settings kind rules (Some next) s) b c)
   made_in {kind} {made} (lets_wait {delay = delay} {s = s} eff) b c = in_work kind s b eff (Contains-append_right (delay_breaches delay s) (result_breaches around settings kind s) b (next_way kind made b c))
   made_in {kind} {made} (lets_succeed {s = s} eff) b c = in_work kind s b eff c
   made_in {kind} {made} makes_outputs b c = in_settled kind b (next_way kind made b c)
@@ -198,7 +198,7 @@ module _ (around : Surroundings) (settings : Settings) (live : IsTrue (inhabited
   rule_missing kind rules default rule s is eff among e =
       subst (λ k. Contains (flow k) (record { field = codes "Choices"; fault = PathMayBeMissing })) (sym is)
       (in_work (Choice rules default) s (record { field = codes "Choices"; fault = PathMayBeMissing }) eff
-      (Contains-append_left (rules_breaches around settings (Choice rules default) rules s) (default_breaches around settings (Choice rules default) default s) (record { field = codes "Choices"; fault = PathMayBeMissing })
+      (Contains-append_left (rules_breaches around settings (Choice rules default) rules s) (default_breaches around settings (Choice rules default) rules default s) (record { field = codes "Choices"; fault = PathMayBeMissing })
       (rule_in (Choice rules default) rules s rule (record { field = codes "Choices"; fault = PathMayBeMissing }) among (subst (λ o. Contains (rule_breaches around settings (Choice rules default) rule.next o) (record { field = codes "Choices"; fault = PathMayBeMissing })) (sym e) (first_in (record { field = codes "Choices"; fault = PathMayBeMissing }) [])))))
 
   -- each broken rule
@@ -209,7 +209,11 @@ module _ (around : Surroundings) (settings : Settings) (live : IsTrue (inhabited
   broken_listed kind (may_be_of_wrong_kind {s = s} {t = t} eff wants e h) = wrong_in s t wants eff e h
   broken_listed kind (may_not_fit {at = at} puts e) = put_in at puts e
   broken_listed kind (may_fail evaluates some doubt) = evaluated_in evaluates some doubt
-  broken_listed kind (has_no_default {rules = rules} is) = subst (λ k. Contains (flow k) (record { field = codes "Default"; fault = NoDefault })) (sym is) (in_settled (Choice rules None) (record { field = codes "Default"; fault = NoDefault }) (first_in (record { field = codes "Default"; fault = NoDefault }) []))
+  broken_listed kind (has_no_default {rules = rules} {s = s} is eff h) =
+      subst (λ k. Contains (flow k) (record { field = codes "Default"; fault = NoDefault })) (sym is)
+      (in_work (Choice rules None) s (record { field = codes "Default"; fault = NoDefault }) eff
+      (Contains-append_right (rules_breaches around settings (Choice rules None) rules s) (default_breaches around settings (Choice rules None) rules None s) (record { field = codes "Default"; fault = NoDefault })
+      (unless_in (is_settled rules s) (codes "Default") NoDefault h)))
   broken_listed kind (payload_is_not_taken {resource = resource} {s = s} is eff h) = subst (λ k. Contains (flow k) (record { field = codes "Parameters"; fault = PayloadNotTaken })) (sym is) (in_work (Task resource) s (record { field = codes "Parameters"; fault = PayloadNotTaken }) eff (unless_in (sub s (takes_of around.declared around.name)) (codes "Parameters") PayloadNotTaken h))
   broken_listed kind (output_is_not_certified {output = output} {target = target} leaves h) = left_in leaves (record { field = codes "OutputPath"; fault = OutputNotCertified }) (own target)
     where

@@ -1,26 +1,29 @@
 -- Where no rule is broken at a state, the certificate is closed at it, whatever its type.
-use Rattle.std.proofs.Common.{◌≡◌, ℕ, suc, List, [], ◌∷◌, ◌++◌, length, Bool, true, false, ◌||◌, Option, Some, None, Result, Ok, Err, refl, sym, ap, subst, arith}
+use Rattle.std.proofs.Common.{◌≡◌, ℕ, suc, List, [], ◌∷◌, ◌++◌, Contains, length, ◌⊎◌, inl, inr, ◌∙◌, Bool, true, false, Option, Some, None, Result, Ok, Err, refl, sym, ap, subst, arith}
 use Rattle.std.specs.Prelude.{pos, IsTrue, is_some, codes, if◌then◌else◌}
 use Rattle.std.proofs.lemmas.Bool.{and_parts, and_from, false≢true}
 use Rattle.std.proofs.lemmas.Option.{same_Some}
-use Rattle.asl_model.specs.Tree.{Tree, Integer, Text, Array, Object, Trees, NoTrees, AndTree, count}
+use Rattle.asl_model.specs.Tree.{Tree, Integer, Text, Array, Trees, NoTrees, AndTree, count}
 use Rattle.asl_model.specs.Path.{Segment}
 use Rattle.asl_model.specs.Placing.{placed}
 use Rattle.asl_model.specs.Template.{Template}
 use Rattle.asl_model.specs.Test.{Rule, truth}
 use Rattle.asl_model.specs.Machine.{Catcher, Settings, Delay, Seconds, SecondsPath, Timestamp, TimestampPath, Scope, StateOf, Kind, Pass, Task, Choice, Wait, Succeed, Fail, Parallel, Map, Scopes, NoScopes, AndScope, start_of, scope_at, how_many, names_state}
-use Rattle.asl_model.specs.Flow.{effective_input, at_output_path, output_of, Work, works_on, Splits, chosen, by_truth, delay_in, branch_inputs, item_input, item_inputs, map_items, work_of, first_move}
+use Rattle.asl_model.specs.Flow.{effective_input, at_output_path, output_of, chosen, delay_in, branch_inputs, item_input, item_inputs, map_items, work_of, first_move}
 use Rattle.asl_model.specs.Run.{error_output, error_placed}
-use Rattle.asl_model.specs.Shape.{Simple, Shape, Any, OfKinds, Never, ArrayShape, Arrays, WithoutArrays, ArraysOf, WithoutObjects, Shapes, NoShapes, AndShape, Has, has, elements_have, each_element, no_simple, some_array, some_object, inhabited}
+use Rattle.asl_model.specs.Shape.{Shape, Never, ArrayShape, Arrays, WithoutArrays, ArraysOf, Shapes, NoShapes, AndShape, Has, has, elements_have, each_element, no_simple, inhabited}
 use Rattle.asl_model.specs.ShapeOrder.{sub, join, joined_with_each}
-use Rattle.asl_model.specs.ShapeFlow.{look, put, literal, arrays_alone, is_only, is_integer_shape, is_string_shape, template_shape, rule_shape, Flow, template_flow, output_flow, result_leaves}
+use Rattle.asl_model.specs.ShapeFlow.{look, put, literal, arrays_alone, is_integer_shape, is_string_shape, template_shape, rule_shape, is_settled, Flow, template_flow, output_flow, result_leaves}
 use Rattle.asl_model.specs.Certificate.{Declared, StateShapes, Certificate, certified, certified_input, certified_output, input_among, output_among, branches_in, is_map, branch_shape, branch_end, item_end, or_never, takes_of, gives_of, EachHas, OutputFits, WorkFits, CaughtFits, CatchersFit, HasEntry, IsClosedAt}
-use Rattle.asl_model.specs.Finding.{FindingFault, Breach, Surroundings, surrounded_by, where_certified, NotCertified, BranchInput, NextInput, ScopeOutput, OutputNotCertified, PayloadNotTaken, CatchInput, breach_unless, breach_unless_sub, breach_of, breaches_then, input_of_entry, input_to_compare, effective_flow, next_breaches, end_breaches, output_breaches, kind_breaches, delay_breaches, child_breaches, branch_breaches, as_first_elements, element_shape, item_flow, at_each_place, map_result, elements_of, array_parts, with_elements, with_items, chosen_breaches, rule_breaches, rules_breaches, default_breaches, error_output_shape, error_placed_shape, caught_breaches, catcher_breaches, result_breaches, map_breaches, work_breaches, settled_breaches, flow_breaches, state_breaches, scope_findings}
+use Rattle.asl_model.specs.Finding.{FindingFault, Breach, Surroundings, surrounded_by, where_certified, NoDefault, BranchInput, NextInput, ScopeOutput, OutputNotCertified, PayloadNotTaken, CatchInput, breach_unless_sub, breaches_then, input_of_entry, input_to_compare, effective_flow, next_breaches, end_breaches, output_breaches, kind_breaches, delay_breaches, child_breaches, branch_breaches, as_first_elements, element_shape, item_flow, at_each_place, map_result, elements_of, array_parts, with_elements, with_items, chosen_breaches, rule_breaches, rules_breaches, default_breaches, error_output_shape, error_placed_shape, caught_breaches, catcher_breaches, result_breaches, map_breaches, work_breaches, settled_breaches, flow_breaches, state_breaches, scope_findings}
 use Rattle.asl_model.proofs.FindingScopes.{append-none, none-unless, flow-none, has-entry, state-certified}
+use Rattle.asl_model.proofs.Listed.{none_in, first_or_later}
+use Rattle.asl_model.proofs.SettledRules.{AllDecided, SomeTrue, settled-true}
 use Rattle.asl_model.proofs.ShapeInhabited.{has-inhabited}
 use Rattle.asl_model.proofs.ShapeInside.{sub-inside}
 use Rattle.asl_model.proofs.ShapeJoin.{join_above, join_each-above, all_inside-more, elements_above}
 use Rattle.asl_model.proofs.ShapeLook.{alone-array}
+use Rattle.asl_model.proofs.ShapeNarrow.{only-has}
 use Rattle.asl_model.proofs.ShapePut.{put-gives}
 use Rattle.asl_model.proofs.ShapeTemplate.{look-gives, literal-has_itself, template-gives}
 use Rattle.asl_model.proofs.ShapeRule.{rule-decided}
@@ -41,17 +44,6 @@ abbrev pub InputsFit : Certificate → (List ℕ → Option Shape) → Type 0
 InputsFit certificate inputs = (n field : List ℕ) (fault : FindingFault) (s : Shape) → breach_unless_sub field fault s (inputs n) ≡ [] → (v : Tree) → Has s v → Has (certified_input certificate n) v
 
 -- Values that are wanted
-
--- where trees of these simple kinds alone have the shape, each of its trees is of one of them
-only-has : (kinds : Simple) (s : Shape) (w : Tree) → IsTrue (is_only kinds s) → Has s w → Has (OfKinds kinds WithoutArrays WithoutObjects) w
-only-has kinds Any w h m = absurd (false≢true h)
-only-has kinds (OfKinds simple arrays objects) (Array ts) h m =
-    let some : IsTrue (some_array arrays || false) = has-inhabited (OfKinds no_simple arrays WithoutObjects) (Array ts) m in
-    grind arith
-only-has kinds (OfKinds simple arrays objects) (Object fs) h m =
-    let some : IsTrue (some_object objects) = has-inhabited (OfKinds no_simple WithoutArrays objects) (Object fs) m in
-    grind arith
-only-has kinds (OfKinds simple arrays objects) w h m = grind arith
 
 pub number-there : (field : List ℕ) (s : Shape) (w : Tree) → IsTrue (is_integer_shape s) → Has s w → (t : Tree) × (Rattle.asl_model.specs.Flow.number_wanted field w ≡ Ok t)
 number-there field s (Integer n) h m = (Integer n, refl)
@@ -235,23 +227,64 @@ module _ (declared : Declared) (certificate : Certificate) (inputs : List ℕ �
       one-chosen : (field next : List ℕ) (s : Shape) (v u : Tree) → chosen_breaches around settings (Choice all fallback) field next s ≡ [] → Has entry.input v → Has s u → OutputFits certificate end n (Some next) (at_output_path settings u)
       one-chosen field next s v u e h m = passed-fits settings (Some next) (next_breaches inputs entry.output field next) s v u (λ output w. next-fits field next output w) e h m
 
-      by-rules : (rules : List Rule) (default : Option (List ℕ)) (s : Shape) (v u : Tree) → rules_breaches around settings (Choice all fallback) rules s ≡ [] → default_breaches around settings (Choice all fallback) default s ≡ [] → IsTrue (is_some default) → Has entry.input v → Has s u → (next : List ℕ) × (chosen rules default u ≡ Ok next) × OutputFits certificate end n (Some next) (at_output_path settings u)
-      by-rules [] None s v u e f there h m = absurd (false≢true there)
-      by-rules [] (Some next) s v u e f there h m = (next, refl, one-chosen (codes "Default") next s v u f h m)
-      by-rules (rule ∷ rules) default s v u e f there h m = go (rule_shape rule.test s) refl parts.0 (by-rules rules default s v u parts.1 f there h m)
+      -- the rules of which none is broken are decided
+      rules-decided : (rules : List Rule) (s : Shape) (u : Tree) → rules_breaches around settings (Choice all fallback) rules s ≡ [] → Has s u → AllDecided rules u
+      rules-decided [] s u e m rule c = none_in rule c
+      rules-decided (first ∷ rules) s u e m rule c = go (first_or_later first rule rules c) (rules-decided rules s u parts.1 m rule)
+        where
+          parts : (rule_breaches around settings (Choice all fallback) first.next (rule_shape first.test s) ≡ []) × (rules_breaches around settings (Choice all fallback) rules s ≡ [])
+          parts = append-none (rule_breaches around settings (Choice all fallback) first.next (rule_shape first.test s)) (rules_breaches around settings (Choice all fallback) rules s) e
+
+          own : (shape : Option Shape) → rule_shape first.test s ≡ shape → rule_breaches around settings (Choice all fallback) first.next shape ≡ [] → (value : Bool) × (truth first.test u ≡ Some value)
+          own None is e' = absurd (cc)
+          own (Some r) is e' =
+              let known = rule-decided first.test s r u is m in
+              (known.0, known.1)
+
+          go : (first ≡ rule) ⊎ Contains rules rule → (Contains rules rule → (value : Bool) × (truth rule.test u ≡ Some value)) → (value : Bool) × (truth rule.test u ≡ Some value)
+          go (inl is) below = subst (λ (r : Rule). (value : Bool) × (truth r.test u ≡ Some value)) is (own (rule_shape first.test s) refl parts.0)
+          go (inr d) below = below d
+
+      by-rules : (rules : List Rule) (default : Option (List ℕ)) (s : Shape) (v u : Tree) → rules_breaches around settings (Choice all fallback) rules s ≡ [] → default_breaches around settings (Choice all fallback) all default s ≡ [] → IsTrue (is_some default) ⊎ SomeTrue rules u → Has entry.input v → Has s u → (next : List ℕ) × (chosen rules default u ≡ Ok next) × OutputFits certificate end n (Some next) (at_output_path settings u)
+      by-rules [] None s v u e f (inl there) h m = absurd (false≢true there)
+      by-rules [] None s v u e f (inr (rule, among, is)) h m = none_in rule among
+      by-rules [] (Some next) s v u e f some h m = (next, refl, one-chosen (codes "Default") next s v u f h m)
+      by-rules (rule ∷ rules) default s v u e f some h m = go (rule_shape rule.test s) refl parts.0 (λ later. by-rules rules default s v u parts.1 f later h m)
         where
           parts : (rule_breaches around settings (Choice all fallback) rule.next (rule_shape rule.test s) ≡ []) × (rules_breaches around settings (Choice all fallback) rules s ≡ [])
           parts = append-none (rule_breaches around settings (Choice all fallback) rule.next (rule_shape rule.test s)) (rules_breaches around settings (Choice all fallback) rules s) e
 
-          by-truth : (r : Shape) (b : Bool) → truth rule.test u ≡ Some b → (IsTrue b → Has r u) → rule_breaches around settings (Choice all fallback) rule.next (Some r) ≡ [] → (next : List ℕ) × (chosen rules default u ≡ Ok next) × OutputFits certificate end n (Some next) (at_output_path settings u) → (next : List ℕ) × (chosen (rule ∷ rules) default u ≡ Ok next) × OutputFits certificate end n (Some next) (at_output_path settings u)
-          by-truth r true is holds e' below = (rule.next, rw is refl, one-chosen (codes "Choices") rule.next r v u e' h (holds refl))
-          by-truth r false is holds e' below = (below.0, rw is (below.1), below.2)
+          -- what a later rule or `Default` comes to
+          Later : List Rule → Type 0
+          Later more = (next : List ℕ) × (chosen more default u ≡ Ok next) × OutputFits certificate end n (Some next) (at_output_path settings u)
 
-          go : (shape : Option Shape) → rule_shape rule.test s ≡ shape → rule_breaches around settings (Choice all fallback) rule.next shape ≡ [] → (next : List ℕ) × (chosen rules default u ≡ Ok next) × OutputFits certificate end n (Some next) (at_output_path settings u) → (next : List ℕ) × (chosen (rule ∷ rules) default u ≡ Ok next) × OutputFits certificate end n (Some next) (at_output_path settings u)
+          -- where the first rule is false, a later one is true
+          later-true : truth rule.test u ≡ Some false → IsTrue (is_some default) ⊎ SomeTrue (rule ∷ rules) u → IsTrue (is_some default) ⊎ SomeTrue rules u
+          later-true is (inl there) = inl there
+          later-true is (inr (other, among, true_of_it)) = which (first_or_later rule other rules among)
+            where
+              which : (rule ≡ other) ⊎ Contains rules other → IsTrue (is_some default) ⊎ SomeTrue rules u
+              which (inl same) =
+                  let both : Some false ≡ Some true = sym is ∙ (ap (λ (r : Rule). truth r.test u) same ∙ true_of_it) in
+                  absurd (cc)
+              which (inr c) = inr (other, c, true_of_it)
+
+          by-truth : (r : Shape) (b : Bool) → truth rule.test u ≡ Some b → (IsTrue b → Has r u) → rule_breaches around settings (Choice all fallback) rule.next (Some r) ≡ [] → (IsTrue (is_some default) ⊎ SomeTrue rules u → Later rules) → Later (rule ∷ rules)
+          by-truth r true is holds e' below = (rule.next, rw is refl, one-chosen (codes "Choices") rule.next r v u e' h (holds refl))
+          by-truth r false is holds e' below =
+              let next = below (later-true is some) in
+              (next.0, rw is (next.1), next.2)
+
+          go : (shape : Option Shape) → rule_shape rule.test s ≡ shape → rule_breaches around settings (Choice all fallback) rule.next shape ≡ [] → (IsTrue (is_some default) ⊎ SomeTrue rules u → Later rules) → Later (rule ∷ rules)
           go None is e' below = absurd (cc)
           go (Some r) is e' below =
               let truth_known = rule-decided rule.test s r u is m in
               by-truth r truth_known.0 truth_known.1 truth_known.2 e' below
+
+      -- there is a `Default`, or one of the rules is true
+      some-true : (default : Option (List ℕ)) (s : Shape) (u : Tree) → rules_breaches around settings (Choice all fallback) all s ≡ [] → default_breaches around settings (Choice all fallback) all default s ≡ [] → Has s u → IsTrue (is_some default) ⊎ SomeTrue all u
+      some-true None s u e f m = inr (settled-true all s u (none-unless (is_settled all s) (codes "Default") NoDefault f) (rules-decided all s u e m) m)
+      some-true (Some next) s u e f m = inl refl
 
     -- what the first move comes to, for an effective input
     work-fits : (kind : Kind) (settings : Settings) (s : Shape) (v u : Tree) → length entry.branches ≡ branches_in kind → is_some entry.item ≡ is_map kind → work_breaches around settings kind s ≡ [] → settled_breaches around settings kind ≡ [] → effective_input settings v ≡ Ok u → Has s u → Has entry.input v → WorkFits declared certificate end n (StateOf settings kind) v (work_of kind settings v)
@@ -259,13 +292,9 @@ module _ (declared : Declared) (certificate : Certificate) (inputs : List ℕ �
     work-fits (Pass (Some t)) settings s v u long item e f eff m h = rw eff (result-fits settings (literal t) v t f h (literal-has_itself t))
     work-fits (Task resource) settings s v u long item e f eff m h = rw eff (sub-none (codes "Parameters") PayloadNotTaken s (takes_of declared n) e u m, λ answer given. result-fits settings (gives_of declared n) v answer f h given)
     work-fits (Choice rules default) settings s v u long item e f eff m h =
-        let parts = append-none (rules_breaches around settings (Choice rules default) rules s) (default_breaches around settings (Choice rules default) default s) e in
-        let next = by-rules settings rules default rules default s v u parts.0 parts.1 (has_default default f) h m in
+        let parts = append-none (rules_breaches around settings (Choice rules default) rules s) (default_breaches around settings (Choice rules default) rules default s) e in
+        let next = by-rules settings rules default rules default s v u parts.0 parts.1 (some-true settings rules default default s u parts.0 parts.1 m) h m in
         rw (eff, next.1) (next.2)
-      where
-        has_default : (fallback : Option (List ℕ)) → settled_breaches around settings (Choice rules fallback) ≡ [] → IsTrue (is_some fallback)
-        has_default None f' = absurd (cc)
-        has_default (Some next) f' = refl
     work-fits (Wait delay) settings s v u long item e f eff m h =
         let parts = append-none (delay_breaches delay s) (result_breaches around settings (Wait delay) s) e in
         let waits = delay-fits delay s u parts.0 m in

@@ -8,7 +8,7 @@ use Rattle.asl_model.specs.Test.{Rule}
 use Rattle.asl_model.specs.Machine.{Catcher, Settings, Delay, Seconds, SecondsPath, Timestamp, TimestampPath, Scope, Kind, Pass, Task, Choice, Wait, Succeed, Fail, Parallel, Map, Scopes, NoScopes, AndScope, start_of}
 use Rattle.asl_model.specs.Shape.{Shape, Never, ArrayShape, Arrays, WithoutArrays, ArraysOf, Shapes, has_arrays, inhabited}
 use Rattle.asl_model.specs.ShapeOrder.{sub}
-use Rattle.asl_model.specs.ShapeFlow.{look, literal, arrays_alone, is_integer_shape, is_string_shape, Doubt, MayBeMissing, MayFail, template_shape, rule_shape, FlowFault, Flow, flow_then, doubt_fault, template_flow, through_template, through_path, through_placing, output_flow, result_flow, Leaving, WithResult, WithInput, Nothing, leaving, leave_by, leave}
+use Rattle.asl_model.specs.ShapeFlow.{look, literal, arrays_alone, is_integer_shape, is_string_shape, Doubt, MayBeMissing, MayFail, template_shape, rule_shape, is_settled, FlowFault, Flow, flow_then, doubt_fault, template_flow, through_template, through_path, through_placing, output_flow, result_flow, Leaving, WithResult, WithInput, Nothing, leaving, leave_by, leave}
 use Rattle.asl_model.specs.Certificate.{takes_of, gives_of}
 use Rattle.asl_model.specs.Finding.{FindingFault, PathMayBeMissing, WrongKind, ResultMayNotFit, NoDefault, PayloadNotTaken, OutputNotCertified, NextInput, ScopeOutput, BranchInput, CatchInput, Breach, breach_unless, breach_unless_sub, breach_of, breaches_then, Surroundings, effective_flow, next_breaches, end_breaches, output_breaches, kind_breaches, delay_breaches, child_breaches, branch_breaches, as_first_elements, element_shape, item_flow, map_result, elements_of, array_parts, with_elements, with_items, rule_breaches, rules_breaches, default_breaches, error_placed_shape, caught_breaches, catcher_breaches, result_breaches, map_breaches, work_breaches, settled_breaches, flow_breaches}
 use Rattle.asl_model.specs.FindingRules.{IsBranch, branch_is_first, branch_is_later, IsEffective, Target, ToState, ToEnd, next_target, Makes, makes_literal, makes_what_it_takes, makes_answer, lets_through, lets_default, lets_wait, lets_succeed, makes_outputs, makes_items, IsSelected, GoesOut, goes_out_placed, goes_out_as_it_is, Leaves, wants_number, wants_text, wants_list, looks_up_input, looks_up_wanted, looks_up_output, Evaluates, evaluates_parameters, evaluates_item_selector, evaluates_result_selector, HasDoubt, puts_result, puts_error_output, starts_branch, starts_item, BreaksFlow, path_may_be_missing, template_may_be_missing, rule_may_be_missing, may_be_of_wrong_kind, may_not_fit, may_fail, has_no_default, payload_is_not_taken, output_is_not_certified, is_no_next_input, is_no_scope_output, is_no_branch_input, is_no_catch_input}
@@ -181,8 +181,8 @@ module _ (around : Surroundings) (settings : Settings) where
       go (Some u) e = made_broken (Choice all default) u (ToState (codes "Choices") rule.next) (lets_through eff (among rule (first_in rule rules)) e)
 
   -- its `Default`
-  default_broken : (rules : List Rule) (default : Option (List ℕ)) (s : Shape) → IsEffective around settings s → AreBroken (Choice rules default) (default_breaches around settings (Choice rules default) default s)
-  default_broken rules None s eff = none_broken (Choice rules None)
+  default_broken : (rules : List Rule) (default : Option (List ℕ)) (s : Shape) → IsEffective around settings s → AreBroken (Choice rules default) (default_breaches around settings (Choice rules default) rules default s)
+  default_broken rules None s eff = unless_broken (Choice rules None) (is_settled rules s) (codes "Default") NoDefault (has_no_default refl eff)
   default_broken rules (Some next) s eff = made_broken (Choice rules (Some next)) s (ToState (codes "Default") next) (lets_default eff)
 
   -- the branches of a Parallel
@@ -237,7 +237,7 @@ module _ (around : Surroundings) (settings : Settings) where
   work_broken (Pass None) s eff = next_broken (Pass None) s (makes_what_it_takes eff)
   work_broken (Pass (Some t)) s eff = none_broken (Pass (Some t))
   work_broken (Task resource) s eff = sub_broken (Task resource) (codes "Parameters") PayloadNotTaken s (Some (takes_of around.declared around.name)) (λ expected e f. payload_is_not_taken refl eff (subst (λ t. IsFalse (sub s t)) (sym (same_Some (takes_of around.declared around.name) expected e)) f))
-  work_broken (Choice rules default) s eff = both_broken (Choice rules default) (rules_breaches around settings (Choice rules default) rules s) (default_breaches around settings (Choice rules default) default s) (rules_broken rules default s eff rules (λ rule c. c)) (default_broken rules default s eff)
+  work_broken (Choice rules default) s eff = both_broken (Choice rules default) (rules_breaches around settings (Choice rules default) rules s) (default_breaches around settings (Choice rules default) rules default s) (rules_broken rules default s eff rules (λ rule c. c)) (default_broken rules default s eff)
   work_broken (Wait delay) s eff = both_broken (Wait delay) (delay_breaches delay s) (result_breaches around settings (Wait delay) s) (delay_broken delay s eff) (next_broken (Wait delay) s (lets_wait eff))
   work_broken Succeed s eff = made_broken Succeed s (ToEnd (codes "Type")) (lets_succeed eff)
   work_broken (Fail error cause) s eff = none_broken (Fail error cause)
@@ -249,8 +249,7 @@ module _ (around : Surroundings) (settings : Settings) where
   settled_broken (Pass None) = none_broken (Pass None)
   settled_broken (Pass (Some t)) = next_broken (Pass (Some t)) (literal t) makes_literal
   settled_broken (Task resource) = next_broken (Task resource) (gives_of around.declared around.name) makes_answer
-  settled_broken (Choice rules None) = one_broken (Choice rules None) (codes "Default") NoDefault (has_no_default refl)
-  settled_broken (Choice rules (Some next)) = none_broken (Choice rules (Some next))
+  settled_broken (Choice rules default) = none_broken (Choice rules default)
   settled_broken (Wait delay) = none_broken (Wait delay)
   settled_broken Succeed = none_broken Succeed
   settled_broken (Fail error cause) = none_broken (Fail error cause)

@@ -3,8 +3,8 @@
 use Rattle.std.proofs.Common.{◌≡◌, ℕ, zero, suc, min, max, ◌≤◌, List, Bool, true, false, ◌&&◌, ◌||◌, Option, Some, None, refl, ap, ◌∙◌, arith}
 use Rattle.std.specs.Prelude.{bytes_eq, if◌then◌else◌}
 use Rattle.asl_model.specs.Tree.{comes_before}
-use Rattle.asl_model.specs.Shape.{Shape, Any, OfKinds, Never, Arrays, WithoutArrays, ArraysOf, Objects, WithoutObjects, ObjectsOf, Shapes, NoShapes, AndShape, FieldShapes, NoFieldShapes, AndFieldShape, inhabited, mentions, insert_mention}
-use Rattle.asl_model.specs.ShapeOrder.{mention_of, with_mention_unless, without_mention, depth, depth_of_arrays, depth_of_objects, depth_of_elements, depth_of_fields, common_joins, further_places, joined_with_each, keep_joined, joined_fields, with_optional_unless, with_other_fields, either, join_arrays, join_objects, same_kinds, join_kinds, join_within, join}
+use Rattle.asl_model.specs.Shape.{Shape, Any, OfKinds, Never, Arrays, WithoutArrays, ArraysOf, Objects, WithoutObjects, ObjectsOf, Shapes, NoShapes, AndShape, FieldShapes, NoFieldShapes, AndFieldShape, some_array, some_object, inhabited, mentions, insert_mention}
+use Rattle.asl_model.specs.ShapeOrder.{mention_of, with_mention_unless, without_mention, depth, depth_of_arrays, depth_of_objects, depth_of_elements, depth_of_fields, common_joins, further_places, joined_with_each, keep_joined, joined_fields, with_optional_unless, with_other_fields, join_arrays, join_objects, kept_arrays, kept_objects, join_kinds, join_within, join}
 
 pub one_deep : (s : Shape) → 1 ≤ depth s
 one_deep Any = omega arith
@@ -57,9 +57,21 @@ others-low : (k : ℕ) (shapes : FieldShapes) (extra : Bool) (others kept : Fiel
 others-low k shapes extra NoFieldShapes kept h further = further
 others-low k shapes extra (AndFieldShape n needed s others) kept h further = optional-low k (extra || mentions n shapes) n s (with_other_fields shapes extra others kept) (omega arith) (others-low k shapes extra others kept (omega arith) further)
 
-or_any-low : (k : ℕ) (test : Bool) (s : Shape) → 1 ≤ k → depth s ≤ k → depth (if test then s else Any) ≤ k
-or_any-low k true s h fits = fits
-or_any-low k false s h fits = h
+-- the arrays that are kept are no deeper
+pub kept_arrays-low : (k : ℕ) (arrays : Arrays) → depth_of_arrays arrays ≤ k → depth_of_arrays (kept_arrays arrays) ≤ k
+kept_arrays-low k arrays h = go (some_array arrays)
+  where
+    go : (kept : Bool) → depth_of_arrays (if kept then arrays else WithoutArrays) ≤ k
+    go true = h
+    go false = omega arith
+
+-- the objects that are kept are no deeper
+pub kept_objects-low : (k : ℕ) (objects : Objects) → depth_of_objects objects ≤ k → depth_of_objects (kept_objects objects) ≤ k
+kept_objects-low k objects h = go (some_object objects)
+  where
+    go : (kept : Bool) → depth_of_objects (if kept then objects else WithoutObjects) ≤ k
+    go true = h
+    go false = omega arith
 
 module _ (joined : Shape → Shape → Shape) (low : Shallow joined) where
   each-low : (k : ℕ) (s : Shape) (others : Shapes) → depth s ≤ k → depth_of_elements others ≤ k → depth (joined_with_each joined s others) ≤ k
@@ -106,9 +118,9 @@ module _ (joined : Shape → Shape → Shape) (low : Shallow joined) where
   kinds-low k Any b h i = omega arith
   kinds-low k (OfKinds some others more) Any h i = omega arith
   kinds-low k (OfKinds some others more) (OfKinds simple arrays objects) h i =
-      let front : depth_of_arrays (join_arrays joined others arrays) ≤ k = arrays-low k others arrays (omega arith) (omega arith) in
-      let behind : depth_of_objects (join_objects joined more objects) ≤ k = objects-low k more objects (omega arith) (omega arith) in
-      or_any-low (suc k) (same_kinds some others more simple arrays objects) (OfKinds (either some simple) (join_arrays joined others arrays) (join_objects joined more objects)) (omega arith) (omega arith)
+      let front : depth_of_arrays (join_arrays joined (kept_arrays others) (kept_arrays arrays)) ≤ k = arrays-low k (kept_arrays others) (kept_arrays arrays) (kept_arrays-low k others (omega arith)) (kept_arrays-low k arrays (omega arith)) in
+      let behind : depth_of_objects (join_objects joined (kept_objects more) (kept_objects objects)) ≤ k = objects-low k (kept_objects more) (kept_objects objects) (kept_objects-low k more (omega arith)) (kept_objects-low k objects (omega arith)) in
+      omega arith
 
 either-low : (k : ℕ) (live other : Bool) (s a b : Shape) → depth s ≤ k → depth a ≤ k → depth b ≤ k → depth (if live then if other then s else a else b) ≤ k
 either-low k true true s a b h i j = h
@@ -180,8 +192,8 @@ module _ (f g : Shape → Shape → Shape) (k : ℕ) (low : Shallow f) (agree : 
   kinds-same Any b h i = refl
   kinds-same (OfKinds some others more) Any h i = refl
   kinds-same (OfKinds some others more) (OfKinds simple arrays objects) h i =
-      let same_arrays : join_arrays f others arrays ≡ join_arrays g others arrays = arrays-same others arrays (omega arith) (omega arith) in
-      let same_objects : join_objects f more objects ≡ join_objects g more objects = objects-same more objects (omega arith) (omega arith) in
+      let same_arrays : join_arrays f (kept_arrays others) (kept_arrays arrays) ≡ join_arrays g (kept_arrays others) (kept_arrays arrays) = arrays-same (kept_arrays others) (kept_arrays arrays) (kept_arrays-low k others (omega arith)) (kept_arrays-low k arrays (omega arith)) in
+      let same_objects : join_objects f (kept_objects more) (kept_objects objects) ≡ join_objects g (kept_objects more) (kept_objects objects) = objects-same (kept_objects more) (kept_objects objects) (kept_objects-low k more (omega arith)) (kept_objects-low k objects (omega arith)) in
       rw (same_arrays, same_objects) refl
 
 -- the depth for which a join is made doesn't matter, where neither shape is deeper

@@ -156,8 +156,8 @@ mutual
   walked listed (OfKinds simple arrays objects) h p =
       let one = list_after_arrays listed arrays in
       let two = list_after_objects one objects in
-      let a = walked_arrays listed arrays h p.1 in
-      let o = walked_objects one objects a.0.behind p.2 in
+      let a = walked_arrays listed arrays h p.0 in
+      let o = walked_objects one objects a.0.behind p.1 in
       let l = goes_last_if_listed two (OfKinds simple arrays objects) o.0.behind (arrays_later arrays one two o.0 a.1, o.1) p in
       (goes_then listed two _ (goes_then listed one two a.0 o.0) l.0, l.1)
 

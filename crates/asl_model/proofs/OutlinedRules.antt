@@ -73,8 +73,7 @@ module _ (around : Surroundings) (settings : Settings) where
   settled-outlined (Pass None) = refl
   settled-outlined (Pass (Some t)) = refl
   settled-outlined (Task resource) = refl
-  settled-outlined (Choice rules None) = refl
-  settled-outlined (Choice rules (Some next)) = refl
+  settled-outlined (Choice rules default) = refl
   settled-outlined (Wait delay) = refl
   settled-outlined Succeed = refl
   settled-outlined (Fail error cause) = refl

@@ -11,7 +11,7 @@ use Rattle.asl_model.specs.Shape.{Shape}
 use Rattle.asl_model.specs.Machine.{Scope}
 use Rattle.asl_model.specs.Certificate.{Declared, Certificate}
 use Rattle.asl_model.specs.Json.{ReadsAsValue, ReadsAsTree, tree_of}
-use Rattle.asl_model.specs.ShapeSpelling.{SpellsShape, HasShapeFault, ShapeFault, shape_of, shape_faults}
+use Rattle.asl_model.specs.ShapeSpelling.{SpellsShape, HasShapeFault, SpellsShapeV1, HasShapeFaultV1, ShapeFault, shape_of, shape_faults}
 use Rattle.asl_model.specs.Records.{StandsForDeclared, StandsForCertificate, HasDeclaredFault, HasCertificateFault, RecordComplaint, declared_from, declared_complaints, certificate_from, certificate_complaints}
 use Rattle.asl_model.specs.StandsFor.{StandsFor, HasComplaint, Complaint, complaints, scope_of}
 use Rattle.asl_model.specs.Texts.{ReadsAsMachine, ReadsAsDeclared, ReadsAsCertificate, TextFault, NotJson, NotWhole, BadDefinition, BadRecord, IsNoJson, IsDefinitionFault, definition_no_json, definition_complaint, IsDeclaredFault, declared_no_json, declared_not_whole, declared_complaint, IsCertificateFault, certificate_no_json, certificate_not_whole, certificate_complaint}
@@ -32,7 +32,13 @@ pub shape_is_one : (t : Tree) (s u : Shape) → SpellsShape t s → SpellsShape 
 shape_is_one t s u p q = sym p.same ∙ q.same
 
 pub shape_has_no_fault : (t : Tree) (s : Shape) (f : ShapeFault) → SpellsShape t s → HasShapeFault t f → ⊥
-shape_has_no_fault t s f p q = none_listed (shape_faults t) f p.none_wrong q.listed
+shape_has_no_fault t s f p q = none_listed (shape_faults true t) f p.none_wrong q.listed
+
+pub shape_is_one_v1 : (t : Tree) (s u : Shape) → SpellsShapeV1 t s → SpellsShapeV1 t u → s ≡ u
+shape_is_one_v1 t s u p q = sym p.same ∙ q.same
+
+pub shape_has_no_fault_v1 : (t : Tree) (s : Shape) (f : ShapeFault) → SpellsShapeV1 t s → HasShapeFaultV1 t f → ⊥
+shape_has_no_fault_v1 t s f p q = none_listed (shape_faults false t) f p.none_wrong q.listed
 
 -- ---- values
 
@@ -96,9 +102,16 @@ stands_or_complains v = by (first_listed (complaints v))
     by (inr c) = inr (c.0, record { listed = c.1 })
 
 pub spells_or_has_fault : (t : Tree) → ((s : Shape) × SpellsShape t s) ⊎ ((f : ShapeFault) × HasShapeFault t f)
-spells_or_has_fault t = by (first_listed (shape_faults t))
+spells_or_has_fault t = by (first_listed (shape_faults true t))
   where
-    by : (shape_faults t ≡ []) ⊎ ((f : ShapeFault) × Contains (shape_faults t) f) → ((s : Shape) × SpellsShape t s) ⊎ ((f : ShapeFault) × HasShapeFault t f)
+    by : (shape_faults true t ≡ []) ⊎ ((f : ShapeFault) × Contains (shape_faults true t) f) → ((s : Shape) × SpellsShape t s) ⊎ ((f : ShapeFault) × HasShapeFault t f)
+    by (inl e) = inl (shape_of t, record { none_wrong = e; same = refl })
+    by (inr c) = inr (c.0, record { listed = c.1 })
+
+pub spells_or_has_fault_v1 : (t : Tree) → ((s : Shape) × SpellsShapeV1 t s) ⊎ ((f : ShapeFault) × HasShapeFaultV1 t f)
+spells_or_has_fault_v1 t = by (first_listed (shape_faults false t))
+  where
+    by : (shape_faults false t ≡ []) ⊎ ((f : ShapeFault) × Contains (shape_faults false t) f) → ((s : Shape) × SpellsShapeV1 t s) ⊎ ((f : ShapeFault) × HasShapeFaultV1 t f)
     by (inl e) = inl (shape_of t, record { none_wrong = e; same = refl })
     by (inr c) = inr (c.0, record { listed = c.1 })
 

@@ -12,7 +12,7 @@ use Rattle.asl_model.specs.ShapeSpelling.{is_among, are_distinct}
 use Rattle.asl_model.specs.CallSpelling.{CallFault, call_from, reference_of}
 use Rattle.asl_model.specs.TemplateSpelling.{TemplateFault, NotObject, DuplicateAfterStrip, is_marked, renamed, renamed_names, begins_path, call_or_null, marked_value, with_field, part_of, parts_of, field_templates_of, part_faults, parts_faults, fields_faults, duplicate_faults, template_faults, marked_faults, SpellsTemplate}
 use Rattle.asl_model.proofs.FindingScopes.{append-none}
-use Rattle.asl_model.proofs.ShapeWitness.{comes_before-trans}
+use Rattle.asl_model.proofs.NamesInOrder.{comes_before-trans}
 
 -- ---- the order of names
 

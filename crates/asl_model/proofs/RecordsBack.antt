@@ -1,17 +1,19 @@
 -- What is written for declared shapes and certificates is read as the same ones.
-use Rattle.std.proofs.Common.{◌≡◌, ℕ, ℤ, pos, List, [], ◌∷◌, ◌++◌, Option, Some, None, option_map, option_and_then, IfSome, codes, is_some, refl, ap, ap₂, ◌∙◌}
-use Rattle.std.specs.List.{AllByRecursion}
+use Rattle.std.proofs.Common.{◌≡◌, ℕ, ℤ, pos, List, [], ◌∷◌, ◌++◌, Bool, true, false, ◌||◌, if◌then◌else◌, Option, Some, None, option_map, option_and_then, IfSome, codes, is_some, refl, ap, ap₂, ◌∙◌}
+use Rattle.std.specs.Ordering.{int_eq}
+use Rattle.std.specs.List.{AllByRecursion, list_any}
+use Rattle.std.specs.Option.{unwrap_or}
 use Rattle.serde_json.specs.Data as json
 use Rattle.serde_json.specs.Data.{Data, Items, Members, Num}
 use Rattle.serde_json.specs.Find.{as_i64}
 use Rattle.asl_model.specs.Tree.{Tree, Integer, Array, Object, Trees, NoTrees, AndTree, Fields, NoFields, AndField}
-use Rattle.asl_model.specs.Shape.{Shape, IsProperShape}
+use Rattle.asl_model.specs.Shape.{Shape, has_several, IsProperShape}
 use Rattle.asl_model.specs.Json.{tree_of, elements_of, members_of}
 use Rattle.asl_model.specs.Certificate.{TaskShapes, Declared, StateShapes, Certificate}
-use Rattle.asl_model.specs.Records.{RecordRow, StandsForDeclared, StandsForCertificate, shape_misfits, shapes_misfits, shape_from, shapes_from, object_complaints, entries_complaints, entries_from, task_rows, task_from, state_rows, state_from}
+use Rattle.asl_model.specs.Records.{Reading, declared_reading, RecordRow, version_misfits, StandsForDeclared, StandsForCertificate, shape_misfits, shapes_misfits, shape_from, shapes_from, object_complaints, entries_complaints, entries_from, task_rows, task_from, state_rows, state_from}
 use Rattle.asl_model.specs.RecordShapes.{HoldsForTask, HoldsForDeclared, HoldsForState, HoldsForCertificate}
-use Rattle.asl_model.specs.Written.{written_shape, written_list, written_entries, written_task, written_declared, written_state, written_certificate}
-use Rattle.asl_model.proofs.SpellingWritten.{IsSpelled, written_spells}
+use Rattle.asl_model.specs.Written.{written_shape, written_list, written_entries, written_task, written_declared, written_state, state_has_several, certificate_has_several, version_of, written_certificate}
+use Rattle.asl_model.proofs.SpellingWritten.{IsSpelled, May, may_parts, faults_same, written_spells}
 
 -- ---- the value of which a tree was made
 
@@ -121,12 +123,21 @@ item_in (json.item v vs) t ts e = let same = by (tree_of v) (elements_of vs) e i
 -- ---- shapes
 
 -- the value is what is written for the shape, and is read as it
-pub record IsShape (listed : Option (List Tree)) (v : Data) (s : Shape) : Type 0 where
-  pub none_wrong : shape_misfits listed v ≡ []
-  pub same : shape_from listed v ≡ s
+pub record IsShape (reading : Reading) (v : Data) (s : Shape) : Type 0 where
+  pub none_wrong : shape_misfits reading v ≡ []
+  pub same : shape_from reading.listed v ≡ s
 
-shape_there : (v : Data) (s : Shape) → IsSpelled s → tree_of v ≡ Some (written_shape s) → IsShape None v s
-shape_there v s h e = record { none_wrong = rw (e, h.none_wrong) refl; same = rw (e, h.same) refl }
+-- it is spelled by what is written for it, also where it is read so
+pub record IsSpelledIn (several : Bool) (s : Shape) : Type 0 where
+  pub spelled : IsSpelled s
+  pub may : May several (has_several s)
+
+-- how shapes are read where none is listed
+abbrev pub plainly : Bool → Reading
+plainly several = record { several = several; listed = None }
+
+shape_there : (several : Bool) (v : Data) (s : Shape) → IsSpelledIn several s → tree_of v ≡ Some (written_shape s) → IsShape (plainly several) v s
+shape_there several v s h e = record { none_wrong = rw (e, faults_same several s h.may, h.spelled.none_wrong) refl; same = rw (e, h.spelled.same) refl }
 
 -- ---- objects of a few fields
 
@@ -180,39 +191,43 @@ four_in v n m k l t u w x e =
 -- ---- entries
 
 -- the value is read as that, with nothing wrong in the entry of any name
-pub record IsEntry {A : Type 0} (listed : Option (List Tree)) (rows : List RecordRow) (from : Data → A) (v : Data) (a : A) : Type 0 where
-  pub none_wrong : (n : List ℕ) → object_complaints listed n rows v ≡ []
+pub record IsEntry {A : Type 0} (reading : Reading) (rows : List RecordRow) (from : Data → A) (v : Data) (a : A) : Type 0 where
+  pub none_wrong : (n : List ℕ) → object_complaints reading n rows v ≡ []
   pub same : from v ≡ a
 
 -- so for each entry under its name
-pub record AreEntries {A : Type 0} (listed : Option (List Tree)) (rows : List RecordRow) (from : Data → A) (ms : Members) (entries : List (List ℕ × A)) : Type 0 where
-  pub none_wrong : entries_complaints listed rows ms ≡ []
+pub record AreEntries {A : Type 0} (reading : Reading) (rows : List RecordRow) (from : Data → A) (ms : Members) (entries : List (List ℕ × A)) : Type 0 where
+  pub none_wrong : entries_complaints reading rows ms ≡ []
   pub same : entries_from from ms ≡ entries
 
-pub entries_there : {A : Type 0} (listed : Option (List Tree)) (rows : List RecordRow) (from : Data → A) (written : A → Tree) (P : A → Type 0) → ((a : A) (v : Data) → P a → tree_of v ≡ Some (written a) → IsEntry listed rows from v a)
-    → (entries : List (List ℕ × A)) (ms : Members) → AllByRecursion (λ (entry : List ℕ × A). P entry.1) entries → members_of ms ≡ Some (written_entries written entries) → AreEntries listed rows from ms entries
-entries_there listed rows from written P there [] ms h e = rw (none_in ms e) (record { none_wrong = refl; same = refl })
-entries_there listed rows from written P there (entry ∷ entries) ms h e =
+pub entries_there : {A : Type 0} (reading : Reading) (rows : List RecordRow) (from : Data → A) (written : A → Tree) (P : A → Type 0) → ((a : A) (v : Data) → P a → tree_of v ≡ Some (written a) → IsEntry reading rows from v a)
+    → (entries : List (List ℕ × A)) (ms : Members) → AllByRecursion (λ (entry : List ℕ × A). P entry.1) entries → members_of ms ≡ Some (written_entries written entries) → AreEntries reading rows from ms entries
+entries_there reading rows from written P there [] ms h e = rw (none_in ms e) (record { none_wrong = refl; same = refl })
+entries_there reading rows from written P there (entry ∷ entries) ms h e =
     let it = member_in ms entry.0 (written entry.1) (written_entries written entries) e in
     let first = there entry.1 it.0 h.0 it.3 in
-    let others = entries_there listed rows from written P there entries it.1 h.1 it.4 in
+    let others = entries_there reading rows from written P there entries it.1 h.1 it.4 in
     rw it.2 (record { none_wrong = ap₂ ◌++◌ (first.none_wrong entry.0) others.none_wrong; same = rw (first.same, others.same) refl })
 
 -- ---- declared shapes
 
-task_there : (task : TaskShapes) (v : Data) → HoldsForTask IsSpelled task → tree_of v ≡ Some (written_task task) → IsEntry None task_rows task_from v task
+-- several kinds may stand in declared shapes
+in_declared : (s : Shape) → IsSpelled s → IsSpelledIn true s
+in_declared s h = record { spelled = h; may = refl }
+
+task_there : (task : TaskShapes) (v : Data) → HoldsForTask IsSpelled task → tree_of v ≡ Some (written_task task) → IsEntry declared_reading task_rows task_from v task
 task_there task v h e =
     let two = two_in v (codes "gives") (codes "takes") (written_shape task.gives) (written_shape task.takes) e in
-    let gives = shape_there two.0 task.gives h.gives two.3 in
-    let takes = shape_there two.1 task.takes h.takes two.4 in
+    let gives = shape_there true two.0 task.gives (in_declared task.gives h.gives) two.3 in
+    let takes = shape_there true two.1 task.takes (in_declared task.takes h.takes) two.4 in
     rw two.2 (record { none_wrong = (λ n. rw (gives.none_wrong, takes.none_wrong) refl); same = rw (gives.same, takes.same) refl })
 
 pub declared_back : (v : Data) (d : Declared) → HoldsForDeclared IsSpelled d → tree_of v ≡ Some (written_declared d) → StandsForDeclared v d
 declared_back v d h e =
     let two = two_in v (codes "input") (codes "tasks") (written_shape d.input) (Object (written_entries written_task d.tasks)) e in
-    let input = shape_there two.0 d.input h.input two.3 in
+    let input = shape_there true two.0 d.input (in_declared d.input h.input) two.3 in
     let object = object_in two.1 (written_entries written_task d.tasks) two.4 in
-    let tasks = entries_there None task_rows task_from written_task (HoldsForTask IsSpelled) task_there d.tasks object.0 h.tasks object.2 in
+    let tasks = entries_there declared_reading task_rows task_from written_task (HoldsForTask IsSpelled) task_there d.tasks object.0 h.tasks object.2 in
     record {
       whole = ap is_some e;
       none_wrong = rw (two.2, object.1, input.none_wrong, tasks.none_wrong) refl;
@@ -221,12 +236,12 @@ declared_back v d h e =
 
 -- ---- certificates
 
--- where each shape is written so that its value is read as it, with those listed shapes
-module _ (listed : Option (List Tree)) (written : Shape → Tree) (P : Shape → Type 0) (there : (v : Data) (s : Shape) → P s → tree_of v ≡ Some (written s) → IsShape listed v s) where
+-- where each shape is written so that its value is read as it
+module _ (reading : Reading) (written : Shape → Tree) (P : Shape → Type 0) (there : (v : Data) (s : Shape) → P s → tree_of v ≡ Some (written s) → IsShape reading v s) where
   -- so of several
   pub record AreShapes (vs : Items) (shapes : List Shape) : Type 0 where
-    pub none_wrong : shapes_misfits listed vs ≡ []
-    pub same : shapes_from listed vs ≡ shapes
+    pub none_wrong : shapes_misfits reading vs ≡ []
+    pub same : shapes_from reading.listed vs ≡ shapes
 
   shapes_there : (shapes : List Shape) (vs : Items) → AllByRecursion P shapes → elements_of vs ≡ Some (written_list written shapes) → AreShapes vs shapes
   shapes_there [] vs h e = rw (no_item_in vs e) (record { none_wrong = refl; same = refl })
@@ -236,14 +251,14 @@ module _ (listed : Option (List Tree)) (written : Shape → Tree) (P : Shape →
       let others = shapes_there shapes it.1 h.1 it.4 in
       rw it.2 (record { none_wrong = rw (first.none_wrong, others.none_wrong) refl; same = rw (first.same, others.same) refl })
 
-  pub state_there : (shapes : StateShapes) (v : Data) → HoldsForState P shapes → tree_of v ≡ Some (written_state written shapes) → IsEntry listed state_rows (state_from listed) v shapes
+  pub state_there : (shapes : StateShapes) (v : Data) → HoldsForState P shapes → tree_of v ≡ Some (written_state written shapes) → IsEntry reading state_rows (state_from reading.listed) v shapes
   state_there shapes v h e = by shapes.branches shapes.item h.branches h.item e
     where
       -- the entry with those branches and that item
       entry : List Shape → Option Shape → StateShapes
       entry branches item = record { input = shapes.input; output = shapes.output; branches = branches; item = item }
 
-      by : (branches : List Shape) (item : Option Shape) → AllByRecursion P branches → IfSome item P → tree_of v ≡ Some (written_state written (entry branches item)) → IsEntry listed state_rows (state_from listed) v (entry branches item)
+      by : (branches : List Shape) (item : Option Shape) → AllByRecursion P branches → IfSome item P → tree_of v ≡ Some (written_state written (entry branches item)) → IsEntry reading state_rows (state_from reading.listed) v (entry branches item)
       by [] None b i e =
           let two = two_in v (codes "input") (codes "output") (written shapes.input) (written shapes.output) e in
           let input = there two.0 shapes.input h.input two.3 in
@@ -271,16 +286,81 @@ module _ (listed : Option (List Tree)) (written : Shape → Tree) (P : Shape →
           let output = there four.3 shapes.output h.output four.8 in
           rw (four.4, array.1) (record { none_wrong = (λ n. rw (branches.none_wrong, input.none_wrong, item.none_wrong, output.none_wrong) refl); same = rw (branches.same, input.same, item.same, output.same) refl })
 
+-- the version that is written is read as whether there may be several kinds
+pub version_read : (several : Bool) → int_eq (pos 2) (pos (if several then 2 else 1)) ≡ several
+version_read true = refl
+version_read false = refl
+
+pub version_right : (several : Bool) → version_misfits (Some (pos (if several then 2 else 1))) ≡ []
+version_right true = refl
+version_right false = refl
+
+-- where a shape of a certificate is of several kinds, each may be; where none is, none is
+item_may : (several : Bool) (item : Option Shape) → May several (unwrap_or (option_map has_several item) false) → IfSome item (λ s. May several (has_several s))
+item_may several None h = tt
+item_may several (Some s) h = h
+
+all_may : (several : Bool) (shapes : List Shape) → May several (list_any has_several shapes) → AllByRecursion (λ s. May several (has_several s)) shapes
+all_may several [] h = tt
+all_may several (s ∷ shapes) h = let both = may_parts several (has_several s) (list_any has_several shapes) h in (both.0, all_may several shapes both.1)
+
+state_may : (several : Bool) (shapes : StateShapes) → May several (state_has_several shapes) → HoldsForState (λ s. May several (has_several s)) shapes
+state_may several shapes h =
+    let items = unwrap_or (option_map has_several shapes.item) false in
+    let branches = list_any has_several shapes.branches in
+    let i = may_parts several (has_several shapes.input) (has_several shapes.output || (branches || items)) h in
+    let o = may_parts several (has_several shapes.output) (branches || items) i.1 in
+    let b = may_parts several branches items o.1 in
+    record { input = i.0; output = o.0; branches = all_may several shapes.branches b.0; item = item_may several shapes.item b.1 }
+
+states_may : (several : Bool) (entries : List (List ℕ × StateShapes)) → May several (list_any (λ entry. state_has_several entry.1) entries) → AllByRecursion (λ (entry : List ℕ × StateShapes). HoldsForState (λ s. May several (has_several s)) entry.1) entries
+states_may several [] h = tt
+states_may several (entry ∷ entries) h =
+    let both = may_parts several (state_has_several entry.1) (list_any (λ e. state_has_several e.1) entries) h in
+    (state_may several entry.1 both.0, states_may several entries both.1)
+
+may_itself : (several : Bool) → May several several
+may_itself true = refl
+may_itself false = refl
+
+pub certificate_may : (c : Certificate) → HoldsForCertificate (λ s. May (certificate_has_several c) (has_several s)) c
+certificate_may c =
+    let several = certificate_has_several c in
+    let both = may_parts several (has_several c.output) (list_any (λ entry. state_has_several entry.1) c.states) (may_itself several) in
+    record { output = both.0; states = states_may several c.states both.1 }
+
+-- what follows from two things that hold for every shape of a certificate holds for every one
+module _ (P Q R : Shape → Type 0) (f : (s : Shape) → P s → Q s → R s) where
+  both_all : (shapes : List Shape) → AllByRecursion P shapes → AllByRecursion Q shapes → AllByRecursion R shapes
+  both_all [] h p = tt
+  both_all (s ∷ shapes) h p = (f s h.0 p.0, both_all shapes h.1 p.1)
+
+  both_item : (item : Option Shape) → IfSome item P → IfSome item Q → IfSome item R
+  both_item None h p = tt
+  both_item (Some s) h p = f s h p
+
+  both_state : (shapes : StateShapes) → HoldsForState P shapes → HoldsForState Q shapes → HoldsForState R shapes
+  both_state shapes h p = record { input = f shapes.input h.input p.input; output = f shapes.output h.output p.output; branches = both_all shapes.branches h.branches p.branches; item = both_item shapes.item h.item p.item }
+
+  both_states : (entries : List (List ℕ × StateShapes)) → AllByRecursion (λ (entry : List ℕ × StateShapes). HoldsForState P entry.1) entries → AllByRecursion (λ (entry : List ℕ × StateShapes). HoldsForState Q entry.1) entries → AllByRecursion (λ (entry : List ℕ × StateShapes). HoldsForState R entry.1) entries
+  both_states [] h p = tt
+  both_states (entry ∷ entries) h p = (both_state entry.1 h.0 p.0, both_states entries h.1 p.1)
+
+  pub both_certificate : (c : Certificate) → HoldsForCertificate P c → HoldsForCertificate Q c → HoldsForCertificate R c
+  both_certificate c h p = record { output = f c.output h.output p.output; states = both_states c.states h.states p.states }
+
 pub certificate_back : (v : Data) (c : Certificate) → HoldsForCertificate IsSpelled c → tree_of v ≡ Some (written_certificate c) → StandsForCertificate v c
-certificate_back v c h e =
-    let three = three_in v (codes "output") (codes "states") (codes "version") (written_shape c.output) (Object (written_entries (written_state written_shape) c.states)) (Integer (pos 1)) e in
-    let output = shape_there three.0 c.output h.output three.4 in
+certificate_back v c spelled e =
+    let several = certificate_has_several c in
+    let h = both_certificate IsSpelled (λ s. May several (has_several s)) (IsSpelledIn several) (λ s own may. record { spelled = own; may = may }) c spelled (certificate_may c) in
+    let three = three_in v (codes "output") (codes "states") (codes "version") (written_shape c.output) (Object (written_entries (written_state written_shape) c.states)) (Integer (pos (version_of c))) e in
+    let output = shape_there several three.0 c.output h.output three.4 in
     let object = object_in three.1 (written_entries (written_state written_shape) c.states) three.5 in
-    let number = number_in three.2 (pos 1) three.6 in
-    let states = entries_there None state_rows (state_from None) (written_state written_shape) (HoldsForState IsSpelled) (state_there None written_shape IsSpelled shape_there) c.states object.0 h.states object.2 in
+    let number = number_in three.2 (pos (version_of c)) three.6 in
+    let states = entries_there (plainly several) state_rows (state_from None) (written_state written_shape) (HoldsForState (IsSpelledIn several)) (state_there (plainly several) written_shape (IsSpelledIn several) (shape_there several)) c.states object.0 h.states object.2 in
     record {
       whole = ap is_some e;
-      none_wrong = rw (three.3, object.1, number.1, number.2, output.none_wrong, states.none_wrong) refl;
+      none_wrong = rw (three.3, object.1, number.1, number.2, version_read several, version_right several, output.none_wrong, states.none_wrong) refl;
       same = rw (three.3, object.1, output.same, states.same) refl;
     }
 

@@ -7,7 +7,7 @@ use Rattle.asl_model.specs.Faults.{DataFlowError, ParameterPathFailure, Intrinsi
 use Rattle.asl_model.specs.Intrinsic.{Reference, Call, Item, referred, call_value}
 use Rattle.asl_model.specs.Template.{Template, Literal, FromPath, FromCall, ArrayTemplate, ObjectTemplate, Templates, NoTemplates, AndTemplate, FieldTemplates, NoFieldTemplates, AndFieldTemplate, Failure, below, unless_value, failures, element_failures, field_failures, filled, unless_failing, template_value, template_element, template_named, FailsAt, path_fails, call_fails, fails_in_element, fails_in_field, IsBefore, lesser_number, lesser_name, lesser_below, IsLeastFailure, before_each, IsInOrder, AreInOrder, HasFieldsInOrder, TellsLeastFailure}
 use Rattle.asl_model.proofs.RunOptions.{some_inj, none_some, false_true}
-use Rattle.asl_model.proofs.ShapeWitness.{comes_before-other}
+use Rattle.asl_model.proofs.NamesInOrder.{comes_before-other}
 
 both : (a b : Bool) → IsTrue (a && b) → IsTrue a × IsTrue b
 both true b h = (refl, h)

@@ -1,9 +1,10 @@
--- What `inhabited` tells: where it is false, no tree has the shape.
+-- What `inhabited` tells: where it is false, no tree has the shape, so what a join keeps has all arrays and objects.
 use Rattle.std.proofs.Common.{Bool, true, false, ◌&&◌, ◌||◌, not, Option, Some, None, refl, sym, ◌∙◌, ap, arith}
 use Rattle.std.specs.Prelude.{IsTrue}
 use Rattle.std.proofs.lemmas.Bool.{and_parts, and_from, false≢true}
 use Rattle.asl_model.specs.Tree.{Tree, Null, Boolean, Integer, Text, Array, Object, Trees, NoTrees, AndTree, Fields, field_named}
 use Rattle.asl_model.specs.Shape.{Shape, Any, OfKinds, Arrays, WithoutArrays, ArraysOf, Objects, WithoutObjects, ObjectsOf, Shapes, NoShapes, AndShape, FieldShapes, NoFieldShapes, AndFieldShape, Has, has, arrays_have, objects_have, elements_have, fields_have, there_and, all_mentioned, inhabited, some_array, some_object, all_inhabited, needed_inhabited}
+use Rattle.asl_model.specs.ShapeOrder.{kept_arrays, kept_objects}
 
 -- one more needed field whose shape is inhabited where the field is there
 one_more_needed : (needed live others : Bool) (value : Option Tree) (test : Tree → Bool) → ((t : Tree) → IsTrue (test t) → IsTrue live) → IsTrue (there_and needed test value) → IsTrue others → IsTrue ((not needed || live) && others)
@@ -46,6 +47,14 @@ mutual
   fields_have-inhabited (AndFieldShape n needed s shapes) fs h =
       let both = and_parts (there_and needed (has s) (field_named n fs)) (fields_have shapes fs) h in
       one_more_needed needed (inhabited s) (needed_inhabited shapes) (field_named n fs) (has s) (λ t. has-inhabited s t) both.0 (fields_have-inhabited shapes fs both.1)
+
+-- each array that is one of those is kept
+pub arrays_have-kept : (arrays : Arrays) (ts : Trees) → IsTrue (arrays_have arrays ts) → IsTrue (arrays_have (kept_arrays arrays) ts)
+arrays_have-kept arrays ts h = rw (arrays_have-inhabited arrays ts h) h
+
+-- each object that is one of those is kept
+pub objects_have-kept : (objects : Objects) (fs : Fields) → IsTrue (objects_have objects fs) → IsTrue (objects_have (kept_objects objects) fs)
+objects_have-kept objects fs h = rw (objects_have-inhabited objects fs h) h
 
 -- no tree has a shape that isn't inhabited
 pub not_inhabited-has : (s : Shape) (t : Tree) → IsTrue (not (inhabited s)) → Has s t → ⊥

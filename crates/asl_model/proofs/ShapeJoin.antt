@@ -5,8 +5,8 @@ use Rattle.std.proofs.lemmas.Bool.{and_parts, and_from, false≢true}
 use Rattle.std.proofs.lemmas.Slice.Eq.{bytes_eq-Decides}
 use Rattle.asl_model.specs.Tree.{Tree, Null, Boolean, Integer, Text, Array, Object, Trees, NoTrees, AndTree, Fields, field_named}
 use Rattle.asl_model.specs.Shape.{Shape, Any, OfKinds, Never, Arrays, WithoutArrays, ArraysOf, Objects, WithoutObjects, ObjectsOf, Shapes, NoShapes, AndShape, FieldShapes, NoFieldShapes, AndFieldShape, Has, Inside, has, arrays_have, objects_have, elements_have, each_element, fields_have, there_and, mentions, all_mentioned, inhabited}
-use Rattle.asl_model.specs.ShapeOrder.{mention_of, with_optional_unless, common_joins, further_places, joined_with_each, keep_joined, joined_fields, with_other_fields, either, join_arrays, join_objects, same_kinds, join_kinds, join_within, join, depth}
-use Rattle.asl_model.proofs.ShapeInhabited.{has-inhabited}
+use Rattle.asl_model.specs.ShapeOrder.{mention_of, with_optional_unless, common_joins, further_places, joined_with_each, keep_joined, joined_fields, with_other_fields, join_arrays, join_objects, kept_arrays, kept_objects, join_kinds, join_within, join, depth}
+use Rattle.asl_model.proofs.ShapeInhabited.{has-inhabited, arrays_have-kept, objects_have-kept}
 use Rattle.asl_model.proofs.ShapeInside.{all_mentioned-from, there-mentioned, mention_holds, closed_absent}
 use Rattle.asl_model.proofs.ShapeFields.{have-set, mentions-set, mentions-set_same}
 
@@ -200,10 +200,6 @@ in_either a b (inl h) = rw h refl
 in_either true b (inr h) = refl
 in_either false b (inr h) = h
 
-or_any : (test : Bool) (s : Shape) (t : Tree) → Has s t → Has (if test then s else Any) t
-or_any true s t m = m
-or_any false s t m = refl
-
 module _ (joined : Shape → Shape → Shape) (above : IsAbove joined) where
   arrays-left : (a b : Arrays) (ts : Trees) → IsTrue (arrays_have a ts) → IsTrue (arrays_have (join_arrays joined a b) ts)
   arrays-left WithoutArrays b ts m = absurd (false≢true m)
@@ -235,31 +231,18 @@ module _ (joined : Shape → Shape → Shape) (above : IsAbove joined) where
       let whole : FieldShapes = with_other_fields shapes extra others (joined_fields joined shapes others more) in
       and_from (fields_have whole fs) ((extra || more) || all_mentioned whole fs) (others-right shapes extra others (joined_fields joined shapes others more) fs both.0 (joined-right joined above shapes others more fs both.0 both.1)) (mentioned-joined-right joined shapes others extra more fs both.1)
 
-  kinds-left : (a b : Shape) (t : Tree) → Has a t → Has (join_kinds joined a b) t
-  kinds-left Any b t m = refl
-  kinds-left (OfKinds some others more) Any t m = refl
-  kinds-left (OfKinds some others more) (OfKinds simple arrays objects) t m = or_any (same_kinds some others more simple arrays objects) (OfKinds (either some simple) (join_arrays joined others arrays) (join_objects joined more objects)) t (go t m)
-    where
-      go : (t : Tree) → Has (OfKinds some others more) t → Has (OfKinds (either some simple) (join_arrays joined others arrays) (join_objects joined more objects)) t
-      go Null h = in_either some.null simple.null (inl h)
-      go (Boolean b) h = in_either some.boolean simple.boolean (inl h)
-      go (Integer n) h = in_either some.integer simple.integer (inl h)
-      go (Text s) h = in_either some.text simple.text (inl h)
-      go (Array ts) h = arrays-left others arrays ts h
-      go (Object fs) h = objects-left more objects fs h
-
-  kinds-right : (a b : Shape) (t : Tree) → Has b t → Has (join_kinds joined a b) t
-  kinds-right Any b t m = refl
-  kinds-right (OfKinds some others more) Any t m = refl
-  kinds-right (OfKinds some others more) (OfKinds simple arrays objects) t m = or_any (same_kinds some others more simple arrays objects) (OfKinds (either some simple) (join_arrays joined others arrays) (join_objects joined more objects)) t (go t m)
-    where
-      go : (t : Tree) → Has (OfKinds simple arrays objects) t → Has (OfKinds (either some simple) (join_arrays joined others arrays) (join_objects joined more objects)) t
-      go Null h = in_either some.null simple.null (inr h)
-      go (Boolean b) h = in_either some.boolean simple.boolean (inr h)
-      go (Integer n) h = in_either some.integer simple.integer (inr h)
-      go (Text s) h = in_either some.text simple.text (inr h)
-      go (Array ts) h = arrays-right others arrays ts h
-      go (Object fs) h = objects-right more objects fs h
+  -- a tree that has either shape has their join kind by kind
+  kinds-have : (a b : Shape) (t : Tree) → Has a t ⊎ Has b t → Has (join_kinds joined a b) t
+  kinds-have Any b t h = refl
+  kinds-have (OfKinds some others more) Any t h = refl
+  kinds-have (OfKinds some others more) (OfKinds simple arrays objects) Null h = in_either some.null simple.null h
+  kinds-have (OfKinds some others more) (OfKinds simple arrays objects) (Boolean b) h = in_either some.boolean simple.boolean h
+  kinds-have (OfKinds some others more) (OfKinds simple arrays objects) (Integer n) h = in_either some.integer simple.integer h
+  kinds-have (OfKinds some others more) (OfKinds simple arrays objects) (Text s) h = in_either some.text simple.text h
+  kinds-have (OfKinds some others more) (OfKinds simple arrays objects) (Array ts) (inl h) = arrays-left (kept_arrays others) (kept_arrays arrays) ts (arrays_have-kept others ts h)
+  kinds-have (OfKinds some others more) (OfKinds simple arrays objects) (Array ts) (inr h) = arrays-right (kept_arrays others) (kept_arrays arrays) ts (arrays_have-kept arrays ts h)
+  kinds-have (OfKinds some others more) (OfKinds simple arrays objects) (Object fs) (inl h) = objects-left (kept_objects more) (kept_objects objects) fs (objects_have-kept more fs h)
+  kinds-have (OfKinds some others more) (OfKinds simple arrays objects) (Object fs) (inr h) = objects-right (kept_objects more) (kept_objects objects) fs (objects_have-kept objects fs h)
 
 within-left : (n : ℕ) (a b : Shape) → ((t : Tree) → Has a t → Has (join_kinds (join_within n) a b) t) → Inside a (join_within (suc n) a b)
 within-left n a b kinds t m = rw (has-inhabited a t m) (go (inhabited b))
@@ -279,7 +262,7 @@ pub within_above : (n : ℕ) → IsAbove (join_within n)
 within_above zero = record { left = λ a b t m. refl; right = λ a b t m. refl }
 within_above (suc n) =
     let below = within_above n in
-    record { left = λ a b. within-left n a b (kinds-left (join_within n) below a b); right = λ a b. within-right n a b (kinds-right (join_within n) below a b) }
+    record { left = λ a b. within-left n a b (λ t m. kinds-have (join_within n) below a b t (inl m)); right = λ a b. within-right n a b (λ t m. kinds-have (join_within n) below a b t (inr m)) }
 
 -- both shapes are inside the join
 pub join_above : IsAbove join

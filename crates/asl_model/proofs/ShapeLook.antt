@@ -23,7 +23,7 @@ place-element zero (AndShape s others) part further (AndTree t ts) e h =
 place-element (suc i) (AndShape s others) part further (AndTree t ts) e h = place-element i others part further ts e (and_parts (has s t) (elements_have others further ts) h).1
 
 -- a needed field that a mention has is there, with its shape
-needed-there : (mention : Option (Bool × Shape)) (value : Option Tree) (part : Shape) → if_needed mention ≡ Some part → ((m : Bool × Shape) → mention ≡ Some m → IsTrue (there_and m.0 (has m.1) value)) → (u : Tree) × (value ≡ Some u) × Has part u
+pub needed-there : (mention : Option (Bool × Shape)) (value : Option Tree) (part : Shape) → if_needed mention ≡ Some part → ((m : Bool × Shape) → mention ≡ Some m → IsTrue (there_and m.0 (has m.1) value)) → (u : Tree) × (value ≡ Some u) × Has part u
 needed-there None value part e holds = absurd (cc)
 needed-there (Some (true, s)) None part e holds = absurd (false≢true (holds (true, s) refl))
 needed-there (Some (true, s)) (Some u) part e holds =
@@ -69,7 +69,7 @@ part-reached (Name n) s part v e h = field-reached n (objects_alone s) s part v 
 part-reached (Index i) s part v e h = place-reached i (arrays_alone s) s part v refl e h
 
 -- a refusal counted further stays one
-further-Ok : (r : Result Shape ℕ) (t : Shape) → one_further r ≡ Ok t → r ≡ Ok t
+pub further-Ok : (r : Result Shape ℕ) (t : Shape) → one_further r ≡ Ok t → r ≡ Ok t
 further-Ok (Ok s) t e = e
 further-Ok (Err at) t e = absurd (cc)
 

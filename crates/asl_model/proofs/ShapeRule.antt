@@ -1,32 +1,22 @@
 -- Where `rule_shape` answers a shape, the rule's test is true or false of every tree, and those of which it is true
 -- have that shape.
-use Rattle.std.proofs.Common.{◌≡◌, ℕ, zero, suc, List, [], ◌∷◌, Bool, true, false, ◌||◌, not, Option, Some, None, Result, Ok, Err, refl, sym, ◌∙◌, subst, arith}
+use Rattle.std.proofs.Common.{◌≡◌, ℕ, List, [], ◌∷◌, Bool, true, false, ◌||◌, not, Option, Some, None, Result, Ok, Err, refl, sym, ◌∙◌, subst, arith}
 use Rattle.std.specs.Prelude.{IsTrue, is_some, option_and_then, if◌then◌else◌}
 use Rattle.std.proofs.lemmas.Bool.{and_parts, and_from, false≢true}
-use Rattle.asl_model.specs.Tree.{Tree, Array, Object, Trees, NoTrees, AndTree, Fields, field_named, element}
+use Rattle.asl_model.specs.Tree.{Tree, Array, Object, Trees, Fields, field_named, element}
 use Rattle.asl_model.specs.Path.{Segment, Name, Index, child, named_by}
 use Rattle.asl_model.specs.Test.{Test, And, Or, Not, Compare, StringMatches, IsOfKind, IsPresent, Tests, NoTests, AndTest, Operand, Constant, AtPath, truth, all_true, some_true, and_truth, or_truth, same_truth, operand_value, compares, matches, as_text, is_of_kind}
-use Rattle.asl_model.specs.Shape.{Shape, Any, OfKinds, ArraysOf, ObjectsOf, ArrayShape, Shapes, NoShapes, AndShape, FieldShapes, Has, has, elements_have, fields_have, all_mentioned}
+use Rattle.asl_model.specs.Shape.{Shape, Any, OfKinds, ArraysOf, ObjectsOf, ArrayShape, Shapes, FieldShapes, Has, has, fields_have, all_mentioned}
 use Rattle.asl_model.specs.ShapeOrder.{mention_of, set_mention}
-use Rattle.asl_model.specs.ShapeFlow.{look, place_at, set_place, narrow_mention, narrow_place, narrow_under, where_present, if_found, both_found, operand_shape, unless_none, where_inhabited, narrowed_by, true_of, each_true_of, each_found, rule_shape}
+use Rattle.asl_model.specs.ShapeFlow.{look, place_at, narrow_mention, narrow_place, narrow_under, where_present, if_found, both_found, operand_shape, unless_none, where_inhabited, narrowed_by, true_of, each_true_of, each_found, rule_shape}
 use Rattle.asl_model.proofs.ShapeInhabited.{has-inhabited}
-use Rattle.asl_model.proofs.ShapeInside.{mention_holds, closed_absent, all_mentioned-from, there-mentioned}
-use Rattle.asl_model.proofs.ShapeFields.{have-set, mentions-set}
+use Rattle.asl_model.proofs.ShapeInside.{mention_holds, closed_absent}
+use Rattle.asl_model.proofs.ShapeFields.{have-set}
 use Rattle.asl_model.proofs.ShapeLook.{place-element}
+use Rattle.asl_model.proofs.ShapeNarrow.{set_place-has, all_mentioned-set, kind-narrows}
 use Rattle.asl_model.proofs.ShapeTemplate.{look-gives}
 
 -- Presence
-
--- an element that has a further shape
-set_place-has : (i : ℕ) (first : Shapes) (further : Tree → Bool) (r : Shape) (u : Tree) (ts : Trees) → element i ts ≡ Some u → IsTrue (elements_have first further ts) → Has r u → IsTrue (elements_have (set_place i r first) further ts)
-set_place-has i NoShapes further r u ts at h m = h
-set_place-has i (AndShape s others) further r u NoTrees at h m = absurd (false≢true h)
-set_place-has zero (AndShape s others) further r u (AndTree t ts) at h m =
-    let is : t ≡ u = cc in
-    and_from (has r t) (elements_have others further ts) (subst (λ (z : Tree). Has r z) (sym is) m) (and_parts (has s t) (elements_have others further ts) h).1
-set_place-has (suc i) (AndShape s others) further r u (AndTree t ts) at h m =
-    let both = and_parts (has s t) (elements_have others further ts) h in
-    and_from (has s t) (elements_have (set_place i r others) further ts) both.0 (set_place-has i others further r u ts at both.1 m)
 
 -- what a path goes on to from a tree
 abbrev Keeps : (Shape → Shape) → (Tree → Bool) → Type 0
@@ -42,10 +32,6 @@ place-narrowed go_on present keeps i first rest u ts at here h = go (place_at i 
         let is : Some there.0 ≡ Some u = sym (there.1) ∙ at in
         let that : there.0 ≡ u = cc in
         set_place-has i first (has rest) (go_on s) u ts at h (keeps s u here (subst (λ (z : Tree). Has s z) that there.2))
-
-all_mentioned-set : (n : List ℕ) (needed : Bool) (s : Shape) (shapes : FieldShapes) (fs : Fields) (extra : Bool) → IsTrue (extra || all_mentioned shapes fs) → IsTrue (extra || all_mentioned (set_mention n needed s shapes) fs)
-all_mentioned-set n needed s shapes fs true h = refl
-all_mentioned-set n needed s shapes fs false h = all_mentioned-from (set_mention n needed s shapes) fs (λ k t at. mentions-set n needed s shapes k (there-mentioned k shapes fs t at h))
 
 mention-narrowed : (go_on : Shape → Shape) (present : Tree → Bool) → Keeps go_on present → (n : List ℕ) (shapes : FieldShapes) (extra : Bool) (u : Tree) (fs : Fields) → field_named n fs ≡ Some u → IsTrue (present u) → IsTrue (fields_have shapes fs) → IsTrue (extra || all_mentioned shapes fs) → Has (narrow_mention go_on n shapes extra (mention_of n shapes)) (Object fs)
 mention-narrowed go_on present keeps n shapes extra u fs at here h mentioned = go (mention_of n shapes) refl extra mentioned (closed_absent n shapes extra fs mentioned)
@@ -159,9 +145,9 @@ mutual
       let first = look-gives path s parts.0 v parts.1 h in
       (matches pattern (as_text first.0), rw (first.1) refl, λ yes_true. whole-has s r v parts.2 h)
   decided (IsOfKind path kind expected) s r v e h =
-      let parts = found-whole (look path s) s r e in
-      let first = look-gives path s parts.0 v parts.1 h in
-      (same_truth expected (is_of_kind kind first.0), rw (first.1) refl, λ yes_true. whole-has s r v parts.2 h)
+      let narrowed = kind-narrows path kind expected s r e v h in
+      let named = look-gives path s narrowed.0 v narrowed.1 h in
+      (same_truth expected (is_of_kind kind named.0), rw (named.1) refl, λ yes_true. narrowed.2 named.0 named.1 named.2 yes_true)
   decided (IsPresent path expected) s r v e h = present-decided path expected s r v e h
 
   all-decided : (tests : Tests) (s r : Shape) (v : Tree) → each_true_of tests s ≡ Some r → Has s v → Decided r v (all_true tests v)

@@ -21,14 +21,14 @@ pub properties_under-field_named : (n : List ℕ) (fs : Fields) → properties_u
 properties_under-field_named n NoFields = refl
 properties_under-field_named n (AndField m t fs) = step properties_of NoFieldShapes t (field_named n fs) (properties_under n fs) (bytes_eq m n) (properties_under-field_named n fs)
 
-pub shape_faults_under-field_named : (n : List ℕ) (fs : Fields) → shape_faults_under n fs ≡ unwrap_or (option_map shape_faults (field_named n fs)) []
-shape_faults_under-field_named n NoFields = refl
-shape_faults_under-field_named n (AndField m t fs) = step shape_faults [] t (field_named n fs) (shape_faults_under n fs) (bytes_eq m n) (shape_faults_under-field_named n fs)
+pub shape_faults_under-field_named : (several : Bool) (n : List ℕ) (fs : Fields) → shape_faults_under several n fs ≡ unwrap_or (option_map (shape_faults several) (field_named n fs)) []
+shape_faults_under-field_named several n NoFields = refl
+shape_faults_under-field_named several n (AndField m t fs) = step (shape_faults several) [] t (field_named n fs) (shape_faults_under several n fs) (bytes_eq m n) (shape_faults_under-field_named several n fs)
 
-pub shapes_faults_under-field_named : (n : List ℕ) (fs : Fields) → shapes_faults_under n fs ≡ unwrap_or (option_map shapes_faults (field_named n fs)) []
-shapes_faults_under-field_named n NoFields = refl
-shapes_faults_under-field_named n (AndField m t fs) = step shapes_faults [] t (field_named n fs) (shapes_faults_under n fs) (bytes_eq m n) (shapes_faults_under-field_named n fs)
+pub shapes_faults_under-field_named : (several : Bool) (n : List ℕ) (fs : Fields) → shapes_faults_under several n fs ≡ unwrap_or (option_map (shapes_faults several) (field_named n fs)) []
+shapes_faults_under-field_named several n NoFields = refl
+shapes_faults_under-field_named several n (AndField m t fs) = step (shapes_faults several) [] t (field_named n fs) (shapes_faults_under several n fs) (bytes_eq m n) (shapes_faults_under-field_named several n fs)
 
-pub properties_faults_under-field_named : (n : List ℕ) (fs : Fields) → properties_faults_under n fs ≡ unwrap_or (option_map properties_faults (field_named n fs)) []
-properties_faults_under-field_named n NoFields = refl
-properties_faults_under-field_named n (AndField m t fs) = step properties_faults [] t (field_named n fs) (properties_faults_under n fs) (bytes_eq m n) (properties_faults_under-field_named n fs)
+pub properties_faults_under-field_named : (several : Bool) (n : List ℕ) (fs : Fields) → properties_faults_under several n fs ≡ unwrap_or (option_map (properties_faults several) (field_named n fs)) []
+properties_faults_under-field_named several n NoFields = refl
+properties_faults_under-field_named several n (AndField m t fs) = step (properties_faults several) [] t (field_named n fs) (properties_faults_under several n fs) (bytes_eq m n) (properties_faults_under-field_named several n fs)

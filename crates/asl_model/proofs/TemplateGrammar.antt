@@ -12,7 +12,7 @@ use Rattle.asl_model.specs.CallGrammar.{SpellsReference, spells_in_input, spells
 use Rattle.asl_model.specs.TemplateSpelling.{TemplateFault, BadPath, LeftOutContext, DuplicateAfterStrip, is_marked, renamed, begins_path, call_or_null, marked_text, marked_value, unless_call, marked_text_faults, marked_faults, with_field, part_of, parts_of, field_templates_of, renamed_names, duplicate_faults, part_faults, parts_faults, fields_faults, template_faults, SpellsTemplate}
 use Rattle.asl_model.specs.TemplateGrammar.{StandsForMarked, stands_for_path, stands_for_call, PutsField, puts_last, puts_in_front, puts_behind, StandsForPart, stands_for_null, stands_for_boolean, stands_for_integer, stands_for_text, stands_for_array, stands_for_object, StandForParts, no_part_is_left, and_part, StandForFields, no_field_is_left, and_marked_field, and_plain_field, StandsForTemplate, object_stands}
 use Rattle.asl_model.proofs.FindingScopes.{append-none}
-use Rattle.asl_model.proofs.ShapeWitness.{comes_before-trans, comes_before-other, bytes_eq-comm}
+use Rattle.asl_model.proofs.NamesInOrder.{comes_before-trans, comes_before-other, bytes_eq-comm}
 use Rattle.asl_model.proofs.CallWriting.{apart, first_in_name}
 use Rattle.asl_model.proofs.CallMeaning.{reference_exactly, call_exactly}
 use Rattle.asl_model.proofs.ReadingTemplates.{Absent, other_way, not_true, absent_as_read, fields_in_order, distinct_names}

@@ -218,7 +218,7 @@ module _ (machine : Scope) (declared : Declared) (certificate : Certificate) (we
   of_flow is (may_be_of_wrong_kind eff wants f h) = refl
   of_flow is (may_not_fit puts f) = refl
   of_flow is (may_fail evaluates some doubt) = refl
-  of_flow is (has_no_default kinds) = refl
+  of_flow is (has_no_default kinds eff f) = refl
   of_flow is (payload_is_not_taken kinds eff h) = refl
   of_flow {around} is (output_is_not_certified {output = output} leaves h) = not_outside output around.entry.output (ap (λ (x : StateShapes). x.output) (some_inj (sym is.entry ∙ entry_is is.state))) h
   of_flow {around} {settings = settings} is (is_no_next_input {output = output} {expected = expected} {next = next} leaves f h) = not_outside output expected (compared_any (target_there next is.state (target_told around settings next leaves.makes refl)) ((is.inputs next expected).0 f)) h

@@ -10,7 +10,8 @@ use Rattle.asl_model.specs.Machine.{Catcher, Settings, Delay, Seconds, SecondsPa
 use Rattle.asl_model.specs.Machine.{TimestampPath, Scope, Kind, Pass, Task, Choice, Wait, Succeed}
 use Rattle.asl_model.specs.Machine.{Fail, Parallel, Map, Scopes, NoScopes, AndScope, start_of}
 use Rattle.asl_model.specs.Shape.{Shape, Never, Shapes, ArrayShape, inhabited}
-use Rattle.asl_model.specs.ShapeFlow.{is_integer_shape, is_string_shape, look, literal, rule_shape, leave, Flow}
+use Rattle.asl_model.specs.ShapeFlow.{is_integer_shape, is_string_shape, look, literal, rule_shape, is_settled, leave}
+use Rattle.asl_model.specs.ShapeFlow.{Flow}
 use Rattle.asl_model.specs.Certificate.{StateShapes, takes_of}
 use Rattle.asl_model.specs.Finding.{Surroundings, Breach, FindingFault, PathMayBeMissing, WrongKind, ResultMayNotFit}
 use Rattle.asl_model.specs.Finding.{NoDefault, PayloadNotTaken, OutputNotCertified, NextInput, ScopeOutput, BranchInput}
@@ -138,10 +139,10 @@ walk_rules settings kind input [] s = []
 walk_rules settings kind input (rule ∷ rules) s =
     walk_rule settings kind input rule.next (rule_shape rule.test s) ++ walk_rules settings kind input rules s
 
--- the output that goes to `Default`, where there is one
-abbrev pub walk_default : Settings → Kind → Shape → Option StateName → Shape → List Walked
-walk_default settings kind input None s = []
-walk_default settings kind input (Some next) s = walk_chosen settings kind input (codes "Default") next s
+-- the output that goes to `Default`; where there is none, two rules stand for it
+abbrev pub walk_default : Settings → Kind → Shape → List Rule → Option StateName → Shape → List Walked
+walk_default settings kind input rules None s = breaks_unless (is_settled rules s) (codes "Default") NoDefault
+walk_default settings kind input rules (Some next) s = walk_chosen settings kind input (codes "Default") next s
 
 -- what a catcher hands on
 abbrev pub walk_caught : StateName → Result Shape ℕ → List Walked
@@ -161,7 +162,7 @@ walk_work settings (Pass (Some t)) entry s = []
 walk_work settings (Task resource) entry s = flows_to ToTask (codes "Parameters") PayloadNotTaken s ∷ []
 walk_work settings (Choice rules default) entry s =
     walk_rules settings (Choice rules default) entry.input rules s
-    ++ walk_default settings (Choice rules default) entry.input default s
+    ++ walk_default settings (Choice rules default) entry.input rules default s
 walk_work settings (Wait delay) entry s = walk_delay delay s ++ walk_result settings (Wait delay) entry.input s
 walk_work settings Succeed entry s = walk_then (to_end (codes "Type")) (leave settings Succeed entry.input s)
 walk_work settings (Fail error cause) entry s = []
@@ -170,13 +171,12 @@ walk_work settings (Map items selector processor) entry s =
     walk_items (walk_elements settings (Map items selector processor) entry selector processor s) (look items s)
 
 -- what needs no effective input, by the state's type: a result that is a literal, given by the task, or the list of
--- what stands at the branches' ends; and a Choice without `Default`
+-- what stands at the branches' ends
 abbrev pub walk_settled : Shape → Settings → Kind → StateShapes → List Walked
 walk_settled gives settings (Pass None) entry = []
 walk_settled gives settings (Pass (Some t)) entry = walk_result settings (Pass (Some t)) entry.input (literal t)
 walk_settled gives settings (Task resource) entry = walk_result settings (Task resource) entry.input gives
-walk_settled gives settings (Choice rules None) entry = breaks (codes "Default") NoDefault
-walk_settled gives settings (Choice rules (Some next)) entry = []
+walk_settled gives settings (Choice rules default) entry = []
 walk_settled gives settings (Wait delay) entry = []
 walk_settled gives settings Succeed entry = []
 walk_settled gives settings (Fail error cause) entry = []

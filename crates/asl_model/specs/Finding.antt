@@ -14,7 +14,7 @@ use Rattle.asl_model.specs.Shape.{Shape, Never, StringShape, ArrayShape, ObjectS
 use Rattle.asl_model.specs.Shape.{Shapes, NoShapes, AndShape, NoFieldShapes, AndFieldShape, inhabited}
 use Rattle.asl_model.specs.ShapeOrder.{sub, join, joined_with_each}
 use Rattle.asl_model.specs.ShapeFlow.{look, put, literal, arrays_alone, is_integer_shape, is_string_shape}
-use Rattle.asl_model.specs.ShapeFlow.{template_shape, rule_shape, leave, Flow, FlowFault, MissingAt}
+use Rattle.asl_model.specs.ShapeFlow.{template_shape, rule_shape, is_settled, leave, Flow, FlowFault, MissingAt}
 use Rattle.asl_model.specs.ShapeFlow.{FailsAt, MisfitAt, flow_then, through_path, through_template, template_flow}
 use Rattle.asl_model.specs.Certificate.{TaskShapes, Declared, StateShapes, Certificate, under, certified}
 use Rattle.asl_model.specs.Certificate.{branches_in, is_map, branch_end, item_end, takes_of, gives_of}
@@ -37,7 +37,7 @@ pub data FindingFault : Type 0 where
   -- what is placed may not fit
   ResultMayNotFit : FindingFault
   IntrinsicMayFail : FindingFault
-  -- a Choice has no `Default`
+  -- a Choice has no `Default`, and no two of its rules stand for one
   NoDefault : FindingFault
   -- the payload isn't inside what the task takes
   PayloadNotTaken : FindingFault
@@ -245,10 +245,11 @@ rules_breaches around settings kind (rule ∷ rules) s =
     rule_breaches around settings kind rule.next (rule_shape rule.test s)
     ++ rules_breaches around settings kind rules s
 
--- the output that goes to `Default`, where there is one
-abbrev pub default_breaches : Surroundings → Settings → Kind → Option StateName → Shape → List Breach
-default_breaches around settings kind None s = []
-default_breaches around settings kind (Some next) s = chosen_breaches around settings kind (codes "Default") next s
+-- the output that goes to `Default`; where there is none, two rules stand for it
+abbrev pub default_breaches : Surroundings → Settings → Kind → List Rule → Option StateName → Shape → List Breach
+default_breaches around settings kind rules None s = breach_unless (is_settled rules s) (codes "Default") NoDefault
+default_breaches around settings kind rules (Some next) s =
+    chosen_breaches around settings kind (codes "Default") next s
 
 -- Catchers
 
@@ -298,7 +299,7 @@ work_breaches around settings (Task resource) s =
     breach_unless_sub (codes "Parameters") PayloadNotTaken s (Some (takes_of around.declared around.name))
 work_breaches around settings (Choice rules default) s =
     rules_breaches around settings (Choice rules default) rules s
-    ++ default_breaches around settings (Choice rules default) default s
+    ++ default_breaches around settings (Choice rules default) rules default s
 work_breaches around settings (Wait delay) s =
     delay_breaches delay s ++ result_breaches around settings (Wait delay) s
 work_breaches around settings Succeed s =
@@ -312,14 +313,13 @@ work_breaches around settings (Map items selector processor) s =
     ++ map_breaches around settings (Map items selector processor) around.entry.item elements) (look items s)
 
 -- the rules that need no effective input, by the state's type: on a result that is a literal, declared of the task or
--- certified of the branches, and on a Choice without `Default`
+-- certified of the branches
 abbrev pub settled_breaches : Surroundings → Settings → Kind → List Breach
 settled_breaches around settings (Pass None) = []
 settled_breaches around settings (Pass (Some t)) = result_breaches around settings (Pass (Some t)) (literal t)
 settled_breaches around settings (Task resource) =
     result_breaches around settings (Task resource) (gives_of around.declared around.name)
-settled_breaches around settings (Choice rules None) = breach_unless false (codes "Default") NoDefault
-settled_breaches around settings (Choice rules (Some next)) = []
+settled_breaches around settings (Choice rules default) = []
 settled_breaches around settings (Wait delay) = []
 settled_breaches around settings Succeed = []
 settled_breaches around settings (Fail error cause) = []

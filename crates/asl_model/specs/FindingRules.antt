@@ -17,7 +17,7 @@ use Rattle.asl_model.specs.Shape.{Shape, Never, ArrayShape, Shapes, inhabited}
 use Rattle.asl_model.specs.ShapeOrder.{sub}
 use Rattle.asl_model.specs.ShapeFlow.{is_integer_shape, is_string_shape}
 use Rattle.asl_model.specs.ShapeFlow.{look, put, literal, reference_shape, call_shape, Doubt, MayFail}
-use Rattle.asl_model.specs.ShapeFlow.{MayBeMissing, is_array_shape, rule_shape, through_path}
+use Rattle.asl_model.specs.ShapeFlow.{MayBeMissing, is_array_shape, rule_shape, is_settled, through_path}
 use Rattle.asl_model.specs.ShapeFlow.{through_template, through_placing, WithResult, WithInput, leaving, leave}
 use Rattle.asl_model.specs.Certificate.{TaskShapes, Declared, StateShapes, Certificate, HasEntry, under}
 use Rattle.asl_model.specs.Certificate.{certified, branch_end, item_end, takes_of, gives_of}
@@ -257,8 +257,9 @@ pub data BreaksFlow (around : Surroundings) (settings : Settings) (kind : Kind) 
       → Evaluates around settings kind field template input item → IsTrue (inhabited input)
       → HasDoubt input item template MayFail
       → BreaksFlow around settings kind field IntrinsicMayFail
-  -- a Choice has no `Default`
-  has_no_default : {rules : List Rule} → kind ≡ Choice rules None
+  -- a Choice has no `Default`, and no two of its rules stand for one
+  has_no_default : {rules : List Rule} {s : Shape} → kind ≡ Choice rules None → IsEffective around settings s
+      → IsFalse (is_settled rules s)
       → BreaksFlow around settings kind (codes "Default") NoDefault
   -- the payload isn't inside what the task takes
   payload_is_not_taken : {resource : Bytes} {s : Shape} → kind ≡ Task resource → IsEffective around settings s

@@ -4,6 +4,7 @@ pub mod CallSpelling
 pub mod Certificate
 pub mod DefinitionTable
 pub mod Edges
+pub mod Examples
 pub mod Faults
 pub mod Finding
 pub mod FindingRules
@@ -13,6 +14,7 @@ pub mod Inference
 pub mod Intrinsic
 pub mod Json
 pub mod Machine
+pub mod Missing
 pub mod Names
 pub mod Numbering
 pub mod Path

@@ -26,7 +26,7 @@ pub data RecordFault : Type 0 where
   -- a value of another kind
   WrongKind : RecordFault
   BadShape : ShapeFault → RecordFault
-  -- a whole number other than 1
+  -- a whole number other than 1 and 2
   BadVersion : RecordFault
   -- a reference that means none of the listed shapes
   BadNumber : RecordFault
@@ -41,7 +41,7 @@ pub record RecordComplaint : Type 0 where
 
 -- what the value of a field is
 pub data RecordValue : Type 0 where
-  -- the number 1
+  -- the number 1 or 2
   VersionValue : RecordValue
   ShapeValue : RecordValue
   ShapesValue : RecordValue
@@ -115,59 +115,80 @@ listed_in ms =
 
 -- ---- what is wrong
 
+-- how the shapes in a record are read: whether there may be lists of types, and which trees references mean, where shapes
+-- are listed
+pub record Reading : Type 0 where
+  pub several : Bool
+  pub listed : Option (List Tree)
+
+-- declared shapes: lists of types may stand in them, and no references
+abbrev pub declared_reading : Reading
+declared_reading = record { several = true; listed = None }
+
+-- the version is that number
+abbrev pub is_version : ℤ → Members → Bool
+is_version n ms =
+    unwrap_or (option_map (int_eq n) (option_and_then as_i64 (option_and_then as_number (get_member (codes "version") ms)))) false
+
+-- a certificate: lists of types may stand in one of version 2
+abbrev pub certificate_reading : Members → Reading
+certificate_reading ms = record { several = is_version (pos 2) ms; listed = listed_in ms }
+
 -- what is wrong with the numbers of references
 abbrev pub number_misfits : Option (List Tree) → Tree → List RecordFault
 number_misfits None t = []
 number_misfits (Some listed) t = if has_wrong_number listed t then BadNumber ∷ [] else []
 
 -- what is wrong with a spelling
-abbrev pub tree_misfits : Option (List Tree) → Tree → List RecordFault
-tree_misfits listed t = number_misfits listed t ++ map BadShape (shape_faults (plain listed t))
+abbrev pub tree_misfits : Reading → Tree → List RecordFault
+tree_misfits reading t =
+    number_misfits reading.listed t ++ map BadShape (shape_faults reading.several (plain reading.listed t))
 
 -- what is wrong with a value that should be a shape
-abbrev pub shape_misfits : Option (List Tree) → Data → List RecordFault
-shape_misfits listed v = unwrap_or (option_map (tree_misfits listed) (tree_of v)) []
+abbrev pub shape_misfits : Reading → Data → List RecordFault
+shape_misfits reading v = unwrap_or (option_map (tree_misfits reading) (tree_of v)) []
 
 -- what is wrong with each element that should be a shape
-abbrev pub shapes_misfits : Option (List Tree) → Items → List RecordFault
-shapes_misfits listed json.no_items = []
-shapes_misfits listed (json.item v vs) = shape_misfits listed v ++ shapes_misfits listed vs
+abbrev pub shapes_misfits : Reading → Items → List RecordFault
+shapes_misfits reading json.no_items = []
+shapes_misfits reading (json.item v vs) = shape_misfits reading v ++ shapes_misfits reading vs
 
 -- what is wrong with each element behind listed shapes, that should be a shape which may mean these
-abbrev pub listed_misfits : List Tree → Items → List RecordFault
-listed_misfits listed json.no_items = []
-listed_misfits listed (json.item v vs) =
-    shape_misfits (Some listed) v ++ listed_misfits (listed ++ plain_tree listed v ∷ []) vs
+abbrev pub listed_misfits : Bool → List Tree → Items → List RecordFault
+listed_misfits several listed json.no_items = []
+listed_misfits several listed (json.item v vs) =
+    shape_misfits (record { several = several; listed = Some listed }) v
+    ++ listed_misfits several (listed ++ plain_tree listed v ∷ []) vs
 
 -- what is wrong with a number as the version; one that isn't whole is told of the whole text
 abbrev pub version_misfits : Option ℤ → List RecordFault
 version_misfits None = []
-version_misfits (Some n) = if int_eq n (pos 1) then [] else BadVersion ∷ []
+version_misfits (Some n) = if int_eq n (pos 1) || int_eq n (pos 2) then [] else BadVersion ∷ []
 
 -- what is wrong with the value of a field
-abbrev pub misfits : Option (List Tree) → RecordValue → Data → List RecordFault
-misfits listed VersionValue v =
+abbrev pub misfits : Reading → RecordValue → Data → List RecordFault
+misfits reading VersionValue v =
     unwrap_or (option_map (λ n. version_misfits (as_i64 n)) (as_number v)) (WrongKind ∷ [])
-misfits listed ShapeValue v = shape_misfits listed v
-misfits listed ShapesValue v = unwrap_or (option_map (shapes_misfits listed) (as_array v)) (WrongKind ∷ [])
-misfits listed ListedValue v = unwrap_or (option_map (listed_misfits []) (as_array v)) (WrongKind ∷ [])
-misfits listed EntriesValue v = if is_some (as_object v) then [] else WrongKind ∷ []
+misfits reading ShapeValue v = shape_misfits reading v
+misfits reading ShapesValue v = unwrap_or (option_map (shapes_misfits reading) (as_array v)) (WrongKind ∷ [])
+misfits reading ListedValue v = unwrap_or (option_map (listed_misfits reading.several []) (as_array v)) (WrongKind ∷ [])
+misfits reading EntriesValue v = if is_some (as_object v) then [] else WrongKind ∷ []
 
 -- a fault of that field, in the entry of that name
 abbrev complaint : List ℕ → List ℕ → RecordFault → RecordComplaint
 complaint name field fault = record { fault = fault; name = name; field = field }
 
 -- what is wrong with the value of a row, or with its absence
-abbrev pub record_row_faults : Option (List Tree) → RecordRow → Option Data → List RecordFault
-record_row_faults listed row None = if row.required then MissingField ∷ [] else []
-record_row_faults listed row (Some v) = misfits listed row.value v
+abbrev pub record_row_faults : Reading → RecordRow → Option Data → List RecordFault
+record_row_faults reading row None = if row.required then MissingField ∷ [] else []
+record_row_faults reading row (Some v) = misfits reading row.value v
 
 -- what is wrong with the fields that rows name
-abbrev pub rows_complaints : Option (List Tree) → List ℕ → List RecordRow → Members → List RecordComplaint
-rows_complaints listed name [] ms = []
-rows_complaints listed name (row ∷ rows) ms =
-    map (complaint name row.field) (record_row_faults listed row (get_member row.field ms))
-    ++ rows_complaints listed name rows ms
+abbrev pub rows_complaints : Reading → List ℕ → List RecordRow → Members → List RecordComplaint
+rows_complaints reading name [] ms = []
+rows_complaints reading name (row ∷ rows) ms =
+    map (complaint name row.field) (record_row_faults reading row (get_member row.field ms))
+    ++ rows_complaints reading name rows ms
 
 -- the name is that of a row
 abbrev pub has_row : List ℕ → List RecordRow → Bool
@@ -182,9 +203,9 @@ unknown_complaints name rows (json.member n v ms) =
     else complaint name n UnknownField ∷ unknown_complaints name rows ms
 
 -- what is wrong with an object of those fields
-abbrev pub object_complaints : Option (List Tree) → List ℕ → List RecordRow → Data → List RecordComplaint
-object_complaints listed name rows v =
-    unwrap_or (option_map (λ ms. rows_complaints listed name rows ms ++ unknown_complaints name rows ms) (as_object v))
+abbrev pub object_complaints : Reading → List ℕ → List RecordRow → Data → List RecordComplaint
+object_complaints reading name rows v =
+    unwrap_or (option_map (λ ms. rows_complaints reading name rows ms ++ unknown_complaints name rows ms) (as_object v))
     (complaint name [] NotObject ∷ [])
 
 -- the members of an object, none of anything else; and of the field of that name
@@ -196,25 +217,26 @@ abbrev pub members_under : List ℕ → Data → Members
 members_under field v = unwrap_or (option_map members_in (get_member field (members_in v))) json.no_members
 
 -- what is wrong with each entry
-abbrev pub entries_complaints : Option (List Tree) → List RecordRow → Members → List RecordComplaint
-entries_complaints listed rows json.no_members = []
-entries_complaints listed rows (json.member n v ms) =
-    object_complaints listed n rows v ++ entries_complaints listed rows ms
+abbrev pub entries_complaints : Reading → List RecordRow → Members → List RecordComplaint
+entries_complaints reading rows json.no_members = []
+entries_complaints reading rows (json.member n v ms) =
+    object_complaints reading n rows v ++ entries_complaints reading rows ms
 
 -- all that is wrong with a value as declared shapes
 abbrev pub declared_complaints : Data → List RecordComplaint
 declared_complaints v =
-    object_complaints None [] declared_rows v ++ entries_complaints None task_rows (members_under (codes "tasks") v)
+    object_complaints declared_reading [] declared_rows v
+    ++ entries_complaints declared_reading task_rows (members_under (codes "tasks") v)
 
--- and as a certificate, with those listed shapes
-abbrev pub listed_complaints : Option (List Tree) → Data → List RecordComplaint
-listed_complaints listed v =
-    object_complaints listed [] certificate_rows v
-    ++ entries_complaints listed state_rows (members_under (codes "states") v)
+-- and as a certificate whose shapes are read so
+abbrev pub listed_complaints : Reading → Data → List RecordComplaint
+listed_complaints reading v =
+    object_complaints reading [] certificate_rows v
+    ++ entries_complaints reading state_rows (members_under (codes "states") v)
 
 -- with its own
 abbrev pub certificate_complaints : Data → List RecordComplaint
-certificate_complaints v = listed_complaints (listed_in (members_in v)) v
+certificate_complaints v = listed_complaints (certificate_reading (members_in v)) v
 
 -- ---- what is read
 

@@ -42,6 +42,10 @@ mutual
 abbrev pub no_simple : Simple
 no_simple = record { null = false; boolean = false; integer = false; text = false }
 
+-- all of them
+abbrev pub all_simple : Simple
+all_simple = record { null = true; boolean = true; integer = true; text = true }
+
 -- the shape of no tree
 abbrev pub Never : Shape
 Never = OfKinds no_simple WithoutArrays WithoutObjects
@@ -220,19 +224,45 @@ type_names simple arrays objects =
     (name_if (has_objects objects) (codes "object")
     (name_if simple.text (codes "string") [])))))
 
--- there is one name at most
-abbrev pub at_most_one : List (List ℕ) → Bool
-at_most_one [] = true
-at_most_one (n ∷ []) = true
-at_most_one (n ∷ m ∷ names) = false
+-- there are two names or more
+abbrev pub are_several : List (List ℕ) → Bool
+are_several [] = false
+are_several (n ∷ []) = false
+are_several (n ∷ m ∷ names) = true
 
 abbrev mutual
-  -- it takes trees of one kind at most; its names are UTF-8, and each object mentions its names once, in byte order;
-  -- depth has no limit here
+  -- whether the shape, or one inside it, is of several kinds
+  pub has_several : Shape → Bool
+  has_several Any = false
+  has_several (OfKinds simple arrays objects) =
+      are_several (type_names simple arrays objects)
+      || (arrays_have_several arrays || objects_have_several objects)
+
+  -- whether the shape of an element is, or one inside it
+  pub arrays_have_several : Arrays → Bool
+  arrays_have_several WithoutArrays = false
+  arrays_have_several (ArraysOf first rest) = some_has_several first || has_several rest
+
+  -- whether that of a mentioned field is
+  pub objects_have_several : Objects → Bool
+  objects_have_several WithoutObjects = false
+  objects_have_several (ObjectsOf shapes extra) = field_has_several shapes
+
+  -- whether one of the shapes is
+  pub some_has_several : Shapes → Bool
+  some_has_several NoShapes = false
+  some_has_several (AndShape s others) = has_several s || some_has_several others
+
+  -- whether the shape of one of the fields is
+  pub field_has_several : FieldShapes → Bool
+  field_has_several NoFieldShapes = false
+  field_has_several (AndFieldShape n needed s shapes) = has_several s || field_has_several shapes
+
+abbrev mutual
+  -- its names are UTF-8, and each object mentions its names once, in byte order; depth has no limit here
   pub IsProperShape : Shape → Type 0
   IsProperShape Any = Unit {0}
-  IsProperShape (OfKinds simple arrays objects) =
-      IsTrue (at_most_one (type_names simple arrays objects)) × AreProperArrays arrays × AreProperObjects objects
+  IsProperShape (OfKinds simple arrays objects) = AreProperArrays arrays × AreProperObjects objects
 
   -- the shapes of the elements are proper
   pub AreProperArrays : Arrays → Type 0
@@ -254,6 +284,33 @@ abbrev mutual
   AreProperFields NoFieldShapes = Unit {0}
   AreProperFields (AndFieldShape n needed s shapes) =
       IsUtf8 n × IsTrue (before_mentions n shapes) × IsProperShape s × AreProperFields shapes
+
+abbrev mutual
+  -- each object mentions its names once, in byte order; of what bytes they are nothing is said
+  pub IsOrdered : Shape → Type 0
+  IsOrdered Any = Unit {0}
+  IsOrdered (OfKinds simple arrays objects) = AreOrderedArrays arrays × AreOrderedObjects objects
+
+  -- so do the shapes of the elements
+  pub AreOrderedArrays : Arrays → Type 0
+  AreOrderedArrays WithoutArrays = Unit {0}
+  AreOrderedArrays (ArraysOf first rest) = AreOrderedShapes first × IsOrdered rest
+
+  -- so do the objects
+  pub AreOrderedObjects : Objects → Type 0
+  AreOrderedObjects WithoutObjects = Unit {0}
+  AreOrderedObjects (ObjectsOf shapes extra) = AreOrderedFields shapes
+
+  -- so does each of them
+  pub AreOrderedShapes : Shapes → Type 0
+  AreOrderedShapes NoShapes = Unit {0}
+  AreOrderedShapes (AndShape s others) = IsOrdered s × AreOrderedShapes others
+
+  -- names stand in byte order, each once, and so it is in the shapes
+  pub AreOrderedFields : FieldShapes → Type 0
+  AreOrderedFields NoFieldShapes = Unit {0}
+  AreOrderedFields (AndFieldShape n needed s shapes) =
+      IsTrue (before_mentions n shapes) × IsOrdered s × AreOrderedFields shapes
 
 -- some of the simple kinds
 abbrev pub some_simple : Simple → Bool

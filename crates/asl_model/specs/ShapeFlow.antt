@@ -4,6 +4,8 @@
 -- Never.
 use Rattle.std.specs.Prelude.{ℕ, zero, suc, ◌==◌, List, [], ◌∷◌, ◌++◌, length, map, Bool, true, false, ◌&&◌}
 use Rattle.std.specs.Prelude.{◌||◌, not, Option, Some, None, Result, Ok, Err, codes, if◌then◌else◌}
+use Rattle.std.specs.Prelude.{filter_map, bytes_eq, nat_eq}
+use Rattle.std.specs.Option.{option_map}
 use Rattle.asl_model.specs.Names.{FieldName}
 use Rattle.asl_model.specs.Tree.{Tree, Null, Boolean, Integer, Text, Array, Object, Trees}
 use Rattle.asl_model.specs.Tree.{NoTrees, AndTree, Fields, NoFields, AndField}
@@ -15,13 +17,15 @@ use Rattle.asl_model.specs.Intrinsic.{Arguments, NoArguments, AndArgument, Piece
 use Rattle.asl_model.specs.Template.{Template, Literal, FromPath, FromCall, ArrayTemplate, ObjectTemplate, Templates}
 use Rattle.asl_model.specs.Template.{NoTemplates, AndTemplate, FieldTemplates, NoFieldTemplates, AndFieldTemplate}
 use Rattle.asl_model.specs.Test.{Test, And, Or, Not, Compare, StringMatches, IsOfKind, IsPresent}
-use Rattle.asl_model.specs.Test.{Tests, NoTests, AndTest, Operand, Constant, AtPath}
+use Rattle.asl_model.specs.Test.{Tests, NoTests, AndTest, Rule, Comparison, StringIs, NumericIs, BooleanEquals}
+use Rattle.asl_model.specs.Test.{Operand, Constant, AtPath, ValueKind, NullKind, NumericKind, StringKind}
+use Rattle.asl_model.specs.Test.{BooleanKind, as_boolean, same_truth}
 use Rattle.asl_model.specs.Machine.{Settings, Kind, Pass, Task, Choice, Wait, Succeed, Fail, Parallel, Map}
 use Rattle.asl_model.specs.Shape.{Simple, Shape, Any, OfKinds, Never, NullShape, BooleanShape, IntegerShape}
 use Rattle.asl_model.specs.Shape.{StringShape, ArrayShape, ObjectShape, Arrays, WithoutArrays, ArraysOf, Objects}
 use Rattle.asl_model.specs.Shape.{WithoutObjects, ObjectsOf, Shapes, NoShapes, AndShape, FieldShapes}
 use Rattle.asl_model.specs.Shape.{NoFieldShapes, AndFieldShape, Has, has_arrays, no_simple, some_simple, some_array}
-use Rattle.asl_model.specs.Shape.{some_object, inhabited}
+use Rattle.asl_model.specs.Shape.{some_object, all_simple, inhabited}
 use Rattle.asl_model.specs.ShapeOrder.{mention_of, set_mention, join, same_simple}
 
 -- Paths
@@ -249,6 +253,10 @@ is_integer_shape s = is_only (record no_simple { integer = true }) s
 abbrev pub is_string_shape : Shape → Bool
 is_string_shape s = is_only (record no_simple { text = true }) s
 
+-- truth values alone have the shape
+abbrev pub is_boolean_shape : Shape → Bool
+is_boolean_shape s = is_only (record no_simple { boolean = true }) s
+
 -- how many shapes there are
 abbrev pub how_many_shapes : Shapes → ℕ
 how_many_shapes NoShapes = 0
@@ -412,6 +420,48 @@ abbrev pub where_present : List Segment → Shape → Shape
 where_present [] s = s
 where_present (segment ∷ path) s = narrow_under (where_present path) segment s
 
+-- the simple kinds that a shape takes
+abbrev pub simple_of : Shape → Simple
+simple_of Any = all_simple
+simple_of (OfKinds simple arrays objects) = simple
+
+-- of these simple kinds that one alone
+abbrev pub kept : ValueKind → Simple → Simple
+kept NullKind simple = record no_simple { null = simple.null }
+kept NumericKind simple = record no_simple { integer = simple.integer }
+kept StringKind simple = record no_simple { text = simple.text }
+kept BooleanKind simple = record no_simple { boolean = simple.boolean }
+
+-- these simple kinds without that one
+abbrev pub dropped : ValueKind → Simple → Simple
+dropped NullKind simple = record simple { null = false }
+dropped NumericKind simple = record simple { integer = false }
+dropped StringKind simple = record simple { text = false }
+dropped BooleanKind simple = record simple { boolean = false }
+
+-- the shape of its trees that are of that kind
+abbrev pub of_kind : ValueKind → Shape → Shape
+of_kind kind s = OfKinds (kept kind (simple_of s)) WithoutArrays WithoutObjects
+
+-- the shape of its trees that aren't; of Any nothing is taken
+abbrev pub not_of_kind : ValueKind → Shape → Shape
+not_of_kind kind Any = Any
+not_of_kind kind (OfKinds simple arrays objects) = OfKinds (dropped kind simple) arrays objects
+
+-- the shape of its trees that are of that kind, or with false of those that aren't
+abbrev pub by_kind : ValueKind → Bool → Shape → Shape
+by_kind kind expected s = if expected then of_kind kind s else not_of_kind kind s
+
+-- the shape that a placing gives, if it gives one
+abbrev pub if_placed : Result Shape ℕ → Option Shape
+if_placed (Ok s) = Some s
+if_placed (Err at) = None
+
+-- the shape with what the path names in it narrowed: Never where no tree is left there; None: the path may name nothing
+abbrev pub narrowed_at : List Segment → (Shape → Shape) → Shape → Result Shape ℕ → Option Shape
+narrowed_at path narrow s (Ok part) = if_placed (put path (narrow part) s)
+narrowed_at path narrow s (Err at) = None
+
 -- the shape as it is, unless a path may name nothing
 abbrev pub if_found : Result Shape ℕ → Shape → Option Shape
 if_found (Ok part) s = Some s
@@ -449,7 +499,7 @@ abbrev mutual
   true_of (Not test) s = unless_none (true_of test s) (Some s)
   true_of (Compare path comparison operand) s = both_found (look path s) (operand_shape operand s) s
   true_of (StringMatches path pattern) s = if_found (look path s) s
-  true_of (IsOfKind path kind expected) s = if_found (look path s) s
+  true_of (IsOfKind path kind expected) s = narrowed_at path (by_kind kind expected) s (look path s)
   true_of (IsPresent path expected) s = if expected then Some (where_present path s) else Some s
 
   -- the narrowed shape goes from each test to the next, where it has a tree; else the tests that follow give Never
@@ -466,6 +516,88 @@ abbrev mutual
 -- the shape of the trees of a shape for which a rule is true; None: a path of it may name nothing
 abbrev pub rule_shape : Test → Shape → Option Shape
 rule_shape test s = where_inhabited (true_of test) s
+
+-- Rules that stand for a `Default`
+
+-- what a test asks of the value at a path: whether it is there, whether it is of a kind, whether it is true
+pub data Question : Type 0 where
+  IsThere : List Segment → Question
+  IsOf : ValueKind → List Segment → Question
+  IsItTrue : List Segment → Question
+
+-- the truth value that a comparison with a constant asks for, if it asks for one
+abbrev pub truth_asked : Comparison → Operand → Option Bool
+truth_asked (StringIs relation) operand = None
+truth_asked (NumericIs relation) operand = None
+truth_asked BooleanEquals (Constant t) = as_boolean t
+truth_asked BooleanEquals (AtPath path) = None
+
+-- truth values alone are found
+abbrev pub finds_booleans : Result Shape ℕ → Bool
+finds_booleans (Ok s) = is_boolean_shape s
+finds_booleans (Err at) = false
+
+-- The question of a test on trees of the shape, and the answer that makes the test true. Only where truth values alone
+-- are found, one of them that isn't true is false.
+abbrev pub asks : Shape → Test → Option (Question × Bool)
+asks s (And tests) = None
+asks s (Or tests) = None
+asks s (Not test) = None
+asks s (Compare path comparison operand) =
+    if finds_booleans (look path s) then option_map (λ b. (IsItTrue path, b)) (truth_asked comparison operand) else None
+asks s (StringMatches path pattern) = None
+asks s (IsOfKind path kind expected) = Some (IsOf kind path, expected)
+asks s (IsPresent path expected) = Some (IsThere path, expected)
+
+-- the questions of these rules, in order, each with the answer that makes the rule true
+abbrev pub asked : List Rule → Shape → List (Question × Bool)
+asked rules s = filter_map (λ (rule : Rule). asks s rule.test) rules
+
+-- the same segment
+abbrev pub same_segment : Segment → Segment → Bool
+same_segment (Name n) (Name m) = bytes_eq n m
+same_segment (Name n) (Index j) = false
+same_segment (Index i) (Name m) = false
+same_segment (Index i) (Index j) = nat_eq i j
+
+-- the same segments in the same order
+abbrev pub same_path : List Segment → List Segment → Bool
+same_path [] [] = true
+same_path [] (segment ∷ path) = false
+same_path (segment ∷ path) [] = false
+same_path (segment ∷ path) (other ∷ further) = same_segment segment other && same_path path further
+
+-- the same kind
+abbrev pub same_kind : ValueKind → ValueKind → Bool
+same_kind kind other = same_simple (kept kind all_simple) (kept other all_simple)
+
+-- the same question, at the same path
+abbrev pub same_question : Question → Question → Bool
+same_question (IsThere path) (IsThere other) = same_path path other
+same_question (IsThere path) (IsOf kind other) = false
+same_question (IsThere path) (IsItTrue other) = false
+same_question (IsOf kind path) (IsThere other) = false
+same_question (IsOf kind path) (IsOf another other) = same_kind kind another && same_path path other
+same_question (IsOf kind path) (IsItTrue other) = false
+same_question (IsItTrue path) (IsThere other) = false
+same_question (IsItTrue path) (IsOf kind other) = false
+same_question (IsItTrue path) (IsItTrue other) = same_path path other
+
+-- one of these asks the same question for the other answer
+abbrev pub is_asked_otherwise : Question → Bool → List (Question × Bool) → Bool
+is_asked_otherwise question answer [] = false
+is_asked_otherwise question answer (other ∷ others) =
+    (same_question question other.0 && same_truth answer (not other.1)) || is_asked_otherwise question answer others
+
+-- two of these ask the same question, one for yes and one for no
+abbrev pub some_asked_both_ways : List (Question × Bool) → Bool
+some_asked_both_ways [] = false
+some_asked_both_ways (one ∷ others) = is_asked_otherwise one.0 one.1 others || some_asked_both_ways others
+
+-- Two of the rules ask the same question, one for yes and one for no: where both are decided one of them is true, so
+-- no `Default` is needed.
+abbrev pub is_settled : List Rule → Shape → Bool
+is_settled rules s = some_asked_both_ways (asked rules s)
 
 -- The output of a state
 

@@ -1,12 +1,11 @@
--- When one shape is inside another, and a shape that two are inside. JSON Schema has no
--- word for either: both are the profile's own. The first is only a test that is enough: where it is true, every tree
--- of the one shape has the other.
+-- When one shape is inside another, and a shape that two are inside. JSON Schema has no word for either: both are the
+-- profile's own. The first is true exactly where every tree of the one shape has the other.
 use Rattle.std.specs.Prelude.{ℕ, zero, suc, max, Bool, true, false, ◌&&◌, ◌||◌}
 use Rattle.std.specs.Prelude.{not, Option, Some, None, bytes_eq, if◌then◌else◌}
 use Rattle.asl_model.specs.Names.{FieldName}
 use Rattle.asl_model.specs.Shape.{Simple, Shape, Any, OfKinds, Never, Arrays, WithoutArrays, ArraysOf, Objects}
 use Rattle.asl_model.specs.Shape.{WithoutObjects, ObjectsOf, Shapes, NoShapes, AndShape, FieldShapes, NoFieldShapes}
-use Rattle.asl_model.specs.Shape.{AndFieldShape, has_arrays, has_objects, some_simple, inhabited, all_inhabited}
+use Rattle.asl_model.specs.Shape.{AndFieldShape, some_array, some_object, inhabited, all_inhabited}
 use Rattle.asl_model.specs.Shape.{needed_inhabited, mentions, insert_mention}
 
 -- the first mention of a field: whether it is needed, and its shape
@@ -32,6 +31,17 @@ either a b =
       integer = a.integer || b.integer;
       text = a.text || b.text;
     }
+
+-- both are true, or none is
+abbrev pub same_truth : Bool → Bool → Bool
+same_truth true b = b
+same_truth false b = not b
+
+-- the same simple kinds
+abbrev pub same_simple : Simple → Simple → Bool
+same_simple a b =
+    same_truth a.null b.null
+    && (same_truth a.boolean b.boolean && (same_truth a.integer b.integer && same_truth a.text b.text))
 
 -- the simple kinds of the first are among those of the second
 abbrev pub simple_sub : Simple → Simple → Bool
@@ -82,8 +92,8 @@ mention_fits needed test any extra None = not needed && (any || not extra)
 mention_fits needed test any extra (Some mention) = (not needed || mention.0) && test mention.1
 
 abbrev mutual
-  -- Every tree of the first shape is seen to have the second: the second is Any, or takes all trees of each kind where
-  -- the first is Any; else kind by kind the first is inside the second.
+  -- Every tree of the first shape has the second: the second is Any, or takes all trees of each kind where the first is
+  -- Any; else kind by kind the first is inside the second.
   pub sub : Shape → Shape → Bool
   sub a Any = true
   sub Any (OfKinds simple arrays objects) = takes_all (OfKinds simple arrays objects)
@@ -219,32 +229,21 @@ join_objects joined (ObjectsOf shapes extra) WithoutObjects = ObjectsOf shapes e
 join_objects joined (ObjectsOf shapes extra) (ObjectsOf others more) =
     ObjectsOf (with_other_fields shapes extra others (joined_fields joined shapes others more)) (extra || more)
 
--- both are true, or none is
-abbrev pub same_truth : Bool → Bool → Bool
-same_truth true b = b
-same_truth false b = not b
+-- the arrays, if there are any such
+abbrev pub kept_arrays : Arrays → Arrays
+kept_arrays arrays = if some_array arrays then arrays else WithoutArrays
 
--- the same simple kinds
-abbrev pub same_simple : Simple → Simple → Bool
-same_simple a b =
-    same_truth a.null b.null
-    && (same_truth a.boolean b.boolean && (same_truth a.integer b.integer && same_truth a.text b.text))
+-- the objects, if there are any such
+abbrev pub kept_objects : Objects → Objects
+kept_objects objects = if some_object objects then objects else WithoutObjects
 
--- the same kinds, of which there are some
-abbrev pub same_kinds : Simple → Arrays → Objects → Simple → Arrays → Objects → Bool
-same_kinds some others more simple arrays objects =
-    (some_simple some || (has_arrays others || has_objects more))
-    && (same_simple some simple
-    && (same_truth (has_arrays others) (has_arrays arrays) && same_truth (has_objects more) (has_objects objects)))
-
--- the join of two shapes of which trees are there: kind by kind where they are of the same kinds, and Any for all else
+-- the join of two shapes of which trees are there: Any where one is, else kind by kind
 abbrev pub join_kinds : (Shape → Shape → Shape) → Shape → Shape → Shape
 join_kinds joined Any b = Any
 join_kinds joined (OfKinds some others more) Any = Any
 join_kinds joined (OfKinds some others more) (OfKinds simple arrays objects) =
-    if same_kinds some others more simple arrays objects
-    then OfKinds (either some simple) (join_arrays joined others arrays) (join_objects joined more objects)
-    else Any
+    OfKinds (either some simple) (join_arrays joined (kept_arrays others) (kept_arrays arrays))
+    (join_objects joined (kept_objects more) (kept_objects objects))
 
 -- the join of two shapes that are at most so deep: where one isn't inhabited, the other
 abbrev pub join_within : ℕ → Shape → Shape → Shape

@@ -1,15 +1,16 @@
 -- How shapes are spelled (a subset of JSON Schema 2020-12, Core and Validation).
--- `true` and `{}` are Any, `false` is Never; any other spelling is an object with `type` and the keywords of that type.
--- Every tree has here a shape, with defaults where something is wrong, and a list of all that is wrong with it. It
--- spells its shape where that list is empty.
+-- `true` and `{}` are Any, `false` is Never; any other spelling is an object with `type`, a type or a list of types, and
+-- the keywords of these types. Every tree has here a shape, with defaults where something is wrong, and a list of all
+-- that is wrong with it. It spells its shape where that list is empty. In the first version of certificates a list of
+-- types is wrong.
 use Rattle.std.specs.Prelude.{◌≡◌, ℕ, pos, List, [], ◌∷◌, ◌++◌, Bool, true, false, not, ◌&&◌}
 use Rattle.std.specs.Prelude.{◌||◌, if◌then◌else◌, Option, Some, None, bytes_eq, codes}
 use Rattle.std.specs.Ordering.{int_eq}
 use Rattle.std.specs.List.{Contains}
 use Rattle.asl_model.specs.Tree.{Tree, Null, Boolean, Integer, Text, Array, Object, Trees, NoTrees}
 use Rattle.asl_model.specs.Tree.{AndTree, Fields, NoFields, AndField, count, field_named}
-use Rattle.asl_model.specs.Shape.{Shape, Any, Never, NullShape, BooleanShape, IntegerShape, StringShape}
-use Rattle.asl_model.specs.Shape.{ArrayShape, ObjectShape, Shapes, NoShapes, AndShape, FieldShapes}
+use Rattle.asl_model.specs.Shape.{Simple, Shape, Any, Never, OfKinds, Arrays, WithoutArrays, ArraysOf, Objects}
+use Rattle.asl_model.specs.Shape.{WithoutObjects, ObjectsOf, Shapes, NoShapes, AndShape, FieldShapes}
 use Rattle.asl_model.specs.Shape.{NoFieldShapes, AndFieldShape, mentions, insert_mention}
 
 -- what can be wrong with a spelling
@@ -18,7 +19,8 @@ pub data ShapeFault : Type 0 where
   NotAShape : ShapeFault
   -- a keyword that doesn't belong to the type
   Keyword : ShapeFault
-  -- no type beside another keyword, several types, or one that the profile doesn't have
+  -- no type beside another keyword, or one that the profile doesn't have; of a list of types one twice, or none; in the
+  -- first version of certificates any such list
   BadType : ShapeFault
   -- a `minItems` other than the number of the `prefixItems`
   MinItems : ShapeFault
@@ -35,43 +37,10 @@ are_distinct (n ∷ ns) = not (is_among n ns) && are_distinct ns
 
 -- ---- types and keywords
 
--- what `type` says
-pub data TypeWord : Type 0 where
-  OfObject : TypeWord
-  OfArray : TypeWord
-  OfInteger : TypeWord
-  OfString : TypeWord
-  OfBoolean : TypeWord
-  OfNull : TypeWord
-  -- the profile doesn't have the type, or several are given
-  OtherType : TypeWord
-  -- `type` is neither a text nor a list
-  NotAType : TypeWord
-  NoType : TypeWord
-
--- the type of that name
-abbrev pub type_word : List ℕ → TypeWord
-type_word s =
-    if bytes_eq s (codes "object") then OfObject else
-    (if bytes_eq s (codes "array") then OfArray else
-    (if bytes_eq s (codes "integer") then OfInteger else
-    (if bytes_eq s (codes "string") then OfString else
-    (if bytes_eq s (codes "boolean") then OfBoolean else
-    (if bytes_eq s (codes "null") then OfNull else OtherType)))))
-
--- what the value of `type` says
-abbrev pub type_in : Option Tree → TypeWord
-type_in None = NoType
-type_in (Some Null) = NotAType
-type_in (Some (Boolean b)) = NotAType
-type_in (Some (Integer n)) = NotAType
-type_in (Some (Text s)) = type_word s
-type_in (Some (Array ts)) = OtherType
-type_in (Some (Object fs)) = NotAType
-
--- what the `type` of these fields says
-abbrev pub type_word_of : Fields → TypeWord
-type_word_of fs = type_in (field_named (codes "type") fs)
+-- the types
+abbrev pub types : List (List ℕ)
+types =
+    codes "array" ∷ codes "boolean" ∷ codes "integer" ∷ codes "null" ∷ codes "object" ∷ codes "string" ∷ []
 
 -- read past, of any kind
 abbrev pub annotations : List (List ℕ)
@@ -79,17 +48,18 @@ annotations =
     codes "$schema" ∷ codes "$id" ∷ codes "$comment" ∷ codes "title" ∷ codes "description" ∷ codes "default"
     ∷ codes "examples" ∷ []
 
--- the keywords of an object shape
-abbrev pub object_keywords : List (List ℕ)
-object_keywords = codes "type" ∷ codes "properties" ∷ codes "required" ∷ codes "additionalProperties" ∷ annotations
-
--- of an array shape
+-- those for arrays, and those for objects
 abbrev pub array_keywords : List (List ℕ)
-array_keywords = codes "type" ∷ codes "prefixItems" ∷ codes "items" ∷ codes "minItems" ∷ annotations
+array_keywords = codes "prefixItems" ∷ codes "items" ∷ codes "minItems" ∷ []
 
--- of the other types
-abbrev pub simple_keywords : List (List ℕ)
-simple_keywords = codes "type" ∷ annotations
+abbrev pub object_keywords : List (List ℕ)
+object_keywords = codes "properties" ∷ codes "required" ∷ codes "additionalProperties" ∷ []
+
+-- those that belong to one of these types
+abbrev pub keywords_of : List (List ℕ) → List (List ℕ)
+keywords_of names =
+    codes "type" ∷ ((if is_among (codes "array") names then array_keywords else [])
+    ++ ((if is_among (codes "object") names then object_keywords else []) ++ annotations))
 
 -- a fault for each field that isn't one of those keywords
 abbrev pub foreign_faults : ShapeFault → List (List ℕ) → Fields → List ShapeFault
@@ -97,7 +67,7 @@ foreign_faults fault keywords NoFields = []
 foreign_faults fault keywords (AndField n t fs) =
     if is_among n keywords then foreign_faults fault keywords fs else fault ∷ foreign_faults fault keywords fs
 
--- ---- `required` and `additionalProperties`
+-- ---- lists of texts
 
 -- the texts among the elements
 abbrev pub texts_among : Trees → List (List ℕ)
@@ -127,6 +97,44 @@ are_texts (AndTree t ts) = is_text_value t && are_texts ts
 abbrev pub unless : Bool → ShapeFault → List ShapeFault
 unless true fault = []
 unless false fault = fault ∷ []
+
+-- ---- `type`
+
+-- the names of the types that `type` says
+abbrev pub types_in : Option Tree → List (List ℕ)
+types_in None = []
+types_in (Some Null) = []
+types_in (Some (Boolean b)) = []
+types_in (Some (Integer n)) = []
+types_in (Some (Text s)) = s ∷ []
+types_in (Some (Array ts)) = texts_among ts
+types_in (Some (Object fs)) = []
+
+-- each name is that of a type
+abbrev pub are_types : List (List ℕ) → Bool
+are_types [] = true
+are_types (n ∷ names) = is_among n types && are_types names
+
+-- there is an element
+abbrev pub some_elements : Trees → Bool
+some_elements NoTrees = false
+some_elements (AndTree t ts) = true
+
+-- the elements are the names of types, of one or more, none twice
+abbrev pub is_type_list : Trees → Bool
+is_type_list ts =
+    some_elements ts && (are_texts ts && (are_types (texts_among ts) && are_distinct (texts_among ts)))
+
+-- what is wrong with the value of `type`: it is a type, or a list of types where there may be several
+abbrev pub type_faults : Bool → Tree → List ShapeFault
+type_faults several Null = NotAShape ∷ []
+type_faults several (Boolean b) = NotAShape ∷ []
+type_faults several (Integer n) = NotAShape ∷ []
+type_faults several (Text s) = unless (is_among s types) BadType
+type_faults several (Array ts) = unless (several && is_type_list ts) BadType
+type_faults several (Object fs) = NotAShape ∷ []
+
+-- ---- `required` and `additionalProperties`
 
 -- the names in `required`
 abbrev pub required_in : Option Tree → List (List ℕ)
@@ -212,17 +220,23 @@ element_count (Some (Object fs)) = 0
 
 -- ---- shapes
 
--- the shape of that type, for what its keywords say of an array and of an object
-abbrev pub typed_shape : TypeWord → Shape → Shape → Shape
-typed_shape OfObject array_shape object_shape = object_shape
-typed_shape OfArray array_shape object_shape = array_shape
-typed_shape OfInteger array_shape object_shape = IntegerShape
-typed_shape OfString array_shape object_shape = StringShape
-typed_shape OfBoolean array_shape object_shape = BooleanShape
-typed_shape OfNull array_shape object_shape = NullShape
-typed_shape OtherType array_shape object_shape = Any
-typed_shape NotAType array_shape object_shape = Any
-typed_shape NoType array_shape object_shape = Any
+-- the simple kinds among those types
+abbrev pub simple_named : List (List ℕ) → Simple
+simple_named names =
+    record {
+      null = is_among (codes "null") names;
+      boolean = is_among (codes "boolean") names;
+      integer = is_among (codes "integer") names;
+      text = is_among (codes "string") names;
+    }
+
+-- the shape of those types, with these arrays and objects where they are among the types; Any where there is no type
+abbrev pub typed_shape : List (List ℕ) → Arrays → Objects → Shape
+typed_shape [] arrays objects = Any
+typed_shape (n ∷ names) arrays objects =
+    OfKinds (simple_named (n ∷ names))
+    (if is_among (codes "array") (n ∷ names) then arrays else WithoutArrays)
+    (if is_among (codes "object") (n ∷ names) then objects else WithoutObjects)
 
 abbrev mutual
   -- the shape that a tree spells
@@ -234,9 +248,9 @@ abbrev mutual
   shape_of (Array ts) = Any
   shape_of (Object fs) =
       let extra = extra_in (field_named (codes "additionalProperties") fs) in
-      typed_shape (type_word_of fs)
-      (ArrayShape (shapes_under (codes "prefixItems") fs) (shape_under (codes "items") fs))
-      (ObjectShape (with_all_needed extra (required_in (field_named (codes "required") fs))
+      typed_shape (types_in (field_named (codes "type") fs))
+      (ArraysOf (shapes_under (codes "prefixItems") fs) (shape_under (codes "items") fs))
+      (ObjectsOf (with_all_needed extra (required_in (field_named (codes "required") fs))
       (properties_under (codes "properties") fs)) extra)
 
   -- the shape that the field of that name spells; Any where there is none
@@ -284,86 +298,104 @@ abbrev mutual
 
 -- ---- faults
 
--- the faults for that type: those of the fields that are foreign to it, and what is wrong with its own keywords
-abbrev pub typed_faults : TypeWord → Fields → List ShapeFault → List ShapeFault → List ShapeFault
-typed_faults OfObject fs array_faults object_faults = foreign_faults Keyword object_keywords fs ++ object_faults
-typed_faults OfArray fs array_faults object_faults = foreign_faults Keyword array_keywords fs ++ array_faults
-typed_faults OfInteger fs array_faults object_faults = foreign_faults Keyword simple_keywords fs
-typed_faults OfString fs array_faults object_faults = foreign_faults Keyword simple_keywords fs
-typed_faults OfBoolean fs array_faults object_faults = foreign_faults Keyword simple_keywords fs
-typed_faults OfNull fs array_faults object_faults = foreign_faults Keyword simple_keywords fs
-typed_faults OtherType fs array_faults object_faults = BadType ∷ []
-typed_faults NotAType fs array_faults object_faults = NotAShape ∷ []
-typed_faults NoType fs array_faults object_faults = foreign_faults BadType annotations fs
+-- those faults if that type is among the types
+abbrev pub faults_if : List ℕ → List (List ℕ) → List ShapeFault → List ShapeFault
+faults_if name names faults = if is_among name names then faults else []
+
+-- the faults where `type` is right and says those types: those of the fields that belong to none of them, and what is
+-- wrong with the keywords for arrays and for objects
+abbrev pub keyword_faults : List (List ℕ) → Fields → List ShapeFault → List ShapeFault → List ShapeFault
+keyword_faults names fs array_faults object_faults =
+    foreign_faults Keyword (keywords_of names) fs
+    ++ (faults_if (codes "array") names array_faults ++ faults_if (codes "object") names object_faults)
+
+-- what is wrong with `type` alone, or else with the other keywords
+abbrev pub faults_first : List ShapeFault → List ShapeFault → List ShapeFault
+faults_first [] others = others
+faults_first (fault ∷ faults) others = fault ∷ faults
+
+-- the faults for that value of `type`; without one each field but an annotation is one
+abbrev pub typed_faults : Bool → Option Tree → Fields → List ShapeFault → List ShapeFault → List ShapeFault
+typed_faults several None fs array_faults object_faults = foreign_faults BadType annotations fs
+typed_faults several (Some t) fs array_faults object_faults =
+    faults_first (type_faults several t) (keyword_faults (types_in (Some t)) fs array_faults object_faults)
 
 abbrev mutual
-  -- all that is wrong with a tree as the spelling of a shape
-  pub shape_faults : Tree → List ShapeFault
-  shape_faults Null = NotAShape ∷ []
-  shape_faults (Boolean b) = []
-  shape_faults (Integer n) = NotAShape ∷ []
-  shape_faults (Text s) = NotAShape ∷ []
-  shape_faults (Array ts) = NotAShape ∷ []
-  shape_faults (Object fs) =
+  -- all that is wrong with a tree as the spelling of a shape, where there may be lists of types or may not
+  pub shape_faults : Bool → Tree → List ShapeFault
+  shape_faults several Null = NotAShape ∷ []
+  shape_faults several (Boolean b) = []
+  shape_faults several (Integer n) = NotAShape ∷ []
+  shape_faults several (Text s) = NotAShape ∷ []
+  shape_faults several (Array ts) = NotAShape ∷ []
+  shape_faults several (Object fs) =
       let prefix = element_count (field_named (codes "prefixItems") fs) in
-      typed_faults (type_word_of fs) fs
-      (shapes_faults_under (codes "prefixItems") fs
-      ++ (shape_faults_under (codes "items") fs ++ min_items_faults (field_named (codes "minItems") fs) prefix))
-      (properties_faults_under (codes "properties") fs
+      typed_faults several (field_named (codes "type") fs) fs
+      (shapes_faults_under several (codes "prefixItems") fs
+      ++ (shape_faults_under several (codes "items") fs ++ min_items_faults (field_named (codes "minItems") fs) prefix))
+      (properties_faults_under several (codes "properties") fs
       ++ (required_faults (field_named (codes "required") fs)
       ++ extra_faults (field_named (codes "additionalProperties") fs)))
 
   -- what is wrong with the field of that name, where there is one, as the spelling of a shape
-  pub shape_faults_under : List ℕ → Fields → List ShapeFault
-  shape_faults_under n NoFields = []
-  shape_faults_under n (AndField m t fs) =
-      elim (bytes_eq m n) [ true ↦ shape_faults t | false ↦ shape_faults_under n fs ]
+  pub shape_faults_under : Bool → List ℕ → Fields → List ShapeFault
+  shape_faults_under several n NoFields = []
+  shape_faults_under several n (AndField m t fs) =
+      elim (bytes_eq m n) [ true ↦ shape_faults several t | false ↦ shape_faults_under several n fs ]
 
   -- as a list of shapes
-  pub shapes_faults : Tree → List ShapeFault
-  shapes_faults Null = NotAShape ∷ []
-  shapes_faults (Boolean b) = NotAShape ∷ []
-  shapes_faults (Integer n) = NotAShape ∷ []
-  shapes_faults (Text s) = NotAShape ∷ []
-  shapes_faults (Array ts) = element_faults ts
-  shapes_faults (Object fs) = NotAShape ∷ []
+  pub shapes_faults : Bool → Tree → List ShapeFault
+  shapes_faults several Null = NotAShape ∷ []
+  shapes_faults several (Boolean b) = NotAShape ∷ []
+  shapes_faults several (Integer n) = NotAShape ∷ []
+  shapes_faults several (Text s) = NotAShape ∷ []
+  shapes_faults several (Array ts) = element_faults several ts
+  shapes_faults several (Object fs) = NotAShape ∷ []
 
   -- what is wrong with each element
-  pub element_faults : Trees → List ShapeFault
-  element_faults NoTrees = []
-  element_faults (AndTree t ts) = shape_faults t ++ element_faults ts
+  pub element_faults : Bool → Trees → List ShapeFault
+  element_faults several NoTrees = []
+  element_faults several (AndTree t ts) = shape_faults several t ++ element_faults several ts
 
   -- with the list in the field of that name
-  pub shapes_faults_under : List ℕ → Fields → List ShapeFault
-  shapes_faults_under n NoFields = []
-  shapes_faults_under n (AndField m t fs) =
-      elim (bytes_eq m n) [ true ↦ shapes_faults t | false ↦ shapes_faults_under n fs ]
+  pub shapes_faults_under : Bool → List ℕ → Fields → List ShapeFault
+  shapes_faults_under several n NoFields = []
+  shapes_faults_under several n (AndField m t fs) =
+      elim (bytes_eq m n) [ true ↦ shapes_faults several t | false ↦ shapes_faults_under several n fs ]
 
   -- as an object of shapes
-  pub properties_faults : Tree → List ShapeFault
-  properties_faults Null = NotAShape ∷ []
-  properties_faults (Boolean b) = NotAShape ∷ []
-  properties_faults (Integer n) = NotAShape ∷ []
-  properties_faults (Text s) = NotAShape ∷ []
-  properties_faults (Array ts) = NotAShape ∷ []
-  properties_faults (Object fs) = field_faults fs
+  pub properties_faults : Bool → Tree → List ShapeFault
+  properties_faults several Null = NotAShape ∷ []
+  properties_faults several (Boolean b) = NotAShape ∷ []
+  properties_faults several (Integer n) = NotAShape ∷ []
+  properties_faults several (Text s) = NotAShape ∷ []
+  properties_faults several (Array ts) = NotAShape ∷ []
+  properties_faults several (Object fs) = field_faults several fs
 
   -- with each field
-  pub field_faults : Fields → List ShapeFault
-  field_faults NoFields = []
-  field_faults (AndField n t fs) = shape_faults t ++ field_faults fs
+  pub field_faults : Bool → Fields → List ShapeFault
+  field_faults several NoFields = []
+  field_faults several (AndField n t fs) = shape_faults several t ++ field_faults several fs
 
   -- with the object in the field of that name
-  pub properties_faults_under : List ℕ → Fields → List ShapeFault
-  properties_faults_under n NoFields = []
-  properties_faults_under n (AndField m t fs) =
-      elim (bytes_eq m n) [ true ↦ properties_faults t | false ↦ properties_faults_under n fs ]
+  pub properties_faults_under : Bool → List ℕ → Fields → List ShapeFault
+  properties_faults_under several n NoFields = []
+  properties_faults_under several n (AndField m t fs) =
+      elim (bytes_eq m n) [ true ↦ properties_faults several t | false ↦ properties_faults_under several n fs ]
 
 -- the tree spells the shape
 pub record SpellsShape (t : Tree) (s : Shape) : Type 0 where
-  pub none_wrong : shape_faults t ≡ []
+  pub none_wrong : shape_faults true t ≡ []
   pub same : shape_of t ≡ s
 
 -- that is wrong with the tree
 pub record HasShapeFault (t : Tree) (f : ShapeFault) : Type 0 where
-  pub listed : Contains (shape_faults t) f
+  pub listed : Contains (shape_faults true t) f
+
+-- the same in the first version of certificates, which has no lists of types
+pub record SpellsShapeV1 (t : Tree) (s : Shape) : Type 0 where
+  pub none_wrong : shape_faults false t ≡ []
+  pub same : shape_of t ≡ s
+
+pub record HasShapeFaultV1 (t : Tree) (f : ShapeFault) : Type 0 where
+  pub listed : Contains (shape_faults false t) f

@@ -1,11 +1,13 @@
 -- How shapes, declared shapes and certificates are written: one spelling of each (the profile's own choice), with the
 -- names of each object in byte order.
-use Rattle.std.specs.Prelude.{ℕ, pos, List, [], ◌∷◌, Bool, true, false, not, if◌then◌else◌, Option, Some, None, codes}
+use Rattle.std.specs.Prelude.{ℕ, pos, List, [], ◌∷◌, Bool, true, false, not, ◌||◌, if◌then◌else◌, Option, Some, None, option_map, codes}
+use Rattle.std.specs.List.{list_any}
+use Rattle.std.specs.Option.{unwrap_or}
 use Rattle.asl_model.specs.Tree.{Tree, Boolean, Integer, Text, Array, Object, Trees}
 use Rattle.asl_model.specs.Tree.{NoTrees, AndTree, Fields, NoFields, AndField}
 use Rattle.asl_model.specs.Shape.{Shape, Any, OfKinds, Arrays, WithoutArrays, ArraysOf, Objects, WithoutObjects}
 use Rattle.asl_model.specs.Shape.{ObjectsOf, Shapes, NoShapes, AndShape, FieldShapes, NoFieldShapes, AndFieldShape}
-use Rattle.asl_model.specs.Shape.{type_names}
+use Rattle.asl_model.specs.Shape.{type_names, has_several}
 use Rattle.asl_model.specs.ShapeOrder.{is_any_shape}
 use Rattle.asl_model.specs.ShapeFlow.{how_many_shapes}
 use Rattle.asl_model.specs.Certificate.{TaskShapes, Declared, StateShapes, Certificate}
@@ -159,13 +161,29 @@ abbrev pub with_listed : (Shape → Tree) → List Shape → Fields → Fields
 with_listed written [] fs = fs
 with_listed written (s ∷ further) fs = AndField (codes "shapes") (Array (written_list written (s ∷ further))) fs
 
+-- a shape of a state's entry is of several kinds, or has one inside it that is
+abbrev pub state_has_several : StateShapes → Bool
+state_has_several shapes =
+    has_several shapes.input
+    || (has_several shapes.output || (list_any has_several shapes.branches
+    || unwrap_or (option_map has_several shapes.item) false))
+
+-- a shape of the certificate is, or has one inside it that is
+abbrev pub certificate_has_several : Certificate → Bool
+certificate_has_several certificate =
+    has_several certificate.output || list_any (λ entry. state_has_several entry.1) certificate.states
+
+-- the version of its text: 1, or 2 where shapes are of several kinds
+abbrev pub version_of : Certificate → ℕ
+version_of certificate = if certificate_has_several certificate then 2 else 1
+
 -- the tree of a certificate that lists these shapes, each written as the first says, and any other as the second does
 abbrev pub certificate_written : (Shape → Tree) → List Shape → (Shape → Tree) → Certificate → Tree
 certificate_written as_listed listed written certificate =
     Object (AndField (codes "output") (written certificate.output)
     (with_listed as_listed listed
     (AndField (codes "states") (Object (written_entries (written_state written) certificate.states))
-    (AndField (codes "version") (Integer (pos 1)) NoFields))))
+    (AndField (codes "version") (Integer (pos (version_of certificate))) NoFields))))
 
 -- with none listed
 abbrev pub written_certificate : Certificate → Tree

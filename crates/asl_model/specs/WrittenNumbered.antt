@@ -1,14 +1,14 @@
--- How a certificate is written that lists its shapes (the profile's own choice): each distinct shape of arrays or
--- objects in it is listed once, in the order in which a walk through the certificate has them whole, and stands
--- everywhere as a reference. The walk goes through the output, then the states by name: the branches of each, its
--- input, its item, its output. In a shape it goes through the parts first.
+-- How a certificate is written that lists its shapes (the profile's own choice): each distinct shape in it that is of
+-- arrays, of objects or of several kinds is listed once, in the order in which a walk through the certificate has them
+-- whole, and stands everywhere as a reference. The walk goes through the output, then the states by name: the branches
+-- of each, its input, its item, its output. In a shape it goes through the parts first.
 use Rattle.std.specs.Prelude.{ℕ, suc, pos, List, [], ◌∷◌, ◌++◌, Bool, true, false, not, ◌&&◌, ◌||◌}
 use Rattle.std.specs.Prelude.{if◌then◌else◌, Option, Some, None, is_some, option_map, bytes_eq, codes}
 use Rattle.std.specs.Option.{unwrap_or}
 use Rattle.asl_model.specs.Tree.{Tree, Integer, Array, Object, Trees, NoTrees, AndTree, Fields, NoFields, AndField}
 use Rattle.asl_model.specs.Shape.{Shape, Any, OfKinds, Arrays, WithoutArrays, ArraysOf, Objects, WithoutObjects}
 use Rattle.asl_model.specs.Shape.{ObjectsOf, Shapes, NoShapes, AndShape, FieldShapes, NoFieldShapes, AndFieldShape}
-use Rattle.asl_model.specs.Shape.{has_arrays, has_objects, type_names}
+use Rattle.asl_model.specs.Shape.{has_arrays, has_objects, type_names, are_several}
 use Rattle.asl_model.specs.ShapeOrder.{is_any_shape, same_truth, same_simple}
 use Rattle.asl_model.specs.ShapeFlow.{how_many_shapes}
 use Rattle.asl_model.specs.Certificate.{StateShapes, Certificate}
@@ -64,10 +64,11 @@ place_of s (t ∷ listed) = if same_shape s t then Some 0 else option_map suc (p
 abbrev pub with_last : Shape → List Shape → List Shape
 with_last s listed = if is_some (place_of s listed) then listed else listed ++ s ∷ []
 
--- the shape is listed: it takes arrays or objects
+-- the shape is listed: it takes arrays or objects, or is of several kinds
 abbrev pub is_listed : Shape → Bool
 is_listed Any = false
-is_listed (OfKinds simple arrays objects) = has_arrays arrays || has_objects objects
+is_listed (OfKinds simple arrays objects) =
+    has_arrays arrays || (has_objects objects || are_several (type_names simple arrays objects))
 
 -- the list with the shape behind it where it is listed, unless it is there
 abbrev pub with_last_if_listed : Shape → List Shape → List Shape

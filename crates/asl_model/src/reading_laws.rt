@@ -1,12 +1,12 @@
 //! Laws about what texts mean. Each function here does nothing: its contract is the law.
 
-ghost use Rattle.std.specs.Prelude.{◌≡◌, ◌⊎◌, ◌↔◌, ℕ, List, length, Bool, Some, Ok, Err, IsTrue};
+ghost use Rattle.std.specs.Prelude.{◌≡◌, ◌⊎◌, ◌↔◌, ℕ, List, length, Bool, not, Some, Ok, Err, IsTrue};
 ghost use Rattle.std.specs.Str.{encode_utf8_all};
 ghost use Rattle.serde_json.specs.Data.{Data};
 ghost use Rattle.asl_model.specs.Names.{Bytes};
 ghost use Rattle.asl_model.specs.Tree.{Tree, IsProper};
 ghost use Rattle.asl_model.specs.Path.{Segment};
-ghost use Rattle.asl_model.specs.Shape.{Shape, IsProperShape};
+ghost use Rattle.asl_model.specs.Shape.{Shape, IsProperShape, has_several};
 ghost use Rattle.asl_model.specs.Written.{written_shape, written_declared, written_certificate};
 ghost use Rattle.asl_model.specs.WrittenNumbered.{written_numbered};
 ghost use Rattle.asl_model.specs.Template.{Template, IsInOrder};
@@ -15,7 +15,7 @@ ghost use Rattle.asl_model.specs.Machine.{Scope, LeadsInside};
 ghost use Rattle.asl_model.specs.Certificate.{Declared, Certificate};
 ghost use Rattle.asl_model.specs.Json.{ReadsAsValue, ReadsAsTree, tree_of};
 ghost use Rattle.asl_model.specs.PathSpelling.{path_of, Spells, PathFault, IsRefusedPath, printed_path, have_spellings};
-ghost use Rattle.asl_model.specs.ShapeSpelling.{SpellsShape, ShapeFault, HasShapeFault};
+ghost use Rattle.asl_model.specs.ShapeSpelling.{SpellsShape, ShapeFault, HasShapeFault, SpellsShapeV1, HasShapeFaultV1};
 ghost use Rattle.asl_model.specs.TemplateSpelling.{TemplateFault, template_of, SpellsTemplate, HasTemplateFault};
 ghost use Rattle.asl_model.specs.TemplateGrammar.{StandsForTemplate};
 ghost use Rattle.asl_model.specs.RuleSpelling.{RuleFault, rule_of, SpellsRule, HasRuleFault};
@@ -78,10 +78,18 @@ pub fn machines_as_read_lead_inside()
     ensures text { (text : Bytes) (m : Scope) → ReadsAsMachine text m → LeadsInside m }
 {}
 
-/// A tree spells at most one shape, and nothing is wrong with one that does.
+/// A tree spells at most one shape, and nothing is wrong with one that does. So it is in the first version of
+/// certificates.
 pub fn trees_spell_one_shape()
     ensures shape { (t : Tree) (a b : Shape) → SpellsShape t a → SpellsShape t b → a ≡ b }
     ensures no_fault { (t : Tree) (a : Shape) (f : ShapeFault) → SpellsShape t a → HasShapeFault t f → ⊥ }
+    ensures shape_v1 { (t : Tree) (a b : Shape) → SpellsShapeV1 t a → SpellsShapeV1 t b → a ≡ b }
+    ensures no_fault_v1 { (t : Tree) (a : Shape) (f : ShapeFault) → SpellsShapeV1 t a → HasShapeFaultV1 t f → ⊥ }
+{}
+
+/// What spells a shape in the first version of certificates spells it in the second.
+pub fn first_version_spells_the_same()
+    ensures { (t : Tree) (a : Shape) → SpellsShapeV1 t a → SpellsShape t a }
 {}
 
 /// A tree spells at most one template, and either spells one or has a fault. So it is with and without leave for paths
@@ -119,9 +127,12 @@ pub fn rules_are_exactly_spelled()
     ensures { (t : Tree) (rule : Rule) → SpellsRule t rule ↔ StandsForRule t rule }
 {}
 
-/// A proper shape is spelled by the tree that is written for it.
+/// A proper shape is spelled by the tree that is written for it; in the first version of certificates too, where neither
+/// it nor a shape inside it is of several kinds.
 pub fn written_shapes_are_spelled()
-    ensures { (a : Shape) → IsProperShape a → SpellsShape (written_shape a) a }
+    ensures spelled { (a : Shape) → IsProperShape a → SpellsShape (written_shape a) a }
+    ensures first_version { (a : Shape) → IsProperShape a → IsTrue (not (has_several a))
+        → SpellsShapeV1 (written_shape a) a }
 {}
 
 /// Every JSON value that is the tree written for declared shapes, or for a certificate, of proper shapes stands for
@@ -145,6 +156,7 @@ pub fn texts_have_a_meaning_or_a_fault()
         → ((c : Certificate) × ReadsAsCertificate text c) ⊎ ((f : TextFault) × IsCertificateFault text f) }
     ensures value { (v : Data) → ((m : Scope) × StandsFor v m) ⊎ ((c : Complaint) × HasComplaint v c) }
     ensures shape { (t : Tree) → ((a : Shape) × SpellsShape t a) ⊎ ((f : ShapeFault) × HasShapeFault t f) }
+    ensures shape_v1 { (t : Tree) → ((a : Shape) × SpellsShapeV1 t a) ⊎ ((f : ShapeFault) × HasShapeFaultV1 t f) }
 {}
 
 /// Each text spells a reference path or is refused, in one way. The function that reads paths gives exactly the path

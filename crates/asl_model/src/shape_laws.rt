@@ -1,6 +1,7 @@
 //! Laws about shapes: each is the contract of a public function with an empty body.
 
-ghost use Rattle.std.specs.Prelude.{◌≡◌, ◌↔◌, ℕ, Bool, IsTrue, List, [], Ok, Option, Some, not};
+ghost use Rattle.std.specs.Prelude.{◌≡◌, ◌↔◌, ℕ, Bool, IsTrue, List, [], None, Ok, Option, Some, is_ok};
+ghost use Rattle.std.specs.Prelude.{not};
 ghost use Rattle.asl_model.specs.Tree.{Tree, IsProper};
 ghost use Rattle.asl_model.specs.Path.{Segment, Names};
 ghost use Rattle.asl_model.specs.Placing.{Places};
@@ -9,10 +10,13 @@ ghost use Rattle.asl_model.specs.Template.{Template, template_value};
 ghost use Rattle.asl_model.specs.Test.{Test, truth};
 ghost use Rattle.asl_model.specs.Machine.{Kind, Scope, Settings};
 ghost use Rattle.asl_model.specs.Flow.{at_output_path, output_of};
-ghost use Rattle.asl_model.specs.Shape.{Shape, has, IsValid, Has, Inside, IsProperShape, inhabited};
+ghost use Rattle.asl_model.specs.Shape.{Shape, has, IsValid, Has, Inside, IsOrdered, IsProperShape};
+ghost use Rattle.asl_model.specs.Shape.{inhabited};
 ghost use Rattle.asl_model.specs.ShapeOrder.{sub, join};
+ghost use Rattle.asl_model.specs.Examples.{example, outside, IsOutside};
 ghost use Rattle.asl_model.specs.ShapeFlow.{look, put, ItemHas, template_shape, rule_shape};
 ghost use Rattle.asl_model.specs.ShapeFlow.{leave, leaving, WithInput, WithResult};
+ghost use Rattle.asl_model.specs.Missing.{missing, IsMissing};
 ghost use Rattle.asl_model.specs.Certificate.{Certificate, Declared, StateShapes, IsClosed, gives_of};
 ghost use Rattle.asl_model.specs.Edges.{breaches_along, destination_shapes, walk};
 ghost use Rattle.asl_model.specs.Finding.{Finding, Surroundings, findings, flow_breaches, Stands};
@@ -28,9 +32,23 @@ pub fn sub_means_inside()
     ensures inside { (a b : Shape) → IsTrue (sub a b) → Inside a b }
 {}
 
+/// The comparison of two shapes is false exactly where a tree is found outside, which has the first and lacks the second;
+/// so it is true wherever every tree of the first has the second.
+pub fn sub_is_exactly_inside()
+    ensures outside { (a b : Shape) (t : Tree) → IsOrdered a → outside a b ≡ Some t → IsOutside a b t }
+    ensures exactly { (a b : Shape) → (outside a b ≡ None) ↔ IsTrue (sub a b) }
+    ensures complete { (a b : Shape) → IsOrdered a → Inside a b → IsTrue (sub a b) }
+{}
+
 /// No tree has a shape that isn't inhabited.
 pub fn uninhabited_means_no_tree()
     ensures none { (s : Shape) → IsTrue (not (inhabited s)) → (t : Tree) → Has s t → ⊥ }
+{}
+
+/// The example of a shape that is inhabited has it where names stand in order, and is proper where the shape is.
+pub fn examples_have_their_shapes()
+    ensures has { (s : Shape) → IsOrdered s → IsTrue (inhabited s) → Has s (example s) }
+    ensures proper { (s : Shape) → IsProperShape s → IsTrue (inhabited s) → IsProper (example s) }
 {}
 
 /// A proper shape that is inhabited has a proper tree: its texts are UTF-8, and each object has its names once, in byte
@@ -51,11 +69,26 @@ pub fn look_means_named()
         → (w : Tree) × Names path v w × Has t w }
 {}
 
+/// Where a path isn't found in a shape, and only there, a tree is told: it has the shape, and the path names nothing in
+/// it.
+pub fn look_is_exactly_named()
+    ensures missing { (path : List Segment) (s : Shape) (t : Tree) → IsOrdered s → missing path s ≡ Some t
+        → IsMissing path s t }
+    ensures exactly { (path : List Segment) (s : Shape) → (missing path s ≡ None) ↔ IsTrue (is_ok (look path s)) }
+{}
+
 /// Where a shape is put at a path in another, placing any tree of the one there in any tree of the other gives a tree
 /// of the shape that comes out.
 pub fn put_means_placed()
     ensures placed { (path : List Segment) (w s r : Shape) → put path w s ≡ Ok r → (x v : Tree) → Has w x → Has s v
         → (u : Tree) × Places path x v u × Has r u }
+{}
+
+/// Joins and puts keep names in order.
+pub fn names_stay_in_order()
+    ensures join { (a b : Shape) → IsOrdered a → IsOrdered b → IsOrdered (join a b) }
+    ensures put { (path : List Segment) (w s r : Shape) → IsOrdered w → IsOrdered s → put path w s ≡ Ok r
+        → IsOrdered r }
 {}
 
 /// Where a template has a shape, it has a value of that shape for every tree of the input's shape and every item of
