@@ -1,25 +1,23 @@
--- The join of two shapes: their places, their fields, and how deep their parts are.
-use Rattle.std.proofs.Common.{◌≡◌, ℕ, zero, suc, ◌≤◌, List, [], ◌∷◌, ◌++◌, length, take, drop, ◌-◌, Bool, true, false, ◌&&◌, ◌||◌, Option, Some, None, Result, Ok, Err, String, Global, string_bytes, string_cmp, nat_cmp, Greater, option_map, is_some, refl, sym, ap, ◌∙◌, subst, ◌⊎◌, inl, inr, arith}
-use Rattle.std.specs.BTreeMap.{BTreeMap, is_at, insert_entry}
-use Rattle.std.specs.Prelude.{IfOk}
+-- The join of two shapes: their places, their fields, and how deep the joins are.
+use Rattle.std.proofs.Common.{◌≡◌, ℕ, ◌≤◌, List, [], ◌∷◌, ◌++◌, length, take, drop, ◌-◌, Bool, true, false, ◌&&◌, ◌||◌, Option, Some, None, Result, Ok, Err, String, Global, string_bytes, string_cmp, nat_cmp, Greater, option_map, is_some, refl, sym, ap, ◌∙◌, ◌⊎◌, inl, inr, arith}
+use Rattle.std.specs.BTreeMap.{is_at, insert_entry}
+use Rattle.std.specs.Prelude.{IfOk, if◌then◌else◌}
 use Rattle.std.specs.Cmp.Lexicographic.{slice_cmp}
 use Rattle.std.specs.List.Sorted.{IsStrictlySortedBy}
 use Rattle.std.specs.Map.{lookup, keys_of}
 use Rattle.asl_model.specs.Shape as model
-use Rattle.asl_model.specs.Shape.{NoShapes, AndShape, inhabited, mentions}
-use Rattle.asl_model.specs.ShapeOrder.{depth, depth_of_elements, depth_of_fields, further_places, common_joins, keep_joined, joined_fields, joined_with_each, join_kinds, mention_of, with_optional_unless, with_other_fields, join}
+use Rattle.asl_model.specs.Shape.{NoShapes, AndShape, some_array, some_object, inhabited, mentions}
+use Rattle.asl_model.specs.ShapeOrder.{depth, depth_of_arrays, depth_of_objects, depth_of_elements, kept_arrays, kept_objects, further_places, common_joins, keep_joined, joined_fields, joined_with_each, join_kinds, mention_of, with_optional_unless, with_other_fields, join}
 use Rattle.asl_model.proofs.JoinFuel.{join-low, join_each-low, join-first_uninhabited, join-second_uninhabited, join-inhabited}
 use Rattle.asl_tree.proofs.Texts.{after_first}
 use Rattle.asl_tree.specs.declared.OutOfMemory.{OutOfMemory}
 use Rattle.asl_shape.specs.View.{view, shapes_view, fields_view}
 use Rattle.asl_shape.specs.declared.shape.Shape.{Shape}
-use Rattle.asl_shape.specs.declared.shape.Shape.TheViews
 use Rattle.asl_shape.specs.declared.shape.Field.{Field}
 use Rattle.asl_shape.proofs.Lookups.{mention_of_lookup, mentions_lookup}
 use Rattle.asl_shape.proofs.Mentions.{inserted_mention}
 use Rattle.asl_shape.proofs.Places.{take_to_end}
 use Rattle.asl_shape.proofs.Spellings.{Mention, put, put_shown}
-use Rattle.asl_shape.proofs.Views.{view_object}
 
 -- ---- places
 
@@ -71,46 +69,26 @@ places_step joins new now left others behind place other joined whole so_far spl
     ∙ sym (before_pushed joins joined (common_joins join (shapes_view left) (shapes_view behind)))
     ∙ ap (λ ss. joined_before ss (common_joins join (shapes_view left) (shapes_view behind))) (sym made)
 
--- ---- how deep parts are
-
-drop_depth : (i : ℕ) (ss : List Shape) → depth_of_elements (shapes_view (drop i ss)) ≤ depth_of_elements (shapes_view ss)
-drop_depth zero ss = omega arith
-drop_depth (suc i) [] = omega arith
-drop_depth (suc i) (s ∷ ss) = omega (arith, drop_depth i ss)
-
--- of a place, and of those behind it
-pub place_depth : (i : ℕ) (ss left : List Shape) (s : Shape) → drop i ss ≡ s ∷ left → depth (view s) ≤ depth_of_elements (shapes_view ss)
-place_depth i ss left s split =
-    let within : depth_of_elements (shapes_view (s ∷ left)) ≤ depth_of_elements (shapes_view ss) = subst (λ ps. depth_of_elements (shapes_view ps) ≤ depth_of_elements (shapes_view ss)) split (drop_depth i ss) in
-    omega arith
-
-pub next_depth : (k : ℕ) (now left : List Shape) (s : Shape) → now ≡ s ∷ left → depth_of_elements (shapes_view now) ≤ k → (depth (view s) ≤ k) × (depth_of_elements (shapes_view left) ≤ k)
-next_depth k now left s split h =
-    let within : depth_of_elements (shapes_view (s ∷ left)) ≤ k = subst (λ ps. depth_of_elements (shapes_view ps) ≤ k) split h in
-    (omega arith, omega arith)
-
-entry_within : (done left : List Mention) (e : Mention) → depth (view e.1.shape) ≤ depth_of_fields (fields_view (done ++ e ∷ left))
-entry_within [] left e = omega arith
-entry_within (m ∷ done) left e = omega (arith, entry_within done left e)
-
--- of a field's shape
-pub entry_depth : (all done now left : List Mention) (e : Mention) → all ≡ done ++ now → now ≡ e ∷ left → depth (view e.1.shape) ≤ depth_of_fields (fields_view all)
-entry_depth all done now left e split next =
-    subst (λ ms. depth (view e.1.shape) ≤ depth_of_fields (fields_view ms)) (sym (split ∙ ap (λ ms. done ++ ms) next)) (entry_within done left e)
-
-pub found_depth : (test : String Global → Bool) (es : List Mention) (f : Field) → lookup test es ≡ Some f → depth (view f.shape) ≤ depth_of_fields (fields_view es)
-found_depth test [] f found = absurd (cc)
-found_depth test (e ∷ es) f found = go (test e.0) refl (found_depth test es f)
-  where
-    go : (here : Bool) → test e.0 ≡ here → (lookup test es ≡ Some f → depth (view f.shape) ≤ depth_of_fields (fields_view es)) → depth (view f.shape) ≤ depth_of_fields (fields_view (e ∷ es))
-    go true is below =
-        let same : e.1 ≡ f = let there = rw is at found in cc in
-        subst (λ g. depth (view g.shape) ≤ depth_of_fields (fields_view (e ∷ es))) same (omega arith)
-    go false is below = omega (arith, below (rw is at found))
+-- ---- how deep joins are
 
 -- of all joined, one after the other
 pub each_depth : (k : ℕ) (shapes : model.Shapes) (whole : model.Shape) → 1 ≤ k → depth_of_elements shapes ≤ k → whole ≡ joined_with_each join model.Never shapes → depth whole ≤ k
 each_depth k shapes whole one h is = rw is (join_each-low k model.Never shapes one h)
+
+-- of arrays, and of objects, that are kept
+pub kept_arrays_depth : (arrays : model.Arrays) → depth_of_arrays (kept_arrays arrays) ≤ depth_of_arrays arrays
+kept_arrays_depth arrays = go (some_array arrays)
+  where
+    go : (some : Bool) → depth_of_arrays (if some then arrays else model.WithoutArrays) ≤ depth_of_arrays arrays
+    go true = omega arith
+    go false = omega arith
+
+pub kept_objects_depth : (objects : model.Objects) → depth_of_objects (kept_objects objects) ≤ depth_of_objects objects
+kept_objects_depth objects = go (some_object objects)
+  where
+    go : (some : Bool) → depth_of_objects (if some then objects else model.WithoutObjects) ≤ depth_of_objects objects
+    go true = omega arith
+    go false = omega arith
 
 -- of the join of two
 pub join_depth : (k : ℕ) (a b whole : model.Shape) → depth a ≤ k → depth b ≤ k → whole ≡ join a b → depth whole ≤ k
@@ -141,10 +119,6 @@ first_stays (Err e) a b some none is = tt
 pub by_kinds : (r : Result Shape OutOfMemory) (a b : model.Shape) → inhabited a ≡ true → inhabited b ≡ true → IfOk r (λ s. view s ≡ join_kinds join a b) → IfOk r (λ s. view s ≡ join a b)
 by_kinds (Ok s) a b some also is = is ∙ sym (join-inhabited a b some also)
 by_kinds (Err e) a b some also is = tt
-
-pub of_object : (r : Result Shape OutOfMemory) (first : Shape) (fields : BTreeMap (String Global) Field) (extra : Bool) (b : model.Shape) → first ≡ TheViews.Object fields extra → IfOk r (λ s. view s ≡ join_kinds join (model.ObjectShape (fields_view fields.entries) extra) b) → IfOk r (λ s. view s ≡ join_kinds join (view first) b)
-of_object (Ok s) first fields extra b at is = is ∙ sym (ap (λ a. join_kinds join a b) (ap view at ∙ view_object fields extra))
-of_object (Err e) first fields extra b at is = tt
 
 -- ---- fields
 

@@ -1,12 +1,15 @@
 pub mod Bounds
 pub mod Copies
+pub mod Depths
 pub mod Joins
 pub mod Lookups
 pub mod Mentions
+pub mod Merging
 pub mod Naming
 pub mod Orders
 pub mod Places
 pub mod Requiring
+pub mod Sights
 pub mod Sizes
 pub mod Spellings
 pub mod Telling

@@ -1,17 +1,13 @@
 -- The first elements of a list, each of a shape of its own, and the further ones.
-use Rattle.std.proofs.Common.{◌≡◌, ℕ, ◌≤◌, ◌-◌, Bool, true, false, ◌&&◌, List, [], ◌∷◌, length, take, drop, refl, sym, rules, Vec, Box}
-use Rattle.std.specs.declared.alloc.Global.{Global}
+use Rattle.std.proofs.Common.{◌≡◌, ℕ, ◌≤◌, ◌-◌, Bool, true, false, ◌&&◌, List, [], ◌∷◌, length, take, drop, refl, sym, ap, ◌∙◌, rules}
 use Rattle.std.proofs.lemmas.List.{drop_all, take_all, length-drop}
 use Rattle.asl_model.specs.Tree as model
 use Rattle.asl_model.specs.Shape.{has, each_element, elements_have}
 use Rattle.asl_tree.specs.declared.Tree.{Tree}
-use Rattle.asl_tree.specs.declared.Tree as tree
 use Rattle.asl_tree.specs.View as trees
 use Rattle.asl_tree.specs.View.{elements_view}
 use Rattle.asl_shape.specs.declared.shape.Shape.{Shape}
-use Rattle.asl_shape.specs.declared.shape.Shape.TheViews
 use Rattle.asl_shape.specs.View.{view, shapes_view}
-use Rattle.asl_shape.proofs.Views.{view_list, view_array}
 
 pub all_pass : (ts : model.Trees) → each_element (λ _. true) ts ≡ true
 all_pass model.NoTrees = refl
@@ -29,12 +25,10 @@ first_then_further (s ∷ ss) test (t ∷ ts) = both (has (view s) (trees.view t
 pub take_to_end : {A : Type 0} (n : ℕ) (xs : List A) → take (length xs - n) (drop n xs) ≡ drop n xs
 take_to_end n xs = search (rules, take_all, length-drop)
 
-pub list_has : (first : Vec Shape Global) (rest : Box Shape Global) (elements : Vec Tree Global) (front behind : Bool) → front ≡ elements_have (shapes_view first.items) (λ _. true) (elements_view elements.items) → behind ≡ each_element (has (view rest.value)) (elements_view (take (length elements.items - length first.items) (drop (length first.items) elements.items))) → (front && behind) ≡ has (view (TheViews.List first rest)) (trees.view (tree.List elements))
-list_has first rest elements front behind e f =
-    rw (view_list first rest, view_array elements, e, f, take_to_end (length first.items) elements.items) (sym (first_then_further first.items (has (view rest.value)) elements.items))
-
-pub further_same : (r s : Shape) (ts us : List Tree) (m n : ℕ) → r ≡ s → ts ≡ us → m ≡ n → each_element (has (view r)) (elements_view (take (length ts - m) (drop m ts))) ≡ each_element (has (view s)) (elements_view (take (length us - n) (drop n us)))
-further_same r s ts us m n e f g = cc
+pub list_has : (first : List Shape) (test : model.Tree → Bool) (elements : List Tree) (behind : Bool) → true ≡ elements_have (shapes_view first) (λ _. true) (elements_view elements) → behind ≡ each_element test (elements_view (take (length elements - length first) (drop (length first) elements))) → behind ≡ elements_have (shapes_view first) test (elements_view elements)
+list_has first test elements behind e f =
+    f ∙ ap (λ ts. each_element test (elements_view ts)) (take_to_end (length first) elements)
+    ∙ sym (first_then_further first test elements ∙ ap (λ b. b && each_element test (elements_view (drop (length first) elements))) (sym e))
 
 pub none_left : (ss : List Shape) (i : ℕ) (ts : model.Trees) → length ss ≤ i → elements_have (shapes_view (drop i ss)) (λ _. true) ts ≡ true
 none_left ss i ts h = rw (drop_all i ss h) (all_pass ts)

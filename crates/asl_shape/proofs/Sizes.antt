@@ -1,8 +1,8 @@
 -- How large a spelling is: those inside a level are smaller than the whole.
 use Rattle.std.proofs.Common.{◌≡◌, ◌<◌, ◌≤◌, ◌+◌, ℕ, suc, max, List, [], ◌∷◌, ◌++◌, ◌∙◌, ap, String, Global, drop, zero, Bool, true, false, if◌then◌else◌, Option, Some, None, bytes_eq, subst, sym, codes, arith}
 use Rattle.asl_model.specs.Tree.{Tree, Null, Boolean, Integer, Text, Array, Object, Trees, NoTrees, AndTree, Fields, NoFields, AndField, field_named}
-use Rattle.asl_model.specs.ShapeSpelling.{TypeWord, OfObject, OfArray, OfInteger, OfString, OfBoolean, OfNull, OtherType, NotAType, NoType, type_word_of}
-use Rattle.asl_shape.specs.Level.{Level, Plain, ListLevel, ObjectLevel, level_of, typed_level, array_level, object_level, elements_in, fields_in, SpelledOver}
+use Rattle.asl_model.specs.ShapeSpelling.{is_among, types_in}
+use Rattle.asl_shape.specs.Level.{Level, Whole, OfTypes, ListLevel, ObjectLevel, level_of, typed_level, only_if, array_level, object_level, elements_in, fields_in, SpelledOver}
 use Rattle.asl_shape.specs.Spelled as trees
 use Rattle.serde_json.specs.declared.value.Value.{Value}
 
@@ -29,11 +29,18 @@ abbrev pub size_there : Option Tree → ℕ
 size_there None = 0
 size_there (Some t) = size t
 
--- of the largest spelling inside a level, or of all of them together
+-- of the largest spelling inside a level, or of all of them together: what is said of arrays, and of objects
+abbrev pub list_size : Option ListLevel → ℕ
+list_size None = 0
+list_size (Some level) = max (elements_size level.first) (size_there level.rest)
+
+abbrev pub object_size : Option ObjectLevel → ℕ
+object_size None = 0
+object_size (Some level) = fields_size level.properties
+
 abbrev pub level_size : Level → ℕ
-level_size (Plain s) = 0
-level_size (ListLevel first rest) = max (elements_size first) (size_there rest)
-level_size (ObjectLevel properties names extra) = fields_size properties
+level_size (Whole s) = 0
+level_size (OfTypes simple list object) = max (list_size list) (object_size object)
 
 found_within : (n : List ℕ) (fs : Fields) → size_there (field_named n fs) ≤ fields_size fs
 found_within n NoFields = omega arith
@@ -61,20 +68,21 @@ fields_within (Some (Text s)) = omega arith
 fields_within (Some (Array ts)) = omega arith
 fields_within (Some (Object fs)) = omega arith
 
-typed_within : (w : TypeWord) (fs : Fields) → level_size (typed_level w (array_level fs) (object_level fs)) ≤ fields_size fs
-typed_within OfObject fs =
-    let o = field_named (codes "properties") fs in
-    omega (arith, found_within (codes "properties") fs, fields_within o)
-typed_within OfArray fs =
+list_within : (wanted : Bool) (fs : Fields) → list_size (only_if wanted (array_level fs)) ≤ fields_size fs
+list_within true fs =
     let o = field_named (codes "prefixItems") fs in
     omega (arith, found_within (codes "prefixItems") fs, elements_within o, found_within (codes "items") fs)
-typed_within OfInteger fs = omega arith
-typed_within OfString fs = omega arith
-typed_within OfBoolean fs = omega arith
-typed_within OfNull fs = omega arith
-typed_within OtherType fs = omega arith
-typed_within NotAType fs = omega arith
-typed_within NoType fs = omega arith
+list_within false fs = omega arith
+
+object_within : (wanted : Bool) (fs : Fields) → object_size (only_if wanted (object_level fs)) ≤ fields_size fs
+object_within true fs =
+    let o = field_named (codes "properties") fs in
+    omega (arith, found_within (codes "properties") fs, fields_within o)
+object_within false fs = omega arith
+
+typed_within : (names : List (List ℕ)) (fs : Fields) → level_size (typed_level names fs) ≤ fields_size fs
+typed_within [] fs = omega arith
+typed_within (n ∷ names) fs = omega (arith, list_within (is_among (codes "array") (n ∷ names)) fs, object_within (is_among (codes "object") (n ∷ names)) fs)
 
 within : (t : Tree) → level_size (level_of t) < size t
 within Null = omega arith
@@ -82,11 +90,11 @@ within (Boolean b) = omega arith
 within (Integer n) = omega arith
 within (Text s) = omega arith
 within (Array ts) = omega arith
-within (Object fs) = omega (arith, typed_within (type_word_of fs) fs)
+within (Object fs) = omega (arith, typed_within (types_in (field_named (codes "type") fs)) fs)
 
 -- what stands inside a level is smaller than the whole
-pub smaller : (t : Tree) (level : Level) → SpelledOver t level → level_size level < size t
-smaller t level h = subst (λ l. level_size l < size t) h.same (within t)
+pub smaller : (several : Bool) (t : Tree) (level : Level) → SpelledOver several t level → level_size level < size t
+smaller several t level h = subst (λ l. level_size l < size t) h.same (within t)
 
 drop_within : (i : ℕ) (vs : List Value) → elements_size (trees.elements_view (drop i vs)) ≤ elements_size (trees.elements_view vs)
 drop_within zero vs = omega arith

@@ -1,5 +1,5 @@
 -- Reading the elements of a list and the fields of an object as shapes, one after another.
-use Rattle.std.proofs.Common.{◌≡◌, ℕ, suc, List, [], ◌∷◌, ◌++◌, Bool, false, map, length, Ordering, Less, Equal, Greater, String, string_bytes, refl, sym, ap, ◌∙◌}
+use Rattle.std.proofs.Common.{◌≡◌, ℕ, suc, List, [], ◌∷◌, ◌++◌, Bool, true, false, not, ◌&&◌, nat_eq, map, length, arith, Ordering, Less, Equal, Greater, String, string_bytes, refl, sym, ap, ◌∙◌}
 use Rattle.std.specs.declared.alloc.Global.{Global}
 use Rattle.std.specs.BTreeMap.{insert_entry}
 use Rattle.std.specs.Cmp.Lexicographic.{slice_cmp}
@@ -9,8 +9,9 @@ use Rattle.std.specs.Map.{keys_of}
 use Rattle.std.specs.Ordering.{nat_cmp, match_ordering, ordering_reverse}
 use Rattle.std.specs.String.{string_cmp}
 use Rattle.std.proofs.lemmas.Cmp.{nat_list_cmp_total}
+use Rattle.std.proofs.lemmas.List.{map-append}
 use Rattle.asl_model.specs.Shape as model
-use Rattle.asl_model.specs.ShapeSpelling.{shape_of, element_shapes, field_shapes, shape_faults, field_faults, element_faults}
+use Rattle.asl_model.specs.ShapeSpelling.{is_type_list, are_texts, are_types, are_distinct, texts_among, shape_of, element_shapes, field_shapes, shape_faults, field_faults, element_faults}
 use Rattle.asl_model.specs.Tree as json
 use Rattle.asl_shape.specs.Spelled as trees
 use Rattle.asl_shape.specs.Spelled.{spelled}
@@ -31,9 +32,27 @@ elements_shown (t ∷ ts) = ap (model.AndShape (shape_of (trees.view t))) (eleme
 pub shapes_read : (ss : List Shape) (ts : List Value) → map view ss ≡ map (λ t. shape_of (trees.view t)) ts → shapes_view ss ≡ element_shapes (trees.elements_view ts)
 shapes_read ss ts e = ap shapes_of e ∙ elements_shown ts
 
+-- an element that is read goes behind those before it
+pub pushed_read : (ss new : List Shape) (front next : List Value) (s : Shape) (item : Value) → map view ss ≡ map (λ t. shape_of (trees.view t)) front → shape_of (trees.view item) ≡ view s → next ≡ front ++ item ∷ [] → new ≡ ss ++ s ∷ [] → map view new ≡ map (λ t. shape_of (trees.view t)) next
+pushed_read ss new front next s item so_far is more pushed =
+    let here : (map view ss ++ view s ∷ []) ≡ (map (λ t. shape_of (trees.view t)) front ++ shape_of (trees.view item) ∷ []) = rw (so_far, is) refl in
+    ap (map view) pushed ∙ map-append view ss (s ∷ []) ∙ here ∙ sym (ap (map (λ t. shape_of (trees.view t))) more ∙ map-append (λ (t : Value). shape_of (trees.view t)) front (item ∷ []))
+
 pub elements_counted : (ts : List Value) → length ts ≡ json.count (trees.elements_view ts)
 elements_counted [] = refl
 elements_counted (t ∷ ts) = ap suc (elements_counted ts)
+
+and_assoc : (a b c : Bool) → (a && (b && c)) ≡ ((a && b) && c)
+and_assoc true b c = refl
+and_assoc false b c = refl
+
+-- the elements are a list of types
+pub type_list : (es : List Value) → is_type_list (trees.elements_view es) ≡ (not (nat_eq (length es) 0) && ((are_texts (trees.elements_view es) && are_types (texts_among (trees.elements_view es))) && are_distinct (texts_among (trees.elements_view es))))
+type_list [] = refl
+type_list (e ∷ es) =
+    let some : nat_eq (suc (length es)) 0 ≡ false = grind arith in
+    let ts = trees.elements_view (e ∷ es) in
+    rw some (and_assoc (are_texts ts) (are_types (texts_among ts)) (are_distinct (texts_among ts)))
 
 -- ---- fields
 
@@ -77,13 +96,16 @@ member_read done e more fs k f sorted so_far named needed shape =
 
 -- ---- faults
 
-pub faults_step : (e : Entry) (left now : List Entry) → now ≡ e ∷ left → shape_faults (trees.view e.1) ≡ [] → field_faults (trees.entries_view now) ≡ field_faults (trees.entries_view left)
-faults_step e left now split right = ap (λ es. field_faults (trees.entries_view es)) split ∙ ap (λ xs. xs ++ field_faults (trees.entries_view left)) right
+pub faults_step : (several : Bool) (e : Entry) (left now : List Entry) → now ≡ e ∷ left → shape_faults several (trees.view e.1) ≡ [] → field_faults several (trees.entries_view now) ≡ field_faults several (trees.entries_view left)
+faults_step several e left now split right = ap (λ es. field_faults several (trees.entries_view es)) split ∙ ap (λ xs. xs ++ field_faults several (trees.entries_view left)) right
 
-pub element_told : (e : ShapeRefusal) (all left rest : List Value) (t : Value) → element_faults (trees.elements_view all) ≡ element_faults (trees.elements_view left) → left ≡ t ∷ rest → Tells e (shape_faults (trees.view t)) → Tells e (element_faults (trees.elements_view all))
-element_told e all left rest t so_far split told =
-    told_same e _ _ (told_left e (shape_faults (trees.view t)) (element_faults (trees.elements_view rest)) told) (sym (so_far ∙ ap (λ ts. element_faults (trees.elements_view ts)) split))
+pub elements_step : (several : Bool) (left rest : List Value) (t : Value) → left ≡ t ∷ rest → shape_faults several (trees.view t) ≡ [] → element_faults several (trees.elements_view left) ≡ element_faults several (trees.elements_view rest)
+elements_step several left rest t split right = ap (λ ts. element_faults several (trees.elements_view ts)) split ∙ ap (λ xs. xs ++ element_faults several (trees.elements_view rest)) right
 
-pub member_told : (e : ShapeRefusal) (all now left : List Entry) (m : Entry) → field_faults (trees.entries_view all) ≡ field_faults (trees.entries_view now) → now ≡ m ∷ left → Tells e (shape_faults (trees.view m.1)) → Tells e (field_faults (trees.entries_view all))
-member_told e all now left m so_far split told =
-    told_same e _ _ (told_left e (shape_faults (trees.view m.1)) (field_faults (trees.entries_view left)) told) (sym (so_far ∙ ap (λ es. field_faults (trees.entries_view es)) split))
+pub element_told : (several : Bool) (e : ShapeRefusal) (all left rest : List Value) (t : Value) → element_faults several (trees.elements_view all) ≡ element_faults several (trees.elements_view left) → left ≡ t ∷ rest → Tells e (shape_faults several (trees.view t)) → Tells e (element_faults several (trees.elements_view all))
+element_told several e all left rest t so_far split told =
+    told_same e _ _ (told_left e (shape_faults several (trees.view t)) (element_faults several (trees.elements_view rest)) told) (sym (so_far ∙ ap (λ ts. element_faults several (trees.elements_view ts)) split))
+
+pub member_told : (several : Bool) (e : ShapeRefusal) (all now left : List Entry) (m : Entry) → field_faults several (trees.entries_view all) ≡ field_faults several (trees.entries_view now) → now ≡ m ∷ left → Tells e (shape_faults several (trees.view m.1)) → Tells e (field_faults several (trees.entries_view all))
+member_told several e all now left m so_far split told =
+    told_same e _ _ (told_left e (shape_faults several (trees.view m.1)) (field_faults several (trees.entries_view left)) told) (sym (so_far ∙ ap (λ es. field_faults several (trees.entries_view es)) split))

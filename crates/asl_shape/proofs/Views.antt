@@ -1,5 +1,5 @@
 -- What a list shape, an object shape and a list show.
-use Rattle.std.proofs.Common.{◌≡◌, List, [], ◌∷◌, map, Bool, ap, refl, sym, ◌∙◌, String, string_bytes, Vec, Box}
+use Rattle.std.proofs.Common.{◌≡◌, ℤ, List, [], ◌∷◌, map, Bool, ap, refl, sym, ◌∙◌, String, string_bytes, Vec, Box}
 use Rattle.std.specs.BTreeMap.{BTreeMap}
 use Rattle.std.specs.declared.alloc.Global.{Global}
 use Rattle.asl_model.specs.Tree as trees
@@ -16,7 +16,7 @@ use Rattle.asl_shape.specs.declared.shape.Shape.TheFolds.{fold-roll-Shape, fold-
 use Rattle.asl_shape.specs.declared.shape.Shape.TheOpen
 use Rattle.asl_shape.specs.declared.shape.Shape.TheVariants
 use Rattle.asl_shape.specs.declared.shape.Shape.TheViews
-use Rattle.asl_shape.specs.View.{view, shapes_view, fields_view, mentions_of, shape_step, field_step}
+use Rattle.asl_shape.specs.View.{view, shapes_view, fields_view, mentions_of, merged, shape_step, field_step}
 
 pub view_list : (first : Vec Shape Global) (rest : Box Shape Global) → view (TheViews.List first rest) ≡ model.ArrayShape (shapes_view first.items) (view rest.value)
 view_list first rest =
@@ -32,6 +32,10 @@ pub view_object : (fields : BTreeMap (String Global) Field) (extra : Bool) → v
 view_object fields extra =
     ap view (sym (TheVariants.rolls-Object fields extra)) ∙ fold-roll-Shape model.Shape (Bool × model.Shape) shape_step field_step (TheOpen.Object fields extra) ∙ ap (λ ms. model.ObjectShape ms extra) (mentions_shown fields.entries)
 
+pub view_several : (parts : Vec Shape Global) → view (TheViews.Several parts) ≡ merged (map view parts.items)
+view_several parts =
+    ap view (sym (TheVariants.rolls-Several parts)) ∙ fold-roll-Shape model.Shape (Bool × model.Shape) shape_step field_step (TheOpen.Several parts)
+
 pub view_array : (elements : Vec tree.Tree Global) → tree_view.view (tree.List elements) ≡ trees.Array (tree_view.elements_view elements.items)
 view_array elements =
     ap tree_view.view (sym (TreeVariants.rolls-List elements)) ∙ fold-roll-Tree trees.Tree tree_view.view_step (TreeOpen.List elements)
@@ -43,9 +47,29 @@ view_members members =
 pub view_truth : (b : Bool) → tree_view.view (tree.Bool b) ≡ trees.Boolean b
 view_truth b = ap tree_view.view (sym (TreeVariants.rolls-Bool b)) ∙ fold-roll-Tree trees.Tree tree_view.view_step (TreeOpen.Bool b)
 
+pub view_integer : (n : ℤ) → tree_view.view (tree.Int n) ≡ trees.Integer n
+view_integer n = ap tree_view.view (sym (TreeVariants.rolls-Int n)) ∙ fold-roll-Tree trees.Tree tree_view.view_step (TreeOpen.Int n)
+
 pub view_text : (s : String Global) → tree_view.view (tree.Text s) ≡ trees.Text (string_bytes s)
 view_text s = ap tree_view.view (sym (TreeVariants.rolls-Text s)) ∙ fold-roll-Tree trees.Tree tree_view.view_step (TreeOpen.Text s)
 
 pub view_any : view shape.Any ≡ model.Any
 view_any =
     ap view (sym TheVariants.rolls-Any) ∙ fold-roll-Shape model.Shape (Bool × model.Shape) shape_step field_step TheOpen.Any
+
+-- each simple shape shows the shape of its kind
+pub view_bool : view shape.Bool ≡ model.BooleanShape
+view_bool =
+    ap view (sym TheVariants.rolls-Bool) ∙ fold-roll-Shape model.Shape (Bool × model.Shape) shape_step field_step TheOpen.Bool
+
+pub view_int : view shape.Int ≡ model.IntegerShape
+view_int =
+    ap view (sym TheVariants.rolls-Int) ∙ fold-roll-Shape model.Shape (Bool × model.Shape) shape_step field_step TheOpen.Int
+
+pub view_null : view shape.Null ≡ model.NullShape
+view_null =
+    ap view (sym TheVariants.rolls-Null) ∙ fold-roll-Shape model.Shape (Bool × model.Shape) shape_step field_step TheOpen.Null
+
+pub view_string : view shape.Text ≡ model.StringShape
+view_string =
+    ap view (sym TheVariants.rolls-Text) ∙ fold-roll-Shape model.Shape (Bool × model.Shape) shape_step field_step TheOpen.Text

@@ -1,13 +1,14 @@
 -- A spelling and its level: it spells the shape over the level, and what is wrong with the level is wrong with it.
-use Rattle.std.proofs.Common.{◌≡◌, ℕ, length, subst, Result, Ok, Err, String, List, [], ◌∷◌, ◌++◌, Option, Some, None, option_map, unwrap_or, refl, sym, ap, ◌∙◌, ◌⊎◌, inl, inr, append-nil, codes}
-use Rattle.std.specs.Prelude.{IfSome, IfOk, IfErr}
+use Rattle.std.proofs.Common.{◌≡◌, ℕ, length, subst, Result, Ok, Err, String, List, [], ◌∷◌, ◌++◌, Bool, true, false, Option, Some, None, option_map, unwrap_or, refl, sym, ap, ◌∙◌, ◌⊎◌, inl, inr, append-nil, codes}
+use Rattle.std.specs.Prelude.{IfSome, IfOk, IfErr, if◌then◌else◌}
 use Rattle.std.specs.List.{Contains}
 use Rattle.std.proofs.lemmas.List.Elements.{Contains-append_left, Contains-append_right, Contains-append_cases}
 use Rattle.asl_model.proofs.SpellingLookups.{shape_under-field_named, shapes_under-field_named, properties_under-field_named, shape_faults_under-field_named, shapes_faults_under-field_named, properties_faults_under-field_named}
 use Rattle.asl_model.specs.Shape as model
-use Rattle.asl_model.specs.ShapeSpelling.{ShapeFault, TypeWord, OfObject, OfArray, OfInteger, OfString, OfBoolean, OfNull, OtherType, NotAType, NoType, type_word_of, foreign_faults, object_keywords, array_keywords, Keyword, shapes_of, shapes_under, shape_under, properties_of, properties_under, shapes_faults, shapes_faults_under, shape_faults_under, properties_faults, properties_faults_under, required_in, required_faults, extra_in, extra_faults, with_all_needed, min_items_faults, element_count, typed_shape, typed_faults, shape_of, shape_faults, element_shapes, element_faults, field_shapes, field_faults}
-use Rattle.asl_model.specs.Tree.{Tree, Null, Boolean, Integer, Text, Array, Object, Fields, field_named, count}
-use Rattle.asl_shape.specs.Level.{Level, level_of, level_faults, typed_level, array_level, object_level, array_level_faults, object_level_faults, all_array_faults, all_object_faults, elements_in, fields_in, list_faults, object_faults, rest_faults, shape_over, inner_faults, SpelledOver}
+use Rattle.asl_model.specs.ShapeSpelling.{ShapeFault, BadType, Keyword, is_among, keywords_of, annotations, foreign_faults, types_in, type_faults, keyword_faults, faults_first, shapes_of, shapes_under, shape_under, properties_of, properties_under, shapes_faults, shapes_faults_under, shape_faults_under, properties_faults, properties_faults_under, required_in, required_faults, extra_in, extra_faults, with_all_needed, min_items_faults, element_count, typed_shape, typed_faults, shape_of, shape_faults, element_shapes, element_faults, field_shapes, field_faults}
+use Rattle.asl_model.specs.Tree.{Tree, Null, Boolean, Integer, Text, Array, Object, NoTrees, AndTree, Fields, field_named, count}
+use Rattle.asl_shape.specs.Level.{Level, Whole, level_of, level_faults, typed_level, kinds_level, only_if, array_level, object_level, array_level_faults, object_level_faults, elements_in, fields_in, list_faults, object_faults, rest_faults, arrays_over, objects_over, shape_over, list_inner_faults, object_inner_faults, inner_faults, SpelledOver}
+use Rattle.asl_shape.specs.Types.{faults_when}
 use Rattle.asl_shape.specs.LevelView.{level_view}
 use Rattle.asl_shape.specs.Refusal.{Tells, fault_named}
 use Rattle.asl_shape.specs.Spelled as trees
@@ -18,7 +19,7 @@ use Rattle.std.specs.declared.alloc.Global.{Global}
 use Rattle.std.specs.BTreeMap.{BTreeMap}
 use Rattle.serde_json.specs.declared.value.Value.{Value}
 use Rattle.asl_shape.proofs.Spellings.{elements_counted}
-use Rattle.asl_shape.proofs.Telling.{told_right}
+use Rattle.asl_shape.proofs.Telling.{told_left, told_right, told_same}
 use Rattle.asl_shape.specs.declared.ShapeRefusal.{ShapeRefusal}
 use Rattle.asl_shape.specs.declared.levels.Level as code
 
@@ -42,23 +43,23 @@ mentioned (Some (Text s)) = refl
 mentioned (Some (Array ts)) = refl
 mentioned (Some (Object fs)) = refl
 
-first_faults : (o : Option Tree) → unwrap_or (option_map shapes_faults o) [] ≡ list_faults o ++ element_faults (elements_in o)
-first_faults None = refl
-first_faults (Some Null) = refl
-first_faults (Some (Boolean b)) = refl
-first_faults (Some (Integer n)) = refl
-first_faults (Some (Text s)) = refl
-first_faults (Some (Array ts)) = refl
-first_faults (Some (Object fs)) = refl
+first_faults : (several : Bool) (o : Option Tree) → unwrap_or (option_map (shapes_faults several) o) [] ≡ list_faults o ++ element_faults several (elements_in o)
+first_faults several None = refl
+first_faults several (Some Null) = refl
+first_faults several (Some (Boolean b)) = refl
+first_faults several (Some (Integer n)) = refl
+first_faults several (Some (Text s)) = refl
+first_faults several (Some (Array ts)) = refl
+first_faults several (Some (Object fs)) = refl
 
-mentioned_faults : (o : Option Tree) → unwrap_or (option_map properties_faults o) [] ≡ object_faults o ++ field_faults (fields_in o)
-mentioned_faults None = refl
-mentioned_faults (Some Null) = refl
-mentioned_faults (Some (Boolean b)) = refl
-mentioned_faults (Some (Integer n)) = refl
-mentioned_faults (Some (Text s)) = refl
-mentioned_faults (Some (Array ts)) = refl
-mentioned_faults (Some (Object fs)) = refl
+mentioned_faults : (several : Bool) (o : Option Tree) → unwrap_or (option_map (properties_faults several) o) [] ≡ object_faults o ++ field_faults several (fields_in o)
+mentioned_faults several None = refl
+mentioned_faults several (Some Null) = refl
+mentioned_faults several (Some (Boolean b)) = refl
+mentioned_faults several (Some (Integer n)) = refl
+mentioned_faults several (Some (Text s)) = refl
+mentioned_faults several (Some (Array ts)) = refl
+mentioned_faults several (Some (Object fs)) = refl
 
 -- as many elements as are counted
 pub counted : (o : Option Tree) → element_count o ≡ count (elements_in o)
@@ -72,39 +73,41 @@ counted (Some (Object fs)) = refl
 
 -- ---- an object of keywords
 
-abbrev array_shape : Fields → model.Shape
-array_shape fs = model.ArrayShape (shapes_under (codes "prefixItems") fs) (shape_under (codes "items") fs)
+abbrev whole_arrays : Fields → model.Arrays
+whole_arrays fs = model.ArraysOf (shapes_under (codes "prefixItems") fs) (shape_under (codes "items") fs)
 
-abbrev object_shape : Fields → model.Shape
-object_shape fs =
+abbrev whole_objects : Fields → model.Objects
+whole_objects fs =
     let extra = extra_in (field_named (codes "additionalProperties") fs) in
-    model.ObjectShape (with_all_needed extra (required_in (field_named (codes "required") fs)) (properties_under (codes "properties") fs)) extra
+    model.ObjectsOf (with_all_needed extra (required_in (field_named (codes "required") fs)) (properties_under (codes "properties") fs)) extra
 
-abbrev whole_array_faults : Fields → List ShapeFault
-whole_array_faults fs =
-    shapes_faults_under (codes "prefixItems") fs ++ (shape_faults_under (codes "items") fs ++ min_items_faults (field_named (codes "minItems") fs) (element_count (field_named (codes "prefixItems") fs)))
+abbrev whole_array_faults : Bool → Fields → List ShapeFault
+whole_array_faults several fs =
+    shapes_faults_under several (codes "prefixItems") fs ++ (shape_faults_under several (codes "items") fs ++ min_items_faults (field_named (codes "minItems") fs) (element_count (field_named (codes "prefixItems") fs)))
 
-abbrev whole_object_faults : Fields → List ShapeFault
-whole_object_faults fs =
-    properties_faults_under (codes "properties") fs ++ (required_faults (field_named (codes "required") fs) ++ extra_faults (field_named (codes "additionalProperties") fs))
+abbrev whole_object_faults : Bool → Fields → List ShapeFault
+whole_object_faults several fs =
+    properties_faults_under several (codes "properties") fs ++ (required_faults (field_named (codes "required") fs) ++ extra_faults (field_named (codes "additionalProperties") fs))
 
-array_shape_over : (fs : Fields) → array_shape fs ≡ shape_over (array_level fs)
-array_shape_over fs =
+whole_arrays_over : (fs : Fields) → whole_arrays fs ≡ arrays_over (Some (array_level fs))
+whole_arrays_over fs =
     rw (shapes_under-field_named (codes "prefixItems") fs, shape_under-field_named (codes "items") fs, first_shapes (field_named (codes "prefixItems") fs)) refl
 
-object_shape_over : (fs : Fields) → object_shape fs ≡ shape_over (object_level fs)
-object_shape_over fs = rw (properties_under-field_named (codes "properties") fs, mentioned (field_named (codes "properties") fs)) refl
+whole_objects_over : (fs : Fields) → whole_objects fs ≡ objects_over (Some (object_level fs))
+whole_objects_over fs = rw (properties_under-field_named (codes "properties") fs, mentioned (field_named (codes "properties") fs)) refl
 
-typed_over : (w : TypeWord) (fs : Fields) → typed_shape w (array_shape fs) (object_shape fs) ≡ shape_over (typed_level w (array_level fs) (object_level fs))
-typed_over OfObject fs = object_shape_over fs
-typed_over OfArray fs = array_shape_over fs
-typed_over OfInteger fs = refl
-typed_over OfString fs = refl
-typed_over OfBoolean fs = refl
-typed_over OfNull fs = refl
-typed_over OtherType fs = refl
-typed_over NotAType fs = refl
-typed_over NoType fs = refl
+arrays_when : (among : Bool) (fs : Fields) → (if among then whole_arrays fs else model.WithoutArrays) ≡ arrays_over (only_if among (array_level fs))
+arrays_when true fs = whole_arrays_over fs
+arrays_when false fs = refl
+
+objects_when : (among : Bool) (fs : Fields) → (if among then whole_objects fs else model.WithoutObjects) ≡ objects_over (only_if among (object_level fs))
+objects_when true fs = whole_objects_over fs
+objects_when false fs = refl
+
+typed_over : (names : List (List ℕ)) (fs : Fields) → typed_shape names (whole_arrays fs) (whole_objects fs) ≡ shape_over (typed_level names fs)
+typed_over [] fs = refl
+typed_over (n ∷ names) fs =
+    rw (arrays_when (is_among (codes "array") (n ∷ names)) fs, objects_when (is_among (codes "object") (n ∷ names)) fs) refl
 
 pub both_none : (xs ys : List ShapeFault) → xs ≡ [] → ys ≡ [] → xs ++ ys ≡ []
 both_none xs ys e f = rw (e, f) refl
@@ -117,32 +120,65 @@ none_right : (xs ys : List ShapeFault) → xs ++ ys ≡ [] → ys ≡ []
 none_right [] ys e = e
 none_right (x ∷ xs) ys e = absurd (cc)
 
-array_faults_over : (fs : Fields) → array_level_faults fs ≡ [] → whole_array_faults fs ≡ inner_faults (array_level fs)
-array_faults_over fs none =
+array_faults_over : (several : Bool) (fs : Fields) → array_level_faults fs ≡ [] → whole_array_faults several fs ≡ list_inner_faults several (Some (array_level fs))
+array_faults_over several fs none =
     let o = field_named (codes "prefixItems") fs in
     let counts = min_items_faults (field_named (codes "minItems") fs) (element_count o) in
-    rw (shapes_faults_under-field_named (codes "prefixItems") fs, shape_faults_under-field_named (codes "items") fs, first_faults o, none_left (list_faults o) counts none, none_right (list_faults o) counts none, append-nil (rest_faults (field_named (codes "items") fs))) refl
+    rw (shapes_faults_under-field_named several (codes "prefixItems") fs, shape_faults_under-field_named several (codes "items") fs, first_faults several o, none_left (list_faults o) counts none, none_right (list_faults o) counts none, append-nil (rest_faults several (field_named (codes "items") fs))) refl
 
-object_faults_over : (fs : Fields) → object_level_faults fs ≡ [] → whole_object_faults fs ≡ inner_faults (object_level fs)
-object_faults_over fs none =
+object_faults_over : (several : Bool) (fs : Fields) → object_level_faults fs ≡ [] → whole_object_faults several fs ≡ object_inner_faults several (Some (object_level fs))
+object_faults_over several fs none =
     let o = field_named (codes "properties") fs in
     let others = required_faults (field_named (codes "required") fs) ++ extra_faults (field_named (codes "additionalProperties") fs) in
-    rw (properties_faults_under-field_named (codes "properties") fs, mentioned_faults o, none_left (object_faults o) others none, none_right (object_faults o) others none) (append-nil (field_faults (fields_in o)))
+    rw (properties_faults_under-field_named several (codes "properties") fs, mentioned_faults several o, none_left (object_faults o) others none, none_right (object_faults o) others none) (append-nil (field_faults several (fields_in o)))
 
-typed_faults_over : (w : TypeWord) (fs : Fields) → typed_faults w fs (array_level_faults fs) (object_level_faults fs) ≡ [] → typed_faults w fs (whole_array_faults fs) (whole_object_faults fs) ≡ inner_faults (typed_level w (array_level fs) (object_level fs))
-typed_faults_over OfObject fs none =
-    let known = foreign_faults Keyword object_keywords fs in
-    ap (λ xs. xs ++ whole_object_faults fs) (none_left known (object_level_faults fs) none) ∙ object_faults_over fs (none_right known (object_level_faults fs) none)
-typed_faults_over OfArray fs none =
-    let known = foreign_faults Keyword array_keywords fs in
-    ap (λ xs. xs ++ whole_array_faults fs) (none_left known (array_level_faults fs) none) ∙ array_faults_over fs (none_right known (array_level_faults fs) none)
-typed_faults_over OfInteger fs none = none
-typed_faults_over OfString fs none = none
-typed_faults_over OfBoolean fs none = none
-typed_faults_over OfNull fs none = none
-typed_faults_over OtherType fs none = none
-typed_faults_over NotAType fs none = none
-typed_faults_over NoType fs none = none
+array_faults_when : (several among : Bool) (fs : Fields) → faults_when among (array_level_faults fs) ≡ [] → faults_when among (whole_array_faults several fs) ≡ list_inner_faults several (only_if among (array_level fs))
+array_faults_when several true fs none = array_faults_over several fs none
+array_faults_when several false fs none = refl
+
+object_faults_when : (several among : Bool) (fs : Fields) → faults_when among (object_level_faults fs) ≡ [] → faults_when among (whole_object_faults several fs) ≡ object_inner_faults several (only_if among (object_level fs))
+object_faults_when several true fs none = object_faults_over several fs none
+object_faults_when several false fs none = refl
+
+-- where the keywords of a level are right, what is wrong is inside
+keyword_faults_over : (several : Bool) (names : List (List ℕ)) (fs : Fields) → keyword_faults names fs (array_level_faults fs) (object_level_faults fs) ≡ [] → keyword_faults names fs (whole_array_faults several fs) (whole_object_faults several fs) ≡ inner_faults several (kinds_level names fs)
+keyword_faults_over several names fs none =
+    let known = foreign_faults Keyword (keywords_of names) fs in
+    let array = is_among (codes "array") names in
+    let object = is_among (codes "object") names in
+    let others = faults_when array (array_level_faults fs) ++ faults_when object (object_level_faults fs) in
+    let right : others ≡ [] = none_right known others none in
+    ap (λ xs. xs ++ (faults_when array (whole_array_faults several fs) ++ faults_when object (whole_object_faults several fs))) (none_left known others none)
+    ∙ rw (array_faults_when several array fs (none_left (faults_when array (array_level_faults fs)) (faults_when object (object_level_faults fs)) right), object_faults_when several object fs (none_right (faults_when array (array_level_faults fs)) (faults_when object (object_level_faults fs)) right)) refl
+
+-- a `type` that is right names a type
+pub typed_names : (several : Bool) (t : Tree) (fs : Fields) → type_faults several t ≡ [] → typed_level (types_in (Some t)) fs ≡ kinds_level (types_in (Some t)) fs
+typed_names several Null fs none = absurd (cc)
+typed_names several (Boolean b) fs none = absurd (cc)
+typed_names several (Integer n) fs none = absurd (cc)
+typed_names several (Text s) fs none = refl
+typed_names false (Array ts) fs none = absurd (cc)
+typed_names true (Array NoTrees) fs none = absurd (cc)
+typed_names true (Array (AndTree Null ts)) fs none = absurd (cc)
+typed_names true (Array (AndTree (Boolean b) ts)) fs none = absurd (cc)
+typed_names true (Array (AndTree (Integer n) ts)) fs none = absurd (cc)
+typed_names true (Array (AndTree (Text s) ts)) fs none = refl
+typed_names true (Array (AndTree (Array us) ts)) fs none = absurd (cc)
+typed_names true (Array (AndTree (Object gs) ts)) fs none = absurd (cc)
+typed_names several (Object gs) fs none = absurd (cc)
+
+first_none : (xs ys : List ShapeFault) → faults_first xs ys ≡ [] → (xs ≡ []) × (ys ≡ [])
+first_none [] ys none = (refl, none)
+first_none (x ∷ xs) ys none = absurd (cc)
+
+typed_faults_over : (several : Bool) (o : Option Tree) (fs : Fields) → typed_faults several o fs (array_level_faults fs) (object_level_faults fs) ≡ [] → typed_faults several o fs (whole_array_faults several fs) (whole_object_faults several fs) ≡ inner_faults several (typed_level (types_in o) fs)
+typed_faults_over several None fs none = none
+typed_faults_over several (Some t) fs none =
+    let names = types_in (Some t) in
+    let both = first_none (type_faults several t) (keyword_faults names fs (array_level_faults fs) (object_level_faults fs)) none in
+    ap (λ xs. faults_first xs (keyword_faults names fs (whole_array_faults several fs) (whole_object_faults several fs))) both.0
+    ∙ keyword_faults_over several names fs both.1
+    ∙ ap (inner_faults several) (sym (typed_names several t fs both.0))
 
 -- ---- the level and the whole
 
@@ -152,23 +188,23 @@ shape_by_level (Boolean b) = refl
 shape_by_level (Integer n) = refl
 shape_by_level (Text s) = refl
 shape_by_level (Array ts) = refl
-shape_by_level (Object fs) = typed_over (type_word_of fs) fs
+shape_by_level (Object fs) = typed_over (types_in (field_named (codes "type") fs)) fs
 
-faults_by_level : (t : Tree) → level_faults t ≡ [] → shape_faults t ≡ inner_faults (level_of t)
-faults_by_level Null none = none
-faults_by_level (Boolean b) none = none
-faults_by_level (Integer n) none = none
-faults_by_level (Text s) none = none
-faults_by_level (Array ts) none = none
-faults_by_level (Object fs) none = typed_faults_over (type_word_of fs) fs none
+faults_by_level : (several : Bool) (t : Tree) → level_faults several t ≡ [] → shape_faults several t ≡ inner_faults several (level_of t)
+faults_by_level several Null none = none
+faults_by_level several (Boolean b) none = none
+faults_by_level several (Integer n) none = none
+faults_by_level several (Text s) none = none
+faults_by_level several (Array ts) none = none
+faults_by_level several (Object fs) none = typed_faults_over several (field_named (codes "type") fs) fs none
 
-pub over : (t : Tree) (level : Level) → level_of t ≡ level → level_faults t ≡ [] → SpelledOver t level
-over t level same none =
+pub over : (several : Bool) (t : Tree) (level : Level) → level_of t ≡ level → level_faults several t ≡ [] → SpelledOver several t level
+over several t level same none =
     record {
       none_wrong = none;
       same = same;
       shape = shape_by_level t ∙ ap shape_over same;
-      faults = faults_by_level t none ∙ ap inner_faults same;
+      faults = faults_by_level several t none ∙ ap (inner_faults several) same;
     }
 
 -- what one of two lists has, both have behind others
@@ -182,59 +218,87 @@ both_within xs ys us vs left right f h = go (Contains-append_cases xs ys f h)
     go (inl a) = Contains-append_left us vs f (left f a)
     go (inr a) = Contains-append_right us vs f (right f a)
 
-typed_within : (w : TypeWord) (fs : Fields) → IsWithin (typed_faults w fs (array_level_faults fs) (object_level_faults fs)) (typed_faults w fs (whole_array_faults fs) (whole_object_faults fs))
-typed_within OfObject fs =
+array_within : (several : Bool) (fs : Fields) → IsWithin (array_level_faults fs) (whole_array_faults several fs)
+array_within several fs =
+    let o = field_named (codes "prefixItems") fs in
+    let inside = shapes_faults_under several (codes "prefixItems") fs in
+    let rest = shape_faults_under several (codes "items") fs in
+    let counts = min_items_faults (field_named (codes "minItems") fs) (element_count o) in
+    let own : IsWithin (list_faults o) inside = λ f h. rw (shapes_faults_under-field_named several (codes "prefixItems") fs, first_faults several o) (Contains-append_left (list_faults o) (element_faults several (elements_in o)) f h) in
+    both_within (list_faults o) counts inside (rest ++ counts) own (λ f h. Contains-append_right rest counts f h)
+
+object_within : (several : Bool) (fs : Fields) → IsWithin (object_level_faults fs) (whole_object_faults several fs)
+object_within several fs =
     let o = field_named (codes "properties") fs in
     let others = required_faults (field_named (codes "required") fs) ++ extra_faults (field_named (codes "additionalProperties") fs) in
-    let known = foreign_faults Keyword object_keywords fs in
-    let inside = properties_faults_under (codes "properties") fs in
-    let own : IsWithin (object_faults o) inside = λ f h. rw (properties_faults_under-field_named (codes "properties") fs, mentioned_faults o) (Contains-append_left (object_faults o) (field_faults (fields_in o)) f h) in
-    both_within known (object_level_faults fs) known (whole_object_faults fs) (λ f h. h) (both_within (object_faults o) others inside others own (λ f h. h))
-typed_within OfArray fs =
-    let o = field_named (codes "prefixItems") fs in
-    let known = foreign_faults Keyword array_keywords fs in
-    let inside = shapes_faults_under (codes "prefixItems") fs in
-    let rest = shape_faults_under (codes "items") fs in
-    let counts = min_items_faults (field_named (codes "minItems") fs) (element_count o) in
-    let own : IsWithin (list_faults o) inside = λ f h. rw (shapes_faults_under-field_named (codes "prefixItems") fs, first_faults o) (Contains-append_left (list_faults o) (element_faults (elements_in o)) f h) in
-    both_within known (array_level_faults fs) known (whole_array_faults fs) (λ f h. h) (both_within (list_faults o) counts inside (rest ++ counts) own (λ f h. Contains-append_right rest counts f h))
-typed_within OfInteger fs = λ f h. h
-typed_within OfString fs = λ f h. h
-typed_within OfBoolean fs = λ f h. h
-typed_within OfNull fs = λ f h. h
-typed_within OtherType fs = λ f h. h
-typed_within NotAType fs = λ f h. h
-typed_within NoType fs = λ f h. h
+    let inside = properties_faults_under several (codes "properties") fs in
+    let own : IsWithin (object_faults o) inside = λ f h. rw (properties_faults_under-field_named several (codes "properties") fs, mentioned_faults several o) (Contains-append_left (object_faults o) (field_faults several (fields_in o)) f h) in
+    both_within (object_faults o) others inside others own (λ f h. h)
+
+when_within : (among : Bool) (xs ys : List ShapeFault) → IsWithin xs ys → IsWithin (faults_when among xs) (faults_when among ys)
+when_within true xs ys h = h
+when_within false xs ys h = λ f i. i
+
+first_within : (xs ys zs : List ShapeFault) → IsWithin ys zs → IsWithin (faults_first xs ys) (faults_first xs zs)
+first_within [] ys zs h = h
+first_within (x ∷ xs) ys zs h = λ f i. i
+
+typed_within : (several : Bool) (o : Option Tree) (fs : Fields) → IsWithin (typed_faults several o fs (array_level_faults fs) (object_level_faults fs)) (typed_faults several o fs (whole_array_faults several fs) (whole_object_faults several fs))
+typed_within several None fs = λ f h. h
+typed_within several (Some t) fs =
+    let names = types_in (Some t) in
+    let known = foreign_faults Keyword (keywords_of names) fs in
+    let arrays = when_within (is_among (codes "array") names) (array_level_faults fs) (whole_array_faults several fs) (array_within several fs) in
+    let objects = when_within (is_among (codes "object") names) (object_level_faults fs) (whole_object_faults several fs) (object_within several fs) in
+    first_within (type_faults several t) _ _ (both_within known _ known _ (λ f h. h) (both_within _ _ _ _ arrays objects))
 
 -- what is wrong with the level is wrong with the whole
-pub level_within : (t : Tree) (f : ShapeFault) → Contains (level_faults t) f → Contains (shape_faults t) f
-level_within Null f h = h
-level_within (Boolean b) f h = h
-level_within (Integer n) f h = h
-level_within (Text s) f h = h
-level_within (Array ts) f h = h
-level_within (Object fs) f h = typed_within (type_word_of fs) fs f h
+pub level_within : (several : Bool) (t : Tree) (f : ShapeFault) → Contains (level_faults several t) f → Contains (shape_faults several t) f
+level_within several Null f h = h
+level_within several (Boolean b) f h = h
+level_within several (Integer n) f h = h
+level_within several (Text s) f h = h
+level_within several (Array ts) f h = h
+level_within several (Object fs) f h = typed_within several (field_named (codes "type") fs) fs f h
 
-named_within : (named : Option ShapeFault) (t : Tree) → IfSome named (Contains (level_faults t)) → IfSome named (Contains (shape_faults t))
-named_within None t h = h
-named_within (Some f) t h = level_within t f h
+named_within : (several : Bool) (named : Option ShapeFault) (t : Tree) → IfSome named (Contains (level_faults several t)) → IfSome named (Contains (shape_faults several t))
+named_within several None t h = h
+named_within several (Some f) t h = level_within several t f h
 
-pub level_told : (e : ShapeRefusal) (t : Tree) → Tells e (level_faults t) → Tells e (shape_faults t)
-level_told e t h = record { listed = named_within (fault_named e) t h.listed }
+pub level_told : (several : Bool) (e : ShapeRefusal) (t : Tree) → Tells e (level_faults several t) → Tells e (shape_faults several t)
+level_told several e t h = record { listed = named_within several (fault_named e) t h.listed }
 
--- ---- an object of keywords, by the word that its `type` says
+-- ---- an object of keywords, by what its `type` is
 
-level_by : (fs : Fields) (w : TypeWord) → type_word_of fs ≡ w → level_of (Object fs) ≡ typed_level w (array_level fs) (object_level fs)
-level_by fs w is = ap (λ v. typed_level v (array_level fs) (object_level fs)) is
+by_type : (several : Bool) (fs : Fields) (o : Option Tree) → field_named (codes "type") fs ≡ o → level_faults several (Object fs) ≡ typed_faults several o fs (array_level_faults fs) (object_level_faults fs)
+by_type several fs o is = ap (λ p. typed_faults several p fs (array_level_faults fs) (object_level_faults fs)) is
 
-level_faults_by : (fs : Fields) (w : TypeWord) → type_word_of fs ≡ w → level_faults (Object fs) ≡ typed_faults w fs (array_level_faults fs) (object_level_faults fs)
-level_faults_by fs w is = ap (λ v. typed_faults v fs (array_level_faults fs) (object_level_faults fs)) is
+pub untyped_over : (several : Bool) (fs : Fields) (r : Result code.Level ShapeRefusal) → field_named (codes "type") fs ≡ None → IfOk r (λ level. level_view level ≡ Whole model.Any) → IfOk r (λ _. foreign_faults BadType annotations fs ≡ []) → IfOk r (λ level. SpelledOver several (Object fs) (level_view level))
+untyped_over several fs (Ok level) is same right =
+    over several (Object fs) (level_view level) (ap (λ o. typed_level (types_in o) fs) is ∙ sym same) (by_type several fs None is ∙ right)
+untyped_over several fs (Err e) is same right = tt
 
-pub over_by : (fs : Fields) (w : TypeWord) (level : Level) → type_word_of fs ≡ w → typed_level w (array_level fs) (object_level fs) ≡ level → typed_faults w fs (array_level_faults fs) (object_level_faults fs) ≡ [] → SpelledOver (Object fs) level
-over_by fs w level is same none = over (Object fs) level (level_by fs w is ∙ same) (level_faults_by fs w is ∙ none)
+pub untyped_told : (several : Bool) (fs : Fields) (r : Result code.Level ShapeRefusal) → field_named (codes "type") fs ≡ None → IfErr r (λ e. Tells e (foreign_faults BadType annotations fs)) → IfErr r (λ e. Tells e (level_faults several (Object fs)))
+untyped_told several fs (Ok level) is told = tt
+untyped_told several fs (Err e) is told = rw (by_type several fs None is) told
 
-pub told_by : (e : ShapeRefusal) (fs : Fields) (w : TypeWord) → type_word_of fs ≡ w → Tells e (typed_faults w fs (array_level_faults fs) (object_level_faults fs)) → Tells e (level_faults (Object fs))
-told_by e fs w is told = rw (level_faults_by fs w is) told
+pub kinds_over : (several : Bool) (fs : Fields) (t : Tree) (names : List (List ℕ)) (r : Result code.Level ShapeRefusal) → field_named (codes "type") fs ≡ Some t → names ≡ types_in (Some t) → type_faults several t ≡ [] → IfOk r (λ level. level_view level ≡ kinds_level names fs) → IfOk r (λ _. keyword_faults names fs (array_level_faults fs) (object_level_faults fs) ≡ []) → IfOk r (λ level. SpelledOver several (Object fs) (level_view level))
+kinds_over several fs t names (Ok level) is named right same known =
+    over several (Object fs) (level_view level) (ap (λ o. typed_level (types_in o) fs) is ∙ typed_names several t fs right ∙ ap (λ ns. kinds_level ns fs) (sym named) ∙ sym same) (by_type several fs (Some t) is ∙ ap (λ xs. faults_first xs (keyword_faults (types_in (Some t)) fs (array_level_faults fs) (object_level_faults fs))) right ∙ ap (λ ns. keyword_faults ns fs (array_level_faults fs) (object_level_faults fs)) (sym named) ∙ known)
+kinds_over several fs t names (Err e) is named right same known = tt
+
+pub kinds_told : (several : Bool) (fs : Fields) (t : Tree) (names : List (List ℕ)) (r : Result code.Level ShapeRefusal) → field_named (codes "type") fs ≡ Some t → names ≡ types_in (Some t) → type_faults several t ≡ [] → IfErr r (λ e. Tells e (keyword_faults names fs (array_level_faults fs) (object_level_faults fs))) → IfErr r (λ e. Tells e (level_faults several (Object fs)))
+kinds_told several fs t names (Ok level) is named right told = tt
+kinds_told several fs t names (Err e) is named right told =
+    told_same e _ _ told (sym (by_type several fs (Some t) is ∙ ap (λ xs. faults_first xs (keyword_faults (types_in (Some t)) fs (array_level_faults fs) (object_level_faults fs))) right ∙ ap (λ ns. keyword_faults ns fs (array_level_faults fs) (object_level_faults fs)) (sym named)))
+
+first_told : (e : ShapeRefusal) (xs ys : List ShapeFault) → Tells e xs → Tells e (faults_first xs ys)
+first_told e [] ys told = told_left e [] ys told
+first_told e (x ∷ xs) ys told = told
+
+pub type_told : (several : Bool) (e : ShapeRefusal) (fs : Fields) (t : Tree) → field_named (codes "type") fs ≡ Some t → Tells e (type_faults several t) → Tells e (level_faults several (Object fs))
+type_told several e fs t is told =
+    told_same e _ _ (first_told e (type_faults several t) (keyword_faults (types_in (Some t)) fs (array_level_faults fs) (object_level_faults fs)) told) (sym (by_type several fs (Some t) is))
 
 -- ---- the level of lists
 
@@ -242,33 +306,23 @@ told_by e fs w is told = rw (level_faults_by fs w is) told
 pub as_many : (o : Option Tree) (vs : List Value) → elements_view vs ≡ elements_in o → length vs ≡ element_count o
 as_many o vs is = elements_counted vs ∙ ap count is ∙ sym (counted o)
 
-pub count_told : (e : ShapeRefusal) (fs : Fields) (n : ℕ) → n ≡ element_count (field_named (codes "prefixItems") fs) → Tells e (min_items_faults (field_named (codes "minItems") fs) n) → Tells e (all_array_faults fs)
+pub count_told : (e : ShapeRefusal) (fs : Fields) (n : ℕ) → n ≡ element_count (field_named (codes "prefixItems") fs) → Tells e (min_items_faults (field_named (codes "minItems") fs) n) → Tells e (array_level_faults fs)
 count_told e fs n is told =
     let o = field_named (codes "prefixItems") fs in
-    told_right e (foreign_faults Keyword array_keywords fs) (array_level_faults fs) (told_right e (list_faults o) _ (subst (λ k. Tells e (min_items_faults (field_named (codes "minItems") fs) k)) is told))
+    told_right e (list_faults o) _ (subst (λ k. Tells e (min_items_faults (field_named (codes "minItems") fs) k)) is told)
 
-pub list_right : (fs : Fields) (n : ℕ) → n ≡ element_count (field_named (codes "prefixItems") fs) → foreign_faults Keyword array_keywords fs ≡ [] → list_faults (field_named (codes "prefixItems") fs) ≡ [] → min_items_faults (field_named (codes "minItems") fs) n ≡ [] → all_array_faults fs ≡ []
-list_right fs n is known list counts =
-    both_none _ _ known (both_none _ _ list (subst (λ k. min_items_faults (field_named (codes "minItems") fs) k ≡ []) is counts))
+pub list_right : (fs : Fields) (n : ℕ) → n ≡ element_count (field_named (codes "prefixItems") fs) → list_faults (field_named (codes "prefixItems") fs) ≡ [] → min_items_faults (field_named (codes "minItems") fs) n ≡ [] → array_level_faults fs ≡ []
+list_right fs n is list counts =
+    both_none _ _ list (subst (λ k. min_items_faults (field_named (codes "minItems") fs) k ≡ []) is counts)
 
 -- ---- and of objects
 
-pub object_right : (fs : Fields) → foreign_faults Keyword object_keywords fs ≡ [] → object_faults (field_named (codes "properties") fs) ≡ [] → required_faults (field_named (codes "required") fs) ≡ [] → extra_faults (field_named (codes "additionalProperties") fs) ≡ [] → all_object_faults fs ≡ []
-object_right fs known properties required extra = both_none _ _ known (both_none _ _ properties (both_none _ _ required extra))
-
--- ---- their answers
-
-pub list_over : (fs : Fields) (r : Result code.Level ShapeRefusal) → type_word_of fs ≡ OfArray → IfOk r (λ level. level_view level ≡ array_level fs) → IfOk r (λ _. all_array_faults fs ≡ []) → IfOk r (λ level. SpelledOver (Object fs) (level_view level))
-list_over fs (Ok level) is same right = over_by fs OfArray (level_view level) is (sym same) right
-list_over fs (Err e) is same right = tt
-
-pub object_over : (fs : Fields) (r : Result code.Level ShapeRefusal) → type_word_of fs ≡ OfObject → IfOk r (λ level. level_view level ≡ object_level fs) → IfOk r (λ _. all_object_faults fs ≡ []) → IfOk r (λ level. SpelledOver (Object fs) (level_view level))
-object_over fs (Ok level) is same right = over_by fs OfObject (level_view level) is (sym same) right
-object_over fs (Err e) is same right = tt
+pub object_right : (fs : Fields) → object_faults (field_named (codes "properties") fs) ≡ [] → required_faults (field_named (codes "required") fs) ≡ [] → extra_faults (field_named (codes "additionalProperties") fs) ≡ [] → object_level_faults fs ≡ []
+object_right fs properties required extra = both_none _ _ properties (both_none _ _ required extra)
 
 view_members : (keywords : BTreeMap (String Global) Value) → trees.view (value.Object keywords) ≡ Object (entries_view keywords.entries)
 view_members keywords = ap spelled (view-Object keywords)
 
-pub object_told : (keywords : BTreeMap (String Global) Value) (r : Result code.Level ShapeRefusal) → IfErr r (λ e. Tells e (level_faults (Object (entries_view keywords.entries)))) → IfErr r (λ e. Tells e (shape_faults (trees.view (value.Object keywords))))
-object_told keywords (Ok level) told = tt
-object_told keywords (Err e) told = rw (view_members keywords) (level_told e (Object (entries_view keywords.entries)) told)
+pub object_told : (several : Bool) (keywords : BTreeMap (String Global) Value) (r : Result code.Level ShapeRefusal) → IfErr r (λ e. Tells e (level_faults several (Object (entries_view keywords.entries)))) → IfErr r (λ e. Tells e (shape_faults several (trees.view (value.Object keywords))))
+object_told several keywords (Ok level) told = tt
+object_told several keywords (Err e) told = rw (view_members keywords) (level_told several e (Object (entries_view keywords.entries)) told)

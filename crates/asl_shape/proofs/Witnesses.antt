@@ -4,15 +4,28 @@ use Rattle.std.proofs.Common.{◌≡◌, ℕ, List, Bool, true, false, ◌&&◌,
 use Rattle.std.specs.Prelude.{IsTrue, if◌then◌else◌}
 use Rattle.std.proofs.lemmas.Bool.{and_parts, and_from, false≢true}
 use Rattle.asl_model.specs.Tree.{Tree, Null, Boolean, Integer, Text, Array, Object, Trees, NoTrees, AndTree, Fields, NoFields, AndField, field_named, IsProper}
-use Rattle.asl_model.specs.Shape.{Simple, Shape, Any, OfKinds, Never, Arrays, WithoutArrays, ArraysOf, Objects, WithoutObjects, ObjectsOf, Shapes, NoShapes, AndShape, FieldShapes, NoFieldShapes, AndFieldShape, Has, has, arrays_have, objects_have, elements_have, each_element, fields_have, there_and, mentions, all_mentioned, before_mentions, type_names, IsProperShape, AreProperArrays, AreProperObjects, AreProperShapes, AreProperFields, inhabited, some_simple, some_array, some_object, all_inhabited, needed_inhabited}
+use Rattle.asl_model.specs.Shape.{Shape, Any, OfKinds, Never, Arrays, WithoutArrays, ArraysOf, Objects, WithoutObjects, ObjectsOf, Shapes, NoShapes, AndShape, FieldShapes, NoFieldShapes, AndFieldShape, Has, has, arrays_have, objects_have, elements_have, each_element, fields_have, there_and, mentions, all_mentioned, before_mentions, IsProperShape, AreProperArrays, AreProperObjects, AreProperShapes, AreProperFields, inhabited, some_simple, some_array, some_object, all_inhabited, needed_inhabited}
 use Rattle.asl_model.proofs.ShapeInhabited.{no_tree}
-use Rattle.asl_shape.specs.Known.{AreInOrder, IsOrderly, AreOrderlyArrays, AreOrderlyObjects, AreOrderly, AreNeededOrderly}
+use Rattle.asl_shape.specs.Known.{unless_first, AreInOrder, IsOrderly, AreOrderlyArrays, AreOrderlyObjects, AreOrderly, AreNeededOrderly}
+
+-- the arrays, unless there are trees of simple kinds; the objects, unless there are arrays either
+abbrev arrays_looked_at : Bool → Bool → Arrays → Arrays
+arrays_looked_at true array arrays = WithoutArrays
+arrays_looked_at false true arrays = arrays
+arrays_looked_at false false arrays = WithoutArrays
+
+abbrev objects_looked_at : Bool → Bool → Objects → Objects
+objects_looked_at true array objects = WithoutObjects
+objects_looked_at false true objects = WithoutObjects
+objects_looked_at false false objects = objects
 
 abbrev mutual
-  -- the shape with Never for further elements and for each field that isn't needed
+  -- the first kind that is looked at and has trees, with Never for further elements and for each field that isn't needed
   pruned : Shape → Shape
   pruned Any = Any
-  pruned (OfKinds simple arrays objects) = OfKinds simple (arrays_pruned arrays) (objects_pruned objects)
+  pruned (OfKinds simple arrays objects) =
+      OfKinds simple (arrays_looked_at (some_simple simple) (some_array arrays) (arrays_pruned arrays))
+      (objects_looked_at (some_simple simple) (some_array arrays) (objects_pruned objects))
 
   arrays_pruned : Arrays → Arrays
   arrays_pruned WithoutArrays = WithoutArrays
@@ -36,22 +49,22 @@ before_pruned n (AndFieldShape m needed s shapes) h = h
 
 one_proper : (needed : Bool) (s : Shape) → (IsTrue needed → IsProperShape s) → IsProperShape (if needed then s else Never)
 one_proper true s h = h refl
-one_proper false s h = (refl, tt, tt)
+one_proper false s h = (tt, tt)
 
-same_names : (simple : Simple) (arrays : Arrays) (objects : Objects) → type_names simple (arrays_pruned arrays) (objects_pruned objects) ≡ type_names simple arrays objects
-same_names simple WithoutArrays WithoutObjects = refl
-same_names simple WithoutArrays (ObjectsOf shapes extra) = refl
-same_names simple (ArraysOf first rest) WithoutObjects = refl
-same_names simple (ArraysOf first rest) (ObjectsOf shapes extra) = refl
+looked_at_proper : (simple array : Bool) (arrays : Arrays) (objects : Objects) (a o : Type 0) → (a → AreProperArrays arrays) → (o → AreProperObjects objects) → unless_first simple array a o → AreProperArrays (arrays_looked_at simple array arrays) × AreProperObjects (objects_looked_at simple array objects)
+looked_at_proper true array arrays objects a o f g h = (tt, tt)
+looked_at_proper false true arrays objects a o f g h = (f h, tt)
+looked_at_proper false false arrays objects a o f g h = (tt, g h)
 
 mutual
   pruned_proper : (s : Shape) → IsOrderly s → IsProperShape (pruned s)
   pruned_proper Any h = tt
-  pruned_proper (OfKinds simple arrays objects) h = (rw (same_names simple arrays objects) h.0, arrays_pruned_proper arrays h.1, objects_pruned_proper objects h.2)
+  pruned_proper (OfKinds simple arrays objects) h =
+      looked_at_proper (some_simple simple) (some_array arrays) _ _ (AreOrderlyArrays arrays) (AreOrderlyObjects objects) (arrays_pruned_proper arrays) (objects_pruned_proper objects) h
 
   arrays_pruned_proper : (arrays : Arrays) → AreOrderlyArrays arrays → AreProperArrays (arrays_pruned arrays)
   arrays_pruned_proper WithoutArrays h = tt
-  arrays_pruned_proper (ArraysOf first rest) h = (all_pruned_proper first h, (refl, tt, tt))
+  arrays_pruned_proper (ArraysOf first rest) h = (all_pruned_proper first h, (tt, tt))
 
   objects_pruned_proper : (objects : Objects) → AreOrderlyObjects objects → AreProperObjects (objects_pruned objects)
   objects_pruned_proper WithoutObjects h = tt
@@ -72,20 +85,15 @@ one_inhabited true live now others further f g s e h =
     and_from (inhabited s) further (e ∙ f both.0) (g both.1)
 one_inhabited false live now others further f g s e h = g h
 
-kinds_inhabited : (simple array object array' object' : Bool) → (IsTrue array → IsTrue array') → (IsTrue object → IsTrue object') → IsTrue (simple || (array || object)) → IsTrue (simple || (array' || object'))
-kinds_inhabited true array object array' object' f g h = refl
-kinds_inhabited false true object array' object' f g h = rw (f refl) refl
-kinds_inhabited false false true array' object' f g h = rw (g refl) (or_true array')
-  where
-    or_true : (b : Bool) → (b || true) ≡ true
-    or_true true = refl
-    or_true false = refl
-kinds_inhabited false false false array' object' f g h = absurd (false≢true h)
+looked_at_inhabited : (simple array : Bool) (arrays : Arrays) (objects : Objects) (object : Bool) → (IsTrue array → IsTrue (some_array arrays)) → (IsTrue object → IsTrue (some_object objects)) → IsTrue (simple || (array || object)) → IsTrue (simple || (some_array (arrays_looked_at simple array arrays) || some_object (objects_looked_at simple array objects)))
+looked_at_inhabited true array arrays objects object f g h = refl
+looked_at_inhabited false true arrays objects object f g h = rw (f refl) refl
+looked_at_inhabited false false arrays objects object f g h = g h
 
 mutual
   pruned_inhabited : (s : Shape) → IsTrue (inhabited s) → IsTrue (inhabited (pruned s))
   pruned_inhabited Any h = h
-  pruned_inhabited (OfKinds simple arrays objects) h = kinds_inhabited (some_simple simple) (some_array arrays) (some_object objects) (some_array (arrays_pruned arrays)) (some_object (objects_pruned objects)) (arrays_pruned_inhabited arrays) (objects_pruned_inhabited objects) h
+  pruned_inhabited (OfKinds simple arrays objects) h = looked_at_inhabited (some_simple simple) (some_array arrays) (arrays_pruned arrays) (objects_pruned objects) (some_object objects) (arrays_pruned_inhabited arrays) (objects_pruned_inhabited objects) h
 
   arrays_pruned_inhabited : (arrays : Arrays) → IsTrue (some_array arrays) → IsTrue (some_array (arrays_pruned arrays))
   arrays_pruned_inhabited WithoutArrays h = h
@@ -124,6 +132,16 @@ none_further : (further : Tree → Bool) (ts : Trees) → IsTrue (each_element (
 none_further further NoTrees h = refl
 none_further further (AndTree t ts) h = absurd (no_tree Never refl t (and_parts (has Never t) (each_element (has Never) ts) h).0)
 
+arrays_looked_at_have : (simple array : Bool) (arrays : Arrays) (ts : Trees) → IsTrue (arrays_have (arrays_looked_at simple array arrays) ts) → IsTrue (arrays_have arrays ts)
+arrays_looked_at_have true array arrays ts h = absurd (false≢true h)
+arrays_looked_at_have false true arrays ts h = h
+arrays_looked_at_have false false arrays ts h = absurd (false≢true h)
+
+objects_looked_at_have : (simple array : Bool) (objects : Objects) (fs : Fields) → IsTrue (objects_have (objects_looked_at simple array objects) fs) → IsTrue (objects_have objects fs)
+objects_looked_at_have true array objects fs h = absurd (false≢true h)
+objects_looked_at_have false true objects fs h = absurd (false≢true h)
+objects_looked_at_have false false objects fs h = h
+
 mutual
   pruned_has : (s : Shape) (t : Tree) → Has (pruned s) t → Has s t
   pruned_has Any t h = h
@@ -131,8 +149,10 @@ mutual
   pruned_has (OfKinds simple arrays objects) (Boolean b) h = h
   pruned_has (OfKinds simple arrays objects) (Integer n) h = h
   pruned_has (OfKinds simple arrays objects) (Text s) h = h
-  pruned_has (OfKinds simple arrays objects) (Array ts) h = arrays_pruned_have arrays ts h
-  pruned_has (OfKinds simple arrays objects) (Object fs) h = objects_pruned_have objects fs h
+  pruned_has (OfKinds simple arrays objects) (Array ts) h =
+      arrays_pruned_have arrays ts (arrays_looked_at_have (some_simple simple) (some_array arrays) (arrays_pruned arrays) ts h)
+  pruned_has (OfKinds simple arrays objects) (Object fs) h =
+      objects_pruned_have objects fs (objects_looked_at_have (some_simple simple) (some_array arrays) (objects_pruned objects) fs h)
 
   arrays_pruned_have : (arrays : Arrays) (ts : Trees) → IsTrue (arrays_have (arrays_pruned arrays) ts) → IsTrue (arrays_have arrays ts)
   arrays_pruned_have WithoutArrays ts h = h

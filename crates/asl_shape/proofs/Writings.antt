@@ -1,30 +1,30 @@
 -- What is written for shapes, keyword after keyword and field after field.
-use Rattle.std.proofs.Common.{◌≡◌, ℕ, suc, pos, List, [], ◌∷◌, ◌++◌, Bool, true, false, not, map, length, String, Global, Ordering, Less, Equal, Greater, string_bytes, string_cmp, codes, Vec, Box, refl, sym, ap, ◌∙◌, append-nil, append_assoc, Result, Ok, Err}
-use Rattle.std.specs.Prelude.{IfOk}
+use Rattle.std.proofs.Common.{◌≡◌, ℕ, suc, pos, List, [], ◌∷◌, ◌++◌, Bool, true, false, not, Option, Some, None, is_some, unwrap_or, nat_cmp, map, length, String, Global, Ordering, Less, Equal, Greater, string_bytes, string_cmp, codes, Vec, refl, sym, ap, ◌∙◌, append-nil, append_assoc}
+use Rattle.std.specs.Cmp.Lexicographic.{slice_cmp}
 use Rattle.std.specs.BTreeMap.{BTreeMap, insert_entry}
 use Rattle.std.specs.List.Sorted.{IsStrictlySortedBy}
 use Rattle.std.specs.Map.{keys_of}
 use Rattle.std.specs.Ordering.{match_ordering}
 use Rattle.std.proofs.lemmas.List.{map-append}
 use Rattle.asl_model.specs.Shape as model
+use Rattle.asl_model.specs.Shape.{name_if}
 use Rattle.asl_model.specs.ShapeFlow.{how_many_shapes}
 use Rattle.asl_model.specs.ShapeOrder.{is_any_shape}
 use Rattle.asl_model.specs.Tree as json
-use Rattle.asl_model.specs.Written.{some_shapes, some_fields, needed_names, some_names, as_texts, type_field, array_fields, object_fields, closed_first, written_shape, written_shapes, written_fields}
+use Rattle.asl_model.specs.Written.{field_if, some_shapes, some_fields, needed_names, some_names, as_texts, type_written, type_field, array_fields, object_fields, closed_first, written_kinds, written_shape, with_written_arrays, with_written_objects, written_shapes, written_fields}
 use Rattle.asl_tree.proofs.Texts.{after_first}
 use Rattle.asl_tree.specs.View as trees
-use Rattle.asl_tree.specs.declared.OutOfMemory.{OutOfMemory}
 use Rattle.asl_tree.specs.declared.Tree.{Tree}
 use Rattle.asl_tree.specs.declared.Tree as tree
-use Rattle.asl_shape.specs.Adding.{is_some, with_field, with_field_if}
-use Rattle.asl_shape.specs.Known.{AreInOrder}
-use Rattle.asl_shape.specs.Proper.{Proper, AllProper, FieldsProper}
+use Rattle.asl_shape.specs.Adding.{some_listed, with_field, with_field_if}
+use Rattle.asl_shape.specs.WrittenKinds.{names_of, with_arrays, with_objects, arrays_added, objects_added, items_written, text_if, types_listed}
+use Rattle.asl_shape.specs.declared.writing.Written.{Written}
+use Rattle.asl_shape.specs.declared.writing.WrittenArrays.{WrittenArrays}
+use Rattle.asl_shape.specs.declared.writing.WrittenObjects.{WrittenObjects}
 use Rattle.asl_shape.specs.View.{view, shapes_view, fields_view}
-use Rattle.asl_shape.specs.declared.shape.Field.{Field}
 use Rattle.asl_shape.specs.declared.shape.Shape.{Shape}
-use Rattle.asl_shape.specs.declared.shape.Shape.TheViews
 use Rattle.asl_shape.proofs.Spellings.{Mention}
-use Rattle.asl_shape.proofs.Views.{view_list, view_object, view_array, view_members, view_truth, view_text}
+use Rattle.asl_shape.proofs.Views.{view_array, view_members, view_truth, view_text}
 
 abbrev pub Entry : Type 0
 Entry = String Global × Tree
@@ -42,25 +42,118 @@ field_added (e ∷ es) k t = shown_by (string_cmp k e.0) _ _ _ ∙ rw (field_add
 
 -- ---- keywords
 
-array_made : (has_items has_first : Bool) (items first : json.Tree) (n : ℕ) (bare some more all : json.Fields) → bare ≡ type_field (codes "array" ∷ []) → some ≡ with_field_if has_items (codes "items") items bare → more ≡ with_field_if has_first (codes "minItems") (json.Integer (pos n)) some → all ≡ with_field_if has_first (codes "prefixItems") first more → all ≡ array_fields has_items has_first items n first (type_field (codes "array" ∷ []))
-array_made true true items first n bare some more all e f g h = rw (h, g, f, e) refl
-array_made true false items first n bare some more all e f g h = rw (h, g, f, e) refl
-array_made false true items first n bare some more all e f g h = rw (h, g, f, e) refl
-array_made false false items first n bare some more all e f g h = rw (h, g, f, e) refl
+-- the name comes before those that are there
+abbrev IsFirst : List ℕ → json.Fields → Type 0
+IsFirst n json.NoFields = Unit {0}
+IsFirst n (json.AndField m t fs) = slice_cmp nat_cmp n m ≡ Less
 
-object_made : (extra has_fields has_needed : Bool) (properties : json.Tree) (names : json.Trees) (bare some more all : json.Fields) → bare ≡ type_field (codes "object" ∷ []) → some ≡ with_field_if (not extra) (codes "additionalProperties") (json.Boolean false) bare → more ≡ with_field_if has_fields (codes "properties") properties some → all ≡ with_field_if has_needed (codes "required") (json.Array names) more → all ≡ closed_first (not extra) (object_fields has_fields has_needed properties names (type_field (codes "object" ∷ [])))
-object_made true true true properties names bare some more all e f g h = rw (h, g, f, e) refl
-object_made true true false properties names bare some more all e f g h = rw (h, g, f, e) refl
-object_made true false true properties names bare some more all e f g h = rw (h, g, f, e) refl
-object_made true false false properties names bare some more all e f g h = rw (h, g, f, e) refl
-object_made false true true properties names bare some more all e f g h = rw (h, g, f, e) refl
-object_made false true false properties names bare some more all e f g h = rw (h, g, f, e) refl
-object_made false false true properties names bare some more all e f g h = rw (h, g, f, e) refl
-object_made false false false properties names bare some more all e f g h = rw (h, g, f, e) refl
+added_first : (wanted : Bool) (n : List ℕ) (t : json.Tree) (fs : json.Fields) → IsFirst n fs → with_field_if wanted n t fs ≡ field_if wanted n t fs
+added_first true n t json.NoFields h = refl
+added_first true n t (json.AndField m u fs) h = rw h refl
+added_first false n t fs h = refl
 
-pub object_tree : (extra has_fields has_needed : Bool) (properties bare some more all : BTreeMap (String Global) Tree) (required : Vec Tree Global) → has_fields ≡ is_some properties.entries → has_needed ≡ is_some required.items → trees.entries_view bare.entries ≡ type_field (codes "object" ∷ []) → trees.entries_view some.entries ≡ with_field_if (not extra) (codes "additionalProperties") (trees.view (tree.Bool false)) (trees.entries_view bare.entries) → trees.entries_view more.entries ≡ with_field_if has_fields (codes "properties") (trees.view (tree.Object properties)) (trees.entries_view some.entries) → trees.entries_view all.entries ≡ with_field_if has_needed (codes "required") (trees.view (tree.List required)) (trees.entries_view more.entries) → trees.view (tree.Object all) ≡ json.Object (closed_first (not extra) (object_fields (is_some properties.entries) (is_some required.items) (json.Object (trees.entries_view properties.entries)) (trees.elements_view required.items) (type_field (codes "object" ∷ []))))
-object_tree extra has_fields has_needed properties bare some more all required f n e closed mentioned named =
-    rw (view_members all, ← f, ← n) (ap json.Object (object_made extra has_fields has_needed (json.Object (trees.entries_view properties.entries)) (trees.elements_view required.items) (trees.entries_view bare.entries) (trees.entries_view some.entries) (trees.entries_view more.entries) (trees.entries_view all.entries) e (closed ∙ ap (λ t. with_field_if (not extra) (codes "additionalProperties") t (trees.entries_view bare.entries)) (view_truth false)) (mentioned ∙ ap (λ t. with_field_if has_fields (codes "properties") t (trees.entries_view some.entries)) (view_members properties)) (named ∙ ap (λ t. with_field_if has_needed (codes "required") t (trees.entries_view more.entries)) (view_array required))))
+first_if : (n m : List ℕ) (wanted : Bool) (t : json.Tree) (fs : json.Fields) → slice_cmp nat_cmp n m ≡ Less → IsFirst n fs → IsFirst n (field_if wanted m t fs)
+first_if n m true t fs less h = less
+first_if n m false t fs less h = h
+
+first_objects : (n : List ℕ) (objects : Option WrittenObjects) (fs : json.Fields) → slice_cmp nat_cmp n (codes "properties") ≡ Less → slice_cmp nat_cmp n (codes "required") ≡ Less → IsFirst n fs → IsFirst n (with_objects objects fs)
+first_objects n None fs properties required h = h
+first_objects n (Some objects) fs properties required h =
+    first_if n (codes "properties") (some_listed objects.properties.entries) _ _ properties (first_if n (codes "required") (some_listed objects.required.items) _ fs required h)
+
+first_arrays : (n : List ℕ) (arrays : Option WrittenArrays) (fs : json.Fields) → slice_cmp nat_cmp n (codes "items") ≡ Less → slice_cmp nat_cmp n (codes "minItems") ≡ Less → slice_cmp nat_cmp n (codes "prefixItems") ≡ Less → IsFirst n fs → IsFirst n (with_arrays arrays fs)
+first_arrays n None fs items least prefix h = h
+first_arrays n (Some arrays) fs items least prefix h =
+    first_if n (codes "items") (is_some arrays.items) _ _ items (first_if n (codes "minItems") (some_listed arrays.prefix_items.items) _ _ least (first_if n (codes "prefixItems") (some_listed arrays.prefix_items.items) _ fs prefix h))
+
+objects_made : (objects : Option WrittenObjects) (fs : json.Fields) → IsFirst (codes "properties") fs → IsFirst (codes "required") fs → objects_added objects fs ≡ with_objects objects fs
+objects_made None fs properties required = refl
+objects_made (Some objects) fs properties required =
+    let has_needed = some_listed objects.required.items in
+    let names = json.Array (trees.elements_view objects.required.items) in
+    let has_fields = some_listed objects.properties.entries in
+    let mentioned = json.Object (trees.entries_view objects.properties.entries) in
+    ap (with_field_if has_fields (codes "properties") mentioned) (added_first has_needed (codes "required") names fs required)
+    ∙ added_first has_fields (codes "properties") mentioned _ (first_if (codes "properties") (codes "required") has_needed names fs refl properties)
+
+arrays_made : (arrays : Option WrittenArrays) (fs : json.Fields) → IsFirst (codes "items") fs → IsFirst (codes "minItems") fs → IsFirst (codes "prefixItems") fs → arrays_added arrays fs ≡ with_arrays arrays fs
+arrays_made None fs items least prefix = refl
+arrays_made (Some arrays) fs items least prefix =
+    let has_first = some_listed arrays.prefix_items.items in
+    let first = json.Array (trees.elements_view arrays.prefix_items.items) in
+    let number = json.Integer (pos (length arrays.prefix_items.items)) in
+    let has_items = is_some arrays.items in
+    let further = items_written arrays.items in
+    ap (λ gs. with_field_if has_items (codes "items") further (with_field_if has_first (codes "minItems") number gs)) (added_first has_first (codes "prefixItems") first fs prefix)
+    ∙ ap (with_field_if has_items (codes "items") further) (added_first has_first (codes "minItems") number _ (first_if (codes "minItems") (codes "prefixItems") has_first first fs refl least))
+    ∙ added_first has_items (codes "items") further _ (first_if (codes "items") (codes "minItems") has_first number _ refl (first_if (codes "items") (codes "prefixItems") has_first first fs refl items))
+
+-- those for objects, put one after another
+pub objects_put : (objects : WrittenObjects) (has_fields has_needed : Bool) (mentioned names : json.Tree) (old some more : json.Fields) → has_fields ≡ some_listed objects.properties.entries → has_needed ≡ some_listed objects.required.items → mentioned ≡ json.Object (trees.entries_view objects.properties.entries) → names ≡ json.Array (trees.elements_view objects.required.items) → some ≡ with_field_if has_needed (codes "required") names old → more ≡ with_field_if has_fields (codes "properties") mentioned some → more ≡ objects_added (Some objects) old
+objects_put objects has_fields has_needed mentioned names old some more e f g h i j = rw (j, i, e, f, g, h) refl
+
+-- and for arrays
+pub arrays_put : (arrays : WrittenArrays) (has_items has_first : Bool) (items first number : json.Tree) (old some more all : json.Fields) → has_items ≡ is_some arrays.items → has_first ≡ some_listed arrays.prefix_items.items → items ≡ items_written arrays.items → first ≡ json.Array (trees.elements_view arrays.prefix_items.items) → number ≡ json.Integer (pos (length arrays.prefix_items.items)) → some ≡ with_field_if has_first (codes "prefixItems") first old → more ≡ with_field_if has_first (codes "minItems") number some → all ≡ with_field_if has_items (codes "items") items more → all ≡ arrays_added (Some arrays) old
+arrays_put arrays has_items has_first items first number old some more all e f g h i j k l = rw (l, k, j, e, f, g, h, i) refl
+
+pub items_shown : (items : Option Tree) → trees.view (unwrap_or items (tree.Bool true)) ≡ items_written items
+items_shown None = view_truth true
+items_shown (Some items) = refl
+
+-- the keywords one after another, each in front
+pub keywords_made : (closed : Bool) (names : List (List ℕ)) (arrays : Option WrittenArrays) (objects : Option WrittenObjects) (bare some more all : json.Fields) → bare ≡ type_field names → some ≡ objects_added objects bare → more ≡ arrays_added arrays some → all ≡ with_field_if closed (codes "additionalProperties") (json.Boolean false) more → all ≡ closed_first closed (with_arrays arrays (with_objects objects (type_field names)))
+keywords_made closed names arrays objects bare some more all e f g h =
+    let objects_are : some ≡ with_objects objects (type_field names) = f ∙ ap (objects_added objects) e ∙ objects_made objects (type_field names) refl refl in
+    let arrays_are : more ≡ with_arrays arrays (with_objects objects (type_field names)) =
+    g ∙ ap (arrays_added arrays) objects_are ∙ arrays_made arrays (with_objects objects (type_field names)) (first_objects (codes "items") objects (type_field names) refl refl refl) (first_objects (codes "minItems") objects (type_field names) refl refl refl) (first_objects (codes "prefixItems") objects (type_field names) refl refl refl) in
+    h ∙ ap (with_field_if closed (codes "additionalProperties") (json.Boolean false)) arrays_are
+    ∙ added_first closed (codes "additionalProperties") (json.Boolean false) _ (first_arrays (codes "additionalProperties") arrays _ refl refl refl (first_objects (codes "additionalProperties") objects (type_field names) refl refl refl))
+
+-- ---- the names of the types
+
+texts_shown : (ns : List (List ℕ)) → json.trees_of (map json.Text ns) ≡ as_texts ns
+texts_shown [] = refl
+texts_shown (n ∷ ns) = ap (json.AndTree (json.Text n)) (texts_shown ns)
+
+name_first : (wanted : Bool) (n : List ℕ) (names : List (List ℕ)) (texts : List json.Tree) → texts ≡ map json.Text names → text_if wanted n ++ texts ≡ map json.Text (name_if wanted n names)
+name_first true n names texts e = ap (λ ts. json.Text n ∷ ts) e
+name_first false n names texts e = e
+
+text_last : (wanted : Bool) (n : List ℕ) → text_if wanted n ≡ map json.Text (name_if wanted n [])
+text_last true n = refl
+text_last false n = refl
+
+pub types_named : (written : Written) → types_listed written ≡ map json.Text (names_of written)
+types_named written =
+    name_first (is_some written.arrays) (codes "array") _ _ (name_first written.boolean (codes "boolean") _ _ (name_first written.integer (codes "integer") _ _ (name_first written.null (codes "null") _ _ (name_first (is_some written.objects) (codes "object") _ _ (text_last written.text (codes "string"))))))
+
+-- one more, behind the others
+pub text_pushed : (ts new : List Tree) (s : String Global) (n : List ℕ) → new ≡ ts ++ tree.Text s ∷ [] → string_bytes s ≡ n → map trees.view new ≡ map trees.view ts ++ json.Text n ∷ []
+text_pushed ts new s n pushed is =
+    ap (map trees.view) pushed ∙ map-append trees.view ts (tree.Text s ∷ []) ∙ ap (λ t. map trees.view ts ++ t ∷ []) (view_text s ∙ ap json.Text is)
+
+-- names stand as a list, unless there is one alone
+other_types : (ts : List Tree) (ns : List (List ℕ)) → (length ts ≡ 1 → ⊥) → map trees.view ts ≡ map json.Text ns → json.Array (trees.elements_view ts) ≡ type_written ns
+other_types [] [] several e = refl
+other_types [] (n ∷ ns) several e = absurd (cc)
+other_types (t ∷ ts) [] several e = absurd (cc)
+other_types (t ∷ []) (n ∷ ns) several e = absurd (several refl)
+other_types (t ∷ (u ∷ ts)) (n ∷ []) several e = absurd (cc)
+other_types (t ∷ (u ∷ ts)) (n ∷ (m ∷ ns)) several e = ap json.Array (ap json.trees_of e ∙ texts_shown (n ∷ (m ∷ ns)))
+
+pub types_shown : (ts : Vec Tree Global) (ns : List (List ℕ)) → (length ts.items ≡ 1 → ⊥) → map trees.view ts.items ≡ map json.Text ns → trees.view (tree.List ts) ≡ type_written ns
+types_shown ts ns several e = view_array ts ∙ other_types ts.items ns several e
+
+-- ---- the whole
+
+some_kinds : (ts : List Tree) (names : List (List ℕ)) (closed : Bool) (keywords : json.Fields) → some_listed ts ≡ true → map trees.view ts ≡ map json.Text names → written_kinds closed names keywords ≡ json.Object (closed_first closed keywords)
+some_kinds [] names closed keywords some e = absurd (cc)
+some_kinds (t ∷ ts) [] closed keywords some e = absurd (cc)
+some_kinds (t ∷ ts) (n ∷ names) closed keywords some e = refl
+
+pub kinds_tree : (ts : List Tree) (names : List (List ℕ)) (closed : Bool) (keywords : json.Fields) (all : BTreeMap (String Global) Tree) → some_listed ts ≡ true → map trees.view ts ≡ map json.Text names → trees.entries_view all.entries ≡ closed_first closed keywords → trees.view (tree.Object all) ≡ written_kinds closed names keywords
+kinds_tree ts names closed keywords all some e made =
+    view_members all ∙ ap json.Object made ∙ sym (some_kinds ts names closed keywords some e)
 
 -- ---- elements
 
@@ -77,25 +170,20 @@ how_many [] (s ∷ ss) e = absurd (cc)
 how_many (t ∷ ts) [] e = absurd (cc)
 how_many (t ∷ ts) (s ∷ ss) e = ap suc (how_many ts ss (cc))
 
-some_first : (ts : List Tree) (ss : List Shape) → trees.elements_view ts ≡ written_shapes (shapes_view ss) → is_some ts ≡ some_shapes (shapes_view ss)
+some_first : (ts : List Tree) (ss : List Shape) → trees.elements_view ts ≡ written_shapes (shapes_view ss) → some_listed ts ≡ some_shapes (shapes_view ss)
 some_first [] [] e = refl
 some_first [] (s ∷ ss) e = absurd (cc)
 some_first (t ∷ ts) [] e = absurd (cc)
 some_first (t ∷ ts) (s ∷ ss) e = refl
 
-pub list_written : (first : Vec Shape Global) (rest : Box Shape Global) (ts : List Tree) (items : json.Tree) (has_items : Bool) → trees.elements_view ts ≡ written_shapes (shapes_view first.items) → items ≡ written_shape (view rest.value) → has_items ≡ not (is_any_shape (view rest.value)) → json.Object (array_fields has_items (is_some ts) items (length ts) (json.Array (trees.elements_view ts)) (type_field (codes "array" ∷ []))) ≡ written_shape (view (TheViews.List first rest))
-list_written first rest ts items has_items e f g =
-    rw (view_list first rest, some_first ts first.items e, how_many ts first.items e, e, f, g) refl
+pub arrays_written : (first : List Shape) (rest : Shape) (ts : List Tree) (items : Option Tree) (others : json.Fields) → trees.elements_view ts ≡ written_shapes (shapes_view first) → is_some items ≡ not (is_any_shape (view rest)) → items_written items ≡ written_shape (view rest) → array_fields (is_some items) (some_listed ts) (items_written items) (length ts) (json.Array (trees.elements_view ts)) others ≡ with_written_arrays (model.ArraysOf (shapes_view first) (view rest)) others
+arrays_written first rest ts items others e f g = rw (some_first ts first e, how_many ts first e, e, f, g) refl
 
 -- ---- needed names
 
 -- the names of the needed fields, each as a tree
 abbrev pub needed_texts : List Mention → List json.Tree
 needed_texts ms = map json.Text (needed_names (fields_view ms))
-
-texts_shown : (ns : List (List ℕ)) → json.trees_of (map json.Text ns) ≡ as_texts ns
-texts_shown [] = refl
-texts_shown (n ∷ ns) = ap (json.AndTree (json.Text n)) (texts_shown ns)
 
 -- one more name
 pub name_written : (ts new : List Tree) (m : Mention) (left now : List Mention) (k : String Global) (all : List json.Tree) → new ≡ ts ++ tree.Text k ∷ [] → now ≡ m ∷ left → m.1.needed ≡ true → string_bytes k ≡ string_bytes m.0 → map trees.view ts ++ needed_texts now ≡ all → map trees.view new ++ needed_texts left ≡ all
@@ -110,7 +198,7 @@ names_written ts ms left none e =
     let all : map trees.view ts ≡ needed_texts ms = sym (append-nil (map trees.view ts)) ∙ ap (λ ms. map trees.view ts ++ needed_texts ms) (sym none) ∙ e in
     ap json.trees_of all ∙ texts_shown (needed_names (fields_view ms))
 
-some_needed : (ts : List Tree) (ns : List (List ℕ)) → trees.elements_view ts ≡ as_texts ns → is_some ts ≡ some_names ns
+some_needed : (ts : List Tree) (ns : List (List ℕ)) → trees.elements_view ts ≡ as_texts ns → some_listed ts ≡ some_names ns
 some_needed [] [] e = refl
 some_needed [] (n ∷ ns) e = absurd (cc)
 some_needed (t ∷ ts) [] e = absurd (cc)
@@ -129,32 +217,11 @@ pub field_written : (done : List Mention) (m : Mention) (more : List Mention) (e
 field_written done m more es k t sorted so_far named written =
     field_added es k t ∙ rw (named, written, so_far) (written_last done m more sorted)
 
-some_mentioned : (es : List Entry) (ms : List Mention) → trees.entries_view es ≡ written_fields (fields_view ms) → is_some es ≡ some_fields (fields_view ms)
+some_mentioned : (es : List Entry) (ms : List Mention) → trees.entries_view es ≡ written_fields (fields_view ms) → some_listed es ≡ some_fields (fields_view ms)
 some_mentioned [] [] e = refl
 some_mentioned [] (m ∷ ms) e = absurd (cc)
 some_mentioned (x ∷ es) [] e = absurd (cc)
 some_mentioned (x ∷ es) (m ∷ ms) e = refl
 
-pub object_written : (fields : BTreeMap (String Global) Field) (extra : Bool) (es : List Entry) (ts : List Tree) → trees.entries_view es ≡ written_fields (fields_view fields.entries) → trees.elements_view ts ≡ as_texts (needed_names (fields_view fields.entries)) → json.Object (closed_first (not extra) (object_fields (is_some es) (is_some ts) (json.Object (trees.entries_view es)) (trees.elements_view ts) (type_field (codes "object" ∷ [])))) ≡ written_shape (view (TheViews.Object fields extra))
-object_written fields extra es ts e f =
-    rw (view_object fields extra, some_mentioned es fields.entries e, some_needed ts (needed_names (fields_view fields.entries)) f, e, f) refl
-
--- ---- proper shapes
-
--- the fields are proper if their names are in order
-pub record ProperInOrder (shapes : model.FieldShapes) : Type 0 where
-  pub proper : AreInOrder shapes → model.AreProperFields shapes
-
-pub and_proper_in_order : (m : Mention) (ms now : List Mention) → now ≡ m ∷ ms → Proper (view m.1.shape) → ProperInOrder (fields_view ms) → ProperInOrder (fields_view now)
-and_proper_in_order m ms now split h others =
-    rw split (record { proper = (λ order. (order.0, order.1, h.proper, others.proper order.2)) })
-
-pub all_proper : (ms left : List Mention) → left ≡ [] → (ProperInOrder (fields_view left) → ProperInOrder (fields_view ms)) → AreInOrder (fields_view ms) → FieldsProper (fields_view ms)
-all_proper ms left none h order = record { proper = (h (rw none (record { proper = (λ o. tt) }))).proper order }
-
-pub and_proper : (s : Shape) (ss : List Shape) → Proper (view s) → AllProper (shapes_view ss) → AllProper (shapes_view (s ∷ ss))
-and_proper s ss h others = record { proper = (h.proper, others.proper) }
-
-pub object_proper : (fields : BTreeMap (String Global) Field) (extra : Bool) (r : Result Tree OutOfMemory) → FieldsProper (fields_view fields.entries) → IfOk r (λ _. Proper (view (TheViews.Object fields extra)))
-object_proper fields extra (Ok t) h = rw (view_object fields extra) (record { proper = (refl, tt, h.proper) })
-object_proper fields extra (Err e) h = tt
+pub objects_written : (ms : List Mention) (extra : Bool) (es : List Entry) (ts : List Tree) (others : json.Fields) → trees.entries_view es ≡ written_fields (fields_view ms) → trees.elements_view ts ≡ as_texts (needed_names (fields_view ms)) → object_fields (some_listed es) (some_listed ts) (json.Object (trees.entries_view es)) (trees.elements_view ts) others ≡ with_written_objects (model.ObjectsOf (fields_view ms) extra) others
+objects_written ms extra es ts others e f = rw (some_mentioned es ms e, some_needed ts (needed_names (fields_view ms)) f, e, f) refl

@@ -14,6 +14,6 @@ abbrev pub with_field_if : Bool → List ℕ → Tree → Fields → Fields
 with_field_if wanted n t fs = if wanted then with_field n t fs else fs
 
 -- there is an element
-abbrev pub is_some : {A : Type 0} → List A → Bool
-is_some [] = false
-is_some (x ∷ xs) = true
+abbrev pub some_listed : {A : Type 0} → List A → Bool
+some_listed [] = false
+some_listed (x ∷ xs) = true

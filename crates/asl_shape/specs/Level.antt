@@ -1,18 +1,28 @@
 -- One level of the spelling of a shape: what its keywords say, with the spellings of the shapes inside as they stand.
 use Rattle.std.specs.Prelude.{◌≡◌, ℕ, List, [], ◌∷◌, ◌++◌, Bool, if◌then◌else◌, Option, Some, None, option_map, codes}
 use Rattle.std.specs.Option.{unwrap_or}
-use Rattle.asl_model.specs.Shape.{Shape, Any, Never, NullShape, BooleanShape, IntegerShape, StringShape, ArrayShape, ObjectShape}
-use Rattle.asl_model.specs.ShapeSpelling.{ShapeFault, NotAShape, Keyword, foreign_faults, array_keywords, object_keywords, TypeWord, OfObject, OfArray, OfInteger, OfString, OfBoolean, OfNull, OtherType, NotAType, NoType, type_word_of, typed_faults, required_in, required_faults, extra_in, extra_faults, with_all_needed, min_items_faults, element_count, shape_of, element_shapes, field_shapes, shape_faults, element_faults, field_faults}
+use Rattle.asl_model.specs.Shape.{Simple, Shape, Any, Never, OfKinds, Arrays, WithoutArrays, ArraysOf, Objects, WithoutObjects, ObjectsOf}
+use Rattle.asl_model.specs.ShapeSpelling.{ShapeFault, NotAShape, is_among, simple_named, types_in, typed_faults, required_in, required_faults, extra_in, extra_faults, with_all_needed, min_items_faults, element_count, shape_of, element_shapes, field_shapes, shape_faults, element_faults, field_faults}
 use Rattle.asl_model.specs.Tree.{Tree, Null, Boolean, Integer, Text, Array, Object, Trees, NoTrees, Fields, NoFields, field_named}
+
+-- what one level says of arrays: the spellings for the first elements, and the one for each further element, where
+-- there is one
+pub record ListLevel : Type 0 where
+  pub first : Trees
+  pub rest : Option Tree
+
+-- of objects: the properties with their spellings, the names of the needed fields, and whether there may be other fields
+pub record ObjectLevel : Type 0 where
+  pub properties : Fields
+  pub names : List (List ℕ)
+  pub extra : Bool
 
 -- what one level says
 pub data Level : Type 0 where
-  -- a shape with no other inside
-  Plain : Shape → Level
-  -- the spellings for the first elements, and the one for each further element, where there is one
-  ListLevel : Trees → Option Tree → Level
-  -- the properties with their spellings, the names of the needed fields, and whether there may be other fields
-  ObjectLevel : Fields → List (List ℕ) → Bool → Level
+  -- a shape that is spelled whole
+  Whole : Shape → Level
+  -- the simple kinds, and what is said of arrays and of objects, where they are among the kinds
+  OfTypes : Simple → Option ListLevel → Option ObjectLevel → Level
 
 -- the elements of a value, where it is a list
 abbrev pub elements_in : Option Tree → Trees
@@ -54,34 +64,46 @@ object_faults (Some (Text s)) = NotAShape ∷ []
 object_faults (Some (Array ts)) = NotAShape ∷ []
 object_faults (Some (Object fs)) = []
 
--- the level of that type, for what its keywords say of an array and of an object
-abbrev pub typed_level : TypeWord → Level → Level → Level
-typed_level OfObject array_level object_level = object_level
-typed_level OfArray array_level object_level = array_level
-typed_level OfInteger array_level object_level = Plain IntegerShape
-typed_level OfString array_level object_level = Plain StringShape
-typed_level OfBoolean array_level object_level = Plain BooleanShape
-typed_level OfNull array_level object_level = Plain NullShape
-typed_level OtherType array_level object_level = Plain Any
-typed_level NotAType array_level object_level = Plain Any
-typed_level NoType array_level object_level = Plain Any
+-- what the keywords for arrays say, and those for objects
+abbrev pub array_level : Fields → ListLevel
+array_level fs =
+    record {
+      first = elements_in (field_named (codes "prefixItems") fs);
+      rest = field_named (codes "items") fs;
+    }
 
--- what the keywords of an array and of an object say
-abbrev pub array_level : Fields → Level
-array_level fs = ListLevel (elements_in (field_named (codes "prefixItems") fs)) (field_named (codes "items") fs)
-
-abbrev pub object_level : Fields → Level
+abbrev pub object_level : Fields → ObjectLevel
 object_level fs =
-    ObjectLevel (fields_in (field_named (codes "properties") fs)) (required_in (field_named (codes "required") fs)) (extra_in (field_named (codes "additionalProperties") fs))
+    record {
+      properties = fields_in (field_named (codes "properties") fs);
+      names = required_in (field_named (codes "required") fs);
+      extra = extra_in (field_named (codes "additionalProperties") fs);
+    }
+
+-- that, where it is wanted
+abbrev pub only_if : {A : Type 0} → Bool → A → Option A
+only_if wanted a = if wanted then Some a else None
+
+-- the level of these types
+abbrev pub kinds_level : List (List ℕ) → Fields → Level
+kinds_level names fs =
+    OfTypes (simple_named names)
+    (only_if (is_among (codes "array") names) (array_level fs))
+    (only_if (is_among (codes "object") names) (object_level fs))
+
+-- the same, or Any whole where there is no type
+abbrev pub typed_level : List (List ℕ) → Fields → Level
+typed_level [] fs = Whole Any
+typed_level (n ∷ names) fs = kinds_level (n ∷ names) fs
 
 -- what the level of a spelling says
 abbrev pub level_of : Tree → Level
-level_of Null = Plain Any
-level_of (Boolean b) = Plain (if b then Any else Never)
-level_of (Integer n) = Plain Any
-level_of (Text s) = Plain Any
-level_of (Array ts) = Plain Any
-level_of (Object fs) = typed_level (type_word_of fs) (array_level fs) (object_level fs)
+level_of Null = Whole Any
+level_of (Boolean b) = Whole (if b then Any else Never)
+level_of (Integer n) = Whole Any
+level_of (Text s) = Whole Any
+level_of (Array ts) = Whole Any
+level_of (Object fs) = typed_level (types_in (field_named (codes "type") fs)) fs
 
 -- what is wrong with the keywords of an array and of an object, where each spelling inside is right
 abbrev pub array_level_faults : Fields → List ShapeFault
@@ -93,45 +115,55 @@ abbrev pub object_level_faults : Fields → List ShapeFault
 object_level_faults fs =
     object_faults (field_named (codes "properties") fs) ++ (required_faults (field_named (codes "required") fs) ++ extra_faults (field_named (codes "additionalProperties") fs))
 
--- the same with a fault for each keyword that is foreign to the type
-abbrev pub all_array_faults : Fields → List ShapeFault
-all_array_faults fs = foreign_faults Keyword array_keywords fs ++ array_level_faults fs
-
-abbrev pub all_object_faults : Fields → List ShapeFault
-all_object_faults fs = foreign_faults Keyword object_keywords fs ++ object_level_faults fs
-
--- what is wrong with a spelling where each spelling inside is right
-abbrev pub level_faults : Tree → List ShapeFault
-level_faults Null = NotAShape ∷ []
-level_faults (Boolean b) = []
-level_faults (Integer n) = NotAShape ∷ []
-level_faults (Text s) = NotAShape ∷ []
-level_faults (Array ts) = NotAShape ∷ []
-level_faults (Object fs) = typed_faults (type_word_of fs) fs (array_level_faults fs) (object_level_faults fs)
+-- What is wrong with a spelling where each spelling inside is right; `several` says whether a list of types may stand.
+abbrev pub level_faults : Bool → Tree → List ShapeFault
+level_faults several Null = NotAShape ∷ []
+level_faults several (Boolean b) = []
+level_faults several (Integer n) = NotAShape ∷ []
+level_faults several (Text s) = NotAShape ∷ []
+level_faults several (Array ts) = NotAShape ∷ []
+level_faults several (Object fs) =
+    typed_faults several (field_named (codes "type") fs) fs (array_level_faults fs) (object_level_faults fs)
 
 -- the shape of the further elements, and what is wrong with its spelling; it is Any where there is none
 abbrev pub rest_shape : Option Tree → Shape
 rest_shape rest = unwrap_or (option_map shape_of rest) Any
 
-abbrev pub rest_faults : Option Tree → List ShapeFault
-rest_faults rest = unwrap_or (option_map shape_faults rest) []
+abbrev pub rest_faults : Bool → Option Tree → List ShapeFault
+rest_faults several rest = unwrap_or (option_map (shape_faults several) rest) []
 
--- the shape of the level, with the shapes inside that their spellings spell
+-- the arrays and the objects of the level, with the shapes inside that their spellings spell
+abbrev pub arrays_over : Option ListLevel → Arrays
+arrays_over None = WithoutArrays
+arrays_over (Some level) = ArraysOf (element_shapes level.first) (rest_shape level.rest)
+
+abbrev pub objects_over : Option ObjectLevel → Objects
+objects_over None = WithoutObjects
+objects_over (Some level) =
+    ObjectsOf (with_all_needed level.extra level.names (field_shapes level.properties)) level.extra
+
+-- the shape of the level
 abbrev pub shape_over : Level → Shape
-shape_over (Plain s) = s
-shape_over (ListLevel first rest) = ArrayShape (element_shapes first) (rest_shape rest)
-shape_over (ObjectLevel properties names extra) = ObjectShape (with_all_needed extra names (field_shapes properties)) extra
+shape_over (Whole s) = s
+shape_over (OfTypes simple list object) = OfKinds simple (arrays_over list) (objects_over object)
 
 -- what is wrong with the spellings inside
-abbrev pub inner_faults : Level → List ShapeFault
-inner_faults (Plain s) = []
-inner_faults (ListLevel first rest) = element_faults first ++ rest_faults rest
-inner_faults (ObjectLevel properties names extra) = field_faults properties
+abbrev pub list_inner_faults : Bool → Option ListLevel → List ShapeFault
+list_inner_faults several None = []
+list_inner_faults several (Some level) = element_faults several level.first ++ rest_faults several level.rest
+
+abbrev pub object_inner_faults : Bool → Option ObjectLevel → List ShapeFault
+object_inner_faults several None = []
+object_inner_faults several (Some level) = field_faults several level.properties
+
+abbrev pub inner_faults : Bool → Level → List ShapeFault
+inner_faults several (Whole s) = []
+inner_faults several (OfTypes simple list object) = list_inner_faults several list ++ object_inner_faults several object
 
 -- The spelling says that level, and nothing is wrong with it but what is with the spellings inside: it spells the shape
 -- over the level where these spell theirs.
-pub record SpelledOver (t : Tree) (level : Level) : Type 0 where
-  pub none_wrong : level_faults t ≡ []
+pub record SpelledOver (several : Bool) (t : Tree) (level : Level) : Type 0 where
+  pub none_wrong : level_faults several t ≡ []
   pub same : level_of t ≡ level
   pub shape : shape_of t ≡ shape_over level
-  pub faults : shape_faults t ≡ inner_faults level
+  pub faults : shape_faults several t ≡ inner_faults several level

@@ -1,9 +1,12 @@
 pub mod Adding
+pub mod Kinds
 pub mod Known
 pub mod Level
 pub mod LevelView
 pub mod Proper
+pub mod Properness
 pub mod Refusal
 pub mod Spelled
+pub mod Types
 pub mod View
-pub mod Words
+pub mod WrittenKinds

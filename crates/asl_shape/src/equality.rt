@@ -1,35 +1,68 @@
 // Whether two shapes are equal.
+ghost use Rattle.asl_shape.specs.Kinds.{arrays_view, objects_view, simple_of};
 ghost use Rattle.asl_shape.specs.View.{view, shapes_view, fields_view};
 ghost use Rattle.std.specs.Prelude.{◌≡◌, ◌↔◌, IsTrue};
 
+use crate::kinds::{Arrays, Kinds, Objects, take_apart};
 use crate::shape::{Field, Shape};
 use std::collections::BTreeMap;
 
-/// Whether the two shapes are equal: of one kind and with equal parts. Shapes that the same trees have may differ.
+/// Whether the two shapes are equal: of the same kinds and with equal parts. Shapes that the same trees have may differ.
 #[cycle(same)]
 pub fn same(first: &Shape, second: &Shape) -> bool
     ensures as_defined { IsTrue result ↔ view first.now ≡ view second.now }
 {
-    match first {
-        Shape::Any => matches!(second, Shape::Any),
-        Shape::Never => matches!(second, Shape::Never),
-        Shape::Null => matches!(second, Shape::Null),
-        Shape::Bool => matches!(second, Shape::Bool),
-        Shape::Int => matches!(second, Shape::Int),
-        Shape::Text => matches!(second, Shape::Text),
-        Shape::List { first, rest } => match second {
-            Shape::List {
-                first: places,
-                rest: further,
-            } => same_shapes(first, places) && same(rest, further),
-            _ => false,
+    match take_apart(first) {
+        None => take_apart(second).is_none(),
+        Some(kinds) => match take_apart(second) {
+            None => false,
+            Some(others) => {
+                same_simple(&kinds, &others)
+                    && same_arrays(kinds.arrays, others.arrays)
+                    && same_objects(kinds.objects, others.objects)
+            }
         },
-        Shape::Object { fields, extra } => match second {
-            Shape::Object {
-                fields: others,
-                extra: more,
-            } => extra == more && same_fields(fields, others),
-            _ => false,
+    }
+}
+
+// Whether both take the same simple kinds.
+fn same_simple(first: &Kinds<'_>, second: &Kinds<'_>) -> bool
+    ensures { IsTrue result
+        ↔ simple_of first.now.null first.now.boolean first.now.integer first.now.text
+        ≡ simple_of second.now.null second.now.boolean second.now.integer second.now.text }
+{
+    first.null == second.null
+        && first.boolean == second.boolean
+        && first.integer == second.integer
+        && first.text == second.text
+}
+
+#[cycle(same)]
+fn same_arrays(first: Option<Arrays<'_>>, second: Option<Arrays<'_>>) -> bool
+    ensures { IsTrue result ↔ arrays_view first.entry ≡ arrays_view second.entry }
+{
+    match first {
+        None => second.is_none(),
+        Some(arrays) => match second {
+            None => false,
+            Some(others) => {
+                same_shapes(arrays.first, others.first) && same(arrays.rest, others.rest)
+            }
+        },
+    }
+}
+
+#[cycle(same)]
+fn same_objects(first: Option<Objects<'_>>, second: Option<Objects<'_>>) -> bool
+    ensures { IsTrue result ↔ objects_view first.entry ≡ objects_view second.entry }
+{
+    match first {
+        None => second.is_none(),
+        Some(objects) => match second {
+            None => false,
+            Some(others) => {
+                objects.extra == others.extra && same_fields(objects.fields, others.fields)
+            }
         },
     }
 }
@@ -52,6 +85,7 @@ fn same_shapes(first: &[Shape], second: &[Shape]) -> bool
     left.next().is_none()
 }
 
+#[tactic(auto, using(crate::proofs::Depths::fields_left_depth))]
 #[cycle(same)]
 fn same_fields(first: &BTreeMap<String, Field>, second: &BTreeMap<String, Field>) -> bool
     ensures { IsTrue result ↔ fields_view first.now.entries ≡ fields_view second.now.entries }

@@ -1,30 +1,34 @@
 // A shape that two shapes are inside.
 ghost use Rattle.asl_model.specs.Shape as shape;
 ghost use Rattle.asl_model.specs.ShapeOrder as model;
+ghost use Rattle.asl_shape.specs.Kinds.{arrays_view, objects_view, owned_arrays_view, owned_objects_view};
+ghost use Rattle.asl_shape.specs.Properness.{is_proper, are_proper, arrays_proper, fields_proper, objects_proper};
 ghost use Rattle.asl_shape.specs.View.{view, shapes_view, fields_view};
-ghost use Rattle.std.specs.Prelude.{◌≡◌, IfOk, false};
+ghost use Rattle.std.specs.Prelude.{◌≡◌, IfOk, IsTrue, Some, false};
 
-use crate::copying::copy;
-use crate::inhabiting::is_inhabited;
+use crate::copying::{copy, copy_arrays, copy_objects};
+use crate::inhabiting::{is_inhabited, some_array, some_object};
+use crate::kinds::{Arrays, Objects, OwnedArrays, OwnedKinds, OwnedObjects, of_kinds, take_apart};
 use crate::shape::{Field, Shape};
 use asl_model::shape_laws::join_is_above_both;
 use asl_tree::OutOfMemory;
 use std::alloc::Global;
 use std::collections::BTreeMap;
 
-/// The join of two shapes: every tree of either has it.
+/// The join of two shapes, a proper one: every tree of either has it.
 ///
-/// Where one of the shapes isn't inhabited, it is the other (the second where both aren't). Two shapes of one simple
-/// kind give that kind. Two lists give the joins of the places that both have; the shape of the further elements is the
-/// join of all that stands behind those places, one after another: the places of one list alone, then the first's
-/// `rest`, then the second's. Two objects give an object that may have fields that aren't mentioned where either may; a
-/// field that both mention is needed where both need it, with the join of its shapes; a field that one alone mentions
-/// is optional, and isn't mentioned at all where the other may have fields that it doesn't mention. All else gives
-/// `Any`.
+/// Where one of the shapes isn't inhabited, it is the other (the second where both aren't). Where one is `Any`, it is
+/// `Any`. Else it takes what either takes, kind by kind; lists that no list is of, and objects that no object is of, are
+/// left out first. Lists of both give the joins of the places that both have; the shape of the further elements is the
+/// join of all that stands behind those places, one after another: the places of one alone, then the first's `rest`,
+/// then the second's. Objects of both give objects that may have fields that aren't mentioned where either may; a field
+/// that both mention is needed where both need it, with the join of its shapes; a field that one alone mentions is
+/// optional, and isn't mentioned at all where the other may have fields that it doesn't mention.
 ///
 /// Refuses only where an allocation was refused.
 pub fn join(alloc: Global, first: &Shape, second: &Shape) -> Result<Shape, OutOfMemory>
     ensures as_defined { IfOk result (λ s. view s ≡ model.join (view first.now) (view second.now)) }
+    ensures proper { IfOk result (λ s. IsTrue (is_proper s)) }
     ensures left { IfOk result (λ s. shape.Inside (view first.now) (view s)) }
     ensures right { IfOk result (λ s. shape.Inside (view second.now) (view s)) }
 {
@@ -34,7 +38,8 @@ pub fn join(alloc: Global, first: &Shape, second: &Shape) -> Result<Shape, OutOf
 
 #[cycle(join)]
 fn join_shapes(alloc: Global, first: &Shape, second: &Shape) -> Result<Shape, OutOfMemory>
-    ensures { IfOk result (λ s. view s ≡ model.join (view first.now) (view second.now)) }
+    ensures joined { IfOk result (λ s. view s ≡ model.join (view first.now) (view second.now)) }
+    ensures proper { IfOk result (λ s. IsTrue (is_proper s)) }
 {
     if !is_inhabited(first) {
         copy(alloc, second)
@@ -48,64 +53,99 @@ fn join_shapes(alloc: Global, first: &Shape, second: &Shape) -> Result<Shape, Ou
 // The join of two shapes that are inhabited.
 #[cycle(join)]
 fn join_kinds(alloc: Global, first: &Shape, second: &Shape) -> Result<Shape, OutOfMemory>
-    ensures { IfOk result
+    ensures joined { IfOk result
         (λ s. view s ≡ model.join_kinds model.join (view first.now) (view second.now)) }
+    ensures proper { IfOk result (λ s. IsTrue (is_proper s)) }
 {
-    match first {
-        Shape::Null if matches!(second, Shape::Null) => Ok(Shape::Null),
-        Shape::Bool if matches!(second, Shape::Bool) => Ok(Shape::Bool),
-        Shape::Int if matches!(second, Shape::Int) => Ok(Shape::Int),
-        Shape::Text if matches!(second, Shape::Text) => Ok(Shape::Text),
-        Shape::Any | Shape::Never | Shape::Null | Shape::Bool | Shape::Int | Shape::Text => {
-            Ok(Shape::Any)
-        }
-        Shape::List {
-            first: places,
-            rest,
-        } => join_list(alloc, places, rest, second),
-        Shape::Object { fields, extra } => join_object(alloc, fields, *extra, second),
+    match take_apart(first) {
+        None => Ok(Shape::Any),
+        Some(kinds) => match take_apart(second) {
+            None => Ok(Shape::Any),
+            Some(others) => {
+                let joined = OwnedKinds {
+                    null: kinds.null || others.null,
+                    boolean: kinds.boolean || others.boolean,
+                    integer: kinds.integer || others.integer,
+                    text: kinds.text || others.text,
+                    arrays: join_arrays(
+                        alloc,
+                        kept_arrays(kinds.arrays),
+                        kept_arrays(others.arrays),
+                    )?,
+                    objects: join_objects(
+                        alloc,
+                        kept_objects(kinds.objects),
+                        kept_objects(others.objects),
+                    )?,
+                };
+                of_kinds(alloc, joined)
+            }
+        },
     }
 }
 
-// The join of a shape of lists and another shape.
-#[cycle(join)]
-fn join_list(
-    alloc: Global,
-    places: &[Shape],
-    rest: &Shape,
-    second: &Shape,
-) -> Result<Shape, OutOfMemory>
-    ensures { IfOk result
-        (λ s. view s ≡ model.join_kinds model.join
-        (shape.ArrayShape (shapes_view places.now) (view rest.now)) (view second.now)) }
+// The lists, if there are any such.
+fn kept_arrays<'s>(arrays: Option<Arrays<'s>>) -> Option<Arrays<'s>>
+    ensures { arrays_view result ≡ model.kept_arrays (arrays_view arrays.entry) }
 {
-    match second {
-        Shape::List {
-            first: others,
-            rest: further,
-        } => {
-            let first = join_places(alloc, places, others)?;
-            let behind = places_behind(places, others);
-            let rest = join_behind(alloc, behind, rest, further)?;
-            Ok(Shape::List {
-                first,
-                rest: Box::new(alloc, rest)?,
-            })
-        }
-        Shape::Any
-        | Shape::Never
-        | Shape::Null
-        | Shape::Bool
-        | Shape::Int
-        | Shape::Text
-        | Shape::Object { .. } => Ok(Shape::Any),
+    if some_array(arrays) { arrays } else { None }
+}
+
+// The objects, if there are any such.
+fn kept_objects<'s>(objects: Option<Objects<'s>>) -> Option<Objects<'s>>
+    ensures { objects_view result ≡ model.kept_objects (objects_view objects.entry) }
+{
+    if some_object(objects) { objects } else { None }
+}
+
+// The lists of either, part by part where both have some.
+#[cycle(join)]
+fn join_arrays(
+    alloc: Global,
+    first: Option<Arrays<'_>>,
+    second: Option<Arrays<'_>>,
+) -> Result<Option<OwnedArrays>, OutOfMemory>
+    ensures joined { IfOk result
+        (λ joined. owned_arrays_view joined
+        ≡ model.join_arrays model.join (arrays_view first.entry) (arrays_view second.entry)) }
+    ensures proper { IfOk result (λ joined. IsTrue (arrays_proper joined)) }
+{
+    match first {
+        None => copy_arrays(alloc, second),
+        Some(arrays) => match second {
+            None => copy_arrays(alloc, first),
+            Some(others) => Ok(Some(join_lists(alloc, arrays, others)?)),
+        },
     }
+}
+
+// The lists of both, part by part.
+#[cycle(join)]
+fn join_lists(
+    alloc: Global,
+    arrays: Arrays<'_>,
+    others: Arrays<'_>,
+) -> Result<OwnedArrays, OutOfMemory>
+    ensures proper { IfOk result (λ joined. IsTrue (arrays_proper (Some joined))) }
+    ensures joined { IfOk result
+        (λ joined. owned_arrays_view (Some joined)
+        ≡ model.join_arrays model.join
+        (arrays_view (Some arrays.entry)) (arrays_view (Some others.entry))) }
+{
+    let first = join_places(alloc, arrays.first, others.first)?;
+    let behind = places_behind(arrays.first, others.first);
+    let rest = join_behind(alloc, behind, arrays.rest, others.rest)?;
+    Ok(OwnedArrays {
+        first,
+        rest: Box::new(alloc, rest)?,
+    })
 }
 
 // The joins place by place, as far as both go.
 #[cycle(join)]
 fn join_places(alloc: Global, places: &[Shape], others: &[Shape]) -> Result<Vec<Shape>, OutOfMemory>
-    ensures { IfOk result
+    ensures proper { IfOk result (λ v. IsTrue (are_proper v.items)) }
+    ensures joined { IfOk result
         (λ v. shapes_view v.items ≡ model.common_joins model.join (shapes_view places.now) (shapes_view others.now)) }
 {
     let mut joins = Vec::new(alloc);
@@ -139,7 +179,8 @@ fn join_behind(
     rest: &Shape,
     further: &Shape,
 ) -> Result<Shape, OutOfMemory>
-    ensures { IfOk result
+    ensures proper { IfOk result (λ s. IsTrue (is_proper s)) }
+    ensures joined { IfOk result
         (λ s. view s ≡ model.join (model.join (model.joined_with_each model.join shape.Never (shapes_view behind.now)) (view rest.now)) (view further.now)) }
 {
     if behind.is_empty() {
@@ -153,7 +194,8 @@ fn join_behind(
 // All the shapes joined, in order; `Never` where there is none.
 #[cycle(join)]
 fn join_each(alloc: Global, shapes: &[Shape]) -> Result<Shape, OutOfMemory>
-    ensures { IfOk result
+    ensures proper { IfOk result (λ s. IsTrue (is_proper s)) }
+    ensures joined { IfOk result
         (λ s. view s ≡ model.joined_with_each model.join shape.Never (shapes_view shapes.now)) }
 {
     let mut whole = Shape::Never;
@@ -163,38 +205,52 @@ fn join_each(alloc: Global, shapes: &[Shape]) -> Result<Shape, OutOfMemory>
     Ok(whole)
 }
 
-// The join of a shape of objects and another shape.
+// The objects of either, field by field where both have some.
 #[cycle(join)]
-fn join_object(
+fn join_objects(
     alloc: Global,
-    fields: &BTreeMap<String, Field>,
-    extra: bool,
-    second: &Shape,
-) -> Result<Shape, OutOfMemory>
-    ensures { IfOk result
-        (λ s. view s ≡ model.join_kinds model.join
-        (shape.ObjectShape (fields_view fields.now.entries) extra) (view second.now)) }
+    first: Option<Objects<'_>>,
+    second: Option<Objects<'_>>,
+) -> Result<Option<OwnedObjects>, OutOfMemory>
+    ensures proper { IfOk result (λ joined. IsTrue (objects_proper joined)) }
+    ensures joined { IfOk result
+        (λ joined. owned_objects_view joined
+        ≡ model.join_objects model.join (objects_view first.entry) (objects_view second.entry)) }
 {
-    match second {
-        Shape::Object {
-            fields: others,
-            extra: more,
-        } => {
-            let mut joined = join_fields(alloc, fields, others, *more)?;
-            add_others(alloc, fields, extra, others, &mut joined)?;
-            Ok(Shape::Object {
-                fields: joined,
-                extra: extra || *more,
-            })
-        }
-        Shape::Any
-        | Shape::Never
-        | Shape::Null
-        | Shape::Bool
-        | Shape::Int
-        | Shape::Text
-        | Shape::List { .. } => Ok(Shape::Any),
+    match first {
+        None => copy_objects(alloc, second),
+        Some(objects) => match second {
+            None => copy_objects(alloc, first),
+            Some(others) => Ok(Some(join_both_objects(alloc, objects, others)?)),
+        },
     }
+}
+
+// The objects of both, field by field.
+#[cycle(join)]
+fn join_both_objects(
+    alloc: Global,
+    objects: Objects<'_>,
+    others: Objects<'_>,
+) -> Result<OwnedObjects, OutOfMemory>
+    ensures proper { IfOk result (λ joined. IsTrue (objects_proper (Some joined))) }
+    ensures joined { IfOk result
+        (λ joined. owned_objects_view (Some joined)
+        ≡ model.join_objects model.join
+        (objects_view (Some objects.entry)) (objects_view (Some others.entry))) }
+{
+    let mut joined = join_fields(alloc, objects.fields, others.fields, others.extra)?;
+    add_others(
+        alloc,
+        objects.fields,
+        objects.extra,
+        others.fields,
+        &mut joined,
+    )?;
+    Ok(OwnedObjects {
+        fields: joined,
+        extra: objects.extra || others.extra,
+    })
 }
 
 // The first object's fields, joined with the second's, where `more` says whether the second may have fields that it
@@ -206,7 +262,8 @@ fn join_fields(
     others: &BTreeMap<String, Field>,
     more: bool,
 ) -> Result<BTreeMap<String, Field>, OutOfMemory>
-    ensures { IfOk result
+    ensures proper { IfOk result (λ m. IsTrue (fields_proper m.entries)) }
+    ensures joined { IfOk result
         (λ m. fields_view m.entries ≡ model.joined_fields model.join (fields_view fields.now.entries) (fields_view others.now.entries) more) }
 {
     let mut joined = BTreeMap::new(alloc);
@@ -239,7 +296,9 @@ fn add_others(
     others: &BTreeMap<String, Field>,
     joined: &mut BTreeMap<String, Field>,
 ) -> Result<(), OutOfMemory>
-    ensures { IfOk result
+    ensures proper { IsTrue (fields_proper joined.old.entries)
+        → IfOk result (λ _. IsTrue (fields_proper joined.new.entries)) }
+    ensures joined { IfOk result
         (λ _. fields_view joined.new.entries
         ≡ model.with_other_fields (fields_view fields.now.entries) extra (fields_view others.now.entries) (fields_view joined.old.entries)) }
 {
@@ -255,6 +314,7 @@ fn add_others(
 // The field, as one that doesn't have to be there.
 fn optional(alloc: Global, field: &Field) -> Result<Field, OutOfMemory>
     ensures needed { IfOk result (λ f. f.needed ≡ false) }
+    ensures proper { IfOk result (λ f. IsTrue (is_proper f.shape)) }
     ensures same { IfOk result (λ f. view f.shape ≡ view field.now.shape) }
 {
     Ok(Field {

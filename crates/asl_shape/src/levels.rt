@@ -3,9 +3,10 @@ ghost use Rattle.asl_model.specs.ShapeSpelling as model;
 ghost use Rattle.asl_model.specs.Tree as json;
 ghost use Rattle.asl_shape.specs.Level as levels;
 ghost use Rattle.asl_shape.specs.Level.{SpelledOver, level_faults, list_faults, object_faults, elements_in, fields_in};
-ghost use Rattle.asl_shape.specs.LevelView.{level_view, texts};
+ghost use Rattle.asl_model.specs.Shape as shape;
+ghost use Rattle.asl_shape.specs.LevelView.{level_view, list_view, object_view, texts};
 ghost use Rattle.asl_shape.specs.Refusal.{Tells};
-ghost use Rattle.asl_shape.specs.Words.{word_view};
+ghost use Rattle.asl_shape.specs.Types.{keywords_for, faults_when, TextIn};
 ghost use Rattle.asl_shape.specs.Spelled as trees;
 ghost use Rattle.asl_shape.specs.Spelled.{spelled, entries_view, member_named, value_there, entries_there};
 ghost use Rattle.serde_json.specs.Data.{number};
@@ -13,12 +14,13 @@ ghost use Rattle.serde_json.specs.View.{number_view};
 ghost use Rattle.std.specs.List.{Contains};
 ghost use Rattle.std.specs.Ordering.{int_eq};
 ghost use Rattle.asl_shape.specs.declared.ShapeRefusal.{ShapeRefusal};
-ghost use Rattle.std.specs.Prelude.{◌≡◌, ◌&&◌, [], IsTrue, not, map, codes, length, string_bytes, IfOk, IfErr, Some, pos, true, false};
+ghost use Rattle.std.specs.Prelude.{◌≡◌, ◌&&◌, [], IsTrue, not, map, codes, length, string_bytes, IfOk, IfErr, Some, option_map, pos, true, false};
 
 use crate::ShapeRefusal;
 use serde_json::{Map, Number, Value};
 use std::alloc::Global;
 use std::collections::BTreeSet;
+use std::slice;
 
 /// One level of the spelling of a shape, with the values in it that spell the shapes inside.
 #[derive(Drop)]
@@ -27,31 +29,44 @@ pub enum Level<'v> {
     Any,
     /// `Never`, spelled whole.
     Never,
-    /// The type `null`.
-    Null,
-    /// The type `boolean`.
-    Bool,
-    /// The type `integer`.
-    Int,
-    /// The type `string`.
-    Text,
-    /// The type `array`.
-    List {
-        /// What stands in `prefixItems`, nothing where it is absent.
-        first: &'v [Value],
-        /// What stands in `items`.
-        rest: Option<&'v Value>,
-    },
-    /// The type `object`.
-    Object {
-        /// What stands in `properties`.
-        properties: Option<&'v Map<String, Value>>,
-        /// The names in `required`, in their order, no two alike.
-        required: Vec<&'v String>,
-        /// Whether other fields may be there, as `additionalProperties` says.
-        extra: bool,
+    /// The types that `type` says, one or several.
+    Kinds {
+        /// Whether `null` is among them.
+        null: bool,
+        /// Whether `boolean` is.
+        boolean: bool,
+        /// Whether `integer` is.
+        integer: bool,
+        /// Whether `string` is.
+        text: bool,
+        /// What is said of lists, where `array` is among the types.
+        list: Option<ListLevel<'v>>,
+        /// What is said of objects, where `object` is.
+        object: Option<ObjectLevel<'v>>,
     },
 }
+
+/// What a level says of lists.
+#[derive(Clone, Copy)]
+pub struct ListLevel<'v> {
+    /// What stands in `prefixItems`, nothing where it is absent.
+    pub first: &'v [Value],
+    /// What stands in `items`.
+    pub rest: Option<&'v Value>,
+}
+
+/// What a level says of objects.
+#[derive(Drop)]
+pub struct ObjectLevel<'v> {
+    /// What stands in `properties`.
+    pub properties: Option<&'v Map<String, Value>>,
+    /// The names in `required`, in their order, no two alike.
+    pub required: Vec<&'v String>,
+    /// Whether other fields may be there, as `additionalProperties` says.
+    pub extra: bool,
+}
+
+const TYPES: [&str; 6] = ["array", "boolean", "integer", "null", "object", "string"];
 
 const ANNOTATIONS: [&str; 7] = [
     "$schema",
@@ -102,38 +117,41 @@ const SIMPLE_KEYWORDS: [&str; 8] = [
     "examples",
 ];
 
-// What the field `type` of a spelling says.
-enum TypeWord {
-    Object,
-    Array,
-    Integer,
-    String,
-    Boolean,
-    Null,
-    // Another text, or a list of types.
-    Other,
-    // A value that is neither a text nor a list.
-    NoWord,
-    // There is no such field.
-    Absent,
-}
+const LIST_AND_OBJECT_KEYWORDS: [&str; 14] = [
+    "type",
+    "prefixItems",
+    "items",
+    "minItems",
+    "properties",
+    "required",
+    "additionalProperties",
+    "$schema",
+    "$id",
+    "$comment",
+    "title",
+    "description",
+    "default",
+    "examples",
+];
 
-/// The level that a JSON value says, as the spelling of a shape.
+/// The level that a JSON value says, as the spelling of a shape; `several` says whether `type` may be a list of types.
 ///
-/// All that the level says itself is checked: that each keyword belongs to the type, that `minItems` is the number of
-/// the values in `prefixItems`, that `required` is a list of distinct texts, and that the other keywords are of their
-/// kinds. The values that spell the shapes inside aren't looked at.
+/// All that the level says itself is checked: that `type` is a type or, where it may be, a list of one or more types, none
+/// twice; that each keyword belongs to one of the types, that `minItems` is the number of the values in `prefixItems`,
+/// that `required` is a list of distinct texts, and that the other keywords are of their kinds. The values that spell the
+/// shapes inside aren't looked at.
 ///
 /// Where several refusals stand in a value, the answer is one of them.
-pub fn read_level(alloc: Global, value: &Value) -> Result<Level<'_>, ShapeRefusal>
-    ensures level { IfOk result (λ level. SpelledOver (trees.view value.now) (level_view level)) }
-    ensures refused { IfErr result (λ e. Tells e (level_faults (trees.view value.now))) }
-    ensures faulty { IfErr result (λ e. Tells e (model.shape_faults (trees.view value.now))) }
+pub fn read_level(alloc: Global, value: &Value, several: bool) -> Result<Level<'_>, ShapeRefusal>
+    ensures level { IfOk result
+        (λ level. SpelledOver several (trees.view value.now) (level_view level)) }
+    ensures refused { IfErr result (λ e. Tells e (level_faults several (trees.view value.now))) }
+    ensures faulty { IfErr result (λ e. Tells e (model.shape_faults several (trees.view value.now))) }
 {
     match value {
         Value::Bool(true) => Ok(Level::Any),
         Value::Bool(false) => Ok(Level::Never),
-        Value::Object(keywords) => keyword_level(alloc, keywords),
+        Value::Object(keywords) => keyword_level(alloc, keywords, several),
         Value::Null | Value::Number(_) | Value::String(_) | Value::Array(_) => {
             Err(ShapeRefusal::NotAShape)
         }
@@ -141,29 +159,239 @@ pub fn read_level(alloc: Global, value: &Value) -> Result<Level<'_>, ShapeRefusa
 }
 
 // The level that an object of keywords says.
-fn keyword_level(alloc: Global, keywords: &Map<String, Value>) -> Result<Level<'_>, ShapeRefusal>
+fn keyword_level(
+    alloc: Global,
+    keywords: &Map<String, Value>,
+    several: bool,
+) -> Result<Level<'_>, ShapeRefusal>
     ensures level { IfOk result
-        (λ level. SpelledOver (json.Object
+        (λ level. SpelledOver several (json.Object
         (entries_view keywords.now.entries)) (level_view level)) }
     ensures refused { IfErr result
-        (λ e. Tells e (level_faults (json.Object (entries_view keywords.now.entries)))) }
+        (λ e. Tells e (level_faults several (json.Object (entries_view keywords.now.entries)))) }
 {
-    match type_word(keywords) {
-        TypeWord::Object => object_level(alloc, keywords),
-        TypeWord::Array => list_level(keywords),
-        TypeWord::Integer => simple(keywords, Level::Int),
-        TypeWord::String => simple(keywords, Level::Text),
-        TypeWord::Boolean => simple(keywords, Level::Bool),
-        TypeWord::Null => simple(keywords, Level::Null),
-        TypeWord::Other => Err(ShapeRefusal::BadType),
-        TypeWord::NoWord => Err(ShapeRefusal::NotAShape),
-        TypeWord::Absent => {
-            if all_among(keywords, &ANNOTATIONS) {
-                Ok(Level::Any)
+    match member(keywords, "type") {
+        None => untyped_level(keywords),
+        Some(value) => {
+            let names = type_names(value, several)?;
+            typed_level(alloc, keywords, names)
+        }
+    }
+}
+
+// The level of an object without `type`.
+fn untyped_level(keywords: &Map<String, Value>) -> Result<Level<'_>, ShapeRefusal>
+    ensures level { IfOk result (λ level. level_view level ≡ levels.Whole shape.Any) }
+    ensures right { IfOk result
+        (λ _. model.foreign_faults model.BadType model.annotations
+        (entries_view keywords.now.entries) ≡ []) }
+    ensures refused { IfErr result
+        (λ e. Tells e (model.foreign_faults model.BadType model.annotations
+        (entries_view keywords.now.entries))) }
+{
+    if all_among(keywords, &ANNOTATIONS) {
+        Ok(Level::Any)
+    } else {
+        Err(ShapeRefusal::BadType)
+    }
+}
+
+// The values that name the types which `type` says.
+fn type_names(value: &Value, several: bool) -> Result<&[Value], ShapeRefusal>
+    ensures right { IfOk result (λ _. model.type_faults several (trees.view value.now) ≡ []) }
+    ensures names { IfOk result
+        (λ names. model.texts_among (trees.elements_view names.now)
+        ≡ model.types_in (Some (trees.view value.now))) }
+    ensures refused { IfErr result (λ e. Tells e (model.type_faults several (trees.view value.now))) }
+{
+    match value {
+        Value::String(word) => {
+            if is_among(word, &TYPES) {
+                Ok(slice::from_ref(value))
             } else {
                 Err(ShapeRefusal::BadType)
             }
         }
+        Value::Array(elements) => {
+            if several && is_type_list(elements) {
+                Ok(elements)
+            } else {
+                Err(ShapeRefusal::BadType)
+            }
+        }
+        Value::Null | Value::Bool(_) | Value::Number(_) | Value::Object(_) => {
+            Err(ShapeRefusal::NotAShape)
+        }
+    }
+}
+
+// Whether the elements name types, one or more, none twice.
+#[tactic(auto, using(crate::proofs::Spellings::type_list))]
+fn is_type_list(elements: &[Value]) -> bool
+    ensures { result ≡ model.is_type_list (trees.elements_view elements.now) }
+{
+    !elements.is_empty() && are_distinct_types(elements)
+}
+
+// Whether each element is the name of a type, and none stands twice.
+fn are_distinct_types(elements: &[Value]) -> bool
+    ensures { result
+        ≡ ((model.are_texts (trees.elements_view elements.now)
+        && model.are_types (model.texts_among (trees.elements_view elements.now)))
+        && model.are_distinct (model.texts_among (trees.elements_view elements.now))) }
+{
+    are_types(elements) && are_distinct(elements)
+}
+
+// Whether each element is the name of a type.
+fn are_types(elements: &[Value]) -> bool
+    ensures { result
+        ≡ (model.are_texts (trees.elements_view elements.now)
+        && model.are_types (model.texts_among (trees.elements_view elements.now))) }
+{
+    for element in elements {
+        match text_in(element) {
+            None => return false,
+            Some(name) => {
+                if !is_among(name, &TYPES) {
+                    return false;
+                }
+            }
+        }
+    }
+    true
+}
+
+// Whether no text stands twice among the elements.
+fn are_distinct(elements: &[Value]) -> bool
+    ensures { result ≡ model.are_distinct (model.texts_among (trees.elements_view elements.now)) }
+{
+    for index in 0..elements.len() {
+        if let Some(name) = text_in(&elements[index]) {
+            if says(&elements[index + 1..], name) {
+                return false;
+            }
+        }
+    }
+    true
+}
+
+// Whether that text is among the elements.
+fn says(elements: &[Value], name: &str) -> bool
+    ensures { result ≡ model.is_among name.now (model.texts_among (trees.elements_view elements.now)) }
+{
+    for element in elements {
+        if let Some(text) = text_in(element) {
+            if text == name {
+                return true;
+            }
+        }
+    }
+    false
+}
+
+// The text that a value is.
+fn text_in(value: &Value) -> Option<&str>
+    ensures { TextIn (trees.view value.now) result }
+{
+    match value {
+        Value::String(text) => Some(text),
+        Value::Null | Value::Bool(_) | Value::Number(_) | Value::Array(_) | Value::Object(_) => {
+            None
+        }
+    }
+}
+
+// The level of these types.
+fn typed_level<'v>(
+    alloc: Global,
+    keywords: &'v Map<String, Value>,
+    names: &[Value],
+) -> Result<Level<'v>, ShapeRefusal>
+    ensures level { IfOk result
+        (λ level. level_view level ≡ levels.kinds_level
+        (model.texts_among (trees.elements_view names.now)) (entries_view keywords.now.entries)) }
+    ensures right { IfOk result
+        (λ _. model.keyword_faults (model.texts_among (trees.elements_view names.now))
+        (entries_view keywords.now.entries)
+        (levels.array_level_faults (entries_view keywords.now.entries))
+        (levels.object_level_faults (entries_view keywords.now.entries)) ≡ []) }
+    ensures refused { IfErr result
+        (λ e. Tells e (model.keyword_faults (model.texts_among (trees.elements_view names.now))
+        (entries_view keywords.now.entries)
+        (levels.array_level_faults (entries_view keywords.now.entries))
+        (levels.object_level_faults (entries_view keywords.now.entries)))) }
+{
+    let array = says(names, "array");
+    let object = says(names, "object");
+    if !all_among(keywords, known_keywords(array, object)) {
+        return Err(ShapeRefusal::Keyword);
+    }
+    Ok(Level::Kinds {
+        null: says(names, "null"),
+        boolean: says(names, "boolean"),
+        integer: says(names, "integer"),
+        text: says(names, "string"),
+        list: list_level_if(array, keywords)?,
+        object: object_level_if(alloc, object, keywords)?,
+    })
+}
+
+// The keywords that belong to the types, where these are said to have `array` and `object` among them.
+fn known_keywords(array: bool, object: bool) -> &'static [&'static str]
+    ensures { map (λ k. k.now) result.now ≡ keywords_for array object }
+{
+    if array {
+        if object {
+            &LIST_AND_OBJECT_KEYWORDS
+        } else {
+            &ARRAY_KEYWORDS
+        }
+    } else if object {
+        &OBJECT_KEYWORDS
+    } else {
+        &SIMPLE_KEYWORDS
+    }
+}
+
+// The level of an array's keywords, where it is wanted.
+fn list_level_if(
+    wanted: bool,
+    keywords: &Map<String, Value>,
+) -> Result<Option<ListLevel<'_>>, ShapeRefusal>
+    ensures level { IfOk result
+        (λ l. option_map list_view l
+        ≡ levels.only_if wanted (levels.array_level (entries_view keywords.now.entries))) }
+    ensures right { IfOk result
+        (λ _. faults_when wanted (levels.array_level_faults (entries_view keywords.now.entries)) ≡ []) }
+    ensures refused { IfErr result
+        (λ e. Tells e (faults_when wanted (levels.array_level_faults (entries_view keywords.now.entries)))) }
+{
+    if wanted {
+        Ok(Some(list_level(keywords)?))
+    } else {
+        Ok(None)
+    }
+}
+
+// The level of an object's keywords, where it is wanted.
+fn object_level_if(
+    alloc: Global,
+    wanted: bool,
+    keywords: &Map<String, Value>,
+) -> Result<Option<ObjectLevel<'_>>, ShapeRefusal>
+    ensures level { IfOk result
+        (λ l. option_map object_view l
+        ≡ levels.only_if wanted (levels.object_level (entries_view keywords.now.entries))) }
+    ensures right { IfOk result
+        (λ _. faults_when wanted (levels.object_level_faults (entries_view keywords.now.entries)) ≡ []) }
+    ensures refused { IfErr result
+        (λ e. Tells e (faults_when wanted (levels.object_level_faults (entries_view keywords.now.entries)))) }
+{
+    if wanted {
+        Ok(Some(object_level(alloc, keywords)?))
+    } else {
+        Ok(None)
     }
 }
 
@@ -173,39 +401,6 @@ fn member<'v>(keywords: &'v Map<String, Value>, name: &str) -> Option<&'v Value>
     ensures { value_there result ≡ member_named name.now keywords.now.entries }
 {
     keywords.get(name)
-}
-
-fn type_word(keywords: &Map<String, Value>) -> TypeWord
-    ensures { word_view result ≡ model.type_word_of (entries_view keywords.now.entries) }
-{
-    match member(keywords, "type") {
-        None => TypeWord::Absent,
-        Some(value) => type_in(value),
-    }
-}
-
-fn type_in(value: &Value) -> TypeWord
-    ensures { word_view result ≡ model.type_in (Some (trees.view value.now)) }
-{
-    match value {
-        Value::String(word) => word_of(word),
-        Value::Array(_) => TypeWord::Other,
-        Value::Null | Value::Bool(_) | Value::Number(_) | Value::Object(_) => TypeWord::NoWord,
-    }
-}
-
-fn word_of(word: &str) -> TypeWord
-    ensures { word_view result ≡ model.type_word word.now }
-{
-    match word {
-        "object" => TypeWord::Object,
-        "array" => TypeWord::Array,
-        "integer" => TypeWord::Integer,
-        "string" => TypeWord::String,
-        "boolean" => TypeWord::Boolean,
-        "null" => TypeWord::Null,
-        _ => TypeWord::Other,
-    }
 }
 
 // Whether each of the keywords is one of those.
@@ -245,39 +440,19 @@ fn is_among(keyword: &str, known: &[&str]) -> bool
     false
 }
 
-// That level, if each keyword belongs to a type without keywords of its own.
-fn simple<'v>(keywords: &Map<String, Value>, level: Level<'v>) -> Result<Level<'v>, ShapeRefusal>
-    ensures right { IfOk result (λ l. l ≡ level.entry) }
-    ensures known { IfOk result
-        (λ _. model.foreign_faults model.Keyword model.simple_keywords
-        (entries_view keywords.now.entries) ≡ []) }
-    ensures refused { IfErr result
-        (λ e. Tells e (model.foreign_faults model.Keyword model.simple_keywords
-        (entries_view keywords.now.entries))) }
-{
-    if all_among(keywords, &SIMPLE_KEYWORDS) {
-        Ok(level)
-    } else {
-        Err(ShapeRefusal::Keyword)
-    }
-}
-
 // The level of an array's keywords.
 #[tactic(auto, using(crate::proofs::Telling::told_left, crate::proofs::Telling::told_right))]
-fn list_level(keywords: &Map<String, Value>) -> Result<Level<'_>, ShapeRefusal>
+fn list_level(keywords: &Map<String, Value>) -> Result<ListLevel<'_>, ShapeRefusal>
     ensures level { IfOk result
-        (λ level. level_view level ≡ levels.array_level (entries_view keywords.now.entries)) }
+        (λ l. list_view l ≡ levels.array_level (entries_view keywords.now.entries)) }
     ensures right { IfOk result
-        (λ _. levels.all_array_faults (entries_view keywords.now.entries) ≡ []) }
+        (λ _. levels.array_level_faults (entries_view keywords.now.entries) ≡ []) }
     ensures refused { IfErr result
-        (λ e. Tells e (levels.all_array_faults (entries_view keywords.now.entries))) }
+        (λ e. Tells e (levels.array_level_faults (entries_view keywords.now.entries))) }
 {
-    if !all_among(keywords, &ARRAY_KEYWORDS) {
-        return Err(ShapeRefusal::Keyword);
-    }
     let first = prefix_items(keywords)?;
     check_min_items(keywords, first.len())?;
-    Ok(Level::List {
+    Ok(ListLevel {
         first,
         rest: member(keywords, "items"),
     })
@@ -370,21 +545,21 @@ fn check_count(stated: i128, count: usize) -> Result<(), ShapeRefusal>
 
 // The level of an object's keywords.
 #[tactic(auto, using(crate::proofs::Telling::told_left, crate::proofs::Telling::told_right))]
-fn object_level(alloc: Global, keywords: &Map<String, Value>) -> Result<Level<'_>, ShapeRefusal>
+fn object_level(
+    alloc: Global,
+    keywords: &Map<String, Value>,
+) -> Result<ObjectLevel<'_>, ShapeRefusal>
     ensures level { IfOk result
-        (λ level. level_view level ≡ levels.object_level (entries_view keywords.now.entries)) }
+        (λ l. object_view l ≡ levels.object_level (entries_view keywords.now.entries)) }
     ensures right { IfOk result
-        (λ _. levels.all_object_faults (entries_view keywords.now.entries) ≡ []) }
+        (λ _. levels.object_level_faults (entries_view keywords.now.entries) ≡ []) }
     ensures refused { IfErr result
-        (λ e. Tells e (levels.all_object_faults (entries_view keywords.now.entries))) }
+        (λ e. Tells e (levels.object_level_faults (entries_view keywords.now.entries))) }
 {
-    if !all_among(keywords, &OBJECT_KEYWORDS) {
-        return Err(ShapeRefusal::Keyword);
-    }
     let properties = read_properties(keywords)?;
     let extra = read_additional(keywords)?;
     let required = read_required(alloc, keywords)?;
-    Ok(Level::Object {
+    Ok(ObjectLevel {
         properties,
         required,
         extra,

@@ -1,10 +1,12 @@
 //! Shapes of trees: reading and writing them, membership, comparing, copying and joining them.
 //!
 //! A [`Shape`] says which trees are meant (a subset of JSON Schema 2020-12). [`read`] makes one of the tree that spells
-//! it, [`read_value`] of the JSON value that this tree is, [`read_level`] tells one [`Level`] of such a value. [`has`]
-//! tests a tree, [`inhabited`] whether there is one at all, [`sub`] whether one shape is inside another, [`same`] whether
-//! they are equal. [`copy`] makes an equal shape, [`join`] one that two are inside, [`write`] the tree that spells it.
-//! [`write_array`] and [`write_object`] write one level of a shape, where the trees of its parts are given.
+//! it, [`read_value`] of the JSON value that this tree is, [`read_level`] tells one [`Level`] of such a value;
+//! [`read_v1`] and [`read_value_v1`] refuse lists of types. [`has`] tests a tree, [`inhabited`] whether there is one at
+//! all, [`sub`] whether one shape is inside another, [`same`] whether they are equal. [`copy`] makes an equal shape,
+//! [`join`] one that two are inside, [`write`] the tree that spells it. [`write_kinds`] writes one level of a shape,
+//! where the trees of its parts are given. [`take_apart`] tells what a shape takes of each kind of tree, [`of_kinds`]
+//! makes a shape of that, and [`proper`] tests whether the shapes of several kinds in one are as they should be.
 #![tactic(auto)]
 
 ghost use Rattle.std.specs.Prelude.{◌≡◌};
@@ -14,8 +16,10 @@ mod copying;
 mod equality;
 mod inhabiting;
 mod joining;
+mod kinds;
 mod levels;
 mod membership;
+mod properness;
 mod reading;
 mod shape;
 mod writing;
@@ -26,21 +30,26 @@ pub use copying::copy;
 pub use equality::same;
 pub use inhabiting::inhabited;
 pub use joining::join;
-pub use levels::{Level, read_level};
+pub use kinds::{
+    Arrays, Kinds, Objects, OwnedArrays, OwnedKinds, OwnedObjects, of_kinds, take_apart,
+};
+pub use levels::{Level, ListLevel, ObjectLevel, read_level};
 pub use membership::has;
-pub use reading::{read, read_value};
+pub use properness::proper;
+pub use reading::{read, read_v1, read_value, read_value_v1};
 pub use shape::{Field, Shape};
 use std::alloc::{AllocError, AllocFailed};
-pub use writing::{write, write_array, write_object};
+pub use writing::{Written, WrittenArrays, WrittenObjects, write, write_kinds};
 
 /// Why a tree is no spelling of a shape.
 #[derive(Debug, PartialEq, Drop)]
 pub enum ShapeRefusal {
     /// A value is of a wrong kind, or a name stands twice in `required`.
     NotAShape,
-    /// A keyword doesn't belong to the type.
+    /// A keyword belongs to none of the types.
     Keyword,
-    /// There is no `type` beside another keyword, or it is a list or another text.
+    /// There is no `type` beside another keyword, or it is a text that names no type, or a list other than of one or more
+    /// names of types, none twice; or any list where no list of types may stand.
     BadType,
     /// `minItems` isn't the number of the shapes in `prefixItems`.
     MinItems,

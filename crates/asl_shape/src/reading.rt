@@ -1,38 +1,42 @@
 // Reading a shape from the tree that spells it.
 ghost use Rattle.asl_model.specs.ShapeSpelling as model;
 ghost use Rattle.asl_model.specs.Tree as json;
-ghost use Rattle.asl_shape.specs.Level.{shape_over, inner_faults, rest_shape, rest_faults};
+ghost use Rattle.asl_shape.specs.Kinds.{owned_arrays_view, owned_objects_view};
+ghost use Rattle.asl_shape.specs.Level.{arrays_over, objects_over, list_inner_faults, object_inner_faults, rest_shape, rest_faults};
 ghost use Rattle.asl_shape.specs.LevelView.{list_view, object_view, texts};
-ghost use Rattle.asl_shape.specs.Refusal.{Tells};
+ghost use Rattle.asl_shape.specs.Properness.{is_proper, are_proper, arrays_proper, fields_proper, objects_proper};
+ghost use Rattle.asl_shape.specs.Refusal.{Tells, SpellsAs};
 ghost use Rattle.asl_shape.specs.View.{view, shapes_view, fields_view};
 ghost use Rattle.asl_shape.specs.Spelled as trees;
 ghost use Rattle.asl_tree.specs.View.{view as tree_view};
 ghost use Rattle.asl_model.specs.Json.{tree_of};
 ghost use Rattle.serde_json.specs.View.{view as value_view};
 ghost use Rattle.asl_shape.specs.declared.ShapeRefusal.{ShapeRefusal};
-ghost use Rattle.std.specs.Prelude.{◌≡◌, [], string_bytes, IfOk, IfErr, Some, Err};
+ghost use Rattle.std.specs.Prelude.{◌≡◌, [], string_bytes, IfOk, IfErr, IsTrue, Some, Err, true, false, option_map};
 
 use crate::ShapeRefusal;
-use crate::levels::{Level, read_level};
+use crate::kinds::{OwnedArrays, OwnedKinds, OwnedObjects, of_kinds};
+use crate::levels::{Level, ListLevel, ObjectLevel, read_level};
 use crate::shape::{Field, Shape};
 use asl_tree::{OutOfMemory, Tree};
 use serde_json::{Map, Value};
 use std::alloc::Global;
 use std::collections::BTreeMap;
 
-/// The shape that a tree spells (a subset of JSON Schema 2020-12, Core and Validation).
+/// The shape that a tree spells (a subset of JSON Schema 2020-12, Core and Validation), a proper one.
 ///
 /// `true` and `{}` are `Any`, `false` is `Never`. Any other spelling is an object with `type`, one of `object`,
-/// `array`, `integer`, `string`, `boolean`, `null`, and the keywords of that type: for `object` `properties`,
-/// `required` (a list of distinct texts) and `additionalProperties` (a truth value, true where it is absent), for
-/// `array` `prefixItems` (a list), `items` (`true` where it is absent) and `minItems`. `$schema`, `$id`, `$comment`,
-/// `title`, `description`, `default` and `examples`, of any kind, are read past, so an object of these alone is `Any`.
-/// A required name without a property is a needed field of shape `Any`, or `Never` where `additionalProperties` is
-/// false.
+/// `array`, `integer`, `string`, `boolean`, `null`, or a list of one or more of these, none twice, in any order; and the
+/// keywords of these types: for `object` `properties`, `required` (a list of distinct texts) and `additionalProperties`
+/// (a truth value, true where it is absent), for `array` `prefixItems` (a list), `items` (`true` where it is absent) and
+/// `minItems`. `$schema`, `$id`, `$comment`, `title`, `description`, `default` and `examples`, of any kind, are read
+/// past, so an object of these alone is `Any`. A required name without a property is a needed field of shape `Any`, or
+/// `Never` where `additionalProperties` is false.
 ///
 /// Where several refusals stand in a tree, the answer is one of them.
 pub fn read(alloc: Global, tree: &Tree) -> Result<Shape, ShapeRefusal>
     ensures spelled { IfOk result (λ s. model.SpellsShape (tree_view tree.now) (view s)) }
+    ensures proper { IfOk result (λ s. IsTrue (is_proper s)) }
     ensures not_a_shape { result ≡ Err ShapeRefusal.NotAShape
         → model.HasShapeFault (tree_view tree.now) model.NotAShape }
     ensures keyword { result ≡ Err ShapeRefusal.Keyword
@@ -43,108 +47,197 @@ pub fn read(alloc: Global, tree: &Tree) -> Result<Shape, ShapeRefusal>
         → model.HasShapeFault (tree_view tree.now) model.MinItems }
 {
     let value = asl_tree::to_value(alloc, tree)?;
-    read_spelling(alloc, &value)
+    read_spelling(alloc, &value, true)
+}
+
+/// The shape that a tree spells where lists of types may not stand, as in certificates of version 1: as [`read`] tells it,
+/// but that any such list is refused as `BadType`.
+pub fn read_v1(alloc: Global, tree: &Tree) -> Result<Shape, ShapeRefusal>
+    ensures spelled { IfOk result (λ s. model.SpellsShapeV1 (tree_view tree.now) (view s)) }
+    ensures proper { IfOk result (λ s. IsTrue (is_proper s)) }
+    ensures not_a_shape { result ≡ Err ShapeRefusal.NotAShape
+        → model.HasShapeFaultV1 (tree_view tree.now) model.NotAShape }
+    ensures keyword { result ≡ Err ShapeRefusal.Keyword
+        → model.HasShapeFaultV1 (tree_view tree.now) model.Keyword }
+    ensures bad_type { result ≡ Err ShapeRefusal.BadType
+        → model.HasShapeFaultV1 (tree_view tree.now) model.BadType }
+    ensures min_items { result ≡ Err ShapeRefusal.MinItems
+        → model.HasShapeFaultV1 (tree_view tree.now) model.MinItems }
+{
+    let value = asl_tree::to_value(alloc, tree)?;
+    read_spelling(alloc, &value, false)
 }
 
 /// The shape that the tree spells that a JSON value is, as [`read`] tells it, with no tree made of it.
 ///
-/// Of a value with a number that isn't whole, which is no tree, the answer says nothing.
+/// Of a value with a number that isn't whole, which is no tree, the answer says nothing but that it is proper.
 pub fn read_value(alloc: Global, value: &Value) -> Result<Shape, ShapeRefusal>
     ensures spelled { IfOk result (λ s. (t : json.Tree)
         → tree_of (value_view value.now) ≡ Some t → model.SpellsShape t (view s)) }
+    ensures proper { IfOk result (λ s. IsTrue (is_proper s)) }
     ensures refused { IfErr result (λ e. (t : json.Tree)
-        → tree_of (value_view value.now) ≡ Some t → Tells e (model.shape_faults t)) }
+        → tree_of (value_view value.now) ≡ Some t → Tells e (model.shape_faults true t)) }
 {
-    read_spelling(alloc, value)
+    read_spelling(alloc, value, true)
 }
 
-#[cycle(read)]
-fn read_spelling(alloc: Global, value: &Value) -> Result<Shape, ShapeRefusal>
-    ensures spelled { IfOk result (λ s. model.SpellsShape (trees.view value.now) (view s)) }
-    ensures refused { IfErr result (λ e. Tells e (model.shape_faults (trees.view value.now))) }
+/// The same as [`read_v1`] tells it.
+pub fn read_value_v1(alloc: Global, value: &Value) -> Result<Shape, ShapeRefusal>
+    ensures spelled { IfOk result (λ s. (t : json.Tree)
+        → tree_of (value_view value.now) ≡ Some t → model.SpellsShapeV1 t (view s)) }
+    ensures proper { IfOk result (λ s. IsTrue (is_proper s)) }
+    ensures refused { IfErr result (λ e. (t : json.Tree)
+        → tree_of (value_view value.now) ≡ Some t → Tells e (model.shape_faults false t)) }
 {
-    match read_level(alloc, value)? {
+    read_spelling(alloc, value, false)
+}
+
+// The shape of the spelling; `several` says whether lists of types may stand.
+#[cycle(read)]
+fn read_spelling(alloc: Global, value: &Value, several: bool) -> Result<Shape, ShapeRefusal>
+    ensures spelled { IfOk result (λ s. SpellsAs several (trees.view value.now) (view s)) }
+    ensures proper { IfOk result (λ s. IsTrue (is_proper s)) }
+    ensures refused { IfErr result (λ e. Tells e (model.shape_faults several (trees.view value.now))) }
+{
+    match read_level(alloc, value, several)? {
         Level::Any => Ok(Shape::Any),
         Level::Never => Ok(Shape::Never),
-        Level::Null => Ok(Shape::Null),
-        Level::Bool => Ok(Shape::Bool),
-        Level::Int => Ok(Shape::Int),
-        Level::Text => Ok(Shape::Text),
-        Level::List { first, rest } => read_list(alloc, first, rest),
-        Level::Object {
-            properties,
-            required,
-            extra,
-        } => read_object(alloc, properties, &required, extra),
+        Level::Kinds {
+            null,
+            boolean,
+            integer,
+            text,
+            list,
+            object,
+        } => {
+            let arrays = read_list(alloc, list, several)?;
+            let objects = read_object(alloc, object, several)?;
+            let kinds = OwnedKinds {
+                null,
+                boolean,
+                integer,
+                text,
+                arrays,
+                objects,
+            };
+            Ok(of_kinds(alloc, kinds)?)
+        }
     }
 }
 
-// The shape of lists of that level.
+// The lists of that level, where there are any.
 #[tactic(auto, using(crate::proofs::Telling::told_left, crate::proofs::Telling::told_right))]
 #[cycle(read)]
-fn read_list(alloc: Global, first: &[Value], rest: Option<&Value>) -> Result<Shape, ShapeRefusal>
-    ensures shape { IfOk result (λ s. view s ≡ shape_over (list_view first.now rest.entry)) }
-    ensures right { IfOk result (λ _. inner_faults (list_view first.now rest.entry) ≡ []) }
-    ensures refused { IfErr result (λ e. Tells e (inner_faults (list_view first.now rest.entry))) }
+fn read_list(
+    alloc: Global,
+    list: Option<ListLevel<'_>>,
+    several: bool,
+) -> Result<Option<OwnedArrays>, ShapeRefusal>
+    ensures shape { IfOk result
+        (λ a. owned_arrays_view a ≡ arrays_over (option_map list_view list.entry)) }
+    ensures proper { IfOk result (λ a. IsTrue (arrays_proper a)) }
+    ensures right { IfOk result
+        (λ _. list_inner_faults several (option_map list_view list.entry) ≡ []) }
+    ensures refused { IfErr result
+        (λ e. Tells e (list_inner_faults several (option_map list_view list.entry))) }
 {
-    let first = read_elements(alloc, first)?;
-    let rest = read_rest(alloc, rest)?;
-    Ok(Shape::List {
-        first,
-        rest: Box::new(alloc, rest)?,
-    })
+    match list {
+        None => Ok(None),
+        Some(ListLevel { first, rest }) => {
+            let first = read_elements(alloc, first, several)?;
+            let rest = read_rest(alloc, rest, several)?;
+            Ok(Some(OwnedArrays {
+                first,
+                rest: Box::new(alloc, rest)?,
+            }))
+        }
+    }
 }
 
 // The shapes that the elements spell.
 #[tactic(auto, using(crate::proofs::Spellings::shapes_read, crate::proofs::Telling::told_left))]
 #[cycle(read)]
-fn read_elements(alloc: Global, elements: &[Value]) -> Result<Vec<Shape>, ShapeRefusal>
-    ensures right { IfOk result (λ _. model.element_faults (trees.elements_view elements.now) ≡ []) }
+fn read_elements(
+    alloc: Global,
+    elements: &[Value],
+    several: bool,
+) -> Result<Vec<Shape>, ShapeRefusal>
+    ensures right { IfOk result
+        (λ _. model.element_faults several (trees.elements_view elements.now) ≡ []) }
     ensures shapes { IfOk result
         (λ v. shapes_view v.items ≡ model.element_shapes (trees.elements_view elements.now)) }
+    ensures proper { IfOk result (λ v. IsTrue (are_proper v.items)) }
     ensures refused { IfErr result
-        (λ e. Tells e (model.element_faults (trees.elements_view elements.now))) }
+        (λ e. Tells e (model.element_faults several (trees.elements_view elements.now))) }
 {
     let mut shapes = Vec::with_capacity(alloc, elements.len())?;
     for element in elements {
-        shapes.push(read_spelling(alloc, element)?)?;
+        shapes.push(read_spelling(alloc, element, several)?)?;
     }
     Ok(shapes)
 }
 
 // The shape of the further elements: `Any` where there is no spelling.
 #[cycle(read)]
-fn read_rest(alloc: Global, rest: Option<&Value>) -> Result<Shape, ShapeRefusal>
-    ensures right { IfOk result (λ _. rest_faults (trees.value_there rest.entry) ≡ []) }
+fn read_rest(alloc: Global, rest: Option<&Value>, several: bool) -> Result<Shape, ShapeRefusal>
+    ensures right { IfOk result (λ _. rest_faults several (trees.value_there rest.entry) ≡ []) }
     ensures shape { IfOk result (λ s. view s ≡ rest_shape (trees.value_there rest.entry)) }
-    ensures refused { IfErr result (λ e. Tells e (rest_faults (trees.value_there rest.entry))) }
+    ensures proper { IfOk result (λ s. IsTrue (is_proper s)) }
+    ensures refused { IfErr result (λ e. Tells e (rest_faults several (trees.value_there rest.entry))) }
 {
     match rest {
         None => Ok(Shape::Any),
-        Some(value) => read_spelling(alloc, value),
+        Some(value) => read_spelling(alloc, value, several),
     }
 }
 
-// The shape of objects of that level.
+// The objects of that level, where there are any.
 #[cycle(read)]
 fn read_object(
     alloc: Global,
-    properties: Option<&Map<String, Value>>,
-    required: &[&String],
-    extra: bool,
-) -> Result<Shape, ShapeRefusal>
+    object: Option<ObjectLevel<'_>>,
+    several: bool,
+) -> Result<Option<OwnedObjects>, ShapeRefusal>
     ensures shape { IfOk result
-        (λ s. view s ≡ shape_over (object_view properties.entry required.now extra)) }
-    ensures right { IfOk result (λ _. inner_faults (object_view properties.entry required.now extra) ≡ []) }
+        (λ o. owned_objects_view o ≡ objects_over (option_map object_view object.entry)) }
+    ensures proper { IfOk result (λ o. IsTrue (objects_proper o)) }
+    ensures right { IfOk result
+        (λ _. object_inner_faults several (option_map object_view object.entry) ≡ []) }
     ensures refused { IfErr result
-        (λ e. Tells e (inner_faults (object_view properties.entry required.now extra))) }
+        (λ e. Tells e (object_inner_faults several (option_map object_view object.entry))) }
 {
-    let mut fields = match properties {
-        None => BTreeMap::new(alloc),
-        Some(members) => read_members(alloc, members)?,
-    };
-    require_all(required, extra, &mut fields)?;
-    Ok(Shape::Object { fields, extra })
+    match object {
+        None => Ok(None),
+        Some(object) => {
+            let mut fields = read_properties(alloc, object.properties, several)?;
+            require_all(&object.required, object.extra, &mut fields)?;
+            Ok(Some(OwnedObjects {
+                fields,
+                extra: object.extra,
+            }))
+        }
+    }
+}
+
+// The fields that the properties mention, where there are any, none of them needed.
+#[cycle(read)]
+fn read_properties(
+    alloc: Global,
+    properties: Option<&Map<String, Value>>,
+    several: bool,
+) -> Result<BTreeMap<String, Field>, ShapeRefusal>
+    ensures right { IfOk result
+        (λ _. model.field_faults several (trees.entries_there properties.entry) ≡ []) }
+    ensures fields { IfOk result
+        (λ m. fields_view m.entries ≡ model.field_shapes (trees.entries_there properties.entry)) }
+    ensures proper { IfOk result (λ m. IsTrue (fields_proper m.entries)) }
+    ensures refused { IfErr result
+        (λ e. Tells e (model.field_faults several (trees.entries_there properties.entry))) }
+{
+    match properties {
+        None => Ok(BTreeMap::new(alloc)),
+        Some(members) => read_members(alloc, members, several),
+    }
 }
 
 // The fields that the properties mention, none of them needed.
@@ -152,18 +245,20 @@ fn read_object(
 fn read_members(
     alloc: Global,
     members: &Map<String, Value>,
+    several: bool,
 ) -> Result<BTreeMap<String, Field>, ShapeRefusal>
     ensures right { IfOk result
-        (λ _. model.field_faults (trees.entries_view members.now.entries) ≡ []) }
+        (λ _. model.field_faults several (trees.entries_view members.now.entries) ≡ []) }
     ensures fields { IfOk result
         (λ m. fields_view m.entries ≡ model.field_shapes (trees.entries_view members.now.entries)) }
+    ensures proper { IfOk result (λ m. IsTrue (fields_proper m.entries)) }
     ensures refused { IfErr result
-        (λ e. Tells e (model.field_faults (trees.entries_view members.now.entries))) }
+        (λ e. Tells e (model.field_faults several (trees.entries_view members.now.entries))) }
 {
     let mut fields = BTreeMap::new(alloc);
     for (name, member) in members.iter() {
         let name = name.clone()?;
-        let shape = read_spelling(alloc, member)?;
+        let shape = read_spelling(alloc, member, several)?;
         let field = Field {
             needed: false,
             shape,
@@ -179,7 +274,9 @@ fn require_all(
     extra: bool,
     fields: &mut BTreeMap<String, Field>,
 ) -> Result<(), OutOfMemory>
-    ensures { IfOk result (λ _. fields_view fields.new.entries
+    ensures proper { IsTrue (fields_proper fields.old.entries)
+        → IfOk result (λ _. IsTrue (fields_proper fields.new.entries)) }
+    ensures needed { IfOk result (λ _. fields_view fields.new.entries
         ≡ model.with_all_needed extra (texts names.now) (fields_view fields.old.entries)) }
 {
     for name in names {
@@ -194,7 +291,9 @@ fn require(
     extra: bool,
     fields: &mut BTreeMap<String, Field>,
 ) -> Result<(), OutOfMemory>
-    ensures { IfOk result (λ _. fields_view fields.new.entries
+    ensures proper { IsTrue (fields_proper fields.old.entries)
+        → IfOk result (λ _. IsTrue (fields_proper fields.new.entries)) }
+    ensures needed { IfOk result (λ _. fields_view fields.new.entries
         ≡ model.with_needed extra (string_bytes name.now) (fields_view fields.old.entries)) }
 {
     if let Some(field) = fields.get_mut(name) {
@@ -212,7 +311,8 @@ fn require(
 
 // The shape of a needed field without a property.
 fn unmentioned(extra: bool) -> Shape
-    ensures { view result ≡ model.unmentioned extra }
+    ensures shape { view result ≡ model.unmentioned extra }
+    ensures proper { IsTrue (is_proper result) }
 {
     if extra { Shape::Any } else { Shape::Never }
 }

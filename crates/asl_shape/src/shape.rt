@@ -30,6 +30,13 @@ pub enum Shape {
         fields: BTreeMap<String, Field>,
         extra: bool,
     },
+    /// The trees that one of these parts has.
+    ///
+    /// A proper shape has here two to six parts, each of a kind of its own (none of them is `Any`, `Never` or
+    /// `Several`), in byte order of the names of their types: `array`, `boolean`, `integer`, `null`, `object`, `string`
+    /// (see [`crate::proper`]). Of two parts of lists, or of objects, in another shape the first alone counts, and one
+    /// with `Any` among its parts is as `Any`.
+    Several(Vec<Shape>),
 }
 
 /// What a shape says of a field that it mentions.

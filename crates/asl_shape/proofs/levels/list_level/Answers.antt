@@ -1,18 +1,8 @@
-use Rattle.std.proofs.Common.{◌≡◌, true, not, codes, length}
+use Rattle.std.proofs.Common.{codes, length}
 use Rattle.std.proofs.lemmas.Result.{err_from_is_err_and}
-use Rattle.asl_model.specs.ShapeSpelling as model
-use Rattle.asl_shape.specs.Level as levels
 use Rattle.asl_shape.specs.Spelled.{entries_view, member_named}
-use Rattle.asl_shape.specs.declared.ShapeRefusal.TheVariants.{Keyword}
-use Rattle.asl_shape.proofs.Telling.{told_left}
 use Rattle.asl_shape.proofs.Wholes.{as_many, count_told, list_right}
 use Rattle.asl_shape.proofs.levels.list_level.Goals as goal
-
-pub returns-then-not-all_among-clause-refused : goal.returns-then-not-all_among-clause-refused
-returns-then-not-all_among-clause-refused c =
-    let fs = entries_view c.args.keywords.now.entries in
-    let none : not c.all_among.result ≡ true = cc in
-    told_left Keyword (model.foreign_faults model.Keyword model.array_keywords fs) (levels.array_level_faults fs) (record { listed = c.all_among.ensures.foreign none model.Keyword })
 
 pub returns-in_err-check_min_items-clause-refused :
     goal.returns-in_err-check_min_items-clause-refused
@@ -27,6 +17,5 @@ pub returns-clause-right : goal.returns-clause-right
 returns-clause-right c =
     let fs = entries_view c.args.keywords.now.entries in
     let es = c.in_ok-first.first.now in
-    let yes : c.all_among.result ≡ true = cc in
     let count = as_many (member_named (codes "prefixItems") c.args.keywords.now.entries) es c.in_ok-first.ensures.elements in
-    list_right fs (length es) count (c.all_among.ensures.known yes model.Keyword) c.in_ok-first.ensures.right c.in_ok-check_min_items.ensures.right
+    list_right fs (length es) count c.in_ok-first.ensures.right c.in_ok-check_min_items.ensures.right

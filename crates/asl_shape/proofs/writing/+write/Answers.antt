@@ -1,39 +1,39 @@
-use Rattle.std.proofs.Common.{◌≡◌, [], ◌∷◌, ◌++◌, IfOk, not, map, sym, ap, ◌∙◌, subst, append_assoc}
+use Rattle.std.proofs.Common.{◌≡◌, [], ◌∷◌, ◌++◌, ◌+◌, ◌≤◌, drop, map, arith, sym, ap, ◌∙◌, subst, append_assoc}
 use Rattle.std.specs.List.Sorted.{IsStrictlySortedBy}
 use Rattle.std.specs.Map.{keys_of}
 use Rattle.std.specs.String.{string_cmp}
 use Rattle.std.proofs.lemmas.List.{take_all}
-use Rattle.asl_model.specs.Written.{written_shape, written_shapes}
-use Rattle.asl_model.specs.ShapeOrder.{is_any_shape}
+use Rattle.asl_model.specs.Written.{written_shape}
+use Rattle.asl_model.specs.ShapeOrder.{depth, depth_of_elements, depth_of_fields}
+use Rattle.std.proofs.lemmas.Grind.{common_steps}
 use Rattle.asl_tree.specs.View as trees
-use Rattle.asl_shape.specs.View.{view, shapes_view}
-use Rattle.asl_shape.proofs.Orders.{in_order}
+use Rattle.asl_shape.specs.View.{view, shapes_view, fields_view}
+use Rattle.asl_shape.proofs.Depths.{place_depth, entry_depth}
+use Rattle.asl_shape.proofs.Orders.{in_order, and_proper_in_order, all_proper}
 use Rattle.asl_shape.proofs.Spellings.{Mention}
-use Rattle.asl_shape.proofs.Writings.{shapes_written, list_written, object_written, object_proper, field_written, and_proper_in_order, all_proper}
+use Rattle.asl_shape.proofs.Writings.{arrays_written, shapes_written, field_written}
 use Rattle.asl_shape.proofs.writing.+write.Goals as goal
 
-pub write_shape-returns-in_ok-items-in-List-clause-written :
-    goal.write_shape-returns-in_ok-items-in-List-clause-written
-write_shape-returns-in_ok-items-in-List-clause-written t c =
-    let first = c.in-List.first in
-    let rest = c.in-List.rest in
-    let prefix = c.in_ok-prefix_items-in-List in
-    let items = c.in_ok-items-in-List in
-    let shown = list_written first rest prefix.prefix_items.items (trees.view items.items) (not c.is_any.result) (prefix.ensures.written ∙ ap (λ ss. written_shapes (shapes_view ss)) c.deref.ensures.value) (items.ensures.written ∙ ap (λ s. written_shape (view s)) c.deref-in-List.ensures) (ap not c.is_any.ensures.any ∙ ap (λ s. not (is_any_shape (view s))) c.deref-in-List-2.ensures) in
-    rw c.in-List.is (subst (λ u. IfOk c.write_array.result (λ t. trees.view t ≡ u)) shown c.write_array.ensures.written)
+pub write_shapes-write_shape-requires : goal.write_shapes-write_shape-requires
+write_shapes-write_shape-requires t c =
+    let i = c.loop-shape.shape-index in
+    let shapes = c.args.shapes.now in
+    let item = c.shape-item.result in
+    let split : drop i shapes ≡ item ∷ drop (i + 1) shapes = grind (arith, common_steps) in
+    let here : depth (view item) ≤ depth_of_elements (shapes_view shapes) = place_depth i shapes (drop (i + 1) shapes) item split in
+    (omega arith, tt)
 
-pub write_shape-returns-in_ok-required-in-Object-clause-written :
-    goal.write_shape-returns-in_ok-required-in-Object-clause-written
-write_shape-returns-in_ok-required-in-Object-clause-written t c =
-    let fields = c.in-Object.fields in
-    let extra = c.in-Object.extra in
-    let shown = object_written fields extra c.in_ok-properties-in-Object.properties.entries c.in_ok-required-in-Object.required.items c.in_ok-properties-in-Object.ensures.written c.in_ok-required-in-Object.ensures in
-    rw c.in-Object.is (subst (λ u. IfOk c.write_object.result (λ t. trees.view t ≡ u)) shown c.write_object.ensures.written)
+pub write_fields-write_shape-requires : goal.write_fields-write_shape-requires
+write_fields-write_shape-requires t c =
+    let l = c.loop-name in
+    let e : Mention = (c.in-Some.name.now, c.in-Some.field.now) in
+    let here : depth (view e.1.shape) ≤ depth_of_fields (fields_view c.args.fields.now.entries) = entry_depth c.args.fields.now.entries l.invariant.0.0 l.name-iterator c.next.new.self e l.invariant.0.1 c.in-Some.ensures.steps in
+    (omega arith, tt)
 
-pub write_shape-returns-in_ok-required-in-Object-clause-proper :
-    goal.write_shape-returns-in_ok-required-in-Object-clause-proper
-write_shape-returns-in_ok-required-in-Object-clause-proper t c =
-    rw c.in-Object.is (object_proper c.in-Object.fields c.in-Object.extra c.write_object.result c.in_ok-properties-in-Object.ensures.proper)
+pub write_places-returns-clause-written : goal.write_places-returns-clause-written
+write_places-returns-clause-written t c others =
+    let prefix = c.in_ok-prefix_items in
+    arrays_written c.args.first.now c.args.rest.now prefix.prefix_items.items c.unless_any.result others prefix.ensures.written c.unless_any.ensures.some (c.unless_any.ensures.tree c.in_ok-items.ensures.written)
 
 pub write_shapes-returns-clause-written : goal.write_shapes-returns-clause-written
 write_shapes-returns-clause-written t c =
