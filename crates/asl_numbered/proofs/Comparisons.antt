@@ -1,13 +1,13 @@
 -- One shape of a table inside another, by their numbers: what is remembered, tasks, places and fields.
-use Rattle.std.proofs.Common.{◌≡◌, ◌<◌, ◌≤◌, ◌+◌, ◌*◌, ℕ, zero, suc, List, [], ◌∷◌, ◌++◌, length, drop, get_or, Bool, true, false, ◌&&◌, ◌||◌, not, cond, Option, Some, None, option_map, is_some, slice_get, String, Global, Vec, Bor, ◌↔◌, Result, Ok, Err, string_bytes, refl, sym, ap, ◌∙◌, subst, ◌⊎◌, inl, inr, arith}
+use Rattle.std.proofs.Common.{◌≡◌, ◌<◌, ◌≤◌, ◌+◌, ◌*◌, ℕ, zero, suc, List, [], ◌∷◌, ◌++◌, length, drop, get_or, Bool, true, false, ◌&&◌, ◌||◌, not, cond, append_assoc, Option, Some, None, option_map, is_some, String, Global, Result, Ok, Err, string_bytes, refl, sym, ap, ◌∙◌, subst, ◌⊎◌, inl, inr, arith}
 use Rattle.std.proofs.Math.Bool.{and_assoc}
 use Rattle.std.proofs.Math.Nat.{mul-le-mul_left}
 use Rattle.std.proofs.Math.Seq.{drop-cons}
 use Rattle.std.proofs.lemmas.Bool.{cases_lt}
 use Rattle.std.proofs.lemmas.List.{append-nil, length-append}
-use Rattle.std.specs.BTreeMap.{BTreeMap, is_at}
+use Rattle.std.specs.BTreeMap.{is_at}
 use Rattle.std.specs.Map.{lookup}
-use Rattle.std.specs.Prelude.{IsSome, IfOk}
+use Rattle.std.specs.Prelude.{IfOk}
 use Rattle.std.specs.String.{string_cmp}
 use Rattle.indexmap.specs.IndexMap.{insert_entry}
 use Rattle.asl_model.specs.Shape as model
@@ -16,13 +16,16 @@ use Rattle.asl_model.specs.ShapeOrder.{sub, simple_sub, arrays_sub, objects_sub,
 use Rattle.asl_tree.specs.declared.OutOfMemory.{OutOfMemory}
 use Rattle.asl_shape.proofs.Lookups.{same_name, picked}
 use Rattle.asl_numbered.specs.declared.node.Node.{Node}
-use Rattle.asl_numbered.specs.declared.node.Node.TheVariants as nodes
+use Rattle.asl_numbered.specs.declared.kinds.NodeKinds.{NodeKinds}
+use Rattle.asl_numbered.specs.declared.kinds.NodeArrays.{NodeArrays}
+use Rattle.asl_numbered.specs.declared.kinds.NodeObjects.{NodeObjects}
 use Rattle.asl_numbered.specs.declared.node.NodeField.{NodeField}
 use Rattle.asl_numbered.specs.declared.pair.Pair.{Pair}
 use Rattle.asl_numbered.specs.declared.comparing.Task.{Task}
 use Rattle.asl_numbered.specs.declared.comparing.Task.TheVariants.{Compare, Conclude}
-use Rattle.asl_numbered.specs.Comparison.{inside, IsSimple, IsWithin, IsNodeAt, IsRight, AreRight, all_inside, AreEachStanding, AreEachOutside, AreOutside, widest, cost, work, RestsOn, place_tasks, ListLooked, ObjectLooked, AreGoing, with_field_task, field_tasks, mention_fits_in, mentions_fit_in}
-use Rattle.asl_numbered.specs.Expansion.{shape_at, shapes_at, fields_at, shape_over, expansions, parts, numbers_in, AreBelow, Keeps}
+use Rattle.asl_numbered.specs.Comparison.{inside, IsWithin, IsRight, AreRight, all_inside, AreEachStanding, AreEachOutside, AreOutside, count_mentions, count_shapes, array_parts, object_parts, count_parts, widest, cost, work, width, RestsOn, AreComparisons, PartsRestOn, place_tasks, AreGoing, with_field_task, field_tasks, mention_fits_in, mentions_fit_in, objects_fit_in}
+use Rattle.asl_numbered.specs.Expansion.{shape_at, shapes_at, fields_at, expansions, numbers_in, AreBelow, Keeps}
+use Rattle.asl_numbered.specs.TakenApart.{simple_of, arrays_over, objects_over, kinds_over, AreArraysAt, AreObjectsAt, AreArraysIfAny, AreObjectsIfAny}
 use Rattle.asl_numbered.proofs.Expansions.{as_many, below-wider, keeps_longer, kept_shape}
 use Rattle.asl_numbered.proofs.Remembered.{same, each_kept, each_put, each_found}
 
@@ -105,12 +108,6 @@ cost-most width m (suc n) h = go (λ below. cost-most width m n below) (cases_lt
     go most (inl below) = let so_far = most (omega (arith, below)) in omega (arith, so_far, cost-next width n)
     go most (inr above) = let same : m ≡ suc n = omega (arith, above, h) in rw same (omega arith)
 
--- the tasks compare pairs of the table, and their first numbers are below that bound
-abbrev pub AreComparisons : List model.Shape → ℕ → List Task → Type 0
-AreComparisons table bound [] = Unit {0}
-AreComparisons table bound (Compare p ∷ tasks) = IsWithin table p × (p.first < bound) × AreComparisons table bound tasks
-AreComparisons table bound (Conclude p ∷ tasks) = ⊥
-
 comparisons-standing : (table : List model.Shape) (bound : ℕ) (tasks : List Task) → AreComparisons table bound tasks → AreEachStanding table tasks
 comparisons-standing table bound [] h = tt
 comparisons-standing table bound (Compare p ∷ tasks) h = (h.0, comparisons-standing table bound tasks h.2)
@@ -139,11 +136,17 @@ comparisons-less table width (suc n) tasks h few =
     let most = mul-le-mul_left (cost width n) few in
     omega (arith, each, most)
 
--- a node has no more parts than the widest
-pub width_within : (ns : List Node) (n : ℕ) (node : Node) → slice_get ns n ≡ Some node → length (parts node) ≤ widest ns
-width_within [] n node at = absurd (cc)
-width_within (first ∷ ns) zero node at = let same : first ≡ node = cc in rw (← same) (omega arith)
-width_within (first ∷ ns) (suc n) node at = omega (arith, width_within ns n node at)
+-- the tasks have nothing to be concluded
+comparisons-outside : (table : List model.Shape) (bound : ℕ) (tasks : List Task) → AreComparisons table bound tasks → AreEachOutside table tasks
+comparisons-outside table bound [] h = tt
+comparisons-outside table bound (Compare p ∷ tasks) h = comparisons-outside table bound tasks h.2
+comparisons-outside table bound (Conclude p ∷ tasks) h = absurd h
+
+-- a shape has no more parts than the widest
+within-widest : (table : List model.Shape) (n : ℕ) → count_parts (shape_at table n) ≤ widest table
+within-widest [] n = omega arith
+within-widest (s ∷ table) zero = omega arith
+within-widest (s ∷ table) (suc n) = omega (arith, within-widest table n)
 
 -- ---- what a pair rests on
 
@@ -152,16 +155,12 @@ and_true true = refl
 and_true false = refl
 
 -- the answer is there at once
-pub rests_known : (ns : List Node) (p : Pair) (answer : Bool) (tasks : List Task) → inside (expansions ns) p ≡ answer → RestsOn ns p answer tasks tasks
-rests_known ns p answer tasks is = record { added = []; whole = sym (append-nil tasks); same = is ∙ sym (and_true answer); standing = λ e. record { each = tt }; outside = λ e. record { each = tt }; less = omega (arith, cost-positive (widest ns) p.first) }
-
--- it isn't, by what isn't a part
-rests-not : (ns : List Node) (p : Pair) (old new : List Task) → IsWithin (expansions ns) p → inside (expansions ns) p ≡ false → new ≡ old ++ Conclude p ∷ [] → RestsOn ns p false old new
-rests-not ns p old new within is made = record { added = Conclude p ∷ []; whole = made; same = is; standing = λ e. absurd (cc); outside = λ e. record { each = (within, is, tt) }; less = omega (arith, cost-positive (widest ns) p.first) }
+pub rests_known : (table : List model.Shape) (p : Pair) (answer : Bool) (tasks : List Task) → inside table p ≡ answer → RestsOn table p answer tasks tasks
+rests_known table p answer tasks is = record { added = []; whole = sym (append-nil tasks); same = is ∙ sym (and_true answer); standing = λ e. record { each = tt }; outside = λ e. record { each = tt }; less = omega (arith, cost-positive (width table) p.first) }
 
 -- it rests on comparisons
-rests-on : (ns : List Node) (p : Pair) (old new tasks : List Task) → IsWithin (expansions ns) p → AreComparisons (expansions ns) p.first tasks → length tasks ≤ widest ns → inside (expansions ns) p ≡ all_inside (expansions ns) tasks → new ≡ old ++ Conclude p ∷ tasks → RestsOn ns p true old new
-rests-on ns p old new tasks within are few is made = record { added = Conclude p ∷ tasks; whole = made; same = is; standing = λ e. record { each = (within, is, comparisons-standing (expansions ns) p.first tasks are) }; outside = λ e. absurd (cc); less = comparisons-less (expansions ns) (widest ns) p.first tasks are few }
+rests-on : (table : List model.Shape) (p : Pair) (answer : Bool) (old new tasks : List Task) → IsWithin table p → AreComparisons table p.first tasks → length tasks ≤ width table → inside table p ≡ (answer && all_inside table tasks) → new ≡ old ++ Conclude p ∷ tasks → RestsOn table p answer old new
+rests-on table p answer old new tasks within are few is made = record { added = Conclude p ∷ tasks; whole = made; same = is; standing = λ e. record { each = (within, is ∙ ap (λ b. b && all_inside table tasks) e, comparisons-standing table p.first tasks are) }; outside = λ e. record { each = (within, is ∙ ap (λ b. b && all_inside table tasks) e, comparisons-outside table p.first tasks are) }; less = comparisons-less table (width table) p.first tasks are few }
 
 -- ---- places
 
@@ -270,172 +269,158 @@ fields-inside table inner more (f ∷ outer) =
         ∙ sym (and_assoc (not f.1.needed && (not more || takes_all (shape_at table f.1.shape))) (mentions_fit_in table inner more outer) (all_inside table (field_tasks inner outer)))
     go (Some other) = middle (not f.1.needed || other.needed) (sub (shape_at table other.shape) (shape_at table f.1.shape)) (mentions_fit_in table inner more outer) (all_inside table (field_tasks inner outer))
 
--- ---- two nodes
+-- ---- arrays
 
--- where the first shape has a tree, it is inside where what is asked of the two nodes holds
-settled : (ns : List Node) (p : Pair) (inner outer : Node) (answer : Bool) → inhabited (shape_at (expansions ns) p.first) ≡ true → IsNodeAt ns p.first inner → IsNodeAt ns p.second outer → sub (shape_over (expansions ns) inner) (shape_over (expansions ns) outer) ≡ (not (inhabited (shape_over (expansions ns) inner)) || answer) → inside (expansions ns) p ≡ answer
-settled ns p inner outer answer some first second is =
-    let live : inhabited (shape_over (expansions ns) inner) ≡ true = ap inhabited first.level ∙ some in
-    rw (← first.level, ← second.level) (is ∙ ap (λ b. not b || answer) live)
+counted-places : (table : List model.Shape) (ns : List ℕ) → count_shapes (shapes_at table ns) ≡ length ns
+counted-places table [] = refl
+counted-places table (n ∷ ns) = ap suc (counted-places table ns)
 
--- the answer is there without a look at parts
-pub rests_on_kinds : (ns : List Node) (p : Pair) (inner outer : Node) (answer : Bool) (tasks : List Task) → inhabited (shape_at (expansions ns) p.first) ≡ true → IsNodeAt ns p.first inner → IsNodeAt ns p.second outer → sub (shape_over (expansions ns) inner) (shape_over (expansions ns) outer) ≡ (not (inhabited (shape_over (expansions ns) inner)) || answer) → RestsOn ns p answer tasks tasks
-rests_on_kinds ns p inner outer answer tasks some first second is = rests_known ns p answer tasks (settled ns p inner outer answer some first second is)
-
-pub below-table : (ns : List Node) (n : ℕ) (node : Node) → n < length (expansions ns) → IsNodeAt ns n node → AreBelow (length (expansions ns)) (parts node)
-below-table ns n node h is = below-wider n (length (expansions ns)) (parts node) (omega (arith, h)) is.below.each
-
--- what is compared of one kind alone, and whether that kind has trees
-one_kind : (a b : Bool) → ((not a || b) && true) ≡ (not (a || false) || b)
-one_kind true true = refl
-one_kind true false = refl
-one_kind false b = refl
-
-or_false : (a : Bool) → (not a) ≡ (not a || false)
+or_false : (a : Bool) → (a || false) ≡ a
 or_false true = refl
 or_false false = refl
 
-none_alone : (a : Bool) → (not a && true) ≡ (not (a || false) || false)
-none_alone true = refl
-none_alone false = refl
+-- the answer is there at once
+at-once : (table : List model.Shape) (bound most : ℕ) (is answer : Bool) (tasks : List Task) → is ≡ answer → PartsRestOn table bound most is answer tasks tasks
+at-once table bound most is answer tasks e = record { added = []; whole = sym (append-nil tasks); same = e ∙ sym (and_true answer); compared = tt; few = omega arith }
 
-list-sub : (ns : List Node) (places bounds : Vec ℕ Global) (further rest : ℕ) → sub (shape_over (expansions ns) (nodes.List places further)) (shape_over (expansions ns) (nodes.List bounds rest)) ≡ (not (inhabited (shape_over (expansions ns) (nodes.List places further))) || elements_sub (shapes_at (expansions ns) places.items) (shape_at (expansions ns) further) (shapes_at (expansions ns) bounds.items) (λ s. sub s (shape_at (expansions ns) rest)))
-list-sub ns places bounds further rest = one_kind (all_inhabited (shapes_at (expansions ns) places.items)) _
+-- there is an array exactly where the number's shape has a tree
+arrays-live : (table : List model.Shape) (bound : ℕ) (a : NodeArrays) (live : Bool) → AreArraysAt table bound a → live ≡ inhabited (shape_at table a.number) → all_inhabited (shapes_at table a.first.now) ≡ live
+arrays-live table bound a live are is =
+    sym (is ∙ ap inhabited are.alone ∙ or_false (all_inhabited (shapes_at table a.first.now)))
 
-pub list_rests : (ns : List Node) (p : Pair) (inner : Node) (bounds : Vec ℕ Global) (rest : ℕ) (answer : Bool) (old new : List Task) → IsWithin (expansions ns) p → inhabited (shape_at (expansions ns) p.first) ≡ true → IsNodeAt ns p.first inner → IsNodeAt ns p.second (nodes.List bounds rest) → ListLooked inner bounds.items rest p answer old new → RestsOn ns p answer old new
-list_rests ns p (nodes.List places further) bounds rest true old new within some first second h =
-    let table = expansions ns in
-    let own = first.below.each in
-    let other = below-table ns p.second (nodes.List bounds rest) within.second second in
-    let tasks = place_tasks places.items bounds.items rest in
-    let last = Compare (record { first = further; second = rest }) ∷ [] in
-    let inside_last : AreComparisons table p.first last = (record { first = omega (arith, own.0, within.first); second = other.0 }, own.0, tt) in
-    let are = comparisons-append table p.first tasks last (place-comparisons table p.first places.items bounds.items rest own.1 (omega (arith, within.first)) other.1 other.0) inside_last in
-    let counted : length (tasks ++ last) ≡ suc (length places.items) = length-append tasks last ∙ rw (place-count places.items bounds.items rest) (omega arith) in
-    let wide = width_within ns p.first (nodes.List places further) first.at in
-    let is = settled ns p (nodes.List places further) (nodes.List bounds rest) _ some first second (list-sub ns places bounds further rest) ∙ places-inside table places.items bounds.items further rest h.0 in
-    rests-on ns p old new (tasks ++ last) within are (omega (arith, counted, wide)) is h.1
-list_rests ns p (nodes.List places further) bounds rest false old new within some first second h =
-    let is = settled ns p (nodes.List places further) (nodes.List bounds rest) _ some first second (list-sub ns places bounds further rest) ∙ places-outside (expansions ns) places.items bounds.items further rest h.0 in
-    rests-not ns p old new within is h.1
-list_rests ns p (nodes.Object others more) bounds rest answer old new within some first second h =
-    rw (h.0, h.1) (rests_on_kinds ns p (nodes.Object others more) (nodes.List bounds rest) false old some first second (or_false (needed_inhabited (fields_at (expansions ns) others.entries))))
-list_rests ns p node bounds rest answer old new within some first second h =
-    rw (h.0, h.1) (rests_on_kinds ns p node (nodes.List bounds rest) false old some first second refl)
+-- what is asked of two, where the first has an array
+arrays-two : (table : List model.Shape) (bound : ℕ) (a b : NodeArrays) (live : Bool) → AreArraysAt table bound a → live ≡ inhabited (shape_at table a.number) → live ≡ true → arrays_sub (arrays_over table (Some a)) (arrays_over table (Some b)) ≡ elements_sub (shapes_at table a.first.now) (shape_at table a.rest) (shapes_at table b.first.now) (λ s. sub s (shape_at table b.rest))
+arrays-two table bound a b live own is some = rw (arrays-live table bound a live own is, some) refl
+
+pub arrays_short : (table : List model.Shape) (bound most : ℕ) (inner outer : Option NodeArrays) (a b : NodeArrays) (live : Bool) (tasks : List Task) → inner ≡ Some a → outer ≡ Some b → AreArraysIfAny table bound inner → live ≡ inhabited (shape_at table a.number) → live ≡ true → length a.first.now < length b.first.now → PartsRestOn table bound most (arrays_sub (arrays_over table inner) (arrays_over table outer)) false tasks tasks
+arrays_short table bound most inner outer a b live tasks e f are is some short =
+    let own : AreArraysAt table bound a = subst (AreArraysIfAny table bound) e are in
+    at-once table bound most _ false tasks (rw (e, f) (arrays-two table bound a b live own is some ∙ places-outside table a.first.now b.first.now a.rest b.rest short))
+
+pub arrays_put : (table : List model.Shape) (p : Pair) (inner outer : Option NodeArrays) (a b : NodeArrays) (live : Bool) (old middle new : List Task) → IsWithin table p → inner ≡ Some a → outer ≡ Some b → AreArraysIfAny table p.first inner → AreArraysIfAny table p.second outer → live ≡ inhabited (shape_at table a.number) → live ≡ true → length b.first.now ≤ length a.first.now → middle ≡ old ++ place_tasks a.first.now b.first.now b.rest → new ≡ middle ++ Compare (record { first = a.rest; second = b.rest }) ∷ [] → PartsRestOn table p.first (array_parts (arrays_over table inner)) (arrays_sub (arrays_over table inner) (arrays_over table outer)) true old new
+arrays_put table p inner outer a b live old middle new within e f are others is some enough put last =
+    let own : AreArraysAt table p.first a = subst (AreArraysIfAny table p.first) e are in
+    let its : AreArraysAt table p.second b = subst (AreArraysIfAny table p.second) f others in
+    let tasks = place_tasks a.first.now b.first.now b.rest in
+    let further = Compare (record { first = a.rest; second = b.rest }) ∷ [] in
+    let below = below-wider a.number p.first a.first.now own.within own.first in
+    let above = below-wider b.number (length table) b.first.now (omega (arith, its.within, within.second)) its.first in
+    let rest : a.rest < p.first = omega (arith, own.rest, own.within) in
+    let bound : b.rest < length table = omega (arith, its.rest, its.within, within.second) in
+    let are_places = place-comparisons table p.first a.first.now b.first.now b.rest below (omega (arith, within.first)) above bound in
+    let is_last : AreComparisons table p.first further = (record { first = omega (arith, rest, within.first); second = bound }, rest, tt) in
+    rw (e, f) (record {
+      added = tasks ++ further;
+      whole = last ∙ ap (λ ts. ts ++ further) put ∙ append_assoc old tasks further;
+      same = arrays-two table p.first a b live own is some ∙ places-inside table a.first.now b.first.now a.rest b.rest enough;
+      compared = comparisons-append table p.first tasks further are_places is_last;
+      few = omega (arith, length-append tasks further, place-count a.first.now b.first.now b.rest, counted-places table a.first.now);
+    })
+
+-- ---- objects
+
+counted-fields : (table : List model.Shape) (fs : List (String Global × NodeField)) → count_mentions (fields_at table fs) ≡ length (numbers_in fs)
+counted-fields table [] = refl
+counted-fields table (f ∷ fs) = ap suc (counted-fields table fs)
+
+objects-live : (table : List model.Shape) (bound : ℕ) (a : NodeObjects) (live : Bool) → AreObjectsAt table bound a → live ≡ inhabited (shape_at table a.number) → needed_inhabited (fields_at table a.fields.now.entries) ≡ live
+objects-live table bound a live are is = sym (is ∙ ap inhabited are.alone)
 
 -- all that is said of two objects: of their fields but for the shapes, of other fields, and of the shapes
-said : (fit shapes closed answer : Bool) → answer ≡ (closed && fit) → ((fit && shapes) && closed) ≡ (answer && shapes)
-said true shapes true answer is = rw is (and_true shapes)
-said true true false answer is = rw is refl
-said true false false answer is = rw is refl
-said false shapes true answer is = rw is refl
-said false shapes false answer is = rw is refl
+said : (fit all closed : Bool) → ((fit && all) && closed) ≡ ((closed && fit) && all)
+said true true true = refl
+said true true false = refl
+said true false true = refl
+said true false false = refl
+said false all true = refl
+said false all false = refl
 
-pub object_rests : (ns : List Node) (p : Pair) (inner : Node) (fields : BTreeMap (String Global) NodeField) (extra : Bool) (answer : Bool) (old new : List Task) → IsWithin (expansions ns) p → inhabited (shape_at (expansions ns) p.first) ≡ true → IsNodeAt ns p.first inner → IsNodeAt ns p.second (nodes.Object fields extra) → ObjectLooked ns inner fields.entries extra p answer old new → RestsOn ns p answer old new
-object_rests ns p (nodes.Object others more) fields extra answer old new within some first second h = go answer refl
+objects-two : (table : List model.Shape) (bound : ℕ) (a b : NodeObjects) (live : Bool) → AreObjectsAt table bound a → live ≡ inhabited (shape_at table a.number) → live ≡ true → objects_sub (objects_over table (Some a)) (objects_over table (Some b)) ≡ (objects_fit_in table a b && all_inside table (field_tasks a.fields.now.entries b.fields.now.entries))
+objects-two table bound a b live own is some =
+    rw (objects-live table bound a live own is, some) (ap (λ x. x && closed) (fields-inside table a.fields.now.entries a.extra b.fields.now.entries)
+    ∙ said (mentions_fit_in table a.fields.now.entries a.extra b.fields.now.entries) (all_inside table (field_tasks a.fields.now.entries b.fields.now.entries)) closed)
   where
-    table : List model.Shape
-    table = expansions ns
-
-    tasks : List Task
-    tasks = field_tasks others.entries fields.entries
-
     closed : Bool
-    closed = extra || (not more && others_never_there (fields_at table fields.entries) (fields_at table others.entries))
+    closed = b.extra || (not a.extra && others_never_there (fields_at table b.fields.now.entries) (fields_at table a.fields.now.entries))
 
-    is : inside table p ≡ (answer && all_inside table tasks)
-    is =
-        settled ns p (nodes.Object others more) (nodes.Object fields extra) (fields_sub (fields_at table others.entries) more (fields_at table fields.entries) && closed) some first second refl
-        ∙ ap (λ b. b && closed) (fields-inside table others.entries more fields.entries)
-        ∙ said (mentions_fit_in table others.entries more fields.entries) (all_inside table tasks) closed answer h.0
+pub objects_apart : (table : List model.Shape) (bound most : ℕ) (inner outer : Option NodeObjects) (a b : NodeObjects) (live fit : Bool) (tasks : List Task) → inner ≡ Some a → outer ≡ Some b → AreObjectsIfAny table bound inner → live ≡ inhabited (shape_at table a.number) → live ≡ true → fit ≡ objects_fit_in table a b → fit ≡ false → PartsRestOn table bound most (objects_sub (objects_over table inner) (objects_over table outer)) false tasks tasks
+objects_apart table bound most inner outer a b live fit tasks e f are is some test none =
+    let own : AreObjectsAt table bound a = subst (AreObjectsIfAny table bound) e are in
+    at-once table bound most _ false tasks (rw (e, f) (objects-two table bound a b live own is some ∙ ap (λ x. x && all_inside table (field_tasks a.fields.now.entries b.fields.now.entries)) (sym test ∙ none)))
 
-    go : (b : Bool) → answer ≡ b → RestsOn ns p answer old new
-    go true is_so =
-        let are = field-comparisons table p.first others.entries fields.entries first.below.each (omega (arith, within.first)) (below-table ns p.second (nodes.Object fields extra) within.second second) in
-        let wide = width_within ns p.second (nodes.Object fields extra) second.at in
-        let few = field-count others.entries fields.entries in
-        rw is_so (rests-on ns p old new tasks within are (omega (arith, few, wide)) (is ∙ ap (λ b. b && all_inside table tasks) is_so) (h.1 ∙ ap (λ b. old ++ Conclude p ∷ cond b tasks []) is_so))
-    go false isnt =
-        rw isnt (rests-not ns p old new within (is ∙ ap (λ b. b && all_inside table tasks) isnt) (h.1 ∙ ap (λ b. old ++ Conclude p ∷ cond b tasks []) isnt))
-object_rests ns p (nodes.List places further) fields extra answer old new within some first second h =
-    rw (h.0, h.1) (rests_on_kinds ns p (nodes.List places further) (nodes.Object fields extra) false old some first second (none_alone (all_inhabited (shapes_at (expansions ns) places.items))))
-object_rests ns p node fields extra answer old new within some first second h =
-    rw (h.0, h.1) (rests_on_kinds ns p node (nodes.Object fields extra) false old some first second refl)
+pub objects_put : (table : List model.Shape) (p : Pair) (inner outer : Option NodeObjects) (a b : NodeObjects) (live fit : Bool) (old new : List Task) → IsWithin table p → inner ≡ Some a → outer ≡ Some b → AreObjectsIfAny table p.first inner → AreObjectsIfAny table p.second outer → live ≡ inhabited (shape_at table a.number) → live ≡ true → fit ≡ objects_fit_in table a b → fit ≡ true → new ≡ old ++ field_tasks a.fields.now.entries b.fields.now.entries → PartsRestOn table p.first (object_parts (objects_over table outer)) (objects_sub (objects_over table inner) (objects_over table outer)) true old new
+objects_put table p inner outer a b live fit old new within e f are others is some test all put =
+    let own : AreObjectsAt table p.first a = subst (AreObjectsIfAny table p.first) e are in
+    let its : AreObjectsAt table p.second b = subst (AreObjectsIfAny table p.second) f others in
+    let tasks = field_tasks a.fields.now.entries b.fields.now.entries in
+    let below = below-wider a.number p.first (numbers_in a.fields.now.entries) own.within own.fields in
+    let above = below-wider b.number (length table) (numbers_in b.fields.now.entries) (omega (arith, its.within, within.second)) its.fields in
+    rw (e, f) (record {
+      added = tasks;
+      whole = put;
+      same = objects-two table p.first a b live own is some ∙ ap (λ x. x && all_inside table tasks) (sym test ∙ all);
+      compared = field-comparisons table p.first a.fields.now.entries b.fields.now.entries below (omega (arith, within.first)) above;
+      few = omega (arith, field-count a.fields.now.entries b.fields.now.entries, counted-fields table b.fields.now.entries);
+    })
+
+-- ---- all kinds of a pair
+
+all-append : (table : List model.Shape) (tasks more : List Task) → all_inside table (tasks ++ more) ≡ (all_inside table tasks && all_inside table more)
+all-append table [] more = refl
+all-append table (Compare p ∷ tasks) more =
+    ap (λ b. inside table p && b) (all-append table tasks more) ∙ sym (and_assoc (inside table p) (all_inside table tasks) (all_inside table more))
+all-append table (Conclude p ∷ tasks) more = all-append table tasks more
+
+-- every shape is inside Any
+pub rests_on_any : (table : List model.Shape) (p : Pair) (tasks : List Task) → model.Any ≡ shape_at table p.second → RestsOn table p true tasks tasks
+rests_on_any table p tasks e = rests_known table p true tasks (ap (sub (shape_at table p.first)) (sym e))
+
+-- Any is inside those that take all
+pub rests_of_any : (table : List model.Shape) (p : Pair) (answer : Bool) (tasks : List Task) → model.Any ≡ shape_at table p.first → answer ≡ takes_all (shape_at table p.second) → RestsOn table p answer tasks tasks
+rests_of_any table p answer tasks e is =
+    rests_known table p answer tasks (ap (λ s. sub s (shape_at table p.second)) (sym e) ∙ any-sub (shape_at table p.second) ∙ sym is)
+  where
+    any-sub : (s : model.Shape) → sub model.Any s ≡ takes_all s
+    any-sub model.Any = refl
+    any-sub (model.OfKinds simple arrays objects) = refl
+
+-- the simple kinds of the first aren't all there
+pub rests_on_simple : (table : List model.Shape) (p : Pair) (inner outer : NodeKinds) (answer : Bool) (tasks : List Task) → kinds_over table inner ≡ shape_at table p.first → kinds_over table outer ≡ shape_at table p.second → answer ≡ simple_sub (simple_of inner) (simple_of outer) → answer ≡ false → RestsOn table p false tasks tasks
+rests_on_simple table p inner outer answer tasks first second is none =
+    rests_known table p false tasks (rw (← first, ← second, sym is ∙ none) refl)
+
+-- its arrays aren't
+pub rests_on_arrays : (table : List model.Shape) (p : Pair) (inner outer : NodeKinds) (simple : Bool) (old middle new : List Task) → IsWithin table p → kinds_over table inner ≡ shape_at table p.first → kinds_over table outer ≡ shape_at table p.second → simple ≡ simple_sub (simple_of inner) (simple_of outer) → simple ≡ true → middle ≡ old ++ Conclude p ∷ [] → PartsRestOn table p.first (array_parts (arrays_over table inner.arrays)) (arrays_sub (arrays_over table inner.arrays) (arrays_over table outer.arrays)) false middle new → RestsOn table p false old new
+rests_on_arrays table p inner outer simple old middle new within first second is all put rests =
+    let wide : count_parts (kinds_over table inner) ≤ widest table = subst (λ s. count_parts s ≤ widest table) (sym first) (within-widest table p.first) in
+    rests-on table p false old new rests.added within rests.compared (omega (arith, rests.few, wide)) (rw (← first, ← second, sym is ∙ all, rests.same) refl) (rests.whole ∙ ap (λ ts. ts ++ rests.added) put ∙ append_assoc old (Conclude p ∷ []) rests.added)
+
+four : (a b x y : Bool) → a ≡ true → ((a && x) && (b && y)) ≡ (b && (x && y))
+four true true x y e = refl
+four true false true y e = refl
+four true false false y e = refl
+four false b x y e = absurd (cc)
+
+-- it rests on its arrays and its objects
+pub rests_on_kinds : (table : List model.Shape) (p : Pair) (inner outer : NodeKinds) (simple arrays answer : Bool) (old middle more new : List Task) → IsWithin table p → kinds_over table inner ≡ shape_at table p.first → kinds_over table outer ≡ shape_at table p.second → simple ≡ simple_sub (simple_of inner) (simple_of outer) → simple ≡ true → middle ≡ old ++ Conclude p ∷ [] → PartsRestOn table p.first (array_parts (arrays_over table inner.arrays)) (arrays_sub (arrays_over table inner.arrays) (arrays_over table outer.arrays)) arrays middle more → arrays ≡ true → PartsRestOn table p.first (object_parts (objects_over table outer.objects)) (objects_sub (objects_over table inner.objects) (objects_over table outer.objects)) answer more new → RestsOn table p answer old new
+rests_on_kinds table p inner outer simple arrays answer old middle more new within first second is all put rests held further =
+    let own : count_parts (kinds_over table inner) ≤ widest table = subst (λ s. count_parts s ≤ widest table) (sym first) (within-widest table p.first) in
+    let its : count_parts (kinds_over table outer) ≤ widest table = subst (λ s. count_parts s ≤ widest table) (sym second) (within-widest table p.second) in
+    let tasks = rests.added ++ further.added in
+    let same : inside table p ≡ (answer && all_inside table tasks) = rw (← first, ← second, sym is ∙ all, rests.same, further.same, all-append table rests.added further.added) (four arrays answer (all_inside table rests.added) (all_inside table further.added) held) in
+    let whole : new ≡ old ++ Conclude p ∷ tasks = further.whole ∙ ap (λ ts. ts ++ further.added) (rests.whole ∙ ap (λ ts. ts ++ rests.added) put) ∙ append_assoc (old ++ Conclude p ∷ []) rests.added further.added ∙ append_assoc old (Conclude p ∷ []) tasks in
+    rests-on table p answer old new tasks within (comparisons-append table p.first rests.added further.added rests.compared further.compared) (omega (arith, length-append rests.added further.added, rests.few, further.few, own, its)) same whole
 
 -- the same where memory may run out
-pub list_looked : (ns : List Node) (p : Pair) (inner outer : Node) (bounds : Vec ℕ Global) (rest : ℕ) (shown : List ℕ) (r : Result Bool OutOfMemory) (old new : List Task) → IsWithin (expansions ns) p → inhabited (shape_at (expansions ns) p.first) ≡ true → IsNodeAt ns p.first inner → IsNodeAt ns p.second outer → outer ≡ nodes.List bounds rest → shown ≡ bounds.items → IfOk r (λ b. ListLooked inner shown rest p b old new) → IfOk r (λ b. RestsOn ns p b old new)
-list_looked ns p inner outer bounds rest shown (Ok answer) old new within some first second is value h =
-    list_rests ns p inner bounds rest answer old new within some first (subst (IsNodeAt ns p.second) is second) (subst (λ ms. ListLooked inner ms rest p answer old new) value h)
-list_looked ns p inner outer bounds rest shown (Err e) old new within some first second is value h = tt
-
-pub object_looked : (ns : List Node) (p : Pair) (inner outer : Node) (fields : BTreeMap (String Global) NodeField) (extra : Bool) (r : Result Bool OutOfMemory) (old new : List Task) → IsWithin (expansions ns) p → inhabited (shape_at (expansions ns) p.first) ≡ true → IsNodeAt ns p.first inner → IsNodeAt ns p.second outer → outer ≡ nodes.Object fields extra → IfOk r (λ b. ObjectLooked ns inner fields.entries extra p b old new) → IfOk r (λ b. RestsOn ns p b old new)
-object_looked ns p inner outer fields extra (Ok answer) old new within some first second is h =
-    object_rests ns p inner fields extra answer old new within some first (subst (IsNodeAt ns p.second) is second) h
-object_looked ns p inner outer fields extra (Err e) old new within some first second is h = tt
-
-or_swap : (a b : Bool) → (a || b) ≡ (b || a)
-or_swap true true = refl
-or_swap true false = refl
-or_swap false true = refl
-or_swap false false = refl
-
-pub kind_looked : (ns : List Node) (p : Pair) (inner outer : Node) (answer : Bool) (tasks : List Task) → inhabited (shape_at (expansions ns) p.first) ≡ true → IsNodeAt ns p.first inner → IsNodeAt ns p.second outer → sub (shape_over (expansions ns) inner) (shape_over (expansions ns) outer) ≡ (answer || not (inhabited (shape_over (expansions ns) inner))) → RestsOn ns p answer tasks tasks
-kind_looked ns p inner outer answer tasks some first second is =
-    rests_on_kinds ns p inner outer answer tasks some first second (is ∙ or_swap answer (not (inhabited (shape_over (expansions ns) inner))))
-
--- ---- the pair itself
-
--- arrays and objects of which there are none are inside all
-no-array : (others arrays : model.Arrays) → some_array others ≡ false → arrays_sub others arrays ≡ true
-no-array model.WithoutArrays arrays h = refl
-no-array (model.ArraysOf others further) model.WithoutArrays h = rw h refl
-no-array (model.ArraysOf others further) (model.ArraysOf first rest) h = rw h refl
-
-no-object : (others objects : model.Objects) → some_object others ≡ false → objects_sub others objects ≡ true
-no-object model.WithoutObjects objects h = refl
-no-object (model.ObjectsOf others more) model.WithoutObjects h = rw h refl
-no-object (model.ObjectsOf others more) (model.ObjectsOf shapes extra) h = rw h refl
-
-no-simple : (a b : model.Simple) → some_simple a ≡ false → simple_sub a b ≡ true
-no-simple a b h =
-    let null : a.null ≡ false = grind arith in
-    let boolean : a.boolean ≡ false = grind arith in
-    let integer : a.integer ≡ false = grind arith in
-    let text : a.text ≡ false = grind arith in
-    rw (null, boolean, integer, text) refl
-
--- the shape without a tree is inside every shape, and so is each that has none
-none-inside : (a b : model.Shape) → inhabited a ≡ false → sub a b ≡ true
-none-inside a model.Any h = refl
-none-inside model.Any (model.OfKinds simple arrays objects) h = absurd (cc)
-none-inside (model.OfKinds some others more) (model.OfKinds simple arrays objects) h =
-    let none : some_simple some ≡ false = grind arith in
-    let empty : some_array others ≡ false = grind arith in
-    let bare : some_object more ≡ false = grind arith in
-    rw (no-simple some simple none, no-array others arrays empty, no-object more objects bare) refl
-
-pub rests_on_none : (ns : List Node) (p : Pair) (tasks : List Task) (flag : Bool) → flag ≡ inhabited (shape_at (expansions ns) p.first) → flag ≡ false → RestsOn ns p true tasks tasks
-rests_on_none ns p tasks flag is none = rests_known ns p true tasks (none-inside (shape_at (expansions ns) p.first) (shape_at (expansions ns) p.second) (sym is ∙ none))
-
--- a number of a pair has a node
-pub node_there : (ns : List Node) (n : ℕ) (told : Option (Bor Node)) → n < length (expansions ns) → told ≡ None → (IsSome told ↔ n < length ns) → ⊥
-node_there ns n (Some node) within none there = absurd (cc)
-node_there ns n None within none there = let some : false ≡ true = there.1 (omega (arith, within, as_many ns)) in absurd (cc)
-
--- a node of a kind without parts
-pub simple_kind : (node : Node) → (node ≡ nodes.Any) ⊎ ((node ≡ nodes.Never) ⊎ ((node ≡ nodes.Null) ⊎ ((node ≡ nodes.Bool) ⊎ ((node ≡ nodes.Int) ⊎ (node ≡ nodes.Text))))) → IsSimple node
-simple_kind node (inl e) = rw e tt
-simple_kind node (inr (inl e)) = rw e tt
-simple_kind node (inr (inr (inl e))) = rw e tt
-simple_kind node (inr (inr (inr (inl e)))) = rw e tt
-simple_kind node (inr (inr (inr (inr (inl e))))) = rw e tt
-simple_kind node (inr (inr (inr (inr (inr e))))) = rw e tt
+pub kinds_looked : (table : List model.Shape) (p : Pair) (inner outer : NodeKinds) (simple arrays : Bool) (r : Result Bool OutOfMemory) (old middle more new : List Task) → IsWithin table p → kinds_over table inner ≡ shape_at table p.first → kinds_over table outer ≡ shape_at table p.second → simple ≡ simple_sub (simple_of inner) (simple_of outer) → simple ≡ true → middle ≡ old ++ Conclude p ∷ [] → PartsRestOn table p.first (array_parts (arrays_over table inner.arrays)) (arrays_sub (arrays_over table inner.arrays) (arrays_over table outer.arrays)) arrays middle more → arrays ≡ true → IfOk r (λ answer. PartsRestOn table p.first (object_parts (objects_over table outer.objects)) (objects_sub (objects_over table inner.objects) (objects_over table outer.objects)) answer more new) → IfOk r (λ answer. RestsOn table p answer old new)
+kinds_looked table p inner outer simple arrays (Ok answer) old middle more new within first second is all put rests held further =
+    rests_on_kinds table p inner outer simple arrays answer old middle more new within first second is all put rests held further
+kinds_looked table p inner outer simple arrays (Err e) old middle more new within first second is all put rests held further = tt
 
 -- ---- the loop
 
-pub go_on : (ns : List Node) (root p : Pair) (tasks front new : List Task) → tasks ≡ front ++ Compare p ∷ [] → AreGoing (expansions ns) root tasks → RestsOn ns p true front new → AreGoing (expansions ns) root new
-go_on ns root p tasks front new split going rests =
-    let table = expansions ns in
+pub go_on : (table : List model.Shape) (root p : Pair) (tasks front new : List Task) → tasks ≡ front ++ Compare p ∷ [] → AreGoing table root tasks → RestsOn table p true front new → AreGoing table root new
+go_on table root p tasks front new split going rests =
     let now : AreGoing table root (front ++ Compare p ∷ []) = subst (AreGoing table root) split going in
     let same : all_inside table (Compare p ∷ []) ≡ all_inside table rests.added = and_true (inside table p) ∙ rests.same in
     rw rests.whole (record {
@@ -443,16 +428,15 @@ go_on ns root p tasks front new split going rests =
       same = now.same ∙ inside-behind table front (Compare p ∷ []) rests.added same;
     })
 
-pub less_left : (ns : List Node) (p : Pair) (answer : Bool) (tasks front new : List Task) → tasks ≡ front ++ Compare p ∷ [] → RestsOn ns p answer front new → work (widest ns) new < work (widest ns) tasks
-less_left ns p answer tasks front new split rests =
-    rw (split, rests.whole, work-append (widest ns) front rests.added, work-append (widest ns) front (Compare p ∷ [])) (omega (arith, rests.less))
+pub less_left : (table : List model.Shape) (p : Pair) (answer : Bool) (tasks front new : List Task) → tasks ≡ front ++ Compare p ∷ [] → RestsOn table p answer front new → work (width table) new < work (width table) tasks
+less_left table p answer tasks front new split rests =
+    rw (split, rests.whole, work-append (width table) front rests.added, work-append (width table) front (Compare p ∷ [])) (omega (arith, rests.less))
 
 pub next_within : (table : List model.Shape) (root p : Pair) (tasks front : List Task) → tasks ≡ front ++ Compare p ∷ [] → AreGoing table root tasks → IsWithin table p
 next_within table root p tasks front split going = (standing-last table front (Compare p ∷ []) (subst (AreEachStanding table) split going.standing.each)).0
 
-pub fails : (ns : List Node) (root p : Pair) (tasks front new : List Task) → tasks ≡ front ++ Compare p ∷ [] → AreGoing (expansions ns) root tasks → RestsOn ns p false front new → AreOutside (expansions ns) new × (false ≡ inside (expansions ns) root)
-fails ns root p tasks front new split going rests =
-    let table = expansions ns in
+pub fails : (table : List model.Shape) (root p : Pair) (tasks front new : List Task) → tasks ≡ front ++ Compare p ∷ [] → AreGoing table root tasks → RestsOn table p false front new → AreOutside table new × (false ≡ inside table root)
+fails table root p tasks front new split going rests =
     let now : AreGoing table root (front ++ Compare p ∷ []) = subst (AreGoing table root) split going in
     let not : all_inside table (Compare p ∷ []) ≡ false = and_true (inside table p) ∙ rests.same in (
       rw rests.whole (record { each = outside-behind table front (Compare p ∷ []) rests.added not now.standing.each (rests.outside refl).each }),

@@ -1,10 +1,11 @@
 -- The shapes that nodes stand for: what a further node changes, and what stays.
-use Rattle.std.proofs.Common.{◌≡◌, ◌<◌, ◌≤◌, ℕ, zero, suc, ◌+◌, List, [], ◌∷◌, ◌++◌, length, take, drop, Bool, String, Global, Some, slice_get, Vec, refl, sym, ap, ◌∙◌, subst, append_assoc, arith}
+use Rattle.std.proofs.Common.{◌≡◌, ◌<◌, ◌≤◌, ℕ, zero, suc, ◌+◌, List, [], ◌∷◌, ◌++◌, length, take, drop, map, Bool, String, Global, Some, slice_get, Vec, refl, sym, ap, ◌∙◌, subst, append_assoc, arith}
 use Rattle.std.proofs.lemmas.List.{append-nil, length-append, get_or_append_left, get_or_push, length_push, take-append-drop}
 use Rattle.std.specs.BTreeMap.{BTreeMap}
 use Rattle.asl_model.specs.Shape as model
+use Rattle.asl_shape.specs.View.{merged}
 use Rattle.asl_numbered.specs.declared.node.Node.{Node}
-use Rattle.asl_numbered.specs.declared.node.Node.TheVariants.{Any, Never, Null, Bool as Truth, Int, Text, List as Elements, Object}
+use Rattle.asl_numbered.specs.declared.node.Node.TheVariants.{Any, Never, Null, Bool as Truth, Int, Text, List as Elements, Object, Several}
 use Rattle.asl_numbered.specs.declared.node.NodeField.{NodeField}
 use Rattle.asl_numbered.specs.Expansion.{shape_at, shapes_at, fields_at, shape_over, numbers_in, parts, AreBelow, RefersBelow, expansions_after, expansions, Keeps}
 
@@ -43,9 +44,8 @@ list_refers bound first rest h below = record { each = (h, below) }
 pub object_refers : (bound : ℕ) (fields : BTreeMap (String Global) NodeField) (extra : Bool) → AreBelow bound (numbers_in fields.entries) → RefersBelow bound (Object fields extra)
 object_refers bound fields extra below = record { each = below }
 
--- the numbers of a list's node
-pub list_parts : (bound : ℕ) (first : Vec ℕ Global) (rest : ℕ) → RefersBelow bound (Elements first rest) → (rest < bound) × AreBelow bound first.items
-list_parts bound first rest h = h.each
+pub several_refers : (bound : ℕ) (numbers : Vec ℕ Global) → AreBelow bound numbers.items → RefersBelow bound (Several numbers)
+several_refers bound numbers below = record { each = below }
 
 -- the first of some numbers, and those behind
 pub below_next : (bound : ℕ) (now left : List ℕ) (n : ℕ) → now ≡ n ∷ left → AreBelow bound now → (n < bound) × AreBelow bound left
@@ -64,6 +64,10 @@ pub shapes_at_stay : (table added : List model.Shape) (ns : List ℕ) → AreBel
 shapes_at_stay table added [] h = refl
 shapes_at_stay table added (n ∷ ns) h = rw (shape_at_stays table added n h.0, shapes_at_stay table added ns h.1) refl
 
+pub list_stays : (table added : List model.Shape) (ns : List ℕ) → AreBelow (length table) ns → map (shape_at (table ++ added)) ns ≡ map (shape_at table) ns
+list_stays table added [] h = refl
+list_stays table added (n ∷ ns) h = rw (shape_at_stays table added n h.0, list_stays table added ns h.1) refl
+
 pub fields_at_stay : (table added : List model.Shape) (fs : List (String Global × NodeField)) → AreBelow (length table) (numbers_in fs) → fields_at (table ++ added) fs ≡ fields_at table fs
 fields_at_stay table added [] h = refl
 fields_at_stay table added (f ∷ fs) h = rw (shape_at_stays table added f.1.shape h.0, fields_at_stay table added fs h.1) refl
@@ -78,6 +82,7 @@ shape_over_stays table added Text h = refl
 shape_over_stays table added (Elements first rest) h =
     rw (shapes_at_stay table added first.items h.1, shape_at_stays table added rest h.0) refl
 shape_over_stays table added (Object fields extra) h = rw (fields_at_stay table added fields.entries h) refl
+shape_over_stays table added (Several numbers) h = ap merged (list_stays table added numbers.items h)
 
 -- ---- keeping
 

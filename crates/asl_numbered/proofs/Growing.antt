@@ -1,15 +1,9 @@
 -- Lists of numbers and of fields with numbers, as they grow beside the shapes that they are for.
-use Rattle.std.proofs.Common.{◌≡◌, ◌<◌, ◌≤◌, ℕ, List, [], ◌∷◌, ◌++◌, length, take, Bool, String, Global, string_bytes, string_cmp, Vec, Result, refl, sym, ap, ◌∙◌, subst}
+use Rattle.std.proofs.Common.{◌≡◌, ◌<◌, ◌≤◌, ℕ, List, [], ◌∷◌, ◌++◌, length, take, Bool, Some, String, Global, string_bytes, string_cmp, Vec, refl, sym, ap, ◌∙◌, subst}
 use Rattle.std.proofs.lemmas.List.{append-nil, take_all}
-use Rattle.std.specs.Prelude.{IfOk}
 use Rattle.asl_model.specs.Shape as model
-use Rattle.asl_tree.specs.declared.OutOfMemory.{OutOfMemory}
-use Rattle.asl_shape.specs.View.{view, shapes_view, fields_view, shape_step, field_step as shape_field_step}
+use Rattle.asl_shape.specs.View.{view, shapes_view, fields_view}
 use Rattle.asl_shape.specs.declared.shape.Shape.{Shape}
-use Rattle.asl_shape.specs.declared.shape.Shape as shape
-use Rattle.asl_shape.specs.declared.shape.Shape.TheFolds.{fold-roll-Shape}
-use Rattle.asl_shape.specs.declared.shape.Shape.TheOpen
-use Rattle.asl_shape.specs.declared.shape.Shape.TheVariants
 use Rattle.asl_shape.specs.declared.shape.Field.{Field}
 use Rattle.std.specs.BTreeMap.{BTreeMap, insert_entry}
 use Rattle.std.specs.List.Sorted.{IsStrictlySortedBy}
@@ -17,6 +11,7 @@ use Rattle.std.specs.Map.{keys_of}
 use Rattle.asl_numbered.specs.declared.node.Node.TheVariants.{List as Elements, Object}
 use Rattle.asl_numbered.specs.declared.node.NodeField.{NodeField}
 use Rattle.asl_numbered.specs.Expansion.{shape_at, shapes_at, fields_at, shape_over, numbers_in, AreBelow, RefersBelow, IsNumberOf, AreNumbersOf, AreFieldsOf, Keeps}
+use Rattle.asl_numbered.specs.TakenApart.{arrays_of, objects_of, HasArraysAt, HasObjectsAt}
 use Rattle.asl_numbered.proofs.Appending.{names, appended}
 use Rattle.asl_numbered.proofs.Expansions.{below-append, below-wider, keeps_longer, shapes_at_stay, fields_at_stay}
 
@@ -38,9 +33,6 @@ pub same_names : (table : List model.Shape) (fs : List (String Global × NodeFie
 same_names table fs ms e = sym (names-at table fs) ∙ ap names_of e ∙ names-shown ms
 
 -- ---- the shape without a tree
-
-pub view_never : view shape.Never ≡ model.Never
-view_never = ap view (sym TheVariants.rolls-Never) ∙ fold-roll-Shape model.Shape (Bool × model.Shape) shape_step shape_field_step TheOpen.Never
 
 -- ---- one more
 
@@ -129,6 +121,11 @@ numbered_object_refers now shapes fs extra are = record { each = are.within }
 pub object_shape : (now : List model.Shape) (shapes : model.FieldShapes) (fs : BTreeMap (String Global) NodeField) (extra : Bool) → AreFieldsOf now shapes fs.entries → shape_over now (Object fs extra) ≡ model.ObjectShape shapes extra
 object_shape now shapes fs extra are = rw are.same refl
 
--- the number of a shape is that of an equal one
-pub renumbered : (table : List model.Shape) (s t : model.Shape) (r : Result ℕ OutOfMemory) → s ≡ t → IfOk r (IsNumberOf table s) → IfOk r (IsNumberOf table t)
-renumbered table s t r e h = rw (← e) h
+-- the lists of a number, and the objects
+pub arrays_added : (middle now new : List model.Shape) (first : model.Shapes) (rest : model.Shape) (ns : Vec ℕ Global) (n r : ℕ) → Keeps middle now → AreNumbersOf middle first ns.items → IsNumberOf now rest n → IsNumberOf new (shape_over now (Elements ns n)) r → HasArraysAt new (model.ArraysOf first rest) (Some r)
+arrays_added middle now new first rest ns n r keeps are is own =
+    record { within = own.within; same = ap arrays_of (own.same ∙ list_shape middle now first rest ns n keeps are is) }
+
+pub objects_added : (now new : List model.Shape) (shapes : model.FieldShapes) (fs : BTreeMap (String Global) NodeField) (extra : Bool) (r : ℕ) → AreFieldsOf now shapes fs.entries → IsNumberOf new (shape_over now (Object fs extra)) r → HasObjectsAt new (model.ObjectsOf shapes extra) (Some r)
+objects_added now new shapes fs extra r are own =
+    record { within = own.within; same = ap objects_of (own.same ∙ object_shape now shapes fs extra are) }

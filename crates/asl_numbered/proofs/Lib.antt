@@ -1,8 +1,10 @@
 pub mod Appending
+pub mod Ascending
 pub mod Comparisons
 pub mod Expansions
 pub mod Growing
 pub mod Joins
+pub mod Levels
 pub mod Looking
 pub mod Marking
 pub mod Moving
@@ -14,3 +16,4 @@ pub mod Remembered
 pub mod Sameness
 pub mod SpelledOut
 pub mod Tables
+pub mod Taking

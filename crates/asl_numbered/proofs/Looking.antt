@@ -1,27 +1,27 @@
 -- What a look at two shapes of a table puts down: the joins of their parts.
-use Rattle.std.proofs.Common.{◌≡◌, ◌<◌, ◌≤◌, ◌+◌, ℕ, List, [], ◌∷◌, ◌++◌, length, take, drop, Bool, Option, Some, None, option_map, Result, Ok, Err, Vec, refl, sym, ap, ◌∙◌, subst, arith, ◌⊎◌, inl, inr, String, Global, append_assoc}
+use Rattle.std.proofs.Common.{◌≡◌, ◌<◌, ◌≤◌, ◌+◌, ℕ, List, [], ◌∷◌, ◌++◌, length, take, drop, Bool, true, false, Option, Some, None, option_map, refl, sym, ap, ◌∙◌, subst, arith, ◌⊎◌, inl, inr, String, Global, append_assoc}
 use Rattle.std.proofs.Math.Seq.{drop-append_seam, take-append_seam}
 use Rattle.std.proofs.lemmas.List.{append-nil, length-append, length-map, map-append}
-use Rattle.std.specs.BTreeMap.{BTreeMap, is_at}
+use Rattle.std.specs.BTreeMap.{is_at}
 use Rattle.std.specs.Map.{lookup}
-use Rattle.std.specs.Prelude.{IfOk}
+use Rattle.std.specs.Prelude.{if◌then◌else◌}
 use Rattle.std.specs.String.{string_cmp}
 use Rattle.asl_model.specs.Shape as model
-use Rattle.asl_model.specs.Shape.{Shape, Shapes}
-use Rattle.asl_model.specs.ShapeOrder.{further_places, joined_with_each, join_kinds, join}
-use Rattle.asl_model.proofs.JoinFuel.{join-inhabited}
-use Rattle.asl_tree.specs.declared.OutOfMemory.{OutOfMemory}
-use Rattle.asl_numbered.specs.declared.node.Node.{Node}
-use Rattle.asl_numbered.specs.declared.node.Node.TheVariants as nodes
+use Rattle.asl_model.specs.Shape.{Shape, Any, OfKinds, Arrays, WithoutArrays, ArraysOf, Objects, WithoutObjects, ObjectsOf, Shapes, some_array, some_object}
+use Rattle.asl_model.specs.ShapeOrder.{further_places, joined_with_each, kept_arrays, kept_objects, join}
+use Rattle.asl_numbered.specs.declared.kinds.NodeArrays.{NodeArrays}
+use Rattle.asl_numbered.specs.declared.kinds.NodeKinds.{NodeKinds}
+use Rattle.asl_numbered.specs.declared.kinds.NodeObjects.{NodeObjects}
 use Rattle.asl_numbered.specs.declared.node.NodeField.{NodeField}
 use Rattle.asl_numbered.specs.declared.pair.Pair.{Pair}
 use Rattle.asl_numbered.specs.declared.joining.JoinTask.{JoinTask}
 use Rattle.asl_numbered.specs.declared.joining.JoinTask.TheVariants.{Join, Nothing, With, Finish}
-use Rattle.asl_numbered.specs.Comparison.{IsWithin, IsNodeAt}
-use Rattle.asl_numbered.specs.Expansion.{shape_at, shapes_at, fields_at, shape_over, expansions, numbers_in, parts, AreBelow}
-use Rattle.asl_numbered.specs.Joins.{joint, place_joins, with_field_join, field_joins, ArePartsOf, array_parts, object_parts, Step, NothingStep, WithStep, FinishStep, step_of, steps_of, joined_last, done, all_done, IsFed, AreEachFed, places_cost, each_cost, rest_cost, with_field_cost, fields_cost, parts_cost, cost_of, last_of, work_left, place_joinings, joinings_with, field_joinings, field_joining, AreInhabited, found_in, AreEachTasksWithin, Moves, list_joinings, Looked, IsLevel, LooksAt}
-use Rattle.asl_numbered.proofs.Comparisons.{mention_of_number, found-below, below-table}
-use Rattle.asl_numbered.proofs.Expansions.{simple_refers, below-drop}
+use Rattle.asl_numbered.specs.Comparison.{IsWithin}
+use Rattle.asl_numbered.specs.Expansion.{shape_at, shapes_at, fields_at, numbers_in, AreBelow}
+use Rattle.asl_numbered.specs.TakenApart.{arrays_over, objects_over, kinds_over}
+use Rattle.asl_numbered.specs.Joins.{place_joins, with_field_join, field_joins, array_joins, object_joins, kinds_joins, kept, part_joins, Step, NothingStep, WithStep, FinishStep, step_of, steps_of, joined_last, done, all_done, IsFed, AreEachFed, places_cost, each_cost, rest_cost, with_field_cost, fields_cost, arrays_cost, objects_cost, parts_cost, cost_of, last_of, work_left, place_joinings, joinings_with, field_joinings, field_joining, array_joinings, object_joinings, AreInhabited, found_in, AreEachTasksWithin, Moves, AreArraysWithin, AreObjectsWithin, AreKindsWithin, AreKindsOf}
+use Rattle.asl_numbered.proofs.Comparisons.{mention_of_number, found-below}
+use Rattle.asl_numbered.proofs.Expansions.{below-drop}
 use Rattle.asl_numbered.proofs.Joins.{done_append, work_append, joined_behind, last_behind, with_each, with_each_work, places_each, places_each_work, parts_cheaper, behind_one, behind_each}
 
 -- ---- tasks for parts
@@ -213,88 +213,146 @@ fields_each_work table (f ∷ fs) os found =
     go None each = omega (arith, each found)
     go (Some other) each = omega (arith, each (found ++ join (shape_at table f.1.shape) (shape_at table other.shape) ∷ []))
 
+-- ---- the parts of two shapes
+
+arrays-done : (table : List Shape) (arrays others : Option NodeArrays) (found : List Shape) → all_done (steps_of table (array_joinings arrays others)) found ≡ found ++ array_joins (arrays_over table arrays) (arrays_over table others)
+arrays-done table None others found = sym (append-nil found)
+arrays-done table (Some arrays) None found = sym (append-nil found)
+arrays-done table (Some arrays) (Some others) found = list_done table arrays.first.now others.first.now arrays.rest others.rest found
+
+arrays-work : (table : List Shape) (arrays others : Option NodeArrays) (found : List Shape) → work_left (steps_of table (array_joinings arrays others)) found ≤ 1 + arrays_cost cost_of (arrays_over table arrays) (arrays_over table others)
+arrays-work table None others found = omega arith
+arrays-work table (Some arrays) None found = omega arith
+arrays-work table (Some arrays) (Some others) found = omega (arith, list_work table arrays.first.now others.first.now arrays.rest others.rest found)
+
+array-parts : (table : List Shape) (arrays others : Option NodeArrays) → AreArraysWithin table arrays → AreArraysWithin table others → AreParts table (array_joinings arrays others)
+array-parts table None others h i = tt
+array-parts table (Some arrays) None h i = tt
+array-parts table (Some arrays) (Some others) h i = list_parts table arrays.first.now others.first.now arrays.rest others.rest [] h.parts.1 i.parts.1 h.parts.0 i.parts.0
+
+objects-done : (table : List Shape) (objects others : Option NodeObjects) (found : List Shape) → all_done (steps_of table (object_joinings objects others)) found ≡ found ++ object_joins (objects_over table objects) (objects_over table others)
+objects-done table None others found = sym (append-nil found)
+objects-done table (Some objects) None found = sym (append-nil found)
+objects-done table (Some objects) (Some others) found = fields_each table objects.fields.now.entries others.fields.now.entries found
+
+objects-work : (table : List Shape) (objects others : Option NodeObjects) (found : List Shape) → work_left (steps_of table (object_joinings objects others)) found ≡ objects_cost cost_of (objects_over table objects) (objects_over table others)
+objects-work table None others found = refl
+objects-work table (Some objects) None found = refl
+objects-work table (Some objects) (Some others) found = fields_each_work table objects.fields.now.entries others.fields.now.entries found
+
+object-parts : (table : List Shape) (objects others : Option NodeObjects) → AreObjectsWithin table objects → AreObjectsWithin table others → AreParts table (object_joinings objects others)
+object-parts table None others h i = tt
+object-parts table (Some objects) None h i = tt
+object-parts table (Some objects) (Some others) h i = field-parts table objects.fields.now.entries others.fields.now.entries h.parts i.parts
+
+module _ (table : List Shape) (first second : NodeKinds) (found : List Shape) where
+  -- the tasks of both kinds
+  abbrev both : List JoinTask
+  both = object_joinings first.objects second.objects ++ array_joinings first.arrays second.arrays
+
+  abbrev array-steps : List Step
+  array-steps = steps_of table (array_joinings first.arrays second.arrays)
+
+  abbrev object-steps : List Step
+  object-steps = steps_of table (object_joinings first.objects second.objects)
+
+  both-split : steps_of table both ≡ object-steps ++ array-steps
+  both-split = map-append (step_of table) (object_joinings first.objects second.objects) (array_joinings first.arrays second.arrays)
+
+  kinds_done : all_done (steps_of table both) found ≡ found ++ kinds_joins (kinds_over table first) (kinds_over table second)
+  kinds_done =
+      let arrays = array_joins (arrays_over table first.arrays) (arrays_over table second.arrays) in
+      let objects = object_joins (objects_over table first.objects) (objects_over table second.objects) in
+      ap (λ steps. all_done steps found) both-split
+      ∙ done_append object-steps array-steps found
+      ∙ ap (all_done object-steps) (arrays-done table first.arrays second.arrays found)
+      ∙ objects-done table first.objects second.objects (found ++ arrays)
+      ∙ append_assoc found arrays objects
+
+  kinds_work : work_left (steps_of table both) found ≤ 1 + parts_cost cost_of (kinds_over table first) (kinds_over table second)
+  kinds_work =
+      let split : work_left (steps_of table both) found ≡ work_left object-steps (all_done array-steps found) + work_left array-steps found =
+      ap (λ steps. work_left steps found) both-split ∙ work_append object-steps array-steps found in
+      omega (arith, split, objects-work table first.objects second.objects (all_done array-steps found), arrays-work table first.arrays second.arrays found)
+
+  kinds_parts : AreKindsWithin table first → AreKindsWithin table second → AreParts table both
+  kinds_parts h i = parts-append table (object_joinings first.objects second.objects) (array_joinings first.arrays second.arrays) (object-parts table first.objects second.objects h.objects i.objects) (array-parts table first.arrays second.arrays h.arrays i.arrays)
+
+-- ---- what is left out is no work
+
+no-arrays : (a : Arrays) → arrays_cost cost_of a WithoutArrays ≡ 0
+no-arrays WithoutArrays = refl
+no-arrays (ArraysOf first rest) = refl
+
+kept-arrays : (a b : Arrays) → arrays_cost cost_of (kept_arrays a) (kept_arrays b) ≤ arrays_cost cost_of a b
+kept-arrays a b = go (some_array a) (some_array b)
+  where
+    go : (own other : Bool) → arrays_cost cost_of (if own then a else WithoutArrays) (if other then b else WithoutArrays) ≤ arrays_cost cost_of a b
+    go true true = omega arith
+    go true false = omega (arith, no-arrays a)
+    go false other = omega arith
+
+no-objects : (a : Objects) → objects_cost cost_of a WithoutObjects ≡ 0
+no-objects WithoutObjects = refl
+no-objects (ObjectsOf shapes extra) = refl
+
+kept-objects : (a b : Objects) → objects_cost cost_of (kept_objects a) (kept_objects b) ≤ objects_cost cost_of a b
+kept-objects a b = go (some_object a) (some_object b)
+  where
+    go : (own other : Bool) → objects_cost cost_of (if own then a else WithoutObjects) (if other then b else WithoutObjects) ≤ objects_cost cost_of a b
+    go true true = omega arith
+    go true false = omega (arith, no-objects a)
+    go false other = omega arith
+
+kept-cheaper : (a b : Shape) → parts_cost cost_of (kept a) (kept b) ≤ parts_cost cost_of a b
+kept-cheaper Any b = omega arith
+kept-cheaper (OfKinds some others more) Any = omega arith
+kept-cheaper (OfKinds some others more) (OfKinds simple arrays objects) = omega (arith, kept-arrays others arrays, kept-objects more objects)
+
 -- ---- what the parts lead to
 
-never-joined : (table : List Shape) (b : Node) → model.Any ≡ join_kinds join model.Never (shape_over table b)
-never-joined table nodes.Any = refl
-never-joined table b = refl
+module _ (table : List Shape) (p : Pair) (within : IsWithin table p) (some : AreInhabited table p) (numbers : List ℕ) (below : AreBelow (length table) numbers) (old new : List JoinTask) where
+  abbrev a : Shape
+  a = shape_at table p.first
 
--- tasks that find the joins of the parts of a pair, and don't cost more than these, lead to its join
-parts-lead : (table : List Shape) (p : Pair) (numbers : List ℕ) (joins : List Shape) (tasks old new : List JoinTask) → IsWithin table p → AreInhabited table p → AreBelow (length table) numbers → AreParts table tasks → ArePartsOf (shape_at table p.first) (shape_at table p.second) joins → all_done (steps_of table tasks) (found_in table numbers) ≡ found_in table numbers ++ joins → work_left (steps_of table tasks) (found_in table numbers) ≤ 1 + parts_cost cost_of (shape_at table p.first) (shape_at table p.second) → new ≡ old ++ Finish p (length numbers) ∷ tasks → Moves table table (Join p) old new numbers numbers
-parts-lead table p numbers joins tasks old new within some below are of finds cost made =
-    let a = shape_at table p.first in
-    let b = shape_at table p.second in
-    let start = length numbers in
-    let found = found_in table numbers in
-    let many : length found ≡ start = length-map numbers (shape_at table) in
-    let front : take start (found ++ joins) ≡ found = subst (λ n. take n (found ++ joins) ≡ found) many (take-append_seam found joins) in
-    let behind : drop start (found ++ joins) ≡ joins = subst (λ n. drop n (found ++ joins) ≡ joins) many (drop-append_seam found joins) in
-    let counted : start ≤ length (found ++ joins) = omega (arith, many, length-append found joins) in
-    let fed : IsFed (FinishStep a b start) (found ++ joins) = (counted, subst (ArePartsOf a b) (sym behind) of, some.first, some.second) in
-    record {
-      added = Finish p start ∷ tasks;
-      whole = made;
-      within = (within, parts_within table tasks are);
-      below = below;
-      fed = (subst (IsFed (FinishStep a b start)) (sym finds) fed, parts_fed table tasks found are);
-      same = ap (done (FinishStep a b start)) finds ∙ ap (λ shapes. shapes ++ join a b ∷ []) front;
-      less = omega (arith, cost, parts_cheaper a b);
-    }
+  abbrev b : Shape
+  b = shape_at table p.second
 
-module _ (ns : List Node) (p : Pair) (within : IsWithin (expansions ns) p) (some : AreInhabited (expansions ns) p) (numbers : List ℕ) (below : AreBelow (length (expansions ns)) numbers) (old new : List JoinTask) where
-  abbrev table : List Shape
-  table = expansions ns
-
-  -- the same, where what the two nodes are is known
-  nodes-lead : (a b : Node) (joins : List Shape) (tasks : List JoinTask) → IsNodeAt ns p.first a → IsNodeAt ns p.second b → AreParts table tasks → ArePartsOf (shape_over table a) (shape_over table b) joins → all_done (steps_of table tasks) (found_in table numbers) ≡ found_in table numbers ++ joins → work_left (steps_of table tasks) (found_in table numbers) ≤ 1 + parts_cost cost_of (shape_over table a) (shape_over table b) → new ≡ old ++ Finish p (length numbers) ∷ tasks → Moves table table (Join p) old new numbers numbers
-  nodes-lead a b joins tasks first second are of finds cost made =
-      let parts_of = subst (λ s. ArePartsOf s (shape_at table p.second) joins) first.level (subst (λ s. ArePartsOf (shape_over table a) s joins) second.level of) in
-      let same : parts_cost cost_of (shape_over table a) (shape_over table b) ≡ parts_cost cost_of (shape_at table p.first) (shape_at table p.second) =
-      ap (λ s. parts_cost cost_of s (shape_over table b)) first.level ∙ ap (parts_cost cost_of (shape_at table p.first)) second.level in
-      parts-lead table p numbers joins tasks old new within some below are parts_of finds (omega (arith, cost, same)) made
-
-  list-leads : (ps os : Vec ℕ Global) (rest further : ℕ) → IsNodeAt ns p.first (nodes.List ps rest) → IsNodeAt ns p.second (nodes.List os further) → new ≡ old ++ list_joinings (Finish p (length numbers)) ps.items rest os.items further → Moves table table (Join p) old new numbers numbers
-  list-leads ps os rest further first second made =
-      let own = below-table ns p.first (nodes.List ps rest) within.first first in
-      let other = below-table ns p.second (nodes.List os further) within.second second in
+  -- tasks that find the joins of the parts of a pair, and don't cost more than these, lead to its join
+  parts-lead : (tasks : List JoinTask) → AreParts table tasks → all_done (steps_of table tasks) (found_in table numbers) ≡ found_in table numbers ++ part_joins a b → work_left (steps_of table tasks) (found_in table numbers) ≤ 1 + parts_cost cost_of a b → new ≡ old ++ Finish p (length numbers) ∷ tasks → Moves table table (Join p) old new numbers numbers
+  parts-lead tasks are finds cost made =
+      let joins = part_joins a b in
+      let start = length numbers in
       let found = found_in table numbers in
-      nodes-lead (nodes.List ps rest) (nodes.List os further) _ _ first second (list_parts table ps.items os.items rest further found own.1 other.1 own.0 other.0) array_parts (list_done table ps.items os.items rest further found) (omega (arith, list_work table ps.items os.items rest further found)) made
+      let many : length found ≡ start = length-map numbers (shape_at table) in
+      let front : take start (found ++ joins) ≡ found = subst (λ n. take n (found ++ joins) ≡ found) many (take-append_seam found joins) in
+      let behind : drop start (found ++ joins) ≡ joins = subst (λ n. drop n (found ++ joins) ≡ joins) many (drop-append_seam found joins) in
+      let counted : start ≤ length (found ++ joins) = omega (arith, many, length-append found joins) in
+      let fed : IsFed (FinishStep a b start) (found ++ joins) = (counted, behind, some.first, some.second) in
+      record {
+        added = Finish p start ∷ tasks;
+        whole = made;
+        within = (within, parts_within table tasks are);
+        below = below;
+        fed = (subst (IsFed (FinishStep a b start)) (sym finds) fed, parts_fed table tasks found are);
+        same = ap (done (FinishStep a b start)) finds ∙ ap (λ shapes. shapes ++ join a b ∷ []) front;
+        less = omega (arith, cost, parts_cheaper a b);
+      }
 
-  object-leads : (fs os : BTreeMap (String Global) NodeField) (extra more : Bool) → IsNodeAt ns p.first (nodes.Object fs extra) → IsNodeAt ns p.second (nodes.Object os more) → new ≡ old ++ Finish p (length numbers) ∷ field_joinings fs.entries os.entries → Moves table table (Join p) old new numbers numbers
-  object-leads fs os extra more first second made =
-      let own = below-table ns p.first (nodes.Object fs extra) within.first first in
-      let other = below-table ns p.second (nodes.Object os more) within.second second in
+  -- one of the two is Any
+  pub any_leads : AreKindsOf table p None → new ≡ old ++ Finish p (length numbers) ∷ [] → Moves table table (Join p) old new numbers numbers
+  any_leads h made =
+      let none : found_in table numbers ≡ found_in table numbers ++ part_joins a b = sym (ap (λ joins. found_in table numbers ++ joins) h.apart.1 ∙ append-nil (found_in table numbers)) in
+      parts-lead [] tt none (omega arith) made
+
+  -- the tasks are those of the kinds of both
+  pub kinds_lead : (first second : NodeKinds) (last more : List JoinTask) → AreKindsOf table p (Some (first, second)) → last ≡ old ++ Finish p (length numbers) ∷ [] → more ≡ last ++ object_joinings first.objects second.objects → new ≡ more ++ array_joinings first.arrays second.arrays → Moves table table (Join p) old new numbers numbers
+  kinds_lead first second last more h begun further made =
       let found = found_in table numbers in
-      nodes-lead (nodes.Object fs extra) (nodes.Object os more) _ _ first second (field-parts table fs.entries os.entries own other) object_parts (fields_each table fs.entries os.entries found) (omega (arith, fields_each_work table fs.entries os.entries found)) made
-
-  module _ (answer : Option Node) where
-    put-looked : (answer ≡ None) → Moves table table (Join p) old new numbers numbers → LooksAt ns p answer old new numbers
-    put-looked none moves = record { given = λ node e. absurd (let both : Some node ≡ None = sym e ∙ none in cc); put = λ e. moves }
-
-    kind-looked : (a b node : Node) → IsNodeAt ns p.first a → IsNodeAt ns p.second b → parts node ≡ [] → shape_over table node ≡ join_kinds join (shape_over table a) (shape_over table b) → (answer ≡ Some node) × (new ≡ old) → LooksAt ns p answer old new numbers
-    kind-looked a b node first second simple is h =
-        let whole : shape_over table node ≡ joint table p =
-        is ∙ ap (λ s. join_kinds join s (shape_over table b)) first.level ∙ ap (join_kinds join (shape_at table p.first)) second.level ∙ sym (join-inhabited (shape_at table p.first) (shape_at table p.second) some.first some.second) in
-        let level : IsLevel ns p node = record { same = whole; below = simple_refers (length ns) node simple } in
-        record {
-          given = λ other e. (let same : Some node ≡ Some other = sym h.0 ∙ e in let own : node ≡ other = cc in subst (IsLevel ns p) own level, h.1);
-          put = λ none. absurd (let both : Some node ≡ None = sym h.0 ∙ none in cc);
-        }
-
-    pub looked : (a b : Node) → IsNodeAt ns p.first a → IsNodeAt ns p.second b → Looked a b (Finish p (length numbers)) answer old new → LooksAt ns p answer old new numbers
-    looked (nodes.List ps rest) (nodes.List os further) first second h = put-looked h.0 (list-leads ps os rest further first second h.1)
-    looked (nodes.List ps rest) b first second h = kind-looked (nodes.List ps rest) b nodes.Any first second refl refl h
-    looked (nodes.Object fs extra) (nodes.Object os more) first second h = put-looked h.0 (object-leads fs os extra more first second h.1)
-    looked (nodes.Object fs extra) b first second h = kind-looked (nodes.Object fs extra) b nodes.Any first second refl refl h
-    looked nodes.Null nodes.Null first second h = kind-looked nodes.Null nodes.Null nodes.Null first second refl refl h
-    looked nodes.Bool nodes.Bool first second h = kind-looked nodes.Bool nodes.Bool nodes.Bool first second refl refl h
-    looked nodes.Int nodes.Int first second h = kind-looked nodes.Int nodes.Int nodes.Int first second refl refl h
-    looked nodes.Text nodes.Text first second h = kind-looked nodes.Text nodes.Text nodes.Text first second refl refl h
-    looked nodes.Never b first second h = kind-looked nodes.Never b nodes.Any first second refl (never-joined table b) h
-    looked a b first second h = kind-looked a b nodes.Any first second refl refl h
-
--- the same where memory may run out
-pub pair_looked : (ns : List Node) (p : Pair) (numbers : List ℕ) (old new : List JoinTask) (last : JoinTask) (a b : Node) (r : Result (Option Node) OutOfMemory) → IsWithin (expansions ns) p → AreInhabited (expansions ns) p → AreBelow (length (expansions ns)) numbers → IsNodeAt ns p.first a → IsNodeAt ns p.second b → last ≡ Finish p (length numbers) → IfOk r (λ o. Looked a b last o old new) → IfOk r (λ o. LooksAt ns p o old new numbers)
-pair_looked ns p numbers old new last a b (Ok answer) within some below first second is h =
-    looked ns p within some numbers below old new answer a b first second (subst (λ task. Looked a b task answer old new) is h)
-pair_looked ns p numbers old new last a b (Err e) within some below first second is h = tt
+      let objects = object_joinings first.objects second.objects in
+      let arrays = array_joinings first.arrays second.arrays in
+      let joins : kinds_joins (kinds_over table first) (kinds_over table second) ≡ part_joins a b = ap (λ s. kinds_joins s (kinds_over table second)) h.apart.0 ∙ ap (kinds_joins (kept a)) h.apart.1 in
+      let same : parts_cost cost_of (kinds_over table first) (kinds_over table second) ≡ parts_cost cost_of (kept a) (kept b) = ap (λ s. parts_cost cost_of s (kinds_over table second)) h.apart.0 ∙ ap (parts_cost cost_of (kept a)) h.apart.1 in
+      let whole : new ≡ old ++ Finish p (length numbers) ∷ (objects ++ arrays) =
+      made ∙ ap (λ tasks. tasks ++ arrays) (further ∙ ap (λ tasks. tasks ++ objects) begun ∙ append_assoc old (Finish p (length numbers) ∷ []) objects) ∙ append_assoc old (Finish p (length numbers) ∷ objects) arrays in
+      parts-lead (objects ++ arrays) (kinds_parts table first second found h.apart.2 h.apart.3) (kinds_done table first second found ∙ ap (λ all. found ++ all) joins) (omega (arith, kinds_work table first second found, same, kept-cheaper a b)) whole

@@ -3,13 +3,12 @@ use Rattle.std.proofs.Common.{◌≡◌, ◌<◌, ◌-◌, ℕ, List, [], ◌∷
 use Rattle.std.proofs.lemmas.List.{append-nil, drop-map, length-drop, map-append, take-map, take_all}
 use Rattle.asl_model.specs.Shape as model
 use Rattle.asl_model.specs.Shape.{Shape}
-use Rattle.asl_numbered.specs.declared.node.Node.{Node}
 use Rattle.asl_numbered.specs.declared.pair.Pair.{Pair}
 use Rattle.asl_numbered.specs.declared.joining.JoinTask.{JoinTask}
 use Rattle.asl_numbered.specs.declared.joining.JoinTask.TheVariants.{Join, Nothing, With, Finish}
 use Rattle.asl_numbered.specs.Comparison.{IsWithin}
-use Rattle.asl_numbered.specs.Expansion.{shape_at, shape_over, expansions, AreBelow, IsNumberOf, Keeps}
-use Rattle.asl_numbered.specs.Joins.{joint, Shows, AreJoins, ArePartsOf, step_of, Step, steps_of, joined_last, done, IsFed, AreEachFed, cost_of, last_of, step_cost, work_left, found_in, IsTaskWithin, AreEachTasksWithin, AreLeft, Moves, LooksAt, AreMadeOf}
+use Rattle.asl_numbered.specs.Expansion.{shape_at, AreBelow, IsNumberOf, Keeps}
+use Rattle.asl_numbered.specs.Joins.{joint, Shows, AreJoins, step_of, Step, steps_of, joined_last, done, IsFed, AreEachFed, cost_of, last_of, step_cost, work_left, found_in, IsTaskWithin, AreEachTasksWithin, AreLeft, Moves, AreMadeOf}
 use Rattle.asl_numbered.proofs.Comparisons.{within_kept}
 use Rattle.asl_numbered.proofs.Expansions.{below-front, below-behind, below-append, below-take, below-drop, below-wider, keeps_longer, kept_shape, keeps_same}
 use Rattle.asl_numbered.proofs.Joins.{joint_kept, joins_kept, parts_cheaper, joined_behind, last_behind, moved, less_work}
@@ -51,12 +50,6 @@ join-put old new p tasks left numbers next n keeps below shows stays made =
 pub known_put : (table : List Shape) (p : Pair) (tasks left : List JoinTask) (numbers next : List ℕ) (n : ℕ) → AreBelow (length table) numbers → Shows table (joint table p) n → left ≡ tasks → next ≡ numbers ++ n ∷ [] → Moves table table (Join p) tasks left numbers next
 known_put table p tasks left numbers next n below shows stays made = join-put table table p tasks left numbers next n (keeps_same table) below shows stays made
 
--- its first level was found
-pub level_put : (ns : List Node) (new : List Shape) (p : Pair) (node : Node) (tasks left : List JoinTask) (numbers next : List ℕ) (n : ℕ) → LooksAt ns p (Some node) tasks left numbers → Keeps (expansions ns) new → AreBelow (length (expansions ns)) numbers → IsNumberOf new (shape_over (expansions ns) node) n → next ≡ numbers ++ n ∷ [] → Moves (expansions ns) new (Join p) tasks left numbers next
-level_put ns new p node tasks left numbers next n looks keeps below is made =
-    let level = looks.given node refl in
-    join-put (expansions ns) new p tasks left numbers next n keeps below (record { within = is.within; same = is.same ∙ level.0.same }) level.1 made
-
 -- ---- a pair that is finished
 
 module _ (table : List Shape) (p : Pair) (start : ℕ) (numbers : List ℕ) (within : IsWithin table p) (below : AreBelow (length table) numbers) (fed : IsFed (step_of table (Finish p start)) (found_in table numbers)) where
@@ -65,15 +58,12 @@ module _ (table : List Shape) (p : Pair) (start : ℕ) (numbers : List ℕ) (wit
   made_of parts is = rw is (record {
     within = within;
     below = below-drop (length table) start numbers below;
-    all = subst (ArePartsOf (shape_at table p.first) (shape_at table p.second)) (drop-map (shape_at table) start numbers) fed.1;
+    all = sym (drop-map (shape_at table) start numbers) ∙ fed.1;
     inhabited = record { first = fed.2; second = fed.3 };
   })
 
   -- the number of its join is put in their place
-  module _ (new : List Shape) (n : ℕ) (keeps : Keeps table new) (shape : Shape) (same : shape ≡ joint table p) (is : IsNumberOf new shape n) where
-    shows : Shows new (joint table p) n
-    shows = record { within = is.within; same = is.same ∙ same }
-
+  module _ (new : List Shape) (n : ℕ) (keeps : Keeps table new) (shows : Shows new (joint table p) n) where
     pub finish_put : (tasks left : List JoinTask) (front next : List ℕ) → left ≡ tasks → front ≡ take start numbers → next ≡ front ++ n ∷ [] → Moves table new (Finish p start) tasks left numbers next
     finish_put tasks left front next stays cut made =
         let step : done (step_of table (Finish p start)) (found_in table numbers) ≡ found_in table (take start numbers) ++ joint table p ∷ [] = ap (λ found. found ++ joint table p ∷ []) (take-map (shape_at table) start numbers) in

@@ -1,34 +1,43 @@
 -- The join of two shapes of a table, made of the joins of their parts.
-use Rattle.std.proofs.Common.{◌≡◌, ◌<◌, ◌≤◌, ℕ, List, Vec, Result, Ok, Err, length, arith, [], ◌∷◌, ◌++◌, Bool, true, false, ◌&&◌, ◌||◌, Option, Some, None, Ordering, Less, Equal, Greater, String, Global, string_bytes, string_cmp, nat_cmp, bytes_eq, option_map, unwrap_or, is_some, Bor, append_assoc, refl, sym, ap, ◌∙◌, subst}
+use Rattle.std.proofs.Common.{◌≡◌, ◌<◌, ◌≤◌, ℕ, min, List, length, map, take, drop, arith, [], ◌∷◌, ◌++◌, Bool, true, false, ◌&&◌, ◌||◌, Option, Some, None, Ordering, Less, Equal, Greater, String, Global, string_bytes, string_cmp, nat_cmp, bytes_eq, option_map, unwrap_or, is_some, Bor, Result, Ok, Err, append_assoc, refl, sym, ap, ◌∙◌, subst}
+use Rattle.std.proofs.Math.Seq.{drop-append_seam, take-append_seam}
 use Rattle.std.proofs.lemmas.Cmp.{nat_list_cmp_total}
 use Rattle.std.proofs.lemmas.Map.Text.{is_eq-slice_cmp}
 use Rattle.std.proofs.lemmas.Slice.Eq.{bytes_eq-Decides}
-use Rattle.std.proofs.lemmas.List.{append-nil, map-append, nil_from_length}
+use Rattle.std.proofs.lemmas.List.{append-nil, drop-map, length-append, length-map, map-append, nil_from_length, take-map}
 use Rattle.std.specs.BTreeMap.{BTreeMap, is_at, insert_entry}
-use Rattle.std.specs.Prelude.{IfOk}
 use Rattle.std.specs.Cmp.Lexicographic.{slice_cmp}
 use Rattle.std.specs.List.{AllByRecursion}
 use Rattle.std.specs.List.Sorted.{IsStrictlySortedBy}
 use Rattle.std.specs.Map.{keys_of, lookup}
 use Rattle.std.specs.Ordering.{is_eq, match_ordering}
+use Rattle.std.specs.Prelude.{IfSome, IfOk}
 use Rattle.std.specs.Slice.Iter.{iter_rest, iter_steps}
 use Rattle.std.specs.declared.slice.Iter.{Iter}
 use Rattle.asl_model.specs.Shape as model
-use Rattle.asl_model.specs.Shape.{Shape, OfKinds, WithoutArrays, ArraysOf, WithoutObjects, ObjectsOf, FieldShapes, NoFieldShapes, AndFieldShape, ArrayShape, ObjectShape, insert_mention}
-use Rattle.asl_model.specs.ShapeOrder.{mention_of, set_mention, without_mention, further_places, common_joins, joined_with_each, keep_joined, joined_fields, with_optional_unless, with_other_fields, join_kinds, join}
+use Rattle.asl_model.specs.Shape.{Shape, Any, OfKinds, Arrays, WithoutArrays, ArraysOf, Objects, WithoutObjects, ObjectsOf, FieldShapes, NoFieldShapes, AndFieldShape, ArrayShape, ObjectShape, insert_mention}
+use Rattle.asl_model.specs.ShapeOrder.{mention_of, set_mention, without_mention, further_places, common_joins, joined_with_each, keep_joined, joined_fields, with_optional_unless, with_other_fields, either, join_arrays, join_objects, join_kinds, join}
 use Rattle.asl_model.proofs.JoinFuel.{join-inhabited}
 use Rattle.asl_tree.proofs.Texts.{after_first}
 use Rattle.asl_tree.specs.declared.OutOfMemory.{OutOfMemory}
 use Rattle.asl_shape.proofs.Lookups.{same_name}
 use Rattle.asl_shape.proofs.Spellings.{put}
+use Rattle.asl_numbered.specs.declared.joining.JoinedKinds.{JoinedKinds}
+use Rattle.asl_numbered.specs.declared.joining.Part.{Part}
+use Rattle.asl_numbered.specs.declared.joining.Part.TheVariants.{Number, Level}
+use Rattle.asl_numbered.specs.declared.kinds.NodeArrays.{NodeArrays}
+use Rattle.asl_numbered.specs.declared.kinds.NodeKinds.{NodeKinds}
+use Rattle.asl_numbered.specs.declared.kinds.NodeObjects.{NodeObjects}
 use Rattle.asl_numbered.specs.declared.node.Node.{Node}
-use Rattle.asl_numbered.specs.declared.node.Node.TheVariants.{List as Elements, Object}
+use Rattle.asl_numbered.specs.declared.node.Node.TheVariants as nodes
 use Rattle.asl_numbered.specs.declared.node.NodeField.{NodeField}
 use Rattle.asl_numbered.specs.declared.pair.Pair.{Pair}
-use Rattle.asl_numbered.specs.Expansion.{shape_at, shapes_at, fields_at, shape_over, expansions, numbers_in, parts, AreBelow, RefersBelow}
-use Rattle.asl_numbered.specs.Joins.{joint, place_joins, with_field_join, field_joins, ArePartsOf, array_parts, object_parts, found_in, AreMadeOf, AreJoinedFields, AreWithOthers, IsListOf}
+use Rattle.asl_numbered.specs.Expansion.{shape_at, shapes_at, fields_at, shape_over, expansions, numbers_in, parts, AreBelow, RefersBelow, IsNumberOf, Keeps}
+use Rattle.asl_numbered.specs.Kinds.{AreSeveral, HasProperParts}
+use Rattle.asl_numbered.specs.TakenApart.{arrays_over, objects_over, kinds_over, arrays_of, objects_of, arrays_at, objects_at, kinds_at, AreArraysIfAny, AreObjectsIfAny, AreKindsAt}
+use Rattle.asl_numbered.specs.Joins.{joint, Shows, place_joins, with_field_join, field_joins, array_joins, object_joins, kinds_joins, kept, found_in, AreMadeOf, AreArraysWithin, AreObjectsWithin, AreKindsWithin, AreKindsOf, part_shape, IsPartWithin, HasPart, IsPutPart, IsOfArrays, IsOfObjects, simple_of, AreJoined, IsArrayJoin, IsObjectJoin, AreJoinedFields, AreWithOthers, IsListOf}
 use Rattle.asl_numbered.proofs.Comparisons.{mentions_number, mention_of_number}
-use Rattle.asl_numbered.proofs.Expansions.{below-behind, below-wider, as_many}
+use Rattle.asl_numbered.proofs.Expansions.{as_many, below-behind, below-drop, below-take, below-wider, keeps_longer, kept_shape, shape_over_stays}
 use Rattle.asl_numbered.proofs.Joins.{common_places}
 
 -- a name, and what a node says of its field
@@ -276,80 +285,181 @@ module _ (fields : List Entry) (extra : Bool) (others now left : List Entry) (e 
     below = λ bound more below. put-below bound joined k f (rw shape (other-below bound more)) (h.below bound more below);
   })
 
--- ---- the node
+-- ---- what a shape takes of each kind
 
--- the parts of two shapes of one kind are the joins by that kind
-abbrev PartsAre : Shape → Shape → List Shape → Type 0
-PartsAre (OfKinds some (ArraysOf first rest) WithoutObjects) (OfKinds simple (ArraysOf others further) WithoutObjects) found = found ≡ join (join (joined_with_each join model.Never (further_places first others)) rest) further ∷ place_joins first others
-PartsAre (OfKinds some WithoutArrays (ObjectsOf shapes extra)) (OfKinds simple WithoutArrays (ObjectsOf others more)) found = found ≡ field_joins shapes others
-PartsAre a b found = ⊥
+-- what is taken of the shape of a number of the table is in the table
+pub kinds_within : (table : List Shape) (number : ℕ) (kinds : NodeKinds) → number < length table → AreKindsAt table number kinds → AreKindsWithin table kinds
+kinds_within table number kinds within h = record { arrays = of-arrays kinds.arrays h.arrays; objects = of-objects kinds.objects h.objects }
+  where
+    of-arrays : (arrays : Option NodeArrays) → AreArraysIfAny table number arrays → AreArraysWithin table arrays
+    of-arrays None at = tt
+    of-arrays (Some arrays) at =
+        let below : arrays.number < length table = omega (arith, at.within, within) in
+        record { within = below; alone = at.alone; parts = (omega (arith, at.rest, below), below-wider arrays.number (length table) arrays.first.now (omega (arith, below)) at.first) }
 
-parts-are : {a b : Shape} {found : List Shape} → ArePartsOf a b found → PartsAre a b found
-parts-are array_parts = refl
-parts-are object_parts = refl
+    of-objects : (objects : Option NodeObjects) → AreObjectsIfAny table number objects → AreObjectsWithin table objects
+    of-objects None at = tt
+    of-objects (Some objects) at =
+        let below : objects.number < length table = omega (arith, at.within, within) in
+        record { within = below; alone = at.alone; parts = below-wider objects.number (length table) (numbers_in objects.fields.now.entries) (omega (arith, below)) at.fields }
 
-module _ (ns : List Node) (p : Pair) (numbers : List ℕ) (h : AreMadeOf (expansions ns) p numbers) where
-  abbrev table : List Shape
-  table = expansions ns
+-- the join of two shapes of kinds whose uninhabited parts were left out
+abbrev joined_kept : Shape → Shape → Shape
+joined_kept Any b = Any
+joined_kept (OfKinds some others more) Any = Any
+joined_kept (OfKinds some others more) (OfKinds simple arrays objects) = OfKinds (either some simple) (join_arrays join others arrays) (join_objects join more objects)
 
-  counted : AreBelow (length ns) numbers
-  counted = subst (λ n. AreBelow n numbers) (as_many ns) h.below
+kept-joined : (a b : Shape) → join_kinds join a b ≡ joined_kept (kept a) (kept b)
+kept-joined Any b = refl
+kept-joined (OfKinds some others more) Any = refl
+kept-joined (OfKinds some others more) (OfKinds simple arrays objects) = refl
 
-  -- those of the nodes of the two
-  node-parts : (first second : Node) → shape_over table first ≡ shape_at table p.first → shape_over table second ≡ shape_at table p.second → PartsAre (shape_over table first) (shape_over table second) (found_in table numbers)
-  node-parts first second own other =
-      subst (λ s. PartsAre s (shape_over table second) (found_in table numbers)) (sym own) (subst (λ s. PartsAre (shape_at table p.first) s (found_in table numbers)) (sym other) (parts-are h.all))
+-- ---- the lists of a join
 
-  -- the join of the two
-  by-nodes : (first second : Node) → shape_over table first ≡ shape_at table p.first → shape_over table second ≡ shape_at table p.second → join_kinds join (shape_over table first) (shape_over table second) ≡ joint table p
-  by-nodes first second own other =
-      ap (λ s. join_kinds join s (shape_over table second)) own
-      ∙ ap (join_kinds join (shape_at table p.first)) other
-      ∙ sym (join-inhabited (shape_at table p.first) (shape_at table p.second) h.inhabited.first h.inhabited.second)
+pub list_joined : (arrays others : NodeArrays) (numbers : List ℕ) (node : Node) → IsListOf numbers node → IsArrayJoin (Some arrays) (Some others) numbers (Some (Level node))
+list_joined arrays others numbers node listed = record { joined = λ table own other below are. (record { within = (record { each = subst (AreBelow (length table)) (sym listed.each) below }, listed.proper table) }, go table numbers are listed) }
+  where
+    go : (table : List Shape) (ms : List ℕ) → found_in table ms ≡ array_joins (arrays_over table (Some arrays)) (arrays_over table (Some others)) → IsListOf ms node → shape_over table node ≡ ArrayShape (common_joins join (shapes_at table arrays.first.now) (shapes_at table others.first.now)) (join (join (joined_with_each join model.Never (further_places (shapes_at table arrays.first.now) (shapes_at table others.first.now))) (shape_at table arrays.rest)) (shape_at table others.rest))
+    go table [] e l = absurd (cc)
+    go table (m ∷ ms) e l =
+        let behind : shape_at table m ≡ join (join (joined_with_each join model.Never (further_places (shapes_at table arrays.first.now) (shapes_at table others.first.now))) (shape_at table arrays.rest)) (shape_at table others.rest) = cc in
+        let places_joined : found_in table ms ≡ place_joins (shapes_at table arrays.first.now) (shapes_at table others.first.now) = cc in
+        l.shape table m ms refl ∙ rw (behind, places_joined, common_places (shapes_at table arrays.first.now) (shapes_at table others.first.now)) refl
 
-  list-shape : (first second : Node) (places : Vec ℕ Global) (rest : ℕ) (made : Node) → first ≡ Elements places rest → PartsAre (shape_over table first) (shape_over table second) (found_in table numbers) → IsListOf numbers made → shape_over table made ≡ join_kinds join (shape_over table first) (shape_over table second)
-  list-shape first (Elements others further) places rest made is are listed = rw is (go numbers (subst (λ node. PartsAre (shape_over table node) (shape_over table (Elements others further)) (found_in table numbers)) is are) listed)
-    where
-      front : List Shape
-      front = place_joins (shapes_at table places.items) (shapes_at table others.items)
+-- how many joins of places there are
+pub places_counted : (table : List Shape) (ps os : List ℕ) → length (place_joins (shapes_at table ps) (shapes_at table os)) ≡ min (length ps) (length os)
+places_counted table [] os = omega arith
+places_counted table (p ∷ ps) [] = omega arith
+places_counted table (p ∷ ps) (o ∷ os) = omega (arith, places_counted table ps os)
 
-      last : Shape
-      last = join (join (joined_with_each join model.Never (further_places (shapes_at table places.items) (shapes_at table others.items))) (shape_at table rest)) (shape_at table further)
+-- ---- the objects of a join
 
-      go : (ms : List ℕ) → found_in table ms ≡ last ∷ front → IsListOf ms made → shape_over table made ≡ ArrayShape (common_joins join (shapes_at table places.items) (shapes_at table others.items)) last
-      go [] e l = absurd (cc)
-      go (m ∷ ms) e l =
-          let behind : shape_at table m ≡ last = cc in
-          let places_joined : found_in table ms ≡ front = cc in
-          l.shape table m ms refl ∙ rw (behind, places_joined, common_places (shapes_at table places.items) (shapes_at table others.items)) refl
-  list-shape first second places rest made is are listed = absurd (subst (λ node. PartsAre (shape_over table node) (shape_over table second) (found_in table numbers)) is are)
+pub objects_joined : (objects others : NodeObjects) (numbers : List ℕ) (joined : List Entry) (new : BTreeMap (String Global) NodeField) (any : Bool) → AreJoinedFields objects.fields.now.entries others.fields.now.entries others.extra numbers joined → AreWithOthers objects.fields.now.entries objects.extra others.fields.now.entries joined new.entries → any ≡ (objects.extra || others.extra) → IsObjectJoin (Some objects) (Some others) numbers (Some (Level (nodes.Object new any)))
+objects_joined objects others numbers joined new any joins adds is = record {
+  joined = λ table own other below are. (
+    record { within = (record { each = adds.below (length table) other.parts (joins.below (length table) own.parts below) }, record { proper = tt }) },
+    ap (λ fs. ObjectShape fs any) (adds.shapes table ∙ ap (with_other_fields (fields_at table objects.fields.now.entries) objects.extra (fields_at table others.fields.now.entries)) (joins.shapes table are))
+        ∙ ap (ObjectShape (with_other_fields (fields_at table objects.fields.now.entries) objects.extra (fields_at table others.fields.now.entries) (joined_fields join (fields_at table objects.fields.now.entries) (fields_at table others.fields.now.entries) others.extra))) is,
+  );
+}
 
-  pub list_made : (first second : Node) (places : Vec ℕ Global) (rest : ℕ) (r : Result Node OutOfMemory) → shape_over table first ≡ shape_at table p.first → shape_over table second ≡ shape_at table p.second → first ≡ Elements places rest → IfOk r (IsListOf numbers) → IfOk r (λ node. shape_over table node ≡ joint table p)
-  list_made first second places rest (Ok made) own other is listed =
-      list-shape first second places rest made is (node-parts first second own other) listed ∙ by-nodes first second own other
-  list_made first second places rest (Err e) own other is listed = tt
+-- ---- the join, kind by kind
 
-  pub list_below : (r : Result Node OutOfMemory) → IfOk r (IsListOf numbers) → IfOk r (RefersBelow (length ns))
-  list_below (Ok made) listed = record { each = subst (AreBelow (length ns)) (sym listed.each) counted }
-  list_below (Err e) listed = tt
+module _ (table : List Shape) (p : Pair) (numbers : List ℕ) (h : AreMadeOf table p numbers) where
+  abbrev a : Shape
+  a = shape_at table p.first
 
-  module _ (first second : Node) (fields others new : BTreeMap (String Global) NodeField) (extra more : Bool) (joined : List Entry) (is : first ≡ Object fields extra) (other_is : second ≡ Object others more) (joins : AreJoinedFields fields.entries others.entries more numbers joined) (adds : AreWithOthers fields.entries extra others.entries joined new.entries) where
-    pub object_made : (any : Bool) → any ≡ (extra || more) → shape_over table first ≡ shape_at table p.first → shape_over table second ≡ shape_at table p.second → ObjectShape (fields_at table new.entries) any ≡ joint table p
-    object_made any either own other =
-        let are : found_in table numbers ≡ field_joins (fields_at table fields.entries) (fields_at table others.entries) =
-        subst (λ node. PartsAre (shape_over table (Object fields extra)) (shape_over table node) (found_in table numbers)) other_is (subst (λ node. PartsAre (shape_over table node) (shape_over table second) (found_in table numbers)) is (node-parts first second own other)) in
-        ap (λ fs. ObjectShape fs any) (adds.shapes table ∙ ap (with_other_fields (fields_at table fields.entries) extra (fields_at table others.entries)) (joins.shapes table are))
-        ∙ ap (ObjectShape (with_other_fields (fields_at table fields.entries) extra (fields_at table others.entries) (joined_fields join (fields_at table fields.entries) (fields_at table others.entries) more))) either
-        ∙ sym (ap (λ node. join_kinds join (shape_over table node) (shape_over table (Object others more))) is)
-        ∙ sym (ap (λ node. join_kinds join (shape_over table first) (shape_over table node)) other_is)
-        ∙ by-nodes first second own other
+  abbrev b : Shape
+  b = shape_at table p.second
 
-    pub object_below : (any : Bool) → RefersBelow p.first first → RefersBelow p.second second → RefersBelow (length ns) (Object new any)
-    object_below any own other =
-        let shorter : p.first ≤ length ns = omega (arith, h.within.first, as_many ns) in
-        let short : p.second ≤ length ns = omega (arith, h.within.second, as_many ns) in
-        let mine = below-wider p.first (length ns) (parts first) shorter own.each in
-        let its = below-wider p.second (length ns) (parts second) short other.each in
-        let front : AreBelow (length ns) (numbers_in fields.entries) = subst (λ node. AreBelow (length ns) (parts node)) is mine in
-        let behind : AreBelow (length ns) (numbers_in others.entries) = subst (λ node. AreBelow (length ns) (parts node)) other_is its in
-        record { each = adds.below (length ns) behind (joins.below (length ns) front counted) }
+  by-kinds : joint table p ≡ join_kinds join a b
+  by-kinds = join-inhabited a b h.inhabited.first h.inhabited.second
+
+  -- one of the two is Any
+  pub any_joined : AreKindsOf table p None → AreJoined table None (joint table p)
+  any_joined apart = record { joined = by-kinds ∙ apart.apart.0 }
+
+  module _ (first second : NodeKinds) (apart : AreKindsOf table p (Some (first, second))) (n : ℕ) (is : n ≡ length (array_joins (arrays_over table first.arrays) (arrays_over table second.arrays))) where
+    -- the joins of the parts of the arrays, and those of the objects
+    abbrev front : List Shape
+    front = array_joins (arrays_over table first.arrays) (arrays_over table second.arrays)
+
+    abbrev behind : List Shape
+    behind = object_joins (objects_over table first.objects) (objects_over table second.objects)
+
+    whole : found_in table numbers ≡ front ++ behind
+    whole = h.all ∙ sym (ap (λ s. kinds_joins s (kinds_over table second)) apart.apart.0 ∙ ap (kinds_joins (kept a)) apart.apart.1)
+
+    -- so many numbers are there
+    pub parts_enough : n ≤ length numbers
+    parts_enough = omega (arith, is, length-map numbers (shape_at table), ap length whole, length-append front behind)
+
+    first-parts : found_in table (take n numbers) ≡ front
+    first-parts = sym (take-map (shape_at table) n numbers) ∙ ap (take n) whole ∙ ap (λ k. take k (front ++ behind)) is ∙ take-append_seam front behind
+
+    last-parts : found_in table (drop n numbers) ≡ behind
+    last-parts = sym (drop-map (shape_at table) n numbers) ∙ ap (drop n) whole ∙ ap (λ k. drop k (front ++ behind)) is ∙ drop-append_seam front behind
+
+    pub kinds_joined : (kinds : JoinedKinds) → simple_of kinds ≡ either (record { null = first.null; boolean = first.boolean; integer = first.integer; text = first.text }) (record { null = second.null; boolean = second.boolean; integer = second.integer; text = second.text }) → IsArrayJoin first.arrays second.arrays (take n numbers) kinds.arrays → IsObjectJoin first.objects second.objects (drop n numbers) kinds.objects → AreJoined table (Some kinds) (joint table p)
+    kinds_joined kinds simple of_arrays of_objects =
+        let same : joint table p ≡ joined_kept (kinds_over table first) (kinds_over table second) =
+        by-kinds ∙ kept-joined a b ∙ sym (ap (λ s. joined_kept s (kinds_over table second)) apart.apart.0 ∙ ap (joined_kept (kept a)) apart.apart.1) in
+        subst (AreJoined table (Some kinds)) (sym same) (record {
+          joined = (
+            simple,
+            of_arrays.joined table apart.apart.2.arrays apart.apart.3.arrays (below-take (length table) n numbers h.below) first-parts,
+            of_objects.joined table apart.apart.2.objects apart.apart.3.objects (below-drop (length table) n numbers h.below) last-parts,
+          );
+        })
+
+-- ---- the parts of a join, in the table
+
+module _ (old new : List Shape) (keeps : Keeps old new) where
+  numbers-stay : (ns : List ℕ) → AreBelow (length old) ns → map (shape_at new) ns ≡ map (shape_at old) ns
+  numbers-stay [] h = refl
+  numbers-stay (n ∷ ns) h = rw (kept_shape old new n keeps h.0, numbers-stay ns h.1) refl
+
+  proper-stays : (node : Node) → AreBelow (length old) (parts node) → HasProperParts old node → HasProperParts new node
+  proper-stays nodes.Any below h = tt
+  proper-stays nodes.Never below h = tt
+  proper-stays nodes.Null below h = tt
+  proper-stays nodes.Bool below h = tt
+  proper-stays nodes.Int below h = tt
+  proper-stays nodes.Text below h = tt
+  proper-stays (nodes.List first rest) below h = tt
+  proper-stays (nodes.Object fields extra) below h = tt
+  proper-stays (nodes.Several numbers) below h = subst AreSeveral (sym (numbers-stay numbers.items below)) h
+
+  -- a part stays in a table that grows
+  part-stays : (part : Part) → IsPartWithin old part → IsPartWithin new part
+  part-stays (Number n) h = record { within = omega (arith, h.within, keeps_longer old new keeps) }
+  part-stays (Level node) h =
+      let below = below-wider (length old) (length new) (parts node) (keeps_longer old new keeps) h.within.0.each in
+      record { within = (record { each = below }, record { proper = proper-stays node h.within.0.each h.within.1.proper }) }
+
+  part-same : (part : Part) → IsPartWithin old part → part_shape new part ≡ part_shape old part
+  part-same (Number n) h = kept_shape old new n keeps h.within
+  part-same (Level node) h = ap (λ table. shape_over table node) keeps.whole ∙ shape_over_stays old keeps.added node h.within.0.each
+
+  objects-stay : (part : Option Part) (objects : Objects) → IsOfObjects old part objects → IsOfObjects new part objects
+  objects-stay None objects h = h
+  objects-stay (Some part) WithoutObjects h = absurd h
+  objects-stay (Some part) (ObjectsOf shapes extra) h = (part-stays part h.0, part-same part h.0 ∙ h.1)
+
+objects-within : (table : List Shape) (part : Option Part) (objects : Objects) → IsOfObjects table part objects → IfSome part (IsPartWithin table)
+objects-within table None objects h = tt
+objects-within table (Some part) WithoutObjects h = absurd h
+objects-within table (Some part) (ObjectsOf shapes extra) h = h.0
+
+-- where the part of the arrays was put, that of the objects is still there
+pub objects_there : (old new : List Shape) (kinds : JoinedKinds) (s : Shape) → Keeps old new → AreJoined old (Some kinds) s → IfSome kinds.objects (IsPartWithin new)
+objects_there old new kinds Any keeps h = absurd h.joined
+objects_there old new kinds (OfKinds simple arrays objects) keeps h = objects-within new kinds.objects objects (objects-stay old new keeps kinds.objects objects h.joined.2)
+
+arrays-number : (old new later : List Shape) (part : Option Part) (number : Option ℕ) (arrays : Arrays) → Keeps new later → IsOfArrays old part arrays → HasPart old new part number → arrays_at later number ≡ arrays
+arrays-number old new later None number arrays keeps of put = ap (arrays_at later) put ∙ sym of
+arrays-number old new later (Some part) number WithoutArrays keeps of put = absurd of
+arrays-number old new later (Some part) None (ArraysOf first rest) keeps of put = absurd put
+arrays-number old new later (Some part) (Some n) (ArraysOf first rest) keeps of put = ap arrays_of (kept_shape new later n keeps put.within ∙ put.same ∙ of.1)
+
+objects-number : (old new : List Shape) (part : Option Part) (number : Option ℕ) (objects : Objects) → IsOfObjects old part objects → HasPart old new part number → objects_at new number ≡ objects
+objects-number old new None number objects of put = ap (objects_at new) put ∙ sym of
+objects-number old new (Some part) number WithoutObjects of put = absurd of
+objects-number old new (Some part) None (ObjectsOf shapes extra) of put = absurd put
+objects-number old new (Some part) (Some n) (ObjectsOf shapes extra) of put = ap objects_of (put.same ∙ of.1)
+
+-- the number of the kinds whose parts were put is that of the join
+pub assembled : (old middle now new : List Shape) (kinds : JoinedKinds) (s : Shape) (first second : Option ℕ) (r : Result ℕ OutOfMemory) → AreJoined old (Some kinds) s → Keeps old middle → IsPutPart old middle kinds.arrays first → Keeps middle now → IsPutPart middle now kinds.objects second → IfOk r (IsNumberOf new (kinds_at now (record { null = kinds.null; boolean = kinds.boolean; integer = kinds.integer; text = kinds.text; arrays = first; objects = second }))) → IfOk r (Shows new s)
+assembled old middle now new kinds Any first second r h keeps one then_keeps two is = absurd h.joined
+assembled old middle now new kinds (OfKinds simple arrays objects) first second (Err e) h keeps one then_keeps two is = tt
+assembled old middle now new kinds (OfKinds simple arrays objects) first second (Ok n) h keeps one then_keeps two is =
+    let same_arrays : arrays_at now first ≡ arrays = arrays-number old middle now kinds.arrays first arrays then_keeps h.joined.1 one.put in
+    let same_objects : objects_at now second ≡ objects = objects-number middle now kinds.objects second objects (objects-stay old middle keeps kinds.objects objects h.joined.2) two.put in
+    let whole : OfKinds (simple_of kinds) (arrays_at now first) (objects_at now second) ≡ OfKinds simple arrays objects = rw (h.joined.0, same_arrays, same_objects) refl in
+    record { within = is.within; same = is.same ∙ whole }
+
+-- a level that is to be put refers to earlier numbers
+pub level_refers : (ns : List Node) (part : Option Part) (own : Part) (node : Node) → part ≡ Some own → own ≡ Level node → IfSome part (IsPartWithin (expansions ns)) → RefersBelow (length ns) node
+level_refers ns part own node is own_is h =
+    let level : IsPartWithin (expansions ns) (Level node) = subst (IsPartWithin (expansions ns)) own_is (subst (λ o. IfSome o (IsPartWithin (expansions ns))) is h) in
+    record { each = subst (λ n. AreBelow n (parts node)) (as_many ns) level.within.0.each }

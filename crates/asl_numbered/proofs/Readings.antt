@@ -15,7 +15,10 @@ use Rattle.std.proofs.lemmas.Option.{slice_get-map}
 use Rattle.asl_model.specs.ShapeSpelling.{with_all_needed}
 use Rattle.asl_model.specs.Shape as model
 use Rattle.asl_model.specs.Tree.{Tree, Null, Boolean, Integer, Text, Array, Object as Fielded, Trees, NoTrees, AndTree, Fields, NoFields, AndField}
-use Rattle.asl_shape.specs.Level.{Level, Plain, ListLevel, ObjectLevel, SpelledOver, level_faults}
+use Rattle.asl_shape.specs.Level.{Level, Whole, OfTypes, ListLevel, ObjectLevel, SpelledOver, level_faults}
+use Rattle.asl_shape.specs.LevelView.{list_view, object_view}
+use Rattle.asl_shape.specs.declared.levels.ListLevel.{ListLevel as CodeList}
+use Rattle.asl_shape.specs.declared.levels.ObjectLevel.{ObjectLevel as CodeObject}
 use Rattle.asl_shape.specs.Refusal.{Tells}
 use Rattle.asl_shape.specs.Spelled as trees
 use Rattle.asl_shape.specs.declared.ShapeRefusal.{ShapeRefusal}
@@ -27,12 +30,14 @@ use Rattle.asl_numbered.specs.declared.node.NodeField.{NodeField}
 use Rattle.asl_numbered.specs.declared.NumberedRefusal.{NumberedRefusal}
 use Rattle.asl_numbered.specs.declared.NumberedRefusal.TheVariants as refusal
 use Rattle.asl_numbered.specs.Expansion.{shape_at, shapes_at, fields_at, shape_over, expansions, AreBelow, RefersBelow, IsNumberOf, AreNumbersOf, AreFieldsOf, Keeps}
-use Rattle.asl_numbered.specs.Reading.{AreGiven, IsRead, IsReadOver, IsReadRest, AreRead, AreFieldsRead, TellsOneOf}
+use Rattle.asl_numbered.specs.Reading.{AreGiven, IsRead, IsReadOver, AreArraysRead, AreObjectsRead, IsReadRest, AreRead, AreFieldsRead, TellsOneOf}
 use Rattle.asl_numbered.specs.Refusal.{numbered}
 use Rattle.asl_model.specs.References.{reference_among, meant_by}
-use Rattle.asl_numbered.specs.References.{reference_in, referred, numbers_given, shapes_given, SpellsWith, by_reference, by_level, SpellsOver, with_none_inside, with_elements, with_properties, SpellEach, no_element, and_element, SpellsRest, no_rest, some_rest, SpellFields, no_field, and_field, inside, each_of, values_of, is_itself, stands_inside, TellsOf}
+use Rattle.asl_numbered.specs.References.{reference_in, referred, numbers_given, shapes_given, SpellsWith, by_reference, by_level, SpellsOver, with_none_inside, with_kinds, SpellsArrays, without_arrays, with_elements, SpellsObjects, without_objects, with_properties, SpellEach, no_element, and_element, SpellsRest, no_rest, some_rest, SpellFields, no_field, and_field, inside, each_of, values_of, is_itself, stands_inside, TellsOf}
 use Rattle.asl_numbered.proofs.Appending.{names, appended}
 use Rattle.asl_numbered.proofs.Expansions.{as_many, below-append, below-wider, keeps_longer, kept_shape}
+use Rattle.asl_numbered.specs.TakenApart.{arrays_of, objects_of, kinds_at}
+use Rattle.asl_numbered.specs.declared.kinds.KindNumbers.{KindNumbers}
 use Rattle.asl_numbered.proofs.Growing.{numbers_kept, fields_kept, numbers_push}
 
 -- ---- numbers that are given
@@ -93,15 +98,15 @@ referred_below : (bound : ℕ) (given : Option (List ℕ)) (t : Tree) (n : ℕ) 
 referred_below bound None t n h is = absurd (cc)
 referred_below bound (Some ns) t n h is = named_below bound ns (reference_in t) n h.below is
 
-pub reference_read : (table : List Node) (given : Option (Bor (List ℕ))) (t : Tree) (n : ℕ) → AreGiven (length table) (numbers_given given) → referred (numbers_given given) t ≡ Some (Some n) → IsRead (shapes_given (expansions table) given) t (expansions table) n
-reference_read table given t n h is =
+pub reference_read : (several : Bool) (table : List Node) (given : Option (Bor (List ℕ))) (t : Tree) (n : ℕ) → AreGiven (length table) (numbers_given given) → referred (numbers_given given) t ≡ Some (Some n) → IsRead several (shapes_given (expansions table) given) t (expansions table) n
+reference_read several table given t n h is =
     record {
       within = subst (λ bound. n < bound) (sym (as_many table)) (referred_below (length table) (numbers_given given) t n h is);
       spelled = by_reference (referred_shape (expansions table) given t ∙ ap (option_map (option_map (shape_at (expansions table)))) is);
     }
 
-pub reference_told : (table : List model.Shape) (given : Option (Bor (List ℕ))) (t : Tree) → referred (numbers_given given) t ≡ Some None → TellsOf (shapes_given table given) t refusal.BadNumber
-reference_told table given t is =
+pub reference_told : (several : Bool) (table : List model.Shape) (given : Option (Bor (List ℕ))) (t : Tree) → referred (numbers_given given) t ≡ Some None → TellsOf several (shapes_given table given) t refusal.BadNumber
+reference_told several table given t is =
     record { said = record { place = t; there = is_itself; wrong = referred_shape table given t ∙ ap (option_map (option_map (shape_at table))) is } }
 
 -- the one field of an object
@@ -117,59 +122,79 @@ not_alone (e ∷ f ∷ es) more = refl
 
 -- ---- levels
 
-fault_told : (given : Option (List model.Shape)) (t : Tree) (e : ShapeRefusal) → referred given t ≡ None → Tells e (level_faults t) → TellsOf given t (numbered e)
-fault_told given t NotAShape is told = record { said = (_, refl, record { place = t; there = is_itself; spelled = is; listed = told.listed }) }
-fault_told given t Keyword is told = record { said = (_, refl, record { place = t; there = is_itself; spelled = is; listed = told.listed }) }
-fault_told given t BadType is told = record { said = (_, refl, record { place = t; there = is_itself; spelled = is; listed = told.listed }) }
-fault_told given t MinItems is told = record { said = (_, refl, record { place = t; there = is_itself; spelled = is; listed = told.listed }) }
-fault_told given t OutOfMemory is told = record { said = tt }
+fault_told : (several : Bool) (given : Option (List model.Shape)) (t : Tree) (e : ShapeRefusal) → referred given t ≡ None → Tells e (level_faults several t) → TellsOf several given t (numbered e)
+fault_told several given t NotAShape is told = record { said = (_, refl, record { place = t; there = is_itself; spelled = is; listed = told.listed }) }
+fault_told several given t Keyword is told = record { said = (_, refl, record { place = t; there = is_itself; spelled = is; listed = told.listed }) }
+fault_told several given t BadType is told = record { said = (_, refl, record { place = t; there = is_itself; spelled = is; listed = told.listed }) }
+fault_told several given t MinItems is told = record { said = (_, refl, record { place = t; there = is_itself; spelled = is; listed = told.listed }) }
+fault_told several given t OutOfMemory is told = record { said = tt }
 
-pub level_told : (table : List model.Shape) (given : Option (Bor (List ℕ))) (t : Tree) (e : ShapeRefusal) → referred (numbers_given given) t ≡ None → Tells e (level_faults t) → TellsOf (shapes_given table given) t (numbered e)
-level_told table given t e is told =
-    fault_told (shapes_given table given) t e (referred_shape table given t ∙ ap (option_map (option_map (shape_at table))) is) told
+pub level_told : (several : Bool) (table : List model.Shape) (given : Option (Bor (List ℕ))) (t : Tree) (e : ShapeRefusal) → referred (numbers_given given) t ≡ None → Tells e (level_faults several t) → TellsOf several (shapes_given table given) t (numbered e)
+level_told several table given t e is told =
+    fault_told several (shapes_given table given) t e (referred_shape table given t ∙ ap (option_map (option_map (shape_at table))) is) told
 
--- a level with none inside
-pub plain_read : (given : Option (List model.Shape)) (s : model.Shape) (table : List model.Shape) (n : ℕ) → IsNumberOf table s n → IsReadOver given (Plain s) table n
-plain_read given s table n is = record { within = is.within; spelled = subst (SpellsOver given (Plain s)) (sym is.same) with_none_inside }
+-- a shape that is spelled whole
+pub whole_read : (several : Bool) (given : Option (List model.Shape)) (s : model.Shape) (table : List model.Shape) (n : ℕ) → IsNumberOf table s n → IsReadOver several given (Whole s) table n
+whole_read several given s table n is = record { within = is.within; spelled = subst (SpellsOver several given (Whole s)) (sym is.same) with_none_inside }
 
-over_read : (given : Option (List model.Shape)) (t : Tree) (level : Level) (table : List model.Shape) (n : ℕ) → SpelledOver t level → IsReadOver given level table n → IsRead given t table n
-over_read given t level table n over read = record { within = read.within; spelled = by_level over read.spelled }
+-- kinds, where the arrays were read before the objects
+arrays_grown : (several : Bool) (given : Option (List model.Shape)) (list : Option ListLevel) (old new : List model.Shape) (number : Option ℕ) → Keeps old new → AreArraysRead several given list old number → AreArraysRead several given list new number
+arrays_grown several given list old new None keeps are = record { within = tt; spelled = are.spelled }
+arrays_grown several given list old new (Some n) keeps are =
+    record {
+      within = omega (arith, keeps_longer old new keeps, are.within);
+      spelled = subst (SpellsArrays several given list) (sym (ap arrays_of (kept_shape old new n keeps are.within))) are.spelled;
+    }
+
+pub kinds_read : (several : Bool) (given : Option (List model.Shape)) (list : Option ListLevel) (object : Option ObjectLevel) (middle now new : List model.Shape) (kinds : KindNumbers) (n : ℕ) → Keeps middle now → AreArraysRead several given list middle kinds.arrays → AreObjectsRead several given object now kinds.objects → IsNumberOf new (kinds_at now kinds) n → IsReadOver several given (OfTypes (record { null = kinds.null; boolean = kinds.boolean; integer = kinds.integer; text = kinds.text }) list object) new n
+kinds_read several given list object middle now new kinds n keeps are others is =
+    let kept = arrays_grown several given list middle now kinds.arrays keeps are in
+    record { within = is.within; spelled = subst (SpellsOver several given (OfTypes (record { null = kinds.null; boolean = kinds.boolean; integer = kinds.integer; text = kinds.text }) list object)) (sym is.same) (with_kinds kept.spelled others.spelled) }
+
+pub no_list_read : (several : Bool) (given : Option (List model.Shape)) (list : Option CodeList) (table : List model.Shape) → list ≡ None → AreArraysRead several given (option_map list_view list) table None
+no_list_read several given list table none = rw none (record { within = tt; spelled = without_arrays })
+
+pub no_object_read : (several : Bool) (given : Option (List model.Shape)) (object : Option CodeObject) (table : List model.Shape) → object ≡ None → AreObjectsRead several given (option_map object_view object) table None
+no_object_read several given object table none = rw none (record { within = tt; spelled = without_objects })
+
+over_read : (several : Bool) (given : Option (List model.Shape)) (t : Tree) (level : Level) (table : List model.Shape) (n : ℕ) → SpelledOver several t level → IsReadOver several given level table n → IsRead several given t table n
+over_read several given t level table n over read = record { within = read.within; spelled = by_level over read.spelled }
 
 -- what is wrong with a spelling inside
-over_told : (given : Option (List model.Shape)) (t : Tree) (level : Level) (e : NumberedRefusal) → SpelledOver t level → TellsOneOf given (inside level) e → TellsOf given t e
-over_told given t level (refusal.Shape e) over told =
+over_told : (several : Bool) (given : Option (List model.Shape)) (t : Tree) (level : Level) (e : NumberedRefusal) → SpelledOver several t level → TellsOneOf several given (inside level) e → TellsOf several given t e
+over_told several given t level (refusal.Shape e) over told =
     let said = told.said in
     let fault = said.2.2 in
     record { said = (said.2.0, said.2.1, record { place = fault.place; there = stands_inside over said.1 fault.there; spelled = fault.spelled; listed = fault.listed }) }
-over_told given t level refusal.BadNumber over told =
+over_told several given t level refusal.BadNumber over told =
     let said = told.said in
     record { said = record { place = said.2.place; there = stands_inside over said.1 said.2.there; wrong = said.2.wrong } }
-over_told given t level refusal.OutOfMemory over told = record { said = tt }
+over_told several given t level refusal.OutOfMemory over told = record { said = tt }
 
-pub over_answer : (given : Option (List model.Shape)) (t : Tree) (level : Level) (table : List model.Shape) (r : Result ℕ NumberedRefusal) → SpelledOver t level → IfOk r (IsReadOver given level table) → IfOk r (IsRead given t table)
-over_answer given t level table (Ok n) over read = over_read given t level table n over read
-over_answer given t level table (Err e) over read = tt
+pub over_answer : (several : Bool) (given : Option (List model.Shape)) (t : Tree) (level : Level) (table : List model.Shape) (r : Result ℕ NumberedRefusal) → SpelledOver several t level → IfOk r (IsReadOver several given level table) → IfOk r (IsRead several given t table)
+over_answer several given t level table (Ok n) over read = over_read several given t level table n over read
+over_answer several given t level table (Err e) over read = tt
 
-pub over_refusal : (given : Option (List model.Shape)) (t : Tree) (level : Level) (r : Result ℕ NumberedRefusal) → SpelledOver t level → IfErr r (TellsOneOf given (inside level)) → IfErr r (TellsOf given t)
-over_refusal given t level (Ok n) over told = tt
-over_refusal given t level (Err e) over told = over_told given t level e over told
+pub over_refusal : (several : Bool) (given : Option (List model.Shape)) (t : Tree) (level : Level) (r : Result ℕ NumberedRefusal) → SpelledOver several t level → IfErr r (TellsOneOf several given (inside level)) → IfErr r (TellsOf several given t)
+over_refusal several given t level (Ok n) over told = tt
+over_refusal several given t level (Err e) over told = over_told several given t level e over told
 
 -- ---- one of several
 
-pub one_told : (given : Option (List model.Shape)) (ts : List Tree) (part : Tree) (e : NumberedRefusal) → Contains ts part → TellsOf given part e → TellsOneOf given ts e
-one_told given ts part (refusal.Shape e) there told = record { said = (part, there, told.said) }
-one_told given ts part refusal.BadNumber there told = record { said = (part, there, told.said) }
-one_told given ts part refusal.OutOfMemory there told = record { said = tt }
+pub one_told : (several : Bool) (given : Option (List model.Shape)) (ts : List Tree) (part : Tree) (e : NumberedRefusal) → Contains ts part → TellsOf several given part e → TellsOneOf several given ts e
+one_told several given ts part (refusal.Shape e) there told = record { said = (part, there, told.said) }
+one_told several given ts part refusal.BadNumber there told = record { said = (part, there, told.said) }
+one_told several given ts part refusal.OutOfMemory there told = record { said = tt }
 
-pub one_left : (given : Option (List model.Shape)) (ts us : List Tree) (e : NumberedRefusal) → TellsOneOf given ts e → TellsOneOf given (ts ++ us) e
-one_left given ts us (refusal.Shape e) told = record { said = (told.said.0, Contains-append_left ts us told.said.0 told.said.1, told.said.2) }
-one_left given ts us refusal.BadNumber told = record { said = (told.said.0, Contains-append_left ts us told.said.0 told.said.1, told.said.2) }
-one_left given ts us refusal.OutOfMemory told = record { said = tt }
+pub one_left : (several : Bool) (given : Option (List model.Shape)) (ts us : List Tree) (e : NumberedRefusal) → TellsOneOf several given ts e → TellsOneOf several given (ts ++ us) e
+one_left several given ts us (refusal.Shape e) told = record { said = (told.said.0, Contains-append_left ts us told.said.0 told.said.1, told.said.2) }
+one_left several given ts us refusal.BadNumber told = record { said = (told.said.0, Contains-append_left ts us told.said.0 told.said.1, told.said.2) }
+one_left several given ts us refusal.OutOfMemory told = record { said = tt }
 
-pub one_right : (given : Option (List model.Shape)) (ts us : List Tree) (e : NumberedRefusal) → TellsOneOf given us e → TellsOneOf given (ts ++ us) e
-one_right given ts us (refusal.Shape e) told = record { said = (told.said.0, Contains-append_right ts us told.said.0 told.said.1, told.said.2) }
-one_right given ts us refusal.BadNumber told = record { said = (told.said.0, Contains-append_right ts us told.said.0 told.said.1, told.said.2) }
-one_right given ts us refusal.OutOfMemory told = record { said = tt }
+pub one_right : (several : Bool) (given : Option (List model.Shape)) (ts us : List Tree) (e : NumberedRefusal) → TellsOneOf several given us e → TellsOneOf several given (ts ++ us) e
+one_right several given ts us (refusal.Shape e) told = record { said = (told.said.0, Contains-append_right ts us told.said.0 told.said.1, told.said.2) }
+one_right several given ts us refusal.BadNumber told = record { said = (told.said.0, Contains-append_right ts us told.said.0 told.said.1, told.said.2) }
+one_right several given ts us refusal.OutOfMemory told = record { said = tt }
 
 -- ---- the parts of a list
 
@@ -190,7 +215,7 @@ push_shape : model.Shapes → model.Shape → model.Shapes
 push_shape model.NoShapes s = model.AndShape s model.NoShapes
 push_shape (model.AndShape r ss) s = model.AndShape r (push_shape ss s)
 
-each_push : {given : Option (List model.Shape)} {ts : Trees} {ss : model.Shapes} {t : Tree} {s : model.Shape} → SpellEach given ts ss → SpellsWith given t s → SpellEach given (push_tree ts t) (push_shape ss s)
+each_push : {several : Bool} {given : Option (List model.Shape)} {ts : Trees} {ss : model.Shapes} {t : Tree} {s : model.Shape} → SpellEach several given ts ss → SpellsWith several given t s → SpellEach several given (push_tree ts t) (push_shape ss s)
 unfolding push_tree push_shape
 each_push no_element own = and_element own no_element
 each_push (and_element h others) own = and_element h (each_push others own)
@@ -205,42 +230,42 @@ unfolding push_shape
 shapes_pushed table [] n = refl
 shapes_pushed table (m ∷ ns) n = ap (model.AndShape (shape_at table m)) (shapes_pushed table ns n)
 
-pub none_read : (given : Option (List model.Shape)) (table : List model.Shape) → AreRead given NoTrees table []
-none_read given table = record { within = tt; spelled = no_element }
+pub none_read : (several : Bool) (given : Option (List model.Shape)) (table : List model.Shape) → AreRead several given NoTrees table []
+none_read several given table = record { within = tt; spelled = no_element }
 
-numbers_grown : (given : Option (List model.Shape)) (ts : Trees) (old new : List model.Shape) (ns : List ℕ) → Keeps old new → AreRead given ts old ns → AreRead given ts new ns
-numbers_grown given ts old new ns keeps are =
+numbers_grown : (several : Bool) (given : Option (List model.Shape)) (ts : Trees) (old new : List model.Shape) (ns : List ℕ) → Keeps old new → AreRead several given ts old ns → AreRead several given ts new ns
+numbers_grown several given ts old new ns keeps are =
     let kept : AreNumbersOf new (shapes_at old ns) ns = numbers_kept old new (shapes_at old ns) ns keeps (record { within = are.within; same = refl }) in
-    record { within = kept.within; spelled = subst (SpellEach given ts) (sym kept.same) are.spelled }
+    record { within = kept.within; spelled = subst (SpellEach several given ts) (sym kept.same) are.spelled }
 
-pub number_read : (given : Option (List model.Shape)) (old new : List model.Shape) (before after : List Value) (v : Value) (ns ms : List ℕ) (n : ℕ) → Keeps old new → AreRead given (trees.elements_view before) old ns → IsRead given (trees.view v) new n → after ≡ before ++ v ∷ [] → ms ≡ ns ++ n ∷ [] → AreRead given (trees.elements_view after) new ms
-number_read given old new before after v ns ms n keeps are read more also =
-    let now = numbers_grown given (trees.elements_view before) old new ns keeps are in
+pub number_read : (several : Bool) (given : Option (List model.Shape)) (old new : List model.Shape) (before after : List Value) (v : Value) (ns ms : List ℕ) (n : ℕ) → Keeps old new → AreRead several given (trees.elements_view before) old ns → IsRead several given (trees.view v) new n → after ≡ before ++ v ∷ [] → ms ≡ ns ++ n ∷ [] → AreRead several given (trees.elements_view after) new ms
+number_read several given old new before after v ns ms n keeps are read more also =
+    let now = numbers_grown several given (trees.elements_view before) old new ns keeps are in
     rw (more, also) (record {
       within = below-append (length new) ns (n ∷ []) now.within (read.within, tt);
       spelled = rw (elements_pushed before v, shapes_pushed new ns n) (each_push now.spelled read.spelled);
     })
 
-pub numbers_end : (given : Option (List model.Shape)) (table : List model.Shape) (i : ℕ) (vs : List Value) (ns : List ℕ) → length vs ≤ i → AreRead given (trees.elements_view (take i vs)) table ns → AreRead given (trees.elements_view vs) table ns
-numbers_end given table i vs ns past are = subst (λ us. AreRead given (trees.elements_view us) table ns) (take_all i vs past) are
+pub numbers_end : (several : Bool) (given : Option (List model.Shape)) (table : List model.Shape) (i : ℕ) (vs : List Value) (ns : List ℕ) → length vs ≤ i → AreRead several given (trees.elements_view (take i vs)) table ns → AreRead several given (trees.elements_view vs) table ns
+numbers_end several given table i vs ns past are = subst (λ us. AreRead several given (trees.elements_view us) table ns) (take_all i vs past) are
 
-pub list_refers : (given : Option (List model.Shape)) (first : Trees) (rest : Option Tree) (middle now : List Node) (ns : Vec ℕ Global) (n : ℕ) → Keeps (expansions middle) (expansions now) → AreRead given first (expansions middle) ns.items → IsReadRest given rest (expansions now) n → RefersBelow (length now) (Elements ns n)
-list_refers given first rest middle now ns n keeps are read =
-    let kept = numbers_grown given first (expansions middle) (expansions now) ns.items keeps are in
+pub list_refers : (several : Bool) (given : Option (List model.Shape)) (first : Trees) (rest : Option Tree) (middle now : List Node) (ns : Vec ℕ Global) (n : ℕ) → Keeps (expansions middle) (expansions now) → AreRead several given first (expansions middle) ns.items → IsReadRest several given rest (expansions now) n → RefersBelow (length now) (Elements ns n)
+list_refers several given first rest middle now ns n keeps are read =
+    let kept = numbers_grown several given first (expansions middle) (expansions now) ns.items keeps are in
     subst (λ bound. RefersBelow bound (Elements ns n)) (as_many now) (record { each = (read.within, kept.within) })
 
-pub list_read : (given : Option (List model.Shape)) (first : Trees) (rest : Option Tree) (middle now new : List model.Shape) (ns : Vec ℕ Global) (further n : ℕ) → Keeps middle now → AreRead given first middle ns.items → IsReadRest given rest now further → IsNumberOf new (shape_over now (Elements ns further)) n → IsReadOver given (ListLevel first rest) new n
-list_read given first rest middle now new ns further n keeps are read is =
-    let kept = numbers_grown given first middle now ns.items keeps are in
-    record { within = is.within; spelled = subst (SpellsOver given (ListLevel first rest)) (sym is.same) (with_elements kept.spelled read.spelled) }
+pub list_read : (several : Bool) (given : Option (List model.Shape)) (list : ListLevel) (middle now new : List model.Shape) (ns : Vec ℕ Global) (further n : ℕ) → Keeps middle now → AreRead several given list.first middle ns.items → IsReadRest several given list.rest now further → IsNumberOf new (shape_over now (Elements ns further)) n → AreArraysRead several given (Some list) new (Some n)
+list_read several given list middle now new ns further n keeps are read is =
+    let kept = numbers_grown several given list.first middle now ns.items keeps are in
+    record { within = is.within; spelled = subst (SpellsArrays several given (Some list)) (sym (ap arrays_of is.same)) (with_elements kept.spelled read.spelled) }
 
 -- the further elements
-pub no_rest_read : (given : Option (List model.Shape)) (table : List model.Shape) (n : ℕ) → IsNumberOf table model.Any n → IsReadRest given None table n
-no_rest_read given table n is = record { within = is.within; spelled = subst (SpellsRest given None) (sym is.same) no_rest }
+pub no_rest_read : (several : Bool) (given : Option (List model.Shape)) (table : List model.Shape) (n : ℕ) → IsNumberOf table model.Any n → IsReadRest several given None table n
+no_rest_read several given table n is = record { within = is.within; spelled = subst (SpellsRest several given None) (sym is.same) no_rest }
 
-pub rest_answer : (given : Option (List model.Shape)) (t : Tree) (table : List model.Shape) (r : Result ℕ NumberedRefusal) → IfOk r (IsRead given t table) → IfOk r (IsReadRest given (Some t) table)
-rest_answer given t table (Ok n) read = record { within = read.within; spelled = some_rest read.spelled }
-rest_answer given t table (Err e) read = tt
+pub rest_answer : (several : Bool) (given : Option (List model.Shape)) (t : Tree) (table : List model.Shape) (r : Result ℕ NumberedRefusal) → IfOk r (IsRead several given t table) → IfOk r (IsReadRest several given (Some t) table)
+rest_answer several given t table (Ok n) read = record { within = read.within; spelled = some_rest read.spelled }
+rest_answer several given t table (Err e) read = tt
 
 -- ---- the parts of an object
 
@@ -259,7 +284,7 @@ push_mention : model.FieldShapes → List ℕ → Bool → model.Shape → model
 push_mention model.NoFieldShapes n needed s = model.AndFieldShape n needed s model.NoFieldShapes
 push_mention (model.AndFieldShape m other r ss) n needed s = model.AndFieldShape m other r (push_mention ss n needed s)
 
-fields_push : {given : Option (List model.Shape)} {fs : Fields} {ss : model.FieldShapes} (n : List ℕ) {t : Tree} {s : model.Shape} → SpellFields given fs ss → SpellsWith given t s → SpellFields given (push_field fs n t) (push_mention ss n false s)
+fields_push : {several : Bool} {given : Option (List model.Shape)} {fs : Fields} {ss : model.FieldShapes} (n : List ℕ) {t : Tree} {s : model.Shape} → SpellFields several given fs ss → SpellsWith several given t s → SpellFields several given (push_field fs n t) (push_mention ss n false s)
 unfolding push_field push_mention
 fields_push n no_field own = and_field own no_field
 fields_push n (and_field h others) own = and_field h (fields_push n others own)
@@ -274,17 +299,17 @@ unfolding push_mention
 mentions_pushed table [] k f = refl
 mentions_pushed table (e ∷ es) k f = ap (model.AndFieldShape (string_bytes e.0) e.1.needed (shape_at table e.1.shape)) (mentions_pushed table es k f)
 
-pub no_fields_read : (given : Option (List model.Shape)) (table : List model.Shape) → AreFieldsRead given NoFields table []
-no_fields_read given table = record { within = tt; spelled = no_field }
+pub no_fields_read : (several : Bool) (given : Option (List model.Shape)) (table : List model.Shape) → AreFieldsRead several given NoFields table []
+no_fields_read several given table = record { within = tt; spelled = no_field }
 
-fields_grown : (given : Option (List model.Shape)) (fs : Fields) (old new : List model.Shape) (es : List (String Global × NodeField)) → Keeps old new → AreFieldsRead given fs old es → AreFieldsRead given fs new es
-fields_grown given fs old new es keeps are =
+fields_grown : (several : Bool) (given : Option (List model.Shape)) (fs : Fields) (old new : List model.Shape) (es : List (String Global × NodeField)) → Keeps old new → AreFieldsRead several given fs old es → AreFieldsRead several given fs new es
+fields_grown several given fs old new es keeps are =
     let kept : AreFieldsOf new (fields_at old es) es = fields_kept old new (fields_at old es) es keeps (record { within = are.within; same = refl }) in
-    record { within = kept.within; spelled = subst (SpellFields given fs) (sym kept.same) are.spelled }
+    record { within = kept.within; spelled = subst (SpellFields several given fs) (sym kept.same) are.spelled }
 
-pub field_read : (given : Option (List model.Shape)) (old new : List model.Shape) (done left : List (String Global × Value)) (e : String Global × Value) (es fs : List (String Global × NodeField)) (k : String Global) (f : NodeField) → IsStrictlySortedBy string_cmp (keys_of (done ++ e ∷ left)) → Keeps old new → names es ≡ names done → AreFieldsRead given (trees.entries_view done) old es → string_bytes k ≡ string_bytes e.0 → f.needed ≡ false → IsRead given (trees.view e.1) new f.shape → fs ≡ insert_entry string_cmp es k f → (names fs ≡ names (done ++ e ∷ [])) × AreFieldsRead given (trees.entries_view (done ++ e ∷ [])) new fs
-field_read given old new done left e es fs k f sorted keeps same are named needed read inserted =
-    let now = fields_grown given (trees.entries_view done) old new es keeps are in
+pub field_read : (several : Bool) (given : Option (List model.Shape)) (old new : List model.Shape) (done left : List (String Global × Value)) (e : String Global × Value) (es fs : List (String Global × NodeField)) (k : String Global) (f : NodeField) → IsStrictlySortedBy string_cmp (keys_of (done ++ e ∷ left)) → Keeps old new → names es ≡ names done → AreFieldsRead several given (trees.entries_view done) old es → string_bytes k ≡ string_bytes e.0 → f.needed ≡ false → IsRead several given (trees.view e.1) new f.shape → fs ≡ insert_entry string_cmp es k f → (names fs ≡ names (done ++ e ∷ [])) × AreFieldsRead several given (trees.entries_view (done ++ e ∷ [])) new fs
+field_read several given old new done left e es fs k f sorted keeps same are named needed read inserted =
+    let now = fields_grown several given (trees.entries_view done) old new es keeps are in
     let last : fs ≡ es ++ (k, f) ∷ [] = inserted ∙ appended done e left es k f sorted same named in (
       ap names last ∙ map-append (λ x. string_bytes x.0) es ((k, f) ∷ []) ∙ ap (λ ns. ns ++ string_bytes k ∷ []) same ∙ ap (λ n. names done ++ n ∷ []) named ∙ sym (map-append (λ x. string_bytes x.0) done (e ∷ [])),
       rw last (record {
@@ -296,7 +321,7 @@ field_read given old new done left e es fs k f sorted keeps same are named neede
 pub object_refers : (shapes : model.FieldShapes) (now : List Node) (fields : BTreeMap (String Global) NodeField) (extra : Bool) → AreFieldsOf (expansions now) shapes fields.entries → RefersBelow (length now) (Object fields extra)
 object_refers shapes now fields extra are = subst (λ bound. RefersBelow bound (Object fields extra)) (as_many now) (record { each = are.within })
 
-pub object_read : (given : Option (List model.Shape)) (properties : Fields) (names : List (List ℕ)) (extra : Bool) (middle now new : List model.Shape) (fields : List (String Global × NodeField)) (marked : BTreeMap (String Global) NodeField) (n : ℕ) → AreFieldsRead given properties middle fields → AreFieldsOf now (with_all_needed extra names (fields_at middle fields)) marked.entries → IsNumberOf new (shape_over now (Object marked extra)) n → IsReadOver given (ObjectLevel properties names extra) new n
-object_read given properties names extra middle now new fields marked n are marks is =
-    let whole = ap (λ ms. model.ObjectShape ms extra) (sym marks.same) ∙ sym is.same in
-    record { within = is.within; spelled = subst (SpellsOver given (ObjectLevel properties names extra)) whole (with_properties are.spelled) }
+pub object_read : (several : Bool) (given : Option (List model.Shape)) (object : ObjectLevel) (middle now new : List model.Shape) (fields : List (String Global × NodeField)) (marked : BTreeMap (String Global) NodeField) (n : ℕ) → AreFieldsRead several given object.properties middle fields → AreFieldsOf now (with_all_needed object.extra object.names (fields_at middle fields)) marked.entries → IsNumberOf new (shape_over now (Object marked object.extra)) n → AreObjectsRead several given (Some object) new (Some n)
+object_read several given object middle now new fields marked n are marks is =
+    let whole = ap (λ ms. model.ObjectsOf ms object.extra) (sym marks.same) ∙ sym (ap objects_of is.same) in
+    record { within = is.within; spelled = subst (SpellsObjects several given (Some object)) whole (with_properties are.spelled) }

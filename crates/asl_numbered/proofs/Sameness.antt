@@ -1,16 +1,20 @@
 -- When two nodes are equal: where the shapes that they stand for are, over a table in which no shape stands twice.
-use Rattle.std.proofs.Common.{◌≡◌, ℕ, List, [], ◌∷◌, length, Bool, true, ◌&&◌, String, Global, string_bytes, bytes_eq, refl, arith}
+use Rattle.std.proofs.Common.{◌≡◌, ℕ, List, [], ◌∷◌, length, map, ◌≤◌, Bool, true, ◌&&◌, Vec, String, Global, string_bytes, bytes_eq, refl, sym, ap, ◌∙◌, arith}
 use Rattle.std.proofs.lemmas.Bool.{and_parts, and_from, eqb-true, eq-eqb}
 use Rattle.std.proofs.lemmas.Slice.Eq.{bytes_eq-Decides}
 use Rattle.std.specs.Cmp.{booleans_Decides}
 use Rattle.std.specs.Cmp.Lexicographic.{pointwise}
 use Rattle.asl_model.specs.Shape as model
+use Rattle.asl_shape.specs.View.{merged}
 use Rattle.asl_numbered.specs.contracts.node.NodePartialEq.TheImpl as node_eq
 use Rattle.asl_numbered.specs.contracts.node.NodeFieldPartialEq.TheImpl as field_eq
 use Rattle.asl_numbered.specs.declared.node.Node.{Node}
-use Rattle.asl_numbered.specs.declared.node.Node.TheVariants.{Any, Never, Null, Bool as Truth, Int, Text, List as Elements, Object}
+use Rattle.asl_numbered.specs.declared.node.Node.TheVariants.{Any, Never, Null, Bool as Truth, Int, Text, List as Elements, Object, Several}
 use Rattle.asl_numbered.specs.declared.node.NodeField.{NodeField}
 use Rattle.asl_numbered.specs.Expansion.{shape_at, shapes_at, fields_at, shape_over, numbers_in, parts, AreBelow, AreDistinct}
+use Rattle.asl_numbered.specs.Kinds.{HasProperParts}
+use Rattle.asl_numbered.specs.TakenApart.{parts_of}
+use Rattle.asl_numbered.proofs.Ascending.{parts_merged}
 
 -- the test of two nodes
 abbrev pub equal : Node → Node → Bool
@@ -59,6 +63,9 @@ same-shape table (Object fields extra) (Object others more) e =
     let same : extra ≡ more = (booleans_Decides extra more).0 both.1 in
     rw (fields-same table fields.entries others.entries both.0, same) refl
 same-shape table (Object fields extra) y e = absurd (cc)
+same-shape table (Several numbers) (Several others) e =
+    ap (λ ns. merged (map (shape_at table) ns)) ((bytes_eq-Decides numbers.items others.items).0 e)
+same-shape table (Several numbers) y e = absurd (cc)
 
 -- ---- nodes of one shape are equal
 
@@ -85,27 +92,65 @@ module _ (table : List model.Shape) (distinct : AreDistinct table) where
       let field = and_from _ _ ((booleans_Decides f.1.needed g.1.needed).1 needed) (eq-eqb f.1.shape g.1.shape (distinct.apart f.1.shape g.1.shape h.0 i.0 shape)) in
       and_from _ _ (and_from _ _ ((bytes_eq-Decides (string_bytes f.0) (string_bytes g.0)).1 name) field) (fields-alike fs gs h.1 i.1 behind)
 
-  pub alike-equal : (x y : Node) → AreBelow (length table) (parts x) → AreBelow (length table) (parts y) → shape_over table x ≡ shape_over table y → equal x y ≡ true
-  alike-equal Any Any h i e = refl
-  alike-equal Any y h i e = absurd (cc)
-  alike-equal Never Never h i e = refl
-  alike-equal Never y h i e = absurd (grind arith)
-  alike-equal Null Null h i e = refl
-  alike-equal Null y h i e = absurd (grind arith)
-  alike-equal Truth Truth h i e = refl
-  alike-equal Truth y h i e = absurd (grind arith)
-  alike-equal Int Int h i e = refl
-  alike-equal Int y h i e = absurd (grind arith)
-  alike-equal Text Text h i e = refl
-  alike-equal Text y h i e = absurd (grind arith)
-  alike-equal (Elements first rest) (Elements others further) h i e =
+  list-alike : (ns ms : List ℕ) → AreBelow (length table) ns → AreBelow (length table) ms → map (shape_at table) ns ≡ map (shape_at table) ms → ns ≡ ms
+  list-alike [] [] h i e = refl
+  list-alike [] (m ∷ ms) h i e = absurd (cc)
+  list-alike (n ∷ ns) [] h i e = absurd (cc)
+  list-alike (n ∷ ns) (m ∷ ms) h i e =
+      let shape : shape_at table n ≡ shape_at table m = cc in
+      let shapes : map (shape_at table) ns ≡ map (shape_at table) ms = cc in
+      let number = distinct.apart n m h.0 i.0 shape in
+      rw (number, list-alike ns ms h.1 i.1 shapes) refl
+
+  -- several shapes are no shape of one kind, or of none
+  apart-several : (numbers : Vec ℕ Global) (s : model.Shape) → HasProperParts table (Several numbers) → length (parts_of s) ≤ 1 → s ≡ shape_over table (Several numbers) → ⊥
+  apart-several numbers s p few e =
+      let counted = ap (λ x. length (parts_of x)) e ∙ ap length (parts_merged 0 (map (shape_at table) numbers.items) p.ascend) in
+      omega (arith, counted, few, p.two)
+
+  alike-several : (numbers others : Vec ℕ Global) → AreBelow (length table) numbers.items → AreBelow (length table) others.items → HasProperParts table (Several numbers) → HasProperParts table (Several others) → shape_over table (Several numbers) ≡ shape_over table (Several others) → equal (Several numbers) (Several others) ≡ true
+  alike-several numbers others h i p q e =
+      let same = sym (parts_merged 0 (map (shape_at table) numbers.items) p.ascend) ∙ ap parts_of e ∙ parts_merged 0 (map (shape_at table) others.items) q.ascend in
+      (bytes_eq-Decides numbers.items others.items).1 (list-alike numbers.items others.items h i same)
+
+  pub alike-equal : (x y : Node) → AreBelow (length table) (parts x) → AreBelow (length table) (parts y) → HasProperParts table x → HasProperParts table y → shape_over table x ≡ shape_over table y → equal x y ≡ true
+  alike-equal Any Any h i p q e = refl
+  alike-equal Any (Several others) h i p q e = absurd (apart-several others (shape_over table Any) q (omega arith) e)
+  alike-equal Any y h i p q e = absurd (cc)
+  alike-equal Never Never h i p q e = refl
+  alike-equal Never (Several others) h i p q e = absurd (apart-several others (shape_over table Never) q (omega arith) e)
+  alike-equal Never y h i p q e = absurd (grind arith)
+  alike-equal Null Null h i p q e = refl
+  alike-equal Null (Several others) h i p q e = absurd (apart-several others (shape_over table Null) q (omega arith) e)
+  alike-equal Null y h i p q e = absurd (grind arith)
+  alike-equal Truth Truth h i p q e = refl
+  alike-equal Truth (Several others) h i p q e = absurd (apart-several others (shape_over table Truth) q (omega arith) e)
+  alike-equal Truth y h i p q e = absurd (grind arith)
+  alike-equal Int Int h i p q e = refl
+  alike-equal Int (Several others) h i p q e = absurd (apart-several others (shape_over table Int) q (omega arith) e)
+  alike-equal Int y h i p q e = absurd (grind arith)
+  alike-equal Text Text h i p q e = refl
+  alike-equal Text (Several others) h i p q e = absurd (apart-several others (shape_over table Text) q (omega arith) e)
+  alike-equal Text y h i p q e = absurd (grind arith)
+  alike-equal (Elements first rest) (Elements others further) h i p q e =
       let front : shapes_at table first.items ≡ shapes_at table others.items = cc in
       let behind : shape_at table rest ≡ shape_at table further = cc in
       let numbers = numbers-alike first.items others.items h.1 i.1 front in
       and_from _ _ ((bytes_eq-Decides first.items others.items).1 numbers) (eq-eqb rest further (distinct.apart rest further h.0 i.0 behind))
-  alike-equal (Elements first rest) y h i e = absurd (cc)
-  alike-equal (Object fields extra) (Object others more) h i e =
+  alike-equal (Elements first rest) (Several others) h i p q e = absurd (apart-several others (shape_over table (Elements first rest)) q (omega arith) e)
+  alike-equal (Elements first rest) y h i p q e = absurd (cc)
+  alike-equal (Object fields extra) (Object others more) h i p q e =
       let front : fields_at table fields.entries ≡ fields_at table others.entries = cc in
       let open_ended : extra ≡ more = cc in
       and_from _ _ (fields-alike fields.entries others.entries h i front) ((booleans_Decides extra more).1 open_ended)
-  alike-equal (Object fields extra) y h i e = absurd (cc)
+  alike-equal (Object fields extra) (Several others) h i p q e = absurd (apart-several others (shape_over table (Object fields extra)) q (omega arith) e)
+  alike-equal (Object fields extra) y h i p q e = absurd (cc)
+  alike-equal (Several numbers) (Several others) h i p q e = alike-several numbers others h i p q e
+  alike-equal (Several numbers) Any h i p q e = absurd (apart-several numbers (shape_over table Any) p (omega arith) (sym e))
+  alike-equal (Several numbers) Never h i p q e = absurd (apart-several numbers (shape_over table Never) p (omega arith) (sym e))
+  alike-equal (Several numbers) Null h i p q e = absurd (apart-several numbers (shape_over table Null) p (omega arith) (sym e))
+  alike-equal (Several numbers) Truth h i p q e = absurd (apart-several numbers (shape_over table Truth) p (omega arith) (sym e))
+  alike-equal (Several numbers) Int h i p q e = absurd (apart-several numbers (shape_over table Int) p (omega arith) (sym e))
+  alike-equal (Several numbers) Text h i p q e = absurd (apart-several numbers (shape_over table Text) p (omega arith) (sym e))
+  alike-equal (Several numbers) (Elements first rest) h i p q e = absurd (apart-several numbers (shape_over table (Elements first rest)) p (omega arith) (sym e))
+  alike-equal (Several numbers) (Object fields extra) h i p q e = absurd (apart-several numbers (shape_over table (Object fields extra)) p (omega arith) (sym e))

@@ -12,55 +12,67 @@ use Rattle.indexmap.specs.IndexMap.{insert_entry}
 use Rattle.asl_model.specs.Shape as model
 use Rattle.asl_numbered.specs.declared.node.Node.{Node}
 use Rattle.asl_numbered.specs.declared.node.Node.TheVariants as nodes
+use Rattle.asl_numbered.specs.declared.table.Facts.{Facts}
 use Rattle.asl_numbered.specs.Expansion.{shape_at, shape_over, parts, AreBelow, RefersBelow, AreDistinct, IsNumberOf, Keeps, expansions}
-use Rattle.asl_numbered.specs.Table.{IsOrdered, IsTable}
-use Rattle.asl_numbered.proofs.Expansions.{below-wider, shape_at_stays, pushed, as_many, level}
+use Rattle.asl_numbered.specs.Kinds.{AreSeveral, HasProperParts, IsProperNode}
+use Rattle.asl_numbered.specs.Table.{AreFactsOf, IsOrdered, IsTable}
+use Rattle.asl_numbered.proofs.Expansions.{below-wider, shape_at_stays, list_stays, pushed, as_many, level}
 use Rattle.asl_numbered.proofs.Sameness.{equal, same-shape, alike-equal}
 
 -- the shapes of the nodes
-abbrev pub shapes_in : List (Node × Bool) → List model.Shape
+abbrev pub shapes_in : List (Node × Facts) → List model.Shape
 shapes_in es = expansions (keys_of es)
 
 -- as many as there are nodes
-pub shapes_length : (es : List (Node × Bool)) → length (shapes_in es) ≡ length es
+pub shapes_length : (es : List (Node × Facts)) → length (shapes_in es) ≡ length es
 shapes_length es = as_many (keys_of es) ∙ length-map es (λ e. e.0)
 
-pub key_of : (es : List (Node × Bool)) (n : ℕ) (e : Node × Bool) → slice_get es n ≡ Some e → slice_get (keys_of es) n ≡ Some e.0
+pub key_of : (es : List (Node × Facts)) (n : ℕ) (e : Node × Facts) → slice_get es n ≡ Some e → slice_get (keys_of es) n ≡ Some e.0
 key_of [] n e at = absurd (cc)
 key_of (first ∷ es) zero e at = let same : first ≡ e = cc in ap (λ x. Some x.0) same
 key_of (first ∷ es) (suc n) e at = key_of es n e at
 
-entry-of : (es : List (Node × Bool)) (n : ℕ) (k : Node) → slice_get (keys_of es) n ≡ Some k → (e : Node × Bool) × (slice_get es n ≡ Some e) × (e.0 ≡ k)
+entry-of : (es : List (Node × Facts)) (n : ℕ) (k : Node) → slice_get (keys_of es) n ≡ Some k → (e : Node × Facts) × (slice_get es n ≡ Some e) × (e.0 ≡ k)
 entry-of [] n k at = absurd (cc)
 entry-of (first ∷ es) zero k at = (first, refl, cc)
 entry-of (first ∷ es) (suc n) k at = entry-of es n k at
 
 -- no entries are a table
-pub empty_table : (es : List (Node × Bool)) → es ≡ [] → IsTable es
-empty_table es none = rw none (record { earlier = λ n e at. absurd (cc); distinct = record { apart = λ m n h i e. absurd (omega (arith, h)) }; inhabited = λ n e at. absurd (cc); ordered = λ n e at. absurd (cc) })
+pub empty_table : (es : List (Node × Facts)) → es ≡ [] → IsTable es
+empty_table es none = rw none (record { earlier = λ n e at. absurd (cc); distinct = record { apart = λ m n h i e. absurd (omega (arith, h)) }; facts = λ n e at. absurd (cc); ordered = λ n e at. absurd (cc); proper = λ n e at. absurd (cc) })
 
 -- as many nodes as entries
-pub keys_counted : (es : List (Node × Bool)) → length (keys_of es) ≡ length es
+pub keys_counted : (es : List (Node × Facts)) → length (keys_of es) ≡ length es
 keys_counted es = length-map es (λ e. e.0)
 
 -- a node of the table has the first level of the shape of its number
-pub entry_level : (es : List (Node × Bool)) (n : ℕ) (e : Node × Bool) → IsTable es → slice_get es n ≡ Some e → shape_at (shapes_in es) n ≡ shape_over (shapes_in es) e.0
+pub entry_level : (es : List (Node × Facts)) (n : ℕ) (e : Node × Facts) → IsTable es → slice_get es n ≡ Some e → shape_at (shapes_in es) n ≡ shape_over (shapes_in es) e.0
 entry_level es n e table at = level (keys_of es) n e.0 (key_of es n e at) (table.earlier n e at)
 
 -- its numbers are in the table
-pub entry_below : (es : List (Node × Bool)) (n : ℕ) (e : Node × Bool) → IsTable es → slice_get es n ≡ Some e → AreBelow (length (shapes_in es)) (parts e.0)
+pub entry_below : (es : List (Node × Facts)) (n : ℕ) (e : Node × Facts) → IsTable es → slice_get es n ≡ Some e → AreBelow (length (shapes_in es)) (parts e.0)
 entry_below es n e table at =
     let within : n ≤ length (shapes_in es) = omega (arith, slice_get_within es n e at, shapes_length es) in
     below-wider n (length (shapes_in es)) (parts e.0) within (table.earlier n e at).each
 
--- what a look-up by number tells of whether a shape is inhabited; past the end there is Never
-pub told_inhabited : (table : List Node) (n : ℕ) (told : Option Bool) → (IsSome told ↔ n < length table) → IfSome told (λ b. b ≡ model.inhabited (shape_at (expansions table) n)) → unwrap_or told false ≡ model.inhabited (shape_at (expansions table) n)
-told_inhabited table n (Some b) there is = is
-told_inhabited table n None there is = go (cases_lt n (length table))
+-- past the end there is Never
+pub shape_past : (table : List Node) (n : ℕ) → length table ≤ n → shape_at (expansions table) n ≡ model.Never
+shape_past table n past = get_or_past (expansions table) n model.Never (omega (arith, past, as_many table))
+
+-- what a look-up by number tells of a shape, where it would tell false of Never
+told : (test : model.Shape → Bool) (table : List Node) (n : ℕ) (answer : Option Bool) → test model.Never ≡ false → (IsSome answer ↔ n < length table) → IfSome answer (λ b. b ≡ test (shape_at (expansions table) n)) → unwrap_or answer false ≡ test (shape_at (expansions table) n)
+told test table n (Some b) none there is = is
+told test table n None none there is = go (cases_lt n (length table))
   where
-    go : (n < length table) ⊎ (length table ≤ n) → false ≡ model.inhabited (shape_at (expansions table) n)
+    go : (n < length table) ⊎ (length table ≤ n) → false ≡ test (shape_at (expansions table) n)
     go (inl within) = absurd (let some : false ≡ true = there.1 within in cc)
-    go (inr past) = ap model.inhabited (sym (get_or_past (expansions table) n model.Never (omega (arith, past, as_many table))))
+    go (inr past) = sym (ap test (shape_past table n past) ∙ none)
+
+pub told_inhabited : (table : List Node) (n : ℕ) (answer : Option Bool) → (IsSome answer ↔ n < length table) → IfSome answer (λ b. b ≡ model.inhabited (shape_at (expansions table) n)) → unwrap_or answer false ≡ model.inhabited (shape_at (expansions table) n)
+told_inhabited table n answer there is = told model.inhabited table n answer refl there is
+
+pub told_several : (table : List Node) (n : ℕ) (answer : Option Bool) → (IsSome answer ↔ n < length table) → IfSome answer (λ b. b ≡ model.has_several (shape_at (expansions table) n)) → unwrap_or answer false ≡ model.has_several (shape_at (expansions table) n)
+told_several table n answer there is = told model.has_several table n answer refl there is
 
 -- a number that isn't there has Never
 pub none_past : (table : List Node) (n : ℕ) (told : Option (Bor Node)) → told ≡ None → (IsSome told ↔ n < length table) → model.Never ≡ shape_at (expansions table) n
@@ -69,11 +81,11 @@ none_past table n None e there = go (cases_lt n (length table))
   where
     go : (n < length table) ⊎ (length table ≤ n) → model.Never ≡ shape_at (expansions table) n
     go (inl within) = absurd (let some : false ≡ true = there.1 within in cc)
-    go (inr past) = sym (get_or_past (expansions table) n model.Never (omega (arith, past, as_many table)))
+    go (inr past) = sym (shape_past table n past)
 
 -- ---- a node that is there
 
-pub found : (es : List (Node × Bool)) (node : Node) (i : ℕ) → IsTable es → position (equal node) (keys_of es) ≡ Some i → IsNumberOf (shapes_in es) (shape_over (shapes_in es) node) i
+pub found : (es : List (Node × Facts)) (node : Node) (i : ℕ) → IsTable es → position (equal node) (keys_of es) ≡ Some i → IsNumberOf (shapes_in es) (shape_over (shapes_in es) node) i
 found es node i table at =
     let there = position-Some (equal node) (keys_of es) i nodes.Any at in
     let key = get_or (keys_of es) i nodes.Any in
@@ -85,7 +97,7 @@ found es node i table at =
 
 -- ---- a node that isn't there
 
-absent : (test : Node → Bool) (es : List (Node × Bool)) (n : ℕ) (k : Node) → lookup test es ≡ None → slice_get (keys_of es) n ≡ Some k → test k ≡ false
+absent : (test : Node → Bool) (es : List (Node × Facts)) (n : ℕ) (k : Node) → lookup test es ≡ None → slice_get (keys_of es) n ≡ Some k → test k ≡ false
 absent test [] n k none at = absurd (cc)
 absent test (e ∷ es) n k none at = go n (test e.0) refl at (λ m h i. absent test es m k h i)
   where
@@ -95,15 +107,16 @@ absent test (e ∷ es) n k none at = go n (test e.0) refl at (λ m h i. absent t
     go (suc n) false is at later = later n (rw is at none) at
 
 -- its shape isn't there either
-new-shape : (es : List (Node × Bool)) (node : Node) (m : ℕ) → IsTable es → lookup (equal node) es ≡ None → AreBelow (length (shapes_in es)) (parts node) → m < length (shapes_in es) → shape_at (shapes_in es) m ≡ shape_over (shapes_in es) node → ⊥
-new-shape es node m table none below within same =
+new-shape : (es : List (Node × Facts)) (node : Node) (m : ℕ) → IsTable es → lookup (equal node) es ≡ None → AreBelow (length (shapes_in es)) (parts node) → IsProperNode (shapes_in es) node → m < length (shapes_in es) → shape_at (shapes_in es) m ≡ shape_over (shapes_in es) node → ⊥
+new-shape es node m table none below proper within same =
     let inside : m < length (keys_of es) = omega (arith, as_many (keys_of es)) in
     let key = get_or (keys_of es) m nodes.Any in
     let at : slice_get (keys_of es) m ≡ Some key = slice_get-get_or (keys_of es) m nodes.Any inside in
     let entry = entry-of es m key at in
     let own : shape_at (shapes_in es) m ≡ shape_over (shapes_in es) key = entry_level es m entry.0 table entry.1 ∙ ap (shape_over (shapes_in es)) entry.2 in
     let its : AreBelow (length (shapes_in es)) (parts key) = subst (λ x. AreBelow (length (shapes_in es)) (parts x)) entry.2 (entry_below es m entry.0 table entry.1) in
-    let yes : equal node key ≡ true = alike-equal (shapes_in es) table.distinct node key below its (sym same ∙ own) in
+    let kinds : IsProperNode (shapes_in es) key = subst (IsProperNode (shapes_in es)) entry.2 (table.proper m entry.0 entry.1) in
+    let yes : equal node key ≡ true = alike-equal (shapes_in es) table.distinct node key below its proper.proper kinds.proper (sym same ∙ own) in
     let no : equal node key ≡ false = absent (equal node) es m key none at in
     absurd (cc)
 
@@ -135,7 +148,7 @@ pushed-distinct table s distinct fresh = record { apart = λ m n h i e. go m n (
         both (inr a) (inl b) = absurd (fresh n b (sym (old n b) ∙ sym e ∙ last m a))
         both (inr a) (inr b) = a ∙ sym b
 
-slice_get-pushed : (es : List (Node × Bool)) (f e : Node × Bool) (n : ℕ) → slice_get (es ++ f ∷ []) n ≡ Some e → (slice_get es n ≡ Some e) ⊎ ((n ≡ length es) × (f ≡ e))
+slice_get-pushed : (es : List (Node × Facts)) (f e : Node × Facts) (n : ℕ) → slice_get (es ++ f ∷ []) n ≡ Some e → (slice_get es n ≡ Some e) ⊎ ((n ≡ length es) × (f ≡ e))
 slice_get-pushed [] f e zero at = inr (refl, cc)
 slice_get-pushed [] f e (suc n) at = absurd (cc)
 slice_get-pushed (first ∷ es) f e zero at = inl at
@@ -149,7 +162,7 @@ none-from : {A : Type 0} (o : Option A) → false ≡ is_some o → o ≡ None
 none-from None e = refl
 none-from (Some a) e = absurd (cc)
 
-inserted-last : (es : List (Node × Bool)) (node : Node) (flag : Bool) → lookup (equal node) es ≡ None → insert_entry equal es node flag ≡ es ++ (node, flag) ∷ []
+inserted-last : (es : List (Node × Facts)) (node : Node) (flag : Facts) → lookup (equal node) es ≡ None → insert_entry equal es node flag ≡ es ++ (node, flag) ∷ []
 inserted-last [] node flag none = refl
 inserted-last (e ∷ es) node flag none = go (equal node e.0) refl (λ h. inserted-last es node flag h)
   where
@@ -157,7 +170,20 @@ inserted-last (e ∷ es) node flag none = go (equal node e.0) refl (λ h. insert
     go true is later = let some : Some e.1 ≡ None = rw is at none in absurd (cc)
     go false is later = rw is (ap (λ x. e ∷ x) (later (rw is at none)))
 
-module _ (es new : List (Node × Bool)) (node : Node) (flag : Bool) (table : IsTable es) (missing : false ≡ is_some (lookup (equal node) es)) (refers : RefersBelow (length (keys_of es)) node) (inserted : new ≡ insert_entry equal es node flag) where
+-- a proper node stays one
+proper-kept : (table added : List model.Shape) (node : Node) → AreBelow (length table) (parts node) → HasProperParts table node → HasProperParts (table ++ added) node
+proper-kept table added nodes.Any h p = tt
+proper-kept table added nodes.Never h p = tt
+proper-kept table added nodes.Null h p = tt
+proper-kept table added nodes.Bool h p = tt
+proper-kept table added nodes.Int h p = tt
+proper-kept table added nodes.Text h p = tt
+proper-kept table added (nodes.List first rest) h p = tt
+proper-kept table added (nodes.Object fields extra) h p = tt
+proper-kept table added (nodes.Several numbers) h p =
+    subst AreSeveral (sym (list_stays table added numbers.items h)) p
+
+module _ (es new : List (Node × Facts)) (node : Node) (flag : Facts) (table : IsTable es) (missing : false ≡ is_some (lookup (equal node) es)) (refers : RefersBelow (length (keys_of es)) node) (kinds : IsProperNode (shapes_in es) node) (inserted : new ≡ insert_entry equal es node flag) where
   none : lookup (equal node) es ≡ None
   none = none-from (lookup (equal node) es) missing
 
@@ -175,7 +201,7 @@ module _ (es new : List (Node × Bool)) (node : Node) (flag : Bool) (table : IsT
   below = subst (λ n. AreBelow n (parts node)) (sym (as_many (keys_of es))) refers.each
 
   distinct : AreDistinct (shapes_in new)
-  distinct = subst AreDistinct (sym longer) (pushed-distinct (shapes_in es) own table.distinct (λ m h e. new-shape es node m table none below h e))
+  distinct = subst AreDistinct (sym longer) (pushed-distinct (shapes_in es) own table.distinct (λ m h e. new-shape es node m table none below kinds h e))
 
   stays : (n : ℕ) → n < length es → shape_at (shapes_in new) n ≡ shape_at (shapes_in es) n
   stays n h = ap (λ t. shape_at t n) longer ∙ shape_at_stays (shapes_in es) (own ∷ []) n (omega (arith, h, shapes_length es))
@@ -191,20 +217,29 @@ module _ (es new : List (Node × Bool)) (node : Node) (flag : Bool) (table : IsT
       let within : length es < length (shapes_in new) = omega (arith, shapes_length new, ap length is, length_push es (node, flag)) in
       record { within = within; same = last; alone = λ m h e. distinct.apart m (length es) h within (e ∙ sym last) }
 
-  pub added_table : flag ≡ model.inhabited own → IsOrdered node → IsTable new
-  added_table right order = record { earlier = λ n e at. earlier n e (there n e at); distinct = distinct; inhabited = λ n e at. flagged n e (there n e at); ordered = λ n e at. ordered n e (there n e at) }
+  -- a node of the table, and the new one, is proper over all
+  kept : (k : Node) → AreBelow (length (shapes_in es)) (parts k) → IsProperNode (shapes_in es) k → IsProperNode (shapes_in new) k
+  kept k h is = record { proper = subst (λ t. HasProperParts t k) (sym longer) (proper-kept (shapes_in es) (own ∷ []) k h is.proper) }
+
+  pub added_table : AreFactsOf own flag → IsOrdered node → IsTable new
+  added_table right order = record { earlier = λ n e at. earlier n e (there n e at); distinct = distinct; facts = λ n e at. facts n e (there n e at); ordered = λ n e at. ordered n e (there n e at); proper = λ n e at. proper n e (there n e at) }
     where
-      there : (n : ℕ) (e : Node × Bool) → slice_get new n ≡ Some e → (slice_get es n ≡ Some e) ⊎ ((n ≡ length es) × ((node, flag) ≡ e))
+      there : (n : ℕ) (e : Node × Facts) → slice_get new n ≡ Some e → (slice_get es n ≡ Some e) ⊎ ((n ≡ length es) × ((node, flag) ≡ e))
       there n e at = slice_get-pushed es (node, flag) e n (subst (λ x. slice_get x n ≡ Some e) is at)
 
-      earlier : (n : ℕ) (e : Node × Bool) → (slice_get es n ≡ Some e) ⊎ ((n ≡ length es) × ((node, flag) ≡ e)) → RefersBelow n e.0
+      earlier : (n : ℕ) (e : Node × Facts) → (slice_get es n ≡ Some e) ⊎ ((n ≡ length es) × ((node, flag) ≡ e)) → RefersBelow n e.0
       earlier n e (inl old) = table.earlier n e old
       earlier n e (inr at_end) = subst (λ x. RefersBelow n x.0) at_end.1 (subst (λ k. RefersBelow k node) (length-map es (λ x. x.0) ∙ sym at_end.0) refers)
 
-      flagged : (n : ℕ) (e : Node × Bool) → (slice_get es n ≡ Some e) ⊎ ((n ≡ length es) × ((node, flag) ≡ e)) → e.1 ≡ model.inhabited (shape_at (shapes_in new) n)
-      flagged n e (inl old) = table.inhabited n e old ∙ ap model.inhabited (sym (stays n (slice_get_within es n e old)))
-      flagged n e (inr at_end) = ap (λ x. x.1) (sym at_end.1) ∙ right ∙ ap model.inhabited (sym (ap (λ k. shape_at (shapes_in new) k) at_end.0 ∙ last))
+      facts : (n : ℕ) (e : Node × Facts) → (slice_get es n ≡ Some e) ⊎ ((n ≡ length es) × ((node, flag) ≡ e)) → AreFactsOf (shape_at (shapes_in new) n) e.1
+      facts n e (inl old) = subst (λ s. AreFactsOf s e.1) (sym (stays n (slice_get_within es n e old))) (table.facts n e old)
+      facts n e (inr at_end) =
+          subst (λ x. AreFactsOf (shape_at (shapes_in new) n) x.1) at_end.1 (subst (λ s. AreFactsOf s flag) (sym (ap (λ k. shape_at (shapes_in new) k) at_end.0 ∙ last)) right)
 
-      ordered : (n : ℕ) (e : Node × Bool) → (slice_get es n ≡ Some e) ⊎ ((n ≡ length es) × ((node, flag) ≡ e)) → IsOrdered e.0
+      ordered : (n : ℕ) (e : Node × Facts) → (slice_get es n ≡ Some e) ⊎ ((n ≡ length es) × ((node, flag) ≡ e)) → IsOrdered e.0
       ordered n e (inl old) = table.ordered n e old
       ordered n e (inr at_end) = subst (λ x. IsOrdered x.0) at_end.1 order
+
+      proper : (n : ℕ) (e : Node × Facts) → (slice_get es n ≡ Some e) ⊎ ((n ≡ length es) × ((node, flag) ≡ e)) → IsProperNode (shapes_in new) e.0
+      proper n e (inl old) = kept e.0 (entry_below es n e table old) (table.proper n e old)
+      proper n e (inr at_end) = subst (λ x. IsProperNode (shapes_in new) x.0) at_end.1 (kept node below kinds)

@@ -1,6 +1,6 @@
 -- How the shapes of a table are compared by their numbers: what is remembered, and what is left to do. No public clause
 -- cites this module.
-use Rattle.std.specs.Prelude.{◌≡◌, ◌<◌, ◌≤◌, ◌+◌, ◌*◌, ℕ, zero, suc, max, List, [], ◌∷◌, ◌++◌, length, Bool, true, false, if◌then◌else◌, ◌&&◌, ◌||◌, not, Option, Some, None, slice_get, String}
+use Rattle.std.specs.Prelude.{◌≡◌, ◌<◌, ◌≤◌, ◌+◌, ◌*◌, ℕ, zero, suc, max, List, [], ◌∷◌, ◌++◌, length, Bool, true, false, ◌&&◌, ◌||◌, not, Option, Some, None, String}
 use Rattle.std.specs.declared.alloc.Global.{Global}
 use Rattle.std.specs.BTreeMap.{is_at}
 use Rattle.std.specs.List.{AllByRecursion}
@@ -8,13 +8,12 @@ use Rattle.std.specs.Map.{lookup}
 use Rattle.std.specs.String.{string_cmp}
 use Rattle.asl_model.specs.Shape as model
 use Rattle.asl_model.specs.ShapeOrder.{sub, takes_all, others_never_there}
-use Rattle.asl_numbered.specs.declared.node.Node.{Node}
-use Rattle.asl_numbered.specs.declared.node.Node.TheVariants.{Any, Never, Null, Bool as Truth, Int, Text, List as Elements, Object}
 use Rattle.asl_numbered.specs.declared.node.NodeField.{NodeField}
+use Rattle.asl_numbered.specs.declared.kinds.NodeObjects.{NodeObjects}
 use Rattle.asl_numbered.specs.declared.pair.Pair.{Pair}
 use Rattle.asl_numbered.specs.declared.comparing.Task.{Task}
 use Rattle.asl_numbered.specs.declared.comparing.Task.TheVariants.{Compare, Conclude}
-use Rattle.asl_numbered.specs.Expansion.{shape_at, fields_at, shape_over, expansions, parts, RefersBelow}
+use Rattle.asl_numbered.specs.Expansion.{shape_at, fields_at}
 
 -- the first shape is inside the second
 abbrev pub inside : List model.Shape → Pair → Bool
@@ -24,23 +23,6 @@ inside table p = sub (shape_at table p.first) (shape_at table p.second)
 pub record IsWithin (table : List model.Shape) (p : Pair) : Type 0 where
   pub first : p.first < length table
   pub second : p.second < length table
-
--- that node has the number
-pub record IsNodeAt (nodes : List Node) (n : ℕ) (node : Node) : Type 0 where
-  pub at : slice_get nodes n ≡ Some node
-  pub level : shape_over (expansions nodes) node ≡ shape_at (expansions nodes) n
-  pub below : RefersBelow n node
-
--- the node has no parts, whatever shapes there are
-abbrev pub IsSimple : Node → Type 0
-IsSimple Any = Unit {0}
-IsSimple Never = Unit {0}
-IsSimple Null = Unit {0}
-IsSimple Truth = Unit {0}
-IsSimple Int = Unit {0}
-IsSimple Text = Unit {0}
-IsSimple (Elements first rest) = ⊥
-IsSimple (Object fields extra) = ⊥
 
 -- ---- what is remembered
 
@@ -80,12 +62,37 @@ pub record AreOutside (table : List model.Shape) (tasks : List Task) : Type 0 wh
 
 -- ---- how much is left to do
 
--- the most parts that a node has
-abbrev pub widest : List Node → ℕ
-widest [] = 0
-widest (node ∷ nodes) = max (length (parts node)) (widest nodes)
+-- how many mentions there are
+abbrev pub count_mentions : model.FieldShapes → ℕ
+count_mentions model.NoFieldShapes = 0
+count_mentions (model.AndFieldShape n needed s shapes) = suc (count_mentions shapes)
 
--- at most so many steps compare the shape of that number with another, where no node has more parts than that
+-- how many shapes there are
+abbrev pub count_shapes : model.Shapes → ℕ
+count_shapes model.NoShapes = 0
+count_shapes (model.AndShape s others) = suc (count_shapes others)
+
+-- how many parts these arrays have
+abbrev pub array_parts : model.Arrays → ℕ
+array_parts model.WithoutArrays = 0
+array_parts (model.ArraysOf first rest) = suc (count_shapes first)
+
+-- how many parts these objects have
+abbrev pub object_parts : model.Objects → ℕ
+object_parts model.WithoutObjects = 0
+object_parts (model.ObjectsOf shapes extra) = count_mentions shapes
+
+-- how many parts a shape has
+abbrev pub count_parts : model.Shape → ℕ
+count_parts model.Any = 0
+count_parts (model.OfKinds simple arrays objects) = array_parts arrays + object_parts objects
+
+-- the most parts that a shape has
+abbrev pub widest : List model.Shape → ℕ
+widest [] = 0
+widest (s ∷ table) = max (count_parts s) (widest table)
+
+-- at most so many steps compare the shape of that number with another, where no two shapes lead to more pairs than that
 abbrev pub cost : ℕ → ℕ → ℕ
 cost width zero = 2
 cost width (suc n) = 2 + width * cost width n
@@ -96,18 +103,38 @@ work width [] = 0
 work width (Compare p ∷ tasks) = cost width p.first + work width tasks
 work width (Conclude p ∷ tasks) = 1 + work width tasks
 
+-- a pair leads to at most so many: to each place and the further elements of its first shape, and to each field of its
+-- second
+abbrev pub width : List model.Shape → ℕ
+width table = widest table + widest table
+
 -- ---- a look at one pair
 
 -- The tasks grew by some, on which the pair now rests: where the answer is true, its first shape is inside its second
 -- exactly where all that is to be compared in these is so, and they are less work than the pair. Where the answer is
 -- false, it isn't, and nothing in these that is to be concluded is so.
-pub record RestsOn (nodes : List Node) (p : Pair) (answer : Bool) (old new : List Task) : Type 0 where
+pub record RestsOn (table : List model.Shape) (p : Pair) (answer : Bool) (old new : List Task) : Type 0 where
   pub added : List Task
   pub whole : new ≡ old ++ added
-  pub same : inside (expansions nodes) p ≡ (answer && all_inside (expansions nodes) added)
-  pub standing : answer ≡ true → AreStanding (expansions nodes) added
-  pub outside : answer ≡ false → AreOutside (expansions nodes) added
-  pub less : work (widest nodes) added < cost (widest nodes) p.first
+  pub same : inside table p ≡ (answer && all_inside table added)
+  pub standing : answer ≡ true → AreStanding table added
+  pub outside : answer ≡ false → AreOutside table added
+  pub less : work (width table) added < cost (width table) p.first
+
+-- the tasks compare pairs of the table, and their first numbers are below that bound
+abbrev pub AreComparisons : List model.Shape → ℕ → List Task → Type 0
+AreComparisons table bound [] = Unit {0}
+AreComparisons table bound (Compare p ∷ tasks) = IsWithin table p × (p.first < bound) × AreComparisons table bound tasks
+AreComparisons table bound (Conclude p ∷ tasks) = ⊥
+
+-- The tasks grew by no more comparisons than that, on which it now rests whether something is so: it is exactly where the
+-- answer is true and all of them are so.
+pub record PartsRestOn (table : List model.Shape) (bound most : ℕ) (is answer : Bool) (old new : List Task) : Type 0 where
+  pub added : List Task
+  pub whole : new ≡ old ++ added
+  pub same : is ≡ (answer && all_inside table added)
+  pub compared : AreComparisons table bound added
+  pub few : length added ≤ most
 
 -- ---- lists
 
@@ -116,12 +143,6 @@ abbrev pub place_tasks : List ℕ → List ℕ → ℕ → List Task
 place_tasks [] bounds rest = []
 place_tasks (place ∷ places) [] rest = Compare (record { first = place; second = rest }) ∷ place_tasks places [] rest
 place_tasks (place ∷ places) (bound ∷ bounds) rest = Compare (record { first = place; second = bound }) ∷ place_tasks places bounds rest
-
--- what a look at a node and one of lists put down
-abbrev pub ListLooked : Node → List ℕ → ℕ → Pair → Bool → List Task → List Task → Type 0
-ListLooked (Elements places further) bounds rest p true old new = (length bounds ≤ length places.items) × (new ≡ old ++ Conclude p ∷ (place_tasks places.items bounds rest ++ Compare (record { first = further; second = rest }) ∷ []))
-ListLooked (Elements places further) bounds rest p false old new = (length places.items < length bounds) × (new ≡ old ++ Conclude p ∷ [])
-ListLooked node bounds rest p answer old new = (answer ≡ false) × (new ≡ old)
 
 -- ---- objects
 
@@ -145,10 +166,11 @@ abbrev pub mentions_fit_in : List model.Shape → List (String Global × NodeFie
 mentions_fit_in table inner more [] = true
 mentions_fit_in table inner more (f ∷ outer) = mention_fits_in table f.1 more (lookup (is_at (string_cmp f.0)) inner) && mentions_fit_in table inner more outer
 
--- what a look at a node and one of objects put down
-abbrev pub ObjectLooked : List Node → Node → List (String Global × NodeField) → Bool → Pair → Bool → List Task → List Task → Type 0
-ObjectLooked nodes (Object others more) fields extra p answer old new = (answer ≡ ((extra || (not more && others_never_there (fields_at (expansions nodes) fields) (fields_at (expansions nodes) others.entries))) && mentions_fit_in (expansions nodes) others.entries more fields)) × (new ≡ old ++ Conclude p ∷ (if answer then field_tasks others.entries fields else []))
-ObjectLooked nodes node fields extra p answer old new = (answer ≡ false) × (new ≡ old)
+-- these objects are among those, where the shapes of the fields are that both mention
+abbrev pub objects_fit_in : List model.Shape → NodeObjects → NodeObjects → Bool
+objects_fit_in table inner outer =
+    (outer.extra || (not inner.extra && others_never_there (fields_at table outer.fields.now.entries) (fields_at table inner.fields.now.entries)))
+    && mentions_fit_in table inner.fields.now.entries inner.extra outer.fields.now.entries
 
 -- ---- all that is left to do
 

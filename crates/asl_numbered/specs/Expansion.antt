@@ -2,9 +2,9 @@
 use Rattle.std.specs.Prelude.{◌≡◌, ◌<◌, ℕ, List, [], ◌∷◌, ◌++◌, length, map, get_or, String}
 use Rattle.std.specs.declared.alloc.Global.{Global}
 use Rattle.asl_model.specs.Shape as model
-use Rattle.asl_shape.specs.View.{shapes_of, mentions_of}
+use Rattle.asl_shape.specs.View.{shapes_of, mentions_of, merged}
 use Rattle.asl_numbered.specs.declared.node.Node.{Node}
-use Rattle.asl_numbered.specs.declared.node.Node.TheVariants.{Any, Never, Null, Bool as Truth, Int, Text, List as Elements, Object}
+use Rattle.asl_numbered.specs.declared.node.Node.TheVariants.{Any, Never, Null, Bool as Truth, Int, Text, List as Elements, Object, Several}
 use Rattle.asl_numbered.specs.declared.node.NodeField.{NodeField}
 
 -- the shape of that number; Never where there is none
@@ -29,6 +29,7 @@ shape_over table Int = model.IntegerShape
 shape_over table Text = model.StringShape
 shape_over table (Elements first rest) = model.ArrayShape (shapes_at table first.items) (shape_at table rest)
 shape_over table (Object fields extra) = model.ObjectShape (fields_at table fields.entries) extra
+shape_over table (Several numbers) = merged (map (shape_at table) numbers.items)
 
 -- the numbers of fields
 abbrev pub numbers_in : List (String Global × NodeField) → List ℕ
@@ -44,6 +45,7 @@ parts Int = []
 parts Text = []
 parts (Elements first rest) = rest ∷ first.items
 parts (Object fields extra) = numbers_in fields.entries
+parts (Several numbers) = numbers.items
 
 -- each of the numbers is below that bound
 abbrev pub AreBelow : ℕ → List ℕ → Type 0

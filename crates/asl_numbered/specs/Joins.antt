@@ -7,8 +7,16 @@ use Rattle.std.specs.List.{AllByRecursion}
 use Rattle.std.specs.Map.{lookup}
 use Rattle.std.specs.String.{string_cmp}
 use Rattle.asl_model.specs.Shape as model
-use Rattle.asl_model.specs.Shape.{Shape, Any, OfKinds, Arrays, WithoutArrays, ArraysOf, Objects, WithoutObjects, ObjectsOf, Shapes, NoShapes, AndShape, FieldShapes, NoFieldShapes, AndFieldShape, ArrayShape, ObjectShape, inhabited}
-use Rattle.asl_model.specs.ShapeOrder.{depth, mention_of, further_places, joined_with_each, joined_fields, with_other_fields, join}
+use Rattle.asl_model.specs.Shape.{Simple, Shape, Any, OfKinds, Arrays, WithoutArrays, ArraysOf, Objects, WithoutObjects, ObjectsOf, Shapes, NoShapes, AndShape, FieldShapes, NoFieldShapes, AndFieldShape, ArrayShape, ObjectShape, inhabited}
+use Rattle.asl_model.specs.ShapeOrder.{depth, mention_of, further_places, joined_with_each, joined_fields, with_other_fields, join_arrays, join_objects, kept_arrays, kept_objects, join_kinds, join}
+use Rattle.asl_numbered.specs.declared.kinds.NodeArrays.{NodeArrays}
+use Rattle.asl_numbered.specs.declared.kinds.NodeObjects.{NodeObjects}
+use Rattle.asl_numbered.specs.declared.kinds.NodeKinds.{NodeKinds}
+use Rattle.asl_numbered.specs.Kinds.{IsProperNode}
+use Rattle.asl_numbered.specs.TakenApart.{arrays_over, objects_over, kinds_over}
+use Rattle.asl_numbered.specs.declared.joining.JoinedKinds.{JoinedKinds}
+use Rattle.asl_numbered.specs.declared.joining.Part.{Part}
+use Rattle.asl_numbered.specs.declared.joining.Part.TheVariants.{Number, Level}
 use Rattle.asl_numbered.specs.declared.node.Node.{Node}
 use Rattle.asl_numbered.specs.declared.node.Node.TheVariants as nodes
 use Rattle.asl_numbered.specs.declared.node.NodeField.{NodeField}
@@ -55,10 +63,32 @@ abbrev pub field_joins : FieldShapes → FieldShapes → List Shape
 field_joins NoFieldShapes others = []
 field_joins (AndFieldShape n needed s shapes) others = with_field_join s (mention_of n others) (field_joins shapes others)
 
--- The joins of the parts of two shapes that are both of arrays, the further elements first, or both of objects.
-pub data ArePartsOf : Shape → Shape → List Shape → Type 0 where
-  array_parts : {first others : Shapes} {rest further : Shape} → ArePartsOf (ArrayShape first rest) (ArrayShape others further) (join (join (joined_with_each join model.Never (further_places first others)) rest) further ∷ place_joins first others)
-  object_parts : {shapes others : FieldShapes} {extra more : Bool} → ArePartsOf (ObjectShape shapes extra) (ObjectShape others more) (field_joins shapes others)
+-- those of the parts of the arrays of two shapes, the further elements first
+abbrev pub array_joins : Arrays → Arrays → List Shape
+array_joins WithoutArrays arrays = []
+array_joins (ArraysOf first rest) WithoutArrays = []
+array_joins (ArraysOf first rest) (ArraysOf others further) = join (join (joined_with_each join model.Never (further_places first others)) rest) further ∷ place_joins first others
+
+-- those of the parts of their objects
+abbrev pub object_joins : Objects → Objects → List Shape
+object_joins WithoutObjects objects = []
+object_joins (ObjectsOf shapes extra) WithoutObjects = []
+object_joins (ObjectsOf shapes extra) (ObjectsOf others more) = field_joins shapes others
+
+-- those of the parts of the two, first of the arrays
+abbrev pub kinds_joins : Shape → Shape → List Shape
+kinds_joins Any b = []
+kinds_joins (OfKinds some others more) Any = []
+kinds_joins (OfKinds some others more) (OfKinds simple arrays objects) = array_joins others arrays ++ object_joins more objects
+
+-- the shape, without arrays where there are none such, and without objects
+abbrev pub kept : Shape → Shape
+kept Any = Any
+kept (OfKinds simple arrays objects) = OfKinds simple (kept_arrays arrays) (kept_objects objects)
+
+-- the joins of the parts that are kept
+abbrev pub part_joins : Shape → Shape → List Shape
+part_joins a b = kinds_joins (kept a) (kept b)
 
 -- ---- what tasks do to the shapes of the numbers that were found
 
@@ -100,7 +130,7 @@ abbrev pub IsFed : Step → List Shape → Type 0
 IsFed (JoinStep a b) found = Unit {0}
 IsFed NothingStep found = Unit {0}
 IsFed (WithStep s) found = Unit {0}
-IsFed (FinishStep a b start) found = (start ≤ length found) × ArePartsOf a b (drop start found) × (inhabited a ≡ true) × (inhabited b ≡ true)
+IsFed (FinishStep a b start) found = (start ≤ length found) × (drop start found ≡ part_joins a b) × (inhabited a ≡ true) × (inhabited b ≡ true)
 
 abbrev pub AreEachFed : List Step → List Shape → Type 0
 AreEachFed [] found = Unit {0}
@@ -238,51 +268,129 @@ pub record Moves (old new : List Shape) (task : JoinTask) (tasks left : List Joi
   pub same : all_done (steps_of new added) (found_in new next) ≡ done (step_of old task) (found_in old numbers)
   pub less : work_left (steps_of new added) (found_in new next) < step_cost (step_of old task) (found_in old numbers)
 
--- ---- a look at two nodes
+-- ---- the parts of two shapes that are put down
 
--- The joins of the parts of two lists, where `last` finishes the two: what stands behind the places that both have is
--- joined one after another, to what `Nothing` puts down.
-abbrev pub list_joinings : JoinTask → List ℕ → ℕ → List ℕ → ℕ → List JoinTask
-list_joinings last places rest others further = last ∷ (place_joinings places others ++ With further ∷ With rest ∷ (joinings_with (drop (length others) places) ++ (joinings_with (drop (length places) others) ++ Nothing ∷ [])))
+-- The joins of the parts of two lists: what stands behind the places that both have is joined one after another, to what
+-- `Nothing` puts down.
+abbrev pub list_joinings : List ℕ → ℕ → List ℕ → ℕ → List JoinTask
+list_joinings places rest others further = place_joinings places others ++ With further ∷ With rest ∷ (joinings_with (drop (length others) places) ++ (joinings_with (drop (length places) others) ++ Nothing ∷ []))
 
--- what a look at a node of lists and another gives, and puts down
-abbrev pub ListLooked : List ℕ → ℕ → Node → JoinTask → Option Node → List JoinTask → List JoinTask → Type 0
-ListLooked places rest (nodes.List others further) last answer old new = (answer ≡ None) × (new ≡ old ++ list_joinings last places rest others.items further)
-ListLooked places rest node last answer old new = (answer ≡ Some nodes.Any) × (new ≡ old)
+-- those of the arrays of two shapes, where both have some
+abbrev pub array_joinings : Option NodeArrays → Option NodeArrays → List JoinTask
+array_joinings None others = []
+array_joinings (Some arrays) None = []
+array_joinings (Some arrays) (Some others) = list_joinings arrays.first.now arrays.rest others.first.now others.rest
 
--- the same of a node of objects and another
-abbrev pub ObjectLooked : List (String Global × NodeField) → Node → JoinTask → Option Node → List JoinTask → List JoinTask → Type 0
-ObjectLooked fields (nodes.Object others more) last answer old new = (answer ≡ None) × (new ≡ old ++ last ∷ field_joinings fields others.entries)
-ObjectLooked fields node last answer old new = (answer ≡ Some nodes.Any) × (new ≡ old)
-
--- the same of any two nodes
-abbrev pub Looked : Node → Node → JoinTask → Option Node → List JoinTask → List JoinTask → Type 0
-Looked (nodes.List first rest) node last answer old new = ListLooked first.items rest node last answer old new
-Looked (nodes.Object fields extra) node last answer old new = ObjectLooked fields.entries node last answer old new
-Looked nodes.Null nodes.Null last answer old new = (answer ≡ Some nodes.Null) × (new ≡ old)
-Looked nodes.Bool nodes.Bool last answer old new = (answer ≡ Some nodes.Bool) × (new ≡ old)
-Looked nodes.Int nodes.Int last answer old new = (answer ≡ Some nodes.Int) × (new ≡ old)
-Looked nodes.Text nodes.Text last answer old new = (answer ≡ Some nodes.Text) × (new ≡ old)
-Looked node other last answer old new = (answer ≡ Some nodes.Any) × (new ≡ old)
-
--- the node is the first level of the join of the pair's shapes
-pub record IsLevel (ns : List Node) (p : Pair) (node : Node) : Type 0 where
-  pub same : shape_over (expansions ns) node ≡ joint (expansions ns) p
-  pub below : RefersBelow (length ns) node
-
--- a look at a pair gives the first level of its join, or else puts down what leads to it
-pub record LooksAt (ns : List Node) (p : Pair) (answer : Option Node) (old new : List JoinTask) (numbers : List ℕ) : Type 0 where
-  pub given : (node : Node) → answer ≡ Some node → IsLevel ns p node × (new ≡ old)
-  pub put : answer ≡ None → Moves (expansions ns) (expansions ns) (Join p) old new numbers numbers
+-- those of their objects
+abbrev pub object_joinings : Option NodeObjects → Option NodeObjects → List JoinTask
+object_joinings None others = []
+object_joinings (Some objects) None = []
+object_joinings (Some objects) (Some others) = field_joinings objects.fields.now.entries others.fields.now.entries
 
 -- ---- the join made of the joins of its parts
 
--- The numbers are those of the joins of the parts of the pair's two shapes, which are inhabited.
+-- the numbers are those of the joins of the parts of the pair's two shapes, which are inhabited
 pub record AreMadeOf (table : List Shape) (p : Pair) (parts : List ℕ) : Type 0 where
   pub within : IsWithin table p
   pub below : AreBelow (length table) parts
-  pub all : ArePartsOf (shape_at table p.first) (shape_at table p.second) (found_in table parts)
+  pub all : found_in table parts ≡ part_joins (shape_at table p.first) (shape_at table p.second)
   pub inhabited : AreInhabited table p
+
+-- Their own number is in the table, and so are those of their elements; it is the number of these arrays alone.
+pub record AreArraysHere (table : List Shape) (arrays : NodeArrays) : Type 0 where
+  pub within : arrays.number < length table
+  pub alone : shape_at table arrays.number ≡ ArrayShape (shapes_at table arrays.first.now) (shape_at table arrays.rest)
+  pub parts : AreBelow (length table) (arrays.rest ∷ arrays.first.now)
+
+-- the same of objects and their fields
+pub record AreObjectsHere (table : List Shape) (objects : NodeObjects) : Type 0 where
+  pub within : objects.number < length table
+  pub alone : shape_at table objects.number ≡ ObjectShape (fields_at table objects.fields.now.entries) objects.extra
+  pub parts : AreBelow (length table) (numbers_in objects.fields.now.entries)
+
+-- where there are some, they are such
+abbrev pub AreArraysWithin : List Shape → Option NodeArrays → Type 0
+AreArraysWithin table None = Unit {0}
+AreArraysWithin table (Some arrays) = AreArraysHere table arrays
+
+-- the same of objects
+abbrev pub AreObjectsWithin : List Shape → Option NodeObjects → Type 0
+AreObjectsWithin table None = Unit {0}
+AreObjectsWithin table (Some objects) = AreObjectsHere table objects
+
+-- both of these kinds
+pub record AreKindsWithin (table : List Shape) (kinds : NodeKinds) : Type 0 where
+  pub arrays : AreArraysWithin table kinds.arrays
+  pub objects : AreObjectsWithin table kinds.objects
+
+-- The two shapes are taken apart: into the kinds of both that are kept, or none, where one of them is Any.
+abbrev pub TakesApart : List Shape → Shape → Shape → Option (NodeKinds × NodeKinds) → Type 0
+TakesApart table a b None = (join_kinds join a b ≡ Any) × (part_joins a b ≡ [])
+TakesApart table a b (Some kinds) = (kinds_over table kinds.0 ≡ kept a) × (kinds_over table kinds.1 ≡ kept b) × AreKindsWithin table kinds.0 × AreKindsWithin table kinds.1
+
+-- so are those of the pair
+pub record AreKindsOf (table : List Shape) (p : Pair) (kinds : Option (NodeKinds × NodeKinds)) : Type 0 where
+  pub apart : TakesApart table (shape_at table p.first) (shape_at table p.second) kinds
+
+-- ---- the parts of a join
+
+-- the shape of a part
+abbrev pub part_shape : List Shape → Part → Shape
+part_shape table (Number n) = shape_at table n
+part_shape table (Level node) = shape_over table node
+
+-- the numbers in it are in the table, and it is proper
+abbrev pub HasPartWithin : List Shape → Part → Type 0
+HasPartWithin table (Number n) = n < length table
+HasPartWithin table (Level node) = RefersBelow (length table) node × IsProperNode table node
+
+-- the same as a record
+pub record IsPartWithin (table : List Shape) (part : Part) : Type 0 where
+  pub within : HasPartWithin table part
+
+-- the part, where there is one, has that number in the new table
+abbrev pub HasPart : List Shape → List Shape → Option Part → Option ℕ → Type 0
+HasPart old new None number = number ≡ None
+HasPart old new (Some part) None = ⊥
+HasPart old new (Some part) (Some n) = Shows new (part_shape old part) n
+
+-- the same as a record
+pub record IsPutPart (old new : List Shape) (part : Option Part) (number : Option ℕ) : Type 0 where
+  pub put : HasPart old new part number
+
+-- the part is that of these arrays alone; there is none where there are none
+abbrev pub IsOfArrays : List Shape → Option Part → Arrays → Type 0
+IsOfArrays table None arrays = arrays ≡ WithoutArrays
+IsOfArrays table (Some part) WithoutArrays = ⊥
+IsOfArrays table (Some part) (ArraysOf first rest) = IsPartWithin table part × (part_shape table part ≡ ArrayShape first rest)
+
+-- the same of objects
+abbrev pub IsOfObjects : List Shape → Option Part → Objects → Type 0
+IsOfObjects table None objects = objects ≡ WithoutObjects
+IsOfObjects table (Some part) WithoutObjects = ⊥
+IsOfObjects table (Some part) (ObjectsOf shapes extra) = IsPartWithin table part × (part_shape table part ≡ ObjectShape shapes extra)
+
+-- the part is the join of these arrays, over each table in which these numbers are the joins of their parts
+pub record IsArrayJoin (arrays others : Option NodeArrays) (parts : List ℕ) (part : Option Part) : Type 0 where
+  pub joined : (table : List Shape) → AreArraysWithin table arrays → AreArraysWithin table others → AreBelow (length table) parts → found_in table parts ≡ array_joins (arrays_over table arrays) (arrays_over table others) → IsOfArrays table part (join_arrays join (arrays_over table arrays) (arrays_over table others))
+
+-- the same of objects
+pub record IsObjectJoin (objects others : Option NodeObjects) (parts : List ℕ) (part : Option Part) : Type 0 where
+  pub joined : (table : List Shape) → AreObjectsWithin table objects → AreObjectsWithin table others → AreBelow (length table) parts → found_in table parts ≡ object_joins (objects_over table objects) (objects_over table others) → IsOfObjects table part (join_objects join (objects_over table objects) (objects_over table others))
+
+-- its simple kinds
+abbrev pub simple_of : JoinedKinds → Simple
+simple_of kinds = record { null = kinds.null; boolean = kinds.boolean; integer = kinds.integer; text = kinds.text }
+
+-- the join is that shape
+abbrev pub IsJoined : List Shape → Option JoinedKinds → Shape → Type 0
+IsJoined table None s = s ≡ Any
+IsJoined table (Some kinds) Any = ⊥
+IsJoined table (Some kinds) (OfKinds simple arrays objects) = (simple_of kinds ≡ simple) × IsOfArrays table kinds.arrays arrays × IsOfObjects table kinds.objects objects
+
+-- the same as a record
+pub record AreJoined (table : List Shape) (kinds : Option JoinedKinds) (s : Shape) : Type 0 where
+  pub joined : IsJoined table kinds s
 
 -- The joined fields are the first object's, joined with the second's, over each table in which the parts are the joins of
 -- the fields that both mention.
@@ -299,3 +407,4 @@ pub record AreWithOthers (fields : List (String Global × NodeField)) (extra : B
 pub record IsListOf (numbers : List ℕ) (node : Node) : Type 0 where
   pub each : parts node ≡ numbers
   pub shape : (table : List Shape) (rest : ℕ) (places : List ℕ) → numbers ≡ rest ∷ places → shape_over table node ≡ ArrayShape (shapes_at table places) (shape_at table rest)
+  pub proper : (table : List Shape) → IsProperNode table node

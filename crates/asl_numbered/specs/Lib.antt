@@ -1,7 +1,9 @@
 pub mod Comparison
 pub mod Expansion
 pub mod Joins
+pub mod Kinds
 pub mod Reading
 pub mod References
 pub mod Refusal
 pub mod Table
+pub mod TakenApart

@@ -1,14 +1,16 @@
--- What is true of the nodes of a table, each with whether its shape is inhabited.
-use Rattle.std.specs.Prelude.{◌≡◌, ℕ, List, Bool, Some, slice_get, String}
+-- What is true of the nodes of a table, each with what is known of its shape.
+use Rattle.std.specs.Prelude.{◌≡◌, ℕ, List, Some, slice_get, String}
 use Rattle.std.specs.declared.alloc.Global.{Global}
 use Rattle.std.specs.List.Sorted.{IsStrictlySortedBy}
 use Rattle.std.specs.Map.{keys_of}
 use Rattle.std.specs.String.{string_cmp}
 use Rattle.asl_model.specs.Shape as model
 use Rattle.asl_numbered.specs.declared.node.Node.{Node}
-use Rattle.asl_numbered.specs.declared.node.Node.TheVariants.{Any, Never, Null, Bool as Truth, Int, Text, List as Elements, Object}
+use Rattle.asl_numbered.specs.declared.node.Node.TheVariants.{Any, Never, Null, Bool as Truth, Int, Text, List as Elements, Object, Several}
 use Rattle.asl_numbered.specs.declared.node.NodeField.{NodeField}
+use Rattle.asl_numbered.specs.declared.table.Facts.{Facts}
 use Rattle.asl_numbered.specs.Expansion.{expansions, shape_at, RefersBelow, AreDistinct}
+use Rattle.asl_numbered.specs.Kinds.{IsProperNode, full}
 
 -- the names of the fields stand in byte order
 abbrev pub AreFieldsInOrder : List (String Global × NodeField) → Type 0
@@ -24,15 +26,23 @@ HasFieldsInOrder Int = Unit {0}
 HasFieldsInOrder Text = Unit {0}
 HasFieldsInOrder (Elements first rest) = Unit {0}
 HasFieldsInOrder (Object fields extra) = AreFieldsInOrder fields.entries
+HasFieldsInOrder (Several numbers) = Unit {0}
 
 -- the same as a record
 pub record IsOrdered (node : Node) : Type 0 where
   pub ordered : HasFieldsInOrder node
 
--- Each node has numbers of earlier ones alone, no shape stands twice, each flag says whether the shape is inhabited,
--- and the names of fields stand in order.
-pub record IsTable (entries : List (Node × Bool)) : Type 0 where
-  pub earlier : (n : ℕ) (e : Node × Bool) → slice_get entries n ≡ Some e → RefersBelow n e.0
+-- the facts are what they say of the shape
+pub record AreFactsOf (s : model.Shape) (facts : Facts) : Type 0 where
+  pub inhabited : facts.inhabited ≡ model.inhabited s
+  pub full : facts.full ≡ full s
+  pub several : facts.several ≡ model.has_several s
+
+-- Each node has numbers of earlier ones alone, no shape stands twice, the facts are those of the shape, the names of
+-- fields stand in order, and nodes of several parts are proper.
+pub record IsTable (entries : List (Node × Facts)) : Type 0 where
+  pub earlier : (n : ℕ) (e : Node × Facts) → slice_get entries n ≡ Some e → RefersBelow n e.0
   pub distinct : AreDistinct (expansions (keys_of entries))
-  pub inhabited : (n : ℕ) (e : Node × Bool) → slice_get entries n ≡ Some e → e.1 ≡ model.inhabited (shape_at (expansions (keys_of entries)) n)
-  pub ordered : (n : ℕ) (e : Node × Bool) → slice_get entries n ≡ Some e → IsOrdered e.0
+  pub facts : (n : ℕ) (e : Node × Facts) → slice_get entries n ≡ Some e → AreFactsOf (shape_at (expansions (keys_of entries)) n) e.1
+  pub ordered : (n : ℕ) (e : Node × Facts) → slice_get entries n ≡ Some e → IsOrdered e.0
+  pub proper : (n : ℕ) (e : Node × Facts) → slice_get entries n ≡ Some e → IsProperNode (expansions (keys_of entries)) e.0

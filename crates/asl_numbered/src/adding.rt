@@ -1,59 +1,84 @@
 // Adding shapes to a table.
 ghost use Rattle.std.specs.Prelude.{IfOk};
-ghost use Rattle.asl_model.specs.Shape as model;
+ghost use Rattle.asl_shape.specs.Kinds.{arrays_view, objects_view};
 ghost use Rattle.asl_shape.specs.View.{view, shapes_view, fields_view};
 ghost use Rattle.asl_numbered.specs.Expansion.{expansions, IsNumberOf, AreNumbersOf, AreFieldsOf, Keeps};
+ghost use Rattle.asl_numbered.specs.TakenApart.{HasArraysAt, HasObjectsAt};
 
+use crate::kinds::{KindNumbers, put_kinds};
 use crate::node::{Node, NodeField};
 use crate::table::Table;
-use asl_shape::{Field, Shape};
+use asl_shape::{Arrays, Field, Objects, Shape, take_apart};
 use asl_tree::OutOfMemory;
 use std::alloc::Global;
 use std::collections::BTreeMap;
 
 /// The number of the shape.
-#[tactic(auto, using(crate::proofs::Expansions::simple_refers, crate::proofs::Expansions::keeps_trans, crate::proofs::Growing::renumbered))]
+#[tactic(auto, using(crate::proofs::Expansions::simple_refers, crate::proofs::Expansions::keeps_trans))]
 #[cycle(add)]
 pub(crate) fn add(table: &mut Table, alloc: Global, shape: &Shape) -> Result<usize, OutOfMemory>
     ensures number { IfOk result (IsNumberOf (expansions table.new) (view shape.now)) }
     ensures keeps { Keeps (expansions table.old) (expansions table.new) }
 {
-    match shape {
-        Shape::Any => table.put(Node::Any),
-        Shape::Never => table.put(Node::Never),
-        Shape::Null => table.put(Node::Null),
-        Shape::Bool => table.put(Node::Bool),
-        Shape::Int => table.put(Node::Int),
-        Shape::Text => table.put(Node::Text),
-        Shape::List { first, rest } => {
-            let places = add_all(table, alloc, first)?;
-            let further = add(table, alloc, rest)?;
-            table.put(Node::List {
-                first: places,
-                rest: further,
-            })
-        }
-        Shape::Object { fields, extra } => add_object(table, alloc, fields, *extra),
-    }
+    let Some(kinds) = take_apart(shape) else {
+        return table.put(Node::Any);
+    };
+    let arrays = add_arrays(table, alloc, kinds.arrays)?;
+    let objects = add_objects(table, alloc, kinds.objects)?;
+    let numbers = KindNumbers {
+        null: kinds.null,
+        boolean: kinds.boolean,
+        integer: kinds.integer,
+        text: kinds.text,
+        arrays,
+        objects,
+    };
+    put_kinds(table, alloc, numbers)
 }
 
-// The number of a shape of objects.
+// The number of the shape of these lists alone, if there are any.
 #[tactic(auto, using(crate::proofs::Expansions::keeps_trans))]
 #[cycle(add)]
-fn add_object(
+fn add_arrays(
     table: &mut Table,
     alloc: Global,
-    fields: &BTreeMap<String, Field>,
-    extra: bool,
-) -> Result<usize, OutOfMemory>
-    ensures number { IfOk result (IsNumberOf (expansions table.new) (model.ObjectShape (fields_view fields.now.entries) extra)) }
+    arrays: Option<Arrays<'_>>,
+) -> Result<Option<usize>, OutOfMemory>
+    ensures number { IfOk result (HasArraysAt (expansions table.new) (arrays_view arrays.entry)) }
     ensures keeps { Keeps (expansions table.old) (expansions table.new) }
 {
-    let numbered = add_fields(table, alloc, fields)?;
-    table.put(Node::Object {
-        fields: numbered,
-        extra,
-    })
+    let Some(lists) = arrays else {
+        return Ok(None);
+    };
+    let places = add_all(table, alloc, lists.first)?;
+    let further = add(table, alloc, lists.rest)?;
+    let node = Node::List {
+        first: places,
+        rest: further,
+    };
+    Ok(Some(table.put(node)?))
+}
+
+// The number of the shape of these objects alone, if there are any.
+#[tactic(auto, using(crate::proofs::Expansions::keeps_trans))]
+#[cycle(add)]
+fn add_objects(
+    table: &mut Table,
+    alloc: Global,
+    objects: Option<Objects<'_>>,
+) -> Result<Option<usize>, OutOfMemory>
+    ensures number { IfOk result (HasObjectsAt (expansions table.new) (objects_view objects.entry)) }
+    ensures keeps { Keeps (expansions table.old) (expansions table.new) }
+{
+    let Some(mentions) = objects else {
+        return Ok(None);
+    };
+    let fields = add_fields(table, alloc, mentions.fields)?;
+    let node = Node::Object {
+        fields,
+        extra: mentions.extra,
+    };
+    Ok(Some(table.put(node)?))
 }
 
 // The numbers of the shapes, in order.

@@ -1,15 +1,17 @@
 // Whether one shape of a table is inside another.
 //
-// A shape that is inhabited is inside another exactly where, of all pairs of parts that these two lead to, each is
-// of one kind and alike in what isn't a part. So the pairs are gone through one by one, from a list of those that are
-// still open, and no call goes from a shape to its parts.
+// A shape is inside another exactly where, of all pairs of parts that these two lead to, each agrees in what isn't a
+// part. So the pairs are gone through one by one, from a list of those that are still open, and no call goes from a shape
+// to its parts.
 ghost use Rattle.asl_model.specs.Shape as shape;
 ghost use Rattle.asl_model.specs.ShapeOrder as model;
-ghost use Rattle.asl_numbered.specs.Comparison.{inside, IsSimple, place_tasks, field_tasks, mentions_fit_in, IsWithin, IsNodeAt, AreRight, AreOutside, RestsOn, ListLooked, ObjectLooked};
-ghost use Rattle.asl_numbered.specs.Expansion.{expansions, shape_at, shape_over, fields_at};
-ghost use Rattle.std.specs.Prelude.{◌≡◌, ◌++◌, ◌||◌, List, IfSome, IfOk, not, true};
+ghost use Rattle.asl_numbered.specs.Comparison.{inside, array_parts, object_parts, place_tasks, field_tasks, mentions_fit_in, objects_fit_in, IsWithin, AreRight, AreOutside, RestsOn, PartsRestOn};
+ghost use Rattle.asl_numbered.specs.Expansion.{expansions, shape_at, fields_at};
+ghost use Rattle.asl_numbered.specs.TakenApart.{simple_of, arrays_over, objects_over, kinds_over, AreArraysIfAny, AreObjectsIfAny, AreKindsAt};
+ghost use Rattle.std.specs.Prelude.{◌≡◌, ◌++◌, List, IfSome, IfOk};
 
-use crate::node::{Node, NodeField};
+use crate::kinds::{NodeArrays, NodeKinds, NodeObjects, take_apart};
+use crate::node::NodeField;
 use crate::pair::Pair;
 use crate::table::Table;
 use asl_tree::OutOfMemory;
@@ -100,90 +102,90 @@ fn look(
 ) -> Result<bool, OutOfMemory>
     requires right { AreRight (expansions table.now) compared.now.entries }
     requires within { IsWithin (expansions table.now) pair }
-    ensures rests { IfOk result (λ b. RestsOn table.now pair b tasks.old.items tasks.new.items) }
+    ensures rests { IfOk result (λ b. RestsOn (expansions table.now) pair b tasks.old.items tasks.new.items) }
 {
-    if !table.is_inhabited(pair.first) {
-        return Ok(true);
-    }
     if let Some(answer) = known(compared, pair) {
         return Ok(answer);
     }
-    match table.node(pair.first) {
+    match take_apart(table, pair.second) {
         None => Ok(true),
-        Some(inner) => match table.node(pair.second) {
-            None => Ok(false),
-            Some(outer) => look_inside(table, pair, inner, outer, tasks),
+        Some(outer) => match take_apart(table, pair.first) {
+            None => Ok(table.takes_all(pair.second)),
+            Some(inner) => look_inside(table, pair, inner, outer, tasks),
         },
     }
 }
 
-// The same for two nodes, the first of an inhabited shape, of which nothing is remembered.
+// The same kind by kind, where neither is `Any` and nothing is remembered.
 fn look_inside(
     table: &Table,
     pair: Pair,
-    inner: &Node,
-    outer: &Node,
+    inner: NodeKinds<'_>,
+    outer: NodeKinds<'_>,
     tasks: &mut Vec<Task>,
 ) -> Result<bool, OutOfMemory>
     requires within { IsWithin (expansions table.now) pair }
-    requires inhabited { shape.inhabited (shape_at (expansions table.now) pair.first) ≡ true }
-    requires first { IsNodeAt table.now pair.first inner.now }
-    requires second { IsNodeAt table.now pair.second outer.now }
-    ensures rests { IfOk result (λ b. RestsOn table.now pair b tasks.old.items tasks.new.items) }
+    requires first { kinds_over (expansions table.now) inner ≡ shape_at (expansions table.now) pair.first }
+    requires second { kinds_over (expansions table.now) outer ≡ shape_at (expansions table.now) pair.second }
+    requires inner { AreKindsAt (expansions table.now) pair.first inner }
+    requires outer { AreKindsAt (expansions table.now) pair.second outer }
+    ensures rests { IfOk result (λ b. RestsOn (expansions table.now) pair b tasks.old.items tasks.new.items) }
 {
-    match outer {
-        Node::Any | Node::Never | Node::Null | Node::Bool | Node::Int | Node::Text => {
-            Ok(is_kind_inside(table, inner, outer))
-        }
-        Node::List { first, rest } => look_at_list(pair, inner, first, *rest, tasks),
-        Node::Object { fields, extra } => look_at_object(table, pair, inner, fields, *extra, tasks),
+    if !are_simple_inside(inner, outer) {
+        return Ok(false);
     }
+    tasks.push(Task::Conclude(pair))?;
+    if !look_at_arrays(table, pair, inner.arrays, outer.arrays, tasks)? {
+        return Ok(false);
+    }
+    look_at_objects(table, pair, inner.objects, outer.objects, tasks)
 }
 
-// Whether the outer node is of `Any`, or of a simple kind that the inner one is of, too.
-fn is_kind_inside(table: &Table, inner: &Node, outer: &Node) -> bool
-    ensures { IsSimple outer.now
-        → model.sub (shape_over (expansions table.now) inner.now) (shape_over (expansions table.now) outer.now)
-        ≡ (result || not (shape.inhabited (shape_over (expansions table.now) inner.now))) }
+// Whether the simple kinds of the first are among those of the second.
+fn are_simple_inside(inner: NodeKinds<'_>, outer: NodeKinds<'_>) -> bool
+    ensures { result ≡ model.simple_sub (simple_of inner.entry) (simple_of outer.entry) }
 {
-    match outer {
-        Node::Any => true,
-        Node::Null => matches!(inner, Node::Null),
-        Node::Bool => matches!(inner, Node::Bool),
-        Node::Int => matches!(inner, Node::Int),
-        Node::Text => matches!(inner, Node::Text),
-        Node::Never | Node::List { .. } | Node::Object { .. } => false,
-    }
+    (!inner.null || outer.null)
+        && (!inner.boolean || outer.boolean)
+        && (!inner.integer || outer.integer)
+        && (!inner.text || outer.text)
 }
 
-// The same for a node and one of lists.
-fn look_at_list(
+// Looks at the lists of a pair, as at the pair.
+fn look_at_arrays(
+    table: &Table,
     pair: Pair,
-    inner: &Node,
-    bounds: &[usize],
-    rest: usize,
+    inner: Option<NodeArrays<'_>>,
+    outer: Option<NodeArrays<'_>>,
     tasks: &mut Vec<Task>,
 ) -> Result<bool, OutOfMemory>
-    ensures put { IfOk result (λ b. ListLooked inner.now bounds.now rest pair b tasks.old.items tasks.new.items) }
+    requires within { IsWithin (expansions table.now) pair }
+    requires inner { AreArraysIfAny (expansions table.now) pair.first inner }
+    requires outer { AreArraysIfAny (expansions table.now) pair.second outer }
+    ensures rests { IfOk result (λ b. PartsRestOn (expansions table.now) pair.first
+        (array_parts (arrays_over (expansions table.now) inner.entry))
+        (model.arrays_sub (arrays_over (expansions table.now) inner.entry)
+        (arrays_over (expansions table.now) outer.entry))
+        b tasks.old.items tasks.new.items) }
 {
-    match inner {
-        Node::List {
-            first: places,
-            rest: further,
-        } => {
-            tasks.push(Task::Conclude(pair))?;
-            if places.len() < bounds.len() {
-                return Ok(false);
-            }
-            put_places(places, bounds, rest, tasks)?;
-            tasks.push(Task::Compare(Pair {
-                first: *further,
-                second: rest,
-            }))?;
-            Ok(true)
-        }
-        _ => Ok(false),
+    let Some(inner) = inner else {
+        return Ok(true);
+    };
+    if !table.is_inhabited(inner.number) {
+        return Ok(true);
     }
+    let Some(outer) = outer else {
+        return Ok(false);
+    };
+    if inner.first.len() < outer.first.len() {
+        return Ok(false);
+    }
+    put_places(inner.first, outer.first, outer.rest, tasks)?;
+    tasks.push(Task::Compare(Pair {
+        first: inner.rest,
+        second: outer.rest,
+    }))?;
+    Ok(true)
 }
 
 // Puts down the places, each to be compared with the bound that stands there or, behind the bounds, with `rest`.
@@ -206,32 +208,45 @@ fn put_places(
     Ok(())
 }
 
-// The same for a node and one of objects.
-fn look_at_object(
+// Looks at the objects of a pair, as at the pair.
+fn look_at_objects(
     table: &Table,
     pair: Pair,
-    inner: &Node,
-    fields: &BTreeMap<String, NodeField>,
-    extra: bool,
+    inner: Option<NodeObjects<'_>>,
+    outer: Option<NodeObjects<'_>>,
     tasks: &mut Vec<Task>,
 ) -> Result<bool, OutOfMemory>
-    ensures put { IfOk result (λ b. ObjectLooked table.now inner.now fields.now.entries extra pair b tasks.old.items tasks.new.items) }
+    requires within { IsWithin (expansions table.now) pair }
+    requires inner { AreObjectsIfAny (expansions table.now) pair.first inner }
+    requires outer { AreObjectsIfAny (expansions table.now) pair.second outer }
+    ensures rests { IfOk result (λ b. PartsRestOn (expansions table.now) pair.first
+        (object_parts (objects_over (expansions table.now) outer.entry))
+        (model.objects_sub (objects_over (expansions table.now) inner.entry)
+        (objects_over (expansions table.now) outer.entry))
+        b tasks.old.items tasks.new.items) }
 {
-    match inner {
-        Node::Object {
-            fields: others,
-            extra: more,
-        } => {
-            tasks.push(Task::Conclude(pair))?;
-            let closed = extra || (!*more && others_never_there(table, fields, others));
-            if !closed || !mentions_fit(table, others, *more, fields) {
-                return Ok(false);
-            }
-            put_fields(others, fields, tasks)?;
-            Ok(true)
-        }
-        _ => Ok(false),
+    let Some(inner) = inner else {
+        return Ok(true);
+    };
+    if !table.is_inhabited(inner.number) {
+        return Ok(true);
     }
+    let Some(outer) = outer else {
+        return Ok(false);
+    };
+    if !objects_fit(table, inner, outer) {
+        return Ok(false);
+    }
+    put_fields(inner.fields, outer.fields, tasks)?;
+    Ok(true)
+}
+
+// Whether the inner objects are among the outer ones, where the shapes of the fields are that both mention.
+fn objects_fit(table: &Table, inner: NodeObjects<'_>, outer: NodeObjects<'_>) -> bool
+    ensures { result ≡ objects_fit_in (expansions table.now) inner.entry outer.entry }
+{
+    (outer.extra || (!inner.extra && others_never_there(table, outer.fields, inner.fields)))
+        && mentions_fit(table, inner.fields, inner.extra, outer.fields)
 }
 
 // Puts down the fields that both objects mention, to be compared.
@@ -266,7 +281,7 @@ fn mentions_fit(
     for (name, field) in outer.iter() {
         let fits = match inner.get(name) {
             Some(other) => !field.needed || other.needed,
-            None => !field.needed && (!more || is_any(table, field.shape)),
+            None => !field.needed && (!more || table.takes_all(field.shape)),
         };
         if !fits {
             return false;
@@ -293,10 +308,4 @@ fn others_never_there(
         }
     }
     true
-}
-
-fn is_any(table: &Table, number: usize) -> bool
-    ensures { result ≡ model.takes_all (shape_at (expansions table.now) number) }
-{
-    matches!(table.node(number), Some(Node::Any))
 }

@@ -1,15 +1,23 @@
 // The join of two shapes of a table.
 //
-// The join of two lists or objects is made of joins of their parts. These are gone through one by one, from a list of
-// what is still to be done, and the numbers that are found stand in a second list, so that no call goes from a shape to
-// its parts.
+// Where no tree has one of the two, it is the other; where one is `Any`, it is `Any`. Else it takes what either takes,
+// kind by kind, where a shape's lists are left out if there are none such, and so are its objects: the join of a shape
+// with itself may be another shape. Lists that one alone takes, and objects, stand as they are; those of both are made
+// of the joins of their parts.
+//
+// The parts are gone through one by one, from a list of what is still to be done, and the numbers that are found stand
+// in a second list, so that no call goes from a shape to its parts.
 ghost use Rattle.asl_model.specs.Shape as shape;
+ghost use Rattle.asl_model.specs.ShapeOrder as order;
 ghost use Rattle.asl_numbered.specs.declared.joining.JoinTask.TheVariants.{Join, Finish};
+ghost use Rattle.asl_numbered.specs.declared.joining.Part.TheVariants.{Level};
 ghost use Rattle.asl_numbered.specs.Comparison.{IsWithin};
-ghost use Rattle.asl_numbered.specs.Expansion.{expansions, shape_over, AreBelow, RefersBelow, Keeps};
-ghost use Rattle.asl_numbered.specs.Joins.{joint, Shows, AreJoins, AreInhabited, IsTaskWithin, IsFed, Moves, LooksAt, Looked, ListLooked, ObjectLooked, AreMadeOf, AreJoinedFields, AreWithOthers, IsListOf, step_of, found_in, place_joinings, joinings_with, field_joinings};
-ghost use Rattle.std.specs.Prelude.{◌≡◌, ◌++◌, List, None, IfSome, IfOk, drop, false, length};
+ghost use Rattle.asl_numbered.specs.Expansion.{expansions, shape_at, AreBelow, Keeps};
+ghost use Rattle.asl_numbered.specs.Joins.{joint, kept, Shows, AreJoins, AreInhabited, IsTaskWithin, IsFed, Moves, AreArraysWithin, AreObjectsWithin, AreKindsWithin, AreKindsOf, AreMadeOf, IsPartWithin, IsPutPart, AreJoined, IsArrayJoin, IsObjectJoin, AreJoinedFields, AreWithOthers, IsListOf, array_joins, step_of, found_in, place_joinings, joinings_with, list_joinings, array_joinings, object_joinings, field_joinings};
+ghost use Rattle.asl_numbered.specs.TakenApart.{arrays_over, objects_over, taken_apart};
+ghost use Rattle.std.specs.Prelude.{◌≡◌, ◌<◌, ◌++◌, List, None, Some, IfSome, IfOk, drop, false, length};
 
+use crate::kinds::{KindNumbers, NodeArrays, NodeKinds, NodeObjects, put_kinds, take_apart};
 use crate::node::{Node, NodeField};
 use crate::pair::Pair;
 use crate::table::Table;
@@ -30,8 +38,8 @@ pub(crate) enum JoinTask {
     Nothing,
     /// To replace the last number by that of the join of its shape with this one.
     With(usize),
-    /// To replace all numbers from that index on, which are those of the joins of the parts, by the number of the join
-    /// of the two shapes.
+    /// To replace all numbers from that index on, which are those of the joins of the parts, of lists first, by the
+    /// number of the join of the two shapes.
     Finish { pair: Pair, start: usize },
 }
 
@@ -41,6 +49,26 @@ struct Work {
     alloc: Global,
     tasks: Vec<JoinTask>,
     numbers: Vec<usize>,
+}
+
+// The lists of a join, or its objects.
+#[derive(Drop)]
+enum Part {
+    // Those of the shape of that number.
+    Number(usize),
+    // Those of the shape with that first level, which may have no number.
+    Level(Node),
+}
+
+// A join, kind by kind.
+#[derive(Drop)]
+struct JoinedKinds {
+    null: bool,
+    boolean: bool,
+    integer: bool,
+    text: bool,
+    arrays: Option<Part>,
+    objects: Option<Part>,
 }
 
 /// The number of the join of the two shapes of the pair: as before, where that is remembered; else it is found out and
@@ -108,25 +136,22 @@ fn perform(
     }
 }
 
-// Looks at one pair, and puts the number of its join behind the numbers, or the joins of its parts behind the tasks.
-fn look(table: &mut Table, joined: &Joined, work: &mut Work, pair: Pair) -> Result<(), OutOfMemory>
-    requires right { AreJoins (expansions table.old) joined.now.entries }
-    requires within { IsWithin (expansions table.old) pair }
-    requires below { AreBelow (length (expansions table.old)) work.old.numbers.items }
+// Puts the number of the join of the two shapes behind the numbers, or what leads to it behind the tasks.
+fn look(table: &Table, joined: &Joined, work: &mut Work, pair: Pair) -> Result<(), OutOfMemory>
+    requires right { AreJoins (expansions table.now) joined.now.entries }
+    requires within { IsWithin (expansions table.now) pair }
+    requires below { AreBelow (length (expansions table.now)) work.old.numbers.items }
     ensures moves { IfOk result
-        (λ _. Moves (expansions table.old) (expansions table.new) (Join pair)
+        (λ _. Moves (expansions table.now) (expansions table.now) (Join pair)
         work.old.tasks.items work.new.tasks.items work.old.numbers.items work.new.numbers.items) }
-    ensures keeps { Keeps (expansions table.old) (expansions table.new) }
 {
-    if let Some(number) = known(table, joined, pair) {
-        work.numbers.push(number)?;
-        return Ok(());
+    match known(table, joined, pair) {
+        Some(number) => {
+            work.numbers.push(number)?;
+            Ok(())
+        }
+        None => look_inside(table, work, pair),
     }
-    if let Some(node) = look_inside(table, work, pair)? {
-        let number = table.put(node)?;
-        work.numbers.push(number)?;
-    }
-    Ok(())
 }
 
 // The number of the join, where one of the shapes isn't inhabited or it is remembered.
@@ -149,83 +174,115 @@ fn known(table: &Table, joined: &Joined, pair: Pair) -> Option<usize>
     }
 }
 
-// The first level of the join of two shapes that are inhabited, where they aren't both of lists or both of objects; else
-// the joins of the parts are put behind the tasks.
-fn look_inside(table: &Table, work: &mut Work, pair: Pair) -> Result<Option<Node>, OutOfMemory>
+// Puts down the task that finishes the join of two shapes that are inhabited, and behind it the joins of their parts.
+fn look_inside(table: &Table, work: &mut Work, pair: Pair) -> Result<(), OutOfMemory>
     requires within { IsWithin (expansions table.now) pair }
     requires inhabited { AreInhabited (expansions table.now) pair }
     requires below { AreBelow (length (expansions table.now)) work.old.numbers.items }
-    ensures looks { IfOk result
-        (λ r. LooksAt table.now pair r
-        work.old.tasks.items work.new.tasks.items work.old.numbers.items) }
-    ensures same { work.new.numbers ≡ work.old.numbers }
+    ensures moves { IfOk result
+        (λ _. Moves (expansions table.now) (expansions table.now) (Join pair)
+        work.old.tasks.items work.new.tasks.items work.old.numbers.items work.new.numbers.items) }
 {
-    let last = JoinTask::Finish {
-        pair,
-        start: work.numbers.len(),
-    };
-    match table.node(pair.first) {
-        None => Ok(Some(Node::Any)),
-        Some(first) => match table.node(pair.second) {
-            None => Ok(Some(Node::Any)),
-            Some(second) => look_at(&mut work.tasks, last, first, second),
+    let start = work.numbers.len();
+    work.tasks.push(JoinTask::Finish { pair, start })?;
+    match kinds_of_both(table, pair) {
+        None => Ok(()),
+        Some((first, second)) => {
+            put_objects(&mut work.tasks, first.objects, second.objects)?;
+            put_arrays(&mut work.tasks, first.arrays, second.arrays)?;
+            Ok(())
+        }
+    }
+}
+
+// What each of the two shapes takes of each kind, without lists or objects where there are none such;
+// none where one is `Any`.
+fn kinds_of_both<'t>(table: &'t Table, pair: Pair) -> Option<(NodeKinds<'t>, NodeKinds<'t>)>
+    requires within { IsWithin (expansions table.now) pair }
+    ensures both { AreKindsOf (expansions table.now) pair result }
+{
+    let first = kept_kinds(table, pair.first)?;
+    let second = kept_kinds(table, pair.second)?;
+    Some((first, second))
+}
+
+// What the shape takes of each kind, without lists or objects where there are none such; none where it is `Any`.
+fn kept_kinds(table: &Table, number: usize) -> Option<NodeKinds<'_>>
+    requires within { number < length (expansions table.now) }
+    ensures kept { taken_apart (expansions table.now) result
+        ≡ kept (shape_at (expansions table.now) number) }
+    ensures within { IfSome result (AreKindsWithin (expansions table.now)) }
+{
+    let kinds = take_apart(table, number)?;
+    Some(NodeKinds {
+        arrays: kept_arrays(table, kinds.arrays),
+        objects: kept_objects(table, kinds.objects),
+        ..kinds
+    })
+}
+
+// The lists, if there are any such.
+fn kept_arrays<'t>(table: &Table, arrays: Option<NodeArrays<'t>>) -> Option<NodeArrays<'t>>
+    requires within { AreArraysWithin (expansions table.now) arrays }
+    ensures kept { arrays_over (expansions table.now) result
+        ≡ order.kept_arrays (arrays_over (expansions table.now) arrays.entry) }
+    ensures within { AreArraysWithin (expansions table.now) result }
+{
+    match arrays {
+        Some(lists) if table.is_inhabited(lists.number) => Some(lists),
+        _ => None,
+    }
+}
+
+// The objects, if there are any such.
+fn kept_objects<'t>(table: &Table, objects: Option<NodeObjects<'t>>) -> Option<NodeObjects<'t>>
+    requires within { AreObjectsWithin (expansions table.now) objects }
+    ensures kept { objects_over (expansions table.now) result
+        ≡ order.kept_objects (objects_over (expansions table.now) objects.entry) }
+    ensures within { AreObjectsWithin (expansions table.now) result }
+{
+    match objects {
+        Some(mentions) if table.is_inhabited(mentions.number) => Some(mentions),
+        _ => None,
+    }
+}
+
+// Puts down the joins of the parts of the lists, where both shapes take some.
+fn put_arrays(
+    tasks: &mut Vec<JoinTask>,
+    first: Option<NodeArrays<'_>>,
+    second: Option<NodeArrays<'_>>,
+) -> Result<(), OutOfMemory>
+    ensures put { IfOk result
+        (λ _. tasks.new.items ≡ tasks.old.items ++ array_joinings first.entry second.entry) }
+{
+    match first {
+        None => Ok(()),
+        Some(arrays) => match second {
+            None => Ok(()),
+            Some(others) => put_lists(tasks, arrays, others),
         },
     }
 }
 
-// The same for the two nodes, where `last` is the task that finishes their join.
-fn look_at(
+// Puts down the joins of the parts of the lists of both shapes.
+fn put_lists(
     tasks: &mut Vec<JoinTask>,
-    last: JoinTask,
-    first: &Node,
-    second: &Node,
-) -> Result<Option<Node>, OutOfMemory>
+    arrays: NodeArrays<'_>,
+    others: NodeArrays<'_>,
+) -> Result<(), OutOfMemory>
     ensures put { IfOk result
-        (λ r. Looked first.now second.now last r tasks.old.items tasks.new.items) }
+        (λ _. tasks.new.items ≡ tasks.old.items
+        ++ list_joinings arrays.entry.first.now arrays.entry.rest
+        others.entry.first.now others.entry.rest) }
 {
-    match first {
-        Node::Null if matches!(second, Node::Null) => Ok(Some(Node::Null)),
-        Node::Bool if matches!(second, Node::Bool) => Ok(Some(Node::Bool)),
-        Node::Int if matches!(second, Node::Int) => Ok(Some(Node::Int)),
-        Node::Text if matches!(second, Node::Text) => Ok(Some(Node::Text)),
-        Node::Any | Node::Never | Node::Null | Node::Bool | Node::Int | Node::Text => {
-            Ok(Some(Node::Any))
-        }
-        Node::List {
-            first: places,
-            rest,
-        } => look_at_list(tasks, last, places, *rest, second),
-        Node::Object { fields, .. } => look_at_object(tasks, last, fields, second),
-    }
-}
-
-// The same for a node of lists and another node.
-fn look_at_list(
-    tasks: &mut Vec<JoinTask>,
-    last: JoinTask,
-    places: &[usize],
-    rest: usize,
-    second: &Node,
-) -> Result<Option<Node>, OutOfMemory>
-    ensures put { IfOk result
-        (λ r. ListLooked places.now rest second.now last r tasks.old.items tasks.new.items) }
-{
-    match second {
-        Node::List {
-            first: others,
-            rest: further,
-        } => {
-            tasks.push(last)?;
-            put_places(tasks, places, others)?;
-            tasks.push(JoinTask::With(*further))?;
-            tasks.push(JoinTask::With(rest))?;
-            put_behind(tasks, places, others.len())?;
-            put_behind(tasks, others, places.len())?;
-            tasks.push(JoinTask::Nothing)?;
-            Ok(None)
-        }
-        _ => Ok(Some(Node::Any)),
-    }
+    put_places(tasks, arrays.first, others.first)?;
+    tasks.push(JoinTask::With(others.rest))?;
+    tasks.push(JoinTask::With(arrays.rest))?;
+    put_behind(tasks, arrays.first, others.first.len())?;
+    put_behind(tasks, others.first, arrays.first.len())?;
+    tasks.push(JoinTask::Nothing)?;
+    Ok(())
 }
 
 // Puts down the joins place by place, as far as both go, so that the first comes first.
@@ -261,23 +318,21 @@ fn put_behind(tasks: &mut Vec<JoinTask>, places: &[usize], start: usize) -> Resu
     Ok(())
 }
 
-// The same for a node of objects and another node.
-fn look_at_object(
+// Puts down the joins of the fields that both mention, where both shapes take objects.
+fn put_objects(
     tasks: &mut Vec<JoinTask>,
-    last: JoinTask,
-    fields: &BTreeMap<String, NodeField>,
-    second: &Node,
-) -> Result<Option<Node>, OutOfMemory>
+    first: Option<NodeObjects<'_>>,
+    second: Option<NodeObjects<'_>>,
+) -> Result<(), OutOfMemory>
     ensures put { IfOk result
-        (λ r. ObjectLooked fields.now.entries second.now last r tasks.old.items tasks.new.items) }
+        (λ _. tasks.new.items ≡ tasks.old.items ++ object_joinings first.entry second.entry) }
 {
-    match second {
-        Node::Object { fields: others, .. } => {
-            tasks.push(last)?;
-            put_fields(tasks, fields, others)?;
-            Ok(None)
-        }
-        _ => Ok(Some(Node::Any)),
+    match first {
+        None => Ok(()),
+        Some(objects) => match second {
+            None => Ok(()),
+            Some(others) => put_fields(tasks, objects.fields, others.fields),
+        },
     }
 }
 
@@ -322,8 +377,7 @@ fn finish(
     ensures right { AreJoins (expansions table.new) joined.new.entries }
 {
     let parts = &work.numbers[start..];
-    let node = assemble(table, work.alloc, pair, parts)?;
-    let number = table.put(node)?;
+    let number = assemble(table, work.alloc, pair, parts)?;
     remember(joined, pair, number)?;
     work.numbers.truncate(start);
     work.numbers.push(number)?;
@@ -342,47 +396,115 @@ fn remember(joined: &mut Joined, pair: Pair, number: usize) -> Result<(), OutOfM
     Ok(())
 }
 
-// The first level of the join of two shapes that are both of lists or both of objects, made of the joins of the parts.
-fn assemble(table: &Table, alloc: Global, pair: Pair, parts: &[usize]) -> Result<Node, OutOfMemory>
-    requires parts { AreMadeOf (expansions table.now) pair parts.now }
-    ensures node { IfOk result
-        (λ node. shape_over (expansions table.now) node ≡ joint (expansions table.now) pair) }
-    ensures below { IfOk result (RefersBelow (length table.now)) }
+// The number of the join of two shapes that are inhabited, made of the joins of their parts.
+fn assemble(
+    table: &mut Table,
+    alloc: Global,
+    pair: Pair,
+    parts: &[usize],
+) -> Result<usize, OutOfMemory>
+    requires parts { AreMadeOf (expansions table.old) pair parts.now }
+    ensures number { IfOk result
+        (Shows (expansions table.new) (joint (expansions table.old) pair)) }
+    ensures keeps { Keeps (expansions table.old) (expansions table.new) }
 {
-    let Some(first) = table.node(pair.first) else {
-        return Ok(Node::Any);
-    };
-    let Some(second) = table.node(pair.second) else {
-        return Ok(Node::Any);
-    };
-    match first {
-        Node::Object { fields, extra } => match second {
-            Node::Object {
-                fields: others,
-                extra: more,
-            } => {
-                let mut joined = join_fields(alloc, fields, others, *more, parts)?;
-                add_others(fields, *extra, others, &mut joined)?;
-                Ok(Node::Object {
-                    fields: joined,
-                    extra: *extra || *more,
-                })
-            }
-            Node::Any
-            | Node::Never
-            | Node::Null
-            | Node::Bool
-            | Node::Int
-            | Node::Text
-            | Node::List { .. } => Ok(Node::Any),
-        },
-        Node::List { .. } => assemble_list(alloc, parts),
-        Node::Any | Node::Never | Node::Null | Node::Bool | Node::Int | Node::Text => Ok(Node::Any),
+    match join_kinds(table, alloc, pair, parts)? {
+        None => table.put(Node::Any),
+        Some(kinds) => {
+            let numbers = KindNumbers {
+                null: kinds.null,
+                boolean: kinds.boolean,
+                integer: kinds.integer,
+                text: kinds.text,
+                arrays: put_part(table, kinds.arrays)?,
+                objects: put_part(table, kinds.objects)?,
+            };
+            put_kinds(table, alloc, numbers)
+        }
     }
 }
 
-// The first level of a shape of lists: first the shape of its further elements, and then its places.
-fn assemble_list(alloc: Global, parts: &[usize]) -> Result<Node, OutOfMemory>
+// The number of the part, where there is one.
+fn put_part(table: &mut Table, part: Option<Part>) -> Result<Option<usize>, OutOfMemory>
+    requires within { IfSome part (IsPartWithin (expansions table.old)) }
+    ensures number { IfOk result (IsPutPart (expansions table.old) (expansions table.new) part) }
+    ensures keeps { Keeps (expansions table.old) (expansions table.new) }
+{
+    match part {
+        None => Ok(None),
+        Some(Part::Number(number)) => Ok(Some(number)),
+        Some(Part::Level(node)) => Ok(Some(table.put(node)?)),
+    }
+}
+
+// The join of two shapes that are inhabited, kind by kind, made of the joins of their parts; none where it is `Any`.
+fn join_kinds(
+    table: &Table,
+    alloc: Global,
+    pair: Pair,
+    parts: &[usize],
+) -> Result<Option<JoinedKinds>, OutOfMemory>
+    requires parts { AreMadeOf (expansions table.now) pair parts.now }
+    ensures kinds { IfOk result
+        (λ r. AreJoined (expansions table.now) r (joint (expansions table.now) pair)) }
+{
+    match kinds_of_both(table, pair) {
+        None => Ok(None),
+        Some((first, second)) => {
+            let (of_arrays, of_objects) = parts.split_at(count_array_joins(
+                first.arrays,
+                second.arrays,
+            ));
+            Ok(Some(JoinedKinds {
+                null: first.null | second.null,
+                boolean: first.boolean | second.boolean,
+                integer: first.integer | second.integer,
+                text: first.text | second.text,
+                arrays: join_arrays(alloc, first.arrays, second.arrays, of_arrays)?,
+                objects: join_objects(alloc, first.objects, second.objects, of_objects)?,
+            }))
+        }
+    }
+}
+
+// How many of the joins of parts are those of lists: where both shapes take some, one for each place that both have, and
+// one for the further elements.
+fn count_array_joins(first: Option<NodeArrays<'_>>, second: Option<NodeArrays<'_>>) -> usize
+    ensures counted { (table : List shape.Shape) → result
+        ≡ length (array_joins (arrays_over table first.entry) (arrays_over table second.entry)) }
+{
+    match first {
+        None => 0,
+        Some(arrays) => match second {
+            None => 0,
+            Some(others) => 1 + arrays.first.len().min(others.first.len()),
+        },
+    }
+}
+
+// The lists of the join: those of the shape that takes some; of both made of the joins of their parts.
+fn join_arrays(
+    alloc: Global,
+    first: Option<NodeArrays<'_>>,
+    second: Option<NodeArrays<'_>>,
+    parts: &[usize],
+) -> Result<Option<Part>, OutOfMemory>
+    ensures joined { IfOk result (IsArrayJoin first.entry second.entry parts.now) }
+{
+    match first {
+        None => match second {
+            None => Ok(None),
+            Some(arrays) => Ok(Some(Part::Number(arrays.number))),
+        },
+        Some(arrays) => match second {
+            None => Ok(Some(Part::Number(arrays.number))),
+            Some(_) => Ok(Some(Part::Level(join_lists(alloc, parts)?))),
+        },
+    }
+}
+
+// The first level of lists: the first part is that of the further elements, and the others are those of the places.
+fn join_lists(alloc: Global, parts: &[usize]) -> Result<Node, OutOfMemory>
     ensures list { IfOk result (IsListOf parts.now) }
 {
     match parts.split_first() {
@@ -393,6 +515,47 @@ fn assemble_list(alloc: Global, parts: &[usize]) -> Result<Node, OutOfMemory>
             Ok(Node::List { first, rest: *rest })
         }
     }
+}
+
+// The objects of the join: those of the shape that takes some; of both made of the joins of their parts.
+fn join_objects(
+    alloc: Global,
+    first: Option<NodeObjects<'_>>,
+    second: Option<NodeObjects<'_>>,
+    parts: &[usize],
+) -> Result<Option<Part>, OutOfMemory>
+    ensures joined { IfOk result (IsObjectJoin first.entry second.entry parts.now) }
+{
+    match first {
+        None => match second {
+            None => Ok(None),
+            Some(objects) => Ok(Some(Part::Number(objects.number))),
+        },
+        Some(objects) => match second {
+            None => Ok(Some(Part::Number(objects.number))),
+            Some(others) => Ok(Some(Part::Level(join_both_objects(
+                alloc, objects, others, parts,
+            )?))),
+        },
+    }
+}
+
+// The first level of the objects of the join, where both shapes take some.
+fn join_both_objects(
+    alloc: Global,
+    objects: NodeObjects<'_>,
+    others: NodeObjects<'_>,
+    parts: &[usize],
+) -> Result<Node, OutOfMemory>
+    ensures joined { IfOk result
+        (λ node. IsObjectJoin (Some objects.entry) (Some others.entry) parts.now (Some (Level node))) }
+{
+    let mut joined = join_fields(alloc, objects.fields, others.fields, others.extra, parts)?;
+    add_others(objects.fields, objects.extra, others.fields, &mut joined)?;
+    Ok(Node::Object {
+        fields: joined,
+        extra: objects.extra | others.extra,
+    })
 }
 
 // The first object's fields, joined with the second's, where `more` says whether the second may have fields that it

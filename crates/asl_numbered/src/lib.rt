@@ -2,10 +2,11 @@
 //!
 //! [`Shapes`] is the table. [`Shapes::add`] gives a shape its number and [`Shapes::expand`] makes the shape of a number
 //! again; [`Shapes::node`] tells one level of it, a [`Node`], and [`Shapes::add_node`] the number of the shape with that
-//! level. [`Shapes::inhabited`] tells whether some tree has the shape, [`Shapes::sub`] whether one shape is inside another,
-//! and [`Shapes::join`] gives the number of a shape that two shapes are inside. [`Shapes::read_with`] reads a shape from
-//! the tree that spells it, [`Shapes::read_value_with`] from the JSON value that this tree is; there `{"shape": n}` may
-//! stand for shapes of the table.
+//! level. [`Shapes::take_apart`] tells what a shape takes of each kind of tree, its [`NodeKinds`], and
+//! [`Shapes::add_kinds`] the number of the shape of some [`KindNumbers`]. [`Shapes::inhabited`] tells whether some tree has
+//! the shape, [`Shapes::sub`] whether one shape is inside another, and [`Shapes::join`] gives the number of a shape that two
+//! shapes are inside. [`Shapes::read_with`] reads a shape from the tree that spells it, [`Shapes::read_value_with`] from the
+//! JSON value that this tree is; there `{"shape": n}` may stand for shapes of the table.
 #![tactic(auto)]
 
 ghost use Rattle.std.specs.Prelude.{◌≡◌};
@@ -14,6 +15,7 @@ mod adding;
 mod comparing;
 mod expanding;
 mod joining;
+mod kinds;
 mod node;
 mod pair;
 mod reading;
@@ -22,6 +24,7 @@ mod table;
 
 use asl_shape::ShapeRefusal;
 use asl_tree::OutOfMemory;
+pub use kinds::{KindNumbers, NodeArrays, NodeKinds, NodeObjects};
 pub use node::{Node, NodeField};
 pub use shapes::Shapes;
 use std::alloc::{AllocError, AllocFailed};

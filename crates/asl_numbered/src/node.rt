@@ -29,6 +29,11 @@ pub enum Node {
         fields: BTreeMap<String, NodeField>,
         extra: bool,
     },
+    /// The trees that have one of the shapes of these numbers.
+    ///
+    /// A proper node has here two to six numbers. Their shapes are of one kind each, no two of the same, and stand in byte
+    /// order of the names of their types: `array`, `boolean`, `integer`, `null`, `object`, `string`.
+    Several(Vec<usize>),
 }
 
 /// What a node says of a field that it mentions.

@@ -1,5 +1,5 @@
 // Reading shapes into a table.
-ghost use Rattle.std.specs.Prelude.{◌≡◌, ℕ, List, length, codes, string_bytes, IfOk, IfErr, Some, option_to_list};
+ghost use Rattle.std.specs.Prelude.{◌≡◌, ℕ, List, length, codes, string_bytes, IfOk, IfErr, Some, option_map, option_to_list};
 ghost use Rattle.asl_model.specs.Shape as shape;
 ghost use Rattle.asl_model.specs.Tree as json;
 ghost use Rattle.asl_model.specs.ShapeSpelling as model;
@@ -8,40 +8,43 @@ ghost use Rattle.asl_shape.specs.LevelView.{level_view, list_view, object_view, 
 ghost use Rattle.asl_shape.specs.Spelled as trees;
 ghost use Rattle.asl_shape.specs.Spelled.{spelled};
 ghost use Rattle.asl_numbered.specs.Expansion.{expansions, shape_over, fields_at, RefersBelow, numbers_in, AreBelow, AreFieldsOf, Keeps};
-ghost use Rattle.asl_numbered.specs.Reading.{AreGiven, IsRead, IsReadOver, IsReadRest, AreRead, AreFieldsRead, TellsOneOf};
+ghost use Rattle.asl_numbered.specs.Kinds.{IsProperNode};
+ghost use Rattle.asl_numbered.specs.Reading.{AreGiven, IsRead, IsReadOver, AreArraysRead, AreObjectsRead, IsReadRest, AreRead, AreFieldsRead, TellsOneOf};
 ghost use Rattle.asl_model.specs.References.{element_at, meant_by};
-ghost use Rattle.asl_numbered.specs.References.{reference_in, referred as referred_in, numbers_given, shapes_given, inside, each_of, values_of, TellsOf};
+ghost use Rattle.asl_numbered.specs.References.{reference_in, referred as referred_in, numbers_given, shapes_given, inside, list_inside, object_inside, each_of, values_of, TellsOf};
 ghost use Rattle.serde_json.specs.Data.{number};
 ghost use Rattle.serde_json.specs.View.{number_view};
 
 use crate::NumberedRefusal;
+use crate::kinds::{KindNumbers, put_kinds};
 use crate::node::{Node, NodeField};
 use crate::table::Table;
-use asl_shape::{Level, read_level};
+use asl_shape::{Level, ListLevel, ObjectLevel, read_level};
 use asl_tree::OutOfMemory;
 use serde_json::{Map, Number, Value};
 use std::alloc::Global;
 use std::collections::BTreeMap;
 
 /// The number of the shape that the value spells, where `{"shape": n}` stands for the shape of the number that is given
-/// at `n`, if numbers are given.
+/// at `n`, if numbers are given; `several` says whether lists of types may stand.
 #[cycle(read)]
 pub(crate) fn read(
     table: &mut Table,
     alloc: Global,
     value: &Value,
     given: Option<&[usize]>,
+    several: bool,
 ) -> Result<usize, NumberedRefusal>
     requires { AreGiven (length table.old) (numbers_given given) }
     ensures number { IfOk result
-        (IsRead (shapes_given (expansions table.old) given.entry) (trees.view value.now)
+        (IsRead several (shapes_given (expansions table.old) given.entry) (trees.view value.now)
         (expansions table.new)) }
     ensures refused { IfErr result
-        (TellsOf (shapes_given (expansions table.old) given.entry) (trees.view value.now)) }
+        (TellsOf several (shapes_given (expansions table.old) given.entry) (trees.view value.now)) }
     ensures keeps { Keeps (expansions table.old) (expansions table.new) }
 {
     match referred(value, given) {
-        None => read_spelling(table, alloc, value, given),
+        None => read_spelling(table, alloc, value, given, several),
         Some(Some(number)) => Ok(number),
         Some(None) => Err(NumberedRefusal::BadNumber),
     }
@@ -117,75 +120,90 @@ fn read_spelling(
     alloc: Global,
     value: &Value,
     given: Option<&[usize]>,
+    several: bool,
 ) -> Result<usize, NumberedRefusal>
     requires given { AreGiven (length table.old) (numbers_given given) }
     requires spelled { referred_in (numbers_given given) (trees.view value.now) ≡ None }
     ensures number { IfOk result
-        (IsRead (shapes_given (expansions table.old) given.entry) (trees.view value.now)
+        (IsRead several (shapes_given (expansions table.old) given.entry) (trees.view value.now)
         (expansions table.new)) }
     ensures refused { IfErr result
-        (TellsOf (shapes_given (expansions table.old) given.entry) (trees.view value.now)) }
+        (TellsOf several (shapes_given (expansions table.old) given.entry) (trees.view value.now)) }
     ensures keeps { Keeps (expansions table.old) (expansions table.new) }
 {
-    let level = read_level(alloc, value)?;
-    read_over(table, alloc, &level, given)
+    let level = read_level(alloc, value, several)?;
+    read_over(table, alloc, level, given, several)
 }
 
 // The number of the shape of a level.
-#[tactic(auto, using(crate::proofs::Readings::plain_read, crate::proofs::Expansions::simple_refers))]
+#[tactic(auto, using(crate::proofs::Readings::whole_read, crate::proofs::Expansions::simple_refers))]
 #[cycle(read)]
 fn read_over(
     table: &mut Table,
     alloc: Global,
-    level: &Level<'_>,
+    level: Level<'_>,
     given: Option<&[usize]>,
+    several: bool,
 ) -> Result<usize, NumberedRefusal>
     requires { AreGiven (length table.old) (numbers_given given) }
     ensures number { IfOk result
-        (IsReadOver (shapes_given (expansions table.old) given.entry) (level_view level.now)
-        (expansions table.new)) }
+        (IsReadOver several (shapes_given (expansions table.old) given.entry)
+        (level_view level.entry) (expansions table.new)) }
     ensures refused { IfErr result
-        (TellsOneOf (shapes_given (expansions table.old) given.entry)
-        (inside (level_view level.now))) }
+        (TellsOneOf several (shapes_given (expansions table.old) given.entry)
+        (inside (level_view level.entry))) }
     ensures keeps { Keeps (expansions table.old) (expansions table.new) }
 {
     match level {
         Level::Any => Ok(table.put(Node::Any)?),
         Level::Never => Ok(table.put(Node::Never)?),
-        Level::Null => Ok(table.put(Node::Null)?),
-        Level::Bool => Ok(table.put(Node::Bool)?),
-        Level::Int => Ok(table.put(Node::Int)?),
-        Level::Text => Ok(table.put(Node::Text)?),
-        Level::List { first, rest } => read_list(table, alloc, first, *rest, given),
-        Level::Object {
-            properties,
-            required,
-            extra,
-        } => read_object(table, alloc, *properties, required, *extra, given),
+        Level::Kinds {
+            null,
+            boolean,
+            integer,
+            text,
+            list,
+            object,
+        } => {
+            let arrays = read_list(table, alloc, list, given, several)?;
+            let objects = read_object(table, alloc, object, given, several)?;
+            let kinds = KindNumbers {
+                null,
+                boolean,
+                integer,
+                text,
+                arrays,
+                objects,
+            };
+            Ok(put_kinds(table, alloc, kinds)?)
+        }
     }
 }
 
-// The number of the shape of a level of lists.
+// The number of the shape of the lists alone of that level, where there are any.
 #[cycle(read)]
 fn read_list(
     table: &mut Table,
     alloc: Global,
-    first: &[Value],
-    rest: Option<&Value>,
+    list: Option<ListLevel<'_>>,
     given: Option<&[usize]>,
-) -> Result<usize, NumberedRefusal>
+    several: bool,
+) -> Result<Option<usize>, NumberedRefusal>
     requires { AreGiven (length table.old) (numbers_given given) }
     ensures number { IfOk result
-        (IsReadOver (shapes_given (expansions table.old) given.entry)
-        (list_view first.now rest.entry) (expansions table.new)) }
+        (AreArraysRead several (shapes_given (expansions table.old) given.entry)
+        (option_map list_view list.entry) (expansions table.new)) }
     ensures refused { IfErr result
-        (TellsOneOf (shapes_given (expansions table.old) given.entry)
-        (inside (list_view first.now rest.entry))) }
+        (TellsOneOf several (shapes_given (expansions table.old) given.entry)
+        (list_inside (option_map list_view list.entry))) }
     ensures keeps { Keeps (expansions table.old) (expansions table.new) }
 {
-    let first = read_elements(table, alloc, first, given)?;
-    let rest = read_rest(table, alloc, rest, given)?;
-    Ok(table.put(Node::List { first, rest })?)
+    let Some(list) = list else {
+        return Ok(None);
+    };
+    let first = read_elements(table, alloc, list.first, given, several)?;
+    let rest = read_rest(table, alloc, list.rest, given, several)?;
+    Ok(Some(table.put(Node::List { first, rest })?))
 }
 
 // The numbers of the shapes that the elements spell.
@@ -195,19 +213,20 @@ fn read_elements(
     alloc: Global,
     elements: &[Value],
     given: Option<&[usize]>,
+    several: bool,
 ) -> Result<Vec<usize>, NumberedRefusal>
     requires { AreGiven (length table.old) (numbers_given given) }
     ensures numbers { IfOk result
-        (λ v. AreRead (shapes_given (expansions table.old) given.entry)
+        (λ v. AreRead several (shapes_given (expansions table.old) given.entry)
         (trees.elements_view elements.now) (expansions table.new) v.items) }
     ensures refused { IfErr result
-        (TellsOneOf (shapes_given (expansions table.old) given.entry)
+        (TellsOneOf several (shapes_given (expansions table.old) given.entry)
         (each_of (trees.elements_view elements.now))) }
     ensures keeps { Keeps (expansions table.old) (expansions table.new) }
 {
     let mut numbers = Vec::with_capacity(alloc, elements.len())?;
     for element in elements {
-        let number = read(table, alloc, element, given)?;
+        let number = read(table, alloc, element, given, several)?;
         numbers.push(number)?;
     }
     Ok(numbers)
@@ -220,44 +239,48 @@ fn read_rest(
     alloc: Global,
     rest: Option<&Value>,
     given: Option<&[usize]>,
+    several: bool,
 ) -> Result<usize, NumberedRefusal>
     requires { AreGiven (length table.old) (numbers_given given) }
     ensures number { IfOk result
-        (IsReadRest (shapes_given (expansions table.old) given.entry)
+        (IsReadRest several (shapes_given (expansions table.old) given.entry)
         (trees.value_there rest.entry) (expansions table.new)) }
     ensures refused { IfErr result
-        (TellsOneOf (shapes_given (expansions table.old) given.entry)
+        (TellsOneOf several (shapes_given (expansions table.old) given.entry)
         (option_to_list (trees.value_there rest.entry))) }
     ensures keeps { Keeps (expansions table.old) (expansions table.new) }
 {
     match rest {
         None => Ok(table.put(Node::Any)?),
-        Some(value) => read(table, alloc, value, given),
+        Some(value) => read(table, alloc, value, given, several),
     }
 }
 
-// The number of the shape of a level of objects.
+// The number of the shape of the objects alone of that level, where there are any.
 #[cycle(read)]
 fn read_object(
     table: &mut Table,
     alloc: Global,
-    properties: Option<&Map<String, Value>>,
-    required: &[&String],
-    extra: bool,
+    object: Option<ObjectLevel<'_>>,
     given: Option<&[usize]>,
-) -> Result<usize, NumberedRefusal>
+    several: bool,
+) -> Result<Option<usize>, NumberedRefusal>
     requires { AreGiven (length table.old) (numbers_given given) }
     ensures number { IfOk result
-        (IsReadOver (shapes_given (expansions table.old) given.entry)
-        (object_view properties.entry required.now extra) (expansions table.new)) }
+        (AreObjectsRead several (shapes_given (expansions table.old) given.entry)
+        (option_map object_view object.entry) (expansions table.new)) }
     ensures refused { IfErr result
-        (TellsOneOf (shapes_given (expansions table.old) given.entry)
-        (inside (object_view properties.entry required.now extra))) }
+        (TellsOneOf several (shapes_given (expansions table.old) given.entry)
+        (object_inside (option_map object_view object.entry))) }
     ensures keeps { Keeps (expansions table.old) (expansions table.new) }
 {
-    let mut fields = read_properties(table, alloc, properties, given)?;
-    require_all(table, required, extra, &mut fields)?;
-    Ok(table.put(Node::Object { fields, extra })?)
+    let Some(object) = object else {
+        return Ok(None);
+    };
+    let extra = object.extra;
+    let mut fields = read_properties(table, alloc, object.properties, given, several)?;
+    require_all(table, &object.required, extra, &mut fields)?;
+    Ok(Some(table.put(Node::Object { fields, extra })?))
 }
 
 // The fields that the properties mention, none of them needed.
@@ -267,19 +290,20 @@ fn read_properties(
     alloc: Global,
     properties: Option<&Map<String, Value>>,
     given: Option<&[usize]>,
+    several: bool,
 ) -> Result<BTreeMap<String, NodeField>, NumberedRefusal>
     requires { AreGiven (length table.old) (numbers_given given) }
     ensures fields { IfOk result
-        (λ m. AreFieldsRead (shapes_given (expansions table.old) given.entry)
+        (λ m. AreFieldsRead several (shapes_given (expansions table.old) given.entry)
         (trees.entries_there properties.entry) (expansions table.new) m.entries) }
     ensures refused { IfErr result
-        (TellsOneOf (shapes_given (expansions table.old) given.entry)
+        (TellsOneOf several (shapes_given (expansions table.old) given.entry)
         (values_of (trees.entries_there properties.entry))) }
     ensures keeps { Keeps (expansions table.old) (expansions table.new) }
 {
     match properties {
         None => Ok(BTreeMap::new(alloc)),
-        Some(members) => read_members(table, alloc, members, given),
+        Some(members) => read_members(table, alloc, members, given, several),
     }
 }
 
@@ -289,20 +313,21 @@ fn read_members(
     alloc: Global,
     members: &Map<String, Value>,
     given: Option<&[usize]>,
+    several: bool,
 ) -> Result<BTreeMap<String, NodeField>, NumberedRefusal>
     requires { AreGiven (length table.old) (numbers_given given) }
     ensures fields { IfOk result
-        (λ m. AreFieldsRead (shapes_given (expansions table.old) given.entry)
+        (λ m. AreFieldsRead several (shapes_given (expansions table.old) given.entry)
         (trees.entries_view members.now.entries) (expansions table.new) m.entries) }
     ensures refused { IfErr result
-        (TellsOneOf (shapes_given (expansions table.old) given.entry)
+        (TellsOneOf several (shapes_given (expansions table.old) given.entry)
         (values_of (trees.entries_view members.now.entries))) }
     ensures keeps { Keeps (expansions table.old) (expansions table.new) }
 {
     let mut fields = BTreeMap::new(alloc);
     for (name, member) in members.iter() {
         let key = name.clone()?;
-        let shape = read(table, alloc, member, given)?;
+        let shape = read(table, alloc, member, given, several)?;
         let field = NodeField {
             needed: false,
             shape,
@@ -364,6 +389,7 @@ fn require(
 fn unmentioned(extra: bool) -> Node
     ensures shape { (table : List shape.Shape) → shape_over table result ≡ model.unmentioned extra }
     ensures refers { (bound : ℕ) → RefersBelow bound result }
+    ensures proper { (table : List shape.Shape) → IsProperNode table result }
 {
     if extra { Node::Any } else { Node::Never }
 }

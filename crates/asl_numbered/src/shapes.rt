@@ -1,23 +1,27 @@
 // Shapes under numbers.
-ghost use Rattle.std.specs.Prelude.{◌≡◌, ◌<◌, ◌↔◌, ℕ, List, [], length, IsTrue, IsSome, IfSome, IfOk, IfErr, Some, None, slice_get};
+ghost use Rattle.std.specs.Prelude.{◌≡◌, ◌<◌, ◌↔◌, ℕ, List, [], length, IsTrue, IsSome, IfSome, IfOk, IfErr, Some, None, true, false, slice_get};
 ghost use Rattle.std.specs.Option.{option_copied};
 ghost use Rattle.asl_model.specs.Shape as model;
 ghost use Rattle.asl_model.specs.ShapeOrder as order;
-ghost use Rattle.asl_model.specs.ShapeSpelling.{SpellsShape};
+ghost use Rattle.asl_model.specs.ShapeSpelling.{SpellsShape, SpellsShapeV1};
 ghost use Rattle.asl_model.specs.Tree as json;
 ghost use Rattle.asl_model.specs.Json.{tree_of};
+ghost use Rattle.asl_shape.specs.Properness.{is_proper};
 ghost use Rattle.asl_shape.specs.View.{view};
 ghost use Rattle.asl_shape.specs.Spelled as trees;
 ghost use Rattle.asl_tree.specs.View.{view as tree_view};
 ghost use Rattle.serde_json.specs.View.{view as value_view};
 ghost use Rattle.asl_numbered.specs.Expansion.{expansions, shape_at, shape_over, AreBelow, AreDistinct, RefersBelow, IsNumberOf, Keeps};
+ghost use Rattle.asl_numbered.specs.Kinds.{IsProperNode};
 ghost use Rattle.asl_numbered.specs.References.{shapes_given, SpellsWith, TellsOf, TellsFault};
+ghost use Rattle.asl_numbered.specs.TakenApart.{taken_apart, kinds_at, AreKindsAt};
 
 use crate::NumberedRefusal;
 use crate::adding::add;
 use crate::comparing::{Compared, compare};
 use crate::expanding::expand;
 use crate::joining::{Joined, join};
+use crate::kinds::{KindNumbers, NodeKinds, put_kinds, take_apart};
 use crate::node::Node;
 use crate::pair::Pair;
 use crate::reading::read;
@@ -103,8 +107,19 @@ impl Shapes {
             (λ node. shape_over (expansions self.now) node.now
             ≡ shape_at (expansions self.now) number) }
         ensures earlier { IfSome result (λ node. RefersBelow number node.now) }
+        ensures proper { IfSome result (λ node. IsProperNode (expansions self.now) node.now) }
     {
         self.table.node(number)
+    }
+
+    /// What the shape of that number takes of each kind: `None` where it is `Any`, nothing where there is no such number.
+    /// Takes no memory. Whoever goes over shapes by this need not tell a shape of one kind from one of several.
+    pub fn take_apart(&self, number: usize) -> Option<NodeKinds<'_>>
+        ensures shown { taken_apart (expansions self.now) result
+            ≡ shape_at (expansions self.now) number }
+        ensures within { IfSome result (AreKindsAt (expansions self.now) number) }
+    {
+        take_apart(&self.table, number)
     }
 
     /// Whether some tree has the shape of that number; `None` where there is none. Takes no memory.
@@ -116,16 +131,46 @@ impl Shapes {
         self.table.inhabited(number)
     }
 
+    /// Whether the shape of that number, or one inside it, is of several kinds; `None` where there is none. Takes no
+    /// memory.
+    pub fn has_several(&self, number: usize) -> Option<bool>
+        ensures there { IsSome result ↔ number < length self.now }
+        ensures as_defined { IfSome result
+            (λ b. b ≡ model.has_several (shape_at (expansions self.now) number)) }
+    {
+        self.table.has_several(number)
+    }
+
+    /// Whether every tree has the shape of that number: it is `Any`, or takes all trees of each kind. Takes no memory.
+    pub fn takes_all(&self, number: usize) -> bool
+        ensures as_defined { result ≡ order.takes_all (shape_at (expansions self.now) number) }
+    {
+        self.table.takes_all(number)
+    }
+
     /// The number of the shape whose first level is the node, and whose parts are the shapes of the node's numbers;
-    /// `None` where one of these isn't below the length. Refuses only where an allocation was refused.
+    /// `None` where one of these isn't below the length, or where the parts of a node of several aren't two or more, each
+    /// of one kind, in byte order of the names of their types. Refuses only where an allocation was refused.
     pub fn add_node(&mut self, node: Node) -> Result<Option<usize>, OutOfMemory>
-        ensures exactly { IfOk result (λ r. IsSome r ↔ RefersBelow (length self.old) node) }
+        ensures exactly { IfOk result
+            (λ r. IsSome r ↔ RefersBelow (length self.old) node
+            × IsProperNode (expansions self.old) node) }
         ensures number { IfOk result
             (λ r. IfSome r (IsNumberOf (expansions self.new)
             (shape_over (expansions self.old) node))) }
         ensures keeps { Keeps (expansions self.old) (expansions self.new) }
     {
         self.table.add_node(node)
+    }
+
+    /// The number of the shape of these kinds: that of `Never` where there is none; where there is one, that of a shape of
+    /// this kind alone. Refuses only where an allocation was refused.
+    pub fn add_kinds(&mut self, kinds: KindNumbers) -> Result<usize, OutOfMemory>
+        ensures number { IfOk result
+            (IsNumberOf (expansions self.new) (kinds_at (expansions self.old) kinds)) }
+        ensures keeps { Keeps (expansions self.old) (expansions self.new) }
+    {
+        put_kinds(&mut self.table, self.alloc, kinds)
     }
 
     /// The number of the shape. Refuses only where an allocation was refused.
@@ -136,11 +181,12 @@ impl Shapes {
         add(&mut self.table, self.alloc, shape)
     }
 
-    /// The shape of that number; `None` where there is none. Refuses only where an allocation was refused.
+    /// The shape of that number, a proper one; `None` where there is none. Refuses only where an allocation was refused.
     pub fn expand(&self, number: usize) -> Result<Option<Shape>, OutOfMemory>
         ensures exactly { IfOk result (λ r. IsSome r ↔ number < length self.now) }
         ensures shape { IfOk result
             (λ r. IfSome r (λ s. view s ≡ shape_at (expansions self.now) number)) }
+        ensures proper { IfOk result (λ r. IfSome r (λ s. IsTrue (is_proper s))) }
     {
         if number < self.table.len() {
             Ok(Some(expand(&self.table, self.alloc, number)?))
@@ -224,17 +270,41 @@ impl Shapes {
         ensures number { IfOk result
             (λ n. IsNumberOf (expansions self.new) (shape_at (expansions self.new) n) n) }
         ensures spelled { IfOk result
-            (λ n. SpellsWith (shapes_given (expansions self.old) given.entry) (tree_view tree.now)
+            (λ n. SpellsWith true (shapes_given (expansions self.old) given.entry) (tree_view tree.now)
             (shape_at (expansions self.new) n)) }
         ensures spelled_alone { given.entry ≡ None → IfOk result
             (λ n. SpellsShape (tree_view tree.now) (shape_at (expansions self.new) n)) }
         ensures refused { IfErr result
-            (TellsOf (shapes_given (expansions self.old) given.entry) (tree_view tree.now)) }
-        ensures refused_alone { given.entry ≡ None → IfErr result (TellsFault (tree_view tree.now)) }
+            (TellsOf true (shapes_given (expansions self.old) given.entry) (tree_view tree.now)) }
+        ensures refused_alone { given.entry ≡ None → IfErr result (TellsFault true (tree_view tree.now)) }
         ensures keeps { Keeps (expansions self.old) (expansions self.new) }
     {
         let value = asl_tree::to_value(self.alloc, tree)?;
-        self.read_spelled(&value, given)
+        self.read_spelled(&value, given, true)
+    }
+
+    /// The number of the shape that the tree spells where lists of types may not stand, as in certificates of version 1: as
+    /// [`Shapes::read_with`] tells it, but that any such list is refused as `BadType`.
+    pub fn read_with_v1(
+        &mut self,
+        tree: &Tree,
+        given: Option<&[usize]>,
+    ) -> Result<usize, NumberedRefusal>
+        requires given { IfSome given (λ ns. AreBelow (length self.old) ns.now) }
+        ensures number { IfOk result
+            (λ n. IsNumberOf (expansions self.new) (shape_at (expansions self.new) n) n) }
+        ensures spelled { IfOk result
+            (λ n. SpellsWith false (shapes_given (expansions self.old) given.entry) (tree_view tree.now)
+            (shape_at (expansions self.new) n)) }
+        ensures spelled_alone { given.entry ≡ None → IfOk result
+            (λ n. SpellsShapeV1 (tree_view tree.now) (shape_at (expansions self.new) n)) }
+        ensures refused { IfErr result
+            (TellsOf false (shapes_given (expansions self.old) given.entry) (tree_view tree.now)) }
+        ensures refused_alone { given.entry ≡ None → IfErr result (TellsFault false (tree_view tree.now)) }
+        ensures keeps { Keeps (expansions self.old) (expansions self.new) }
+    {
+        let value = asl_tree::to_value(self.alloc, tree)?;
+        self.read_spelled(&value, given, false)
     }
 
     /// The number of the shape that the tree spells that a JSON value is, as [`Shapes::read_with`] tells it, with no tree
@@ -251,24 +321,24 @@ impl Shapes {
             (λ n. IsNumberOf (expansions self.new) (shape_at (expansions self.new) n) n) }
         ensures spelled { IfOk result
             (λ n. (t : json.Tree) → tree_of (value_view value.now) ≡ Some t
-            → SpellsWith (shapes_given (expansions self.old) given.entry) t
+            → SpellsWith true (shapes_given (expansions self.old) given.entry) t
             (shape_at (expansions self.new) n)) }
         ensures spelled_alone { given.entry ≡ None → IfOk result
             (λ n. (t : json.Tree) → tree_of (value_view value.now) ≡ Some t
             → SpellsShape t (shape_at (expansions self.new) n)) }
         ensures refused { IfErr result
             (λ e. (t : json.Tree) → tree_of (value_view value.now) ≡ Some t
-            → TellsOf (shapes_given (expansions self.old) given.entry) t e) }
+            → TellsOf true (shapes_given (expansions self.old) given.entry) t e) }
         ensures refused_alone { given.entry ≡ None → IfErr result
             (λ e. (t : json.Tree) → tree_of (value_view value.now) ≡ Some t
-            → TellsFault t e) }
+            → TellsFault true t e) }
         ensures keeps { Keeps (expansions self.old) (expansions self.new) }
     {
-        self.read_spelled(value, given)
+        self.read_spelled(value, given, true)
     }
 
-    /// The same of the tree by which the value is read.
-    fn read_spelled(
+    /// The same as [`Shapes::read_with_v1`] tells it.
+    pub fn read_value_with_v1(
         &mut self,
         value: &Value,
         given: Option<&[usize]>,
@@ -277,13 +347,41 @@ impl Shapes {
         ensures number { IfOk result
             (λ n. IsNumberOf (expansions self.new) (shape_at (expansions self.new) n) n) }
         ensures spelled { IfOk result
-            (λ n. SpellsWith (shapes_given (expansions self.old) given.entry)
-            (trees.view value.now) (shape_at (expansions self.new) n)) }
+            (λ n. (t : json.Tree) → tree_of (value_view value.now) ≡ Some t
+            → SpellsWith false (shapes_given (expansions self.old) given.entry) t
+            (shape_at (expansions self.new) n)) }
+        ensures spelled_alone { given.entry ≡ None → IfOk result
+            (λ n. (t : json.Tree) → tree_of (value_view value.now) ≡ Some t
+            → SpellsShapeV1 t (shape_at (expansions self.new) n)) }
         ensures refused { IfErr result
-            (TellsOf (shapes_given (expansions self.old) given.entry) (trees.view value.now)) }
+            (λ e. (t : json.Tree) → tree_of (value_view value.now) ≡ Some t
+            → TellsOf false (shapes_given (expansions self.old) given.entry) t e) }
+        ensures refused_alone { given.entry ≡ None → IfErr result
+            (λ e. (t : json.Tree) → tree_of (value_view value.now) ≡ Some t
+            → TellsFault false t e) }
         ensures keeps { Keeps (expansions self.old) (expansions self.new) }
     {
-        let answer = read(&mut self.table, self.alloc, value, given);
+        self.read_spelled(value, given, false)
+    }
+
+    /// The same of the tree by which the value is read; `several` says whether lists of types may stand.
+    fn read_spelled(
+        &mut self,
+        value: &Value,
+        given: Option<&[usize]>,
+        several: bool,
+    ) -> Result<usize, NumberedRefusal>
+        requires given { IfSome given (λ ns. AreBelow (length self.old) ns.now) }
+        ensures number { IfOk result
+            (λ n. IsNumberOf (expansions self.new) (shape_at (expansions self.new) n) n) }
+        ensures spelled { IfOk result
+            (λ n. SpellsWith several (shapes_given (expansions self.old) given.entry)
+            (trees.view value.now) (shape_at (expansions self.new) n)) }
+        ensures refused { IfErr result
+            (TellsOf several (shapes_given (expansions self.old) given.entry) (trees.view value.now)) }
+        ensures keeps { Keeps (expansions self.old) (expansions self.new) }
+    {
+        let answer = read(&mut self.table, self.alloc, value, given, several);
         self.table.are_distinct();
         answer
     }

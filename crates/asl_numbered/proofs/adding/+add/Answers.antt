@@ -1,48 +1,19 @@
-use Rattle.std.proofs.Common.{◌≡◌, ◌+◌, ◌∷◌, [], ◌++◌, take, refl, sym, ap, ◌∙◌, subst, append_assoc, arith}
+use Rattle.std.proofs.Common.{◌≡◌, ◌≤◌, ◌+◌, ◌∷◌, [], ◌++◌, drop, take, Some, refl, sym, ap, ◌∙◌, subst, append_assoc, arith}
 use Rattle.std.proofs.lemmas.Grind.{common_steps}
 use Rattle.std.specs.List.Sorted.{IsStrictlySortedBy}
 use Rattle.std.specs.Map.{keys_of}
 use Rattle.std.specs.String.{string_cmp}
-use Rattle.asl_model.specs.Shape as model
-use Rattle.asl_shape.specs.View.{view, shapes_view}
+use Rattle.asl_model.specs.ShapeOrder.{depth, depth_of_elements, depth_of_fields}
+use Rattle.asl_shape.specs.Kinds.{arrays_view, objects_view}
+use Rattle.asl_shape.specs.View.{view, shapes_view, fields_view}
+use Rattle.asl_shape.proofs.Depths.{place_depth, entry_depth}
 use Rattle.asl_shape.proofs.Spellings.{Mention}
-use Rattle.asl_shape.proofs.Views.{view_list, view_object}
 use Rattle.asl_numbered.specs.declared.node.Node.TheVariants.{List as Elements, Object}
-use Rattle.asl_numbered.specs.Expansion.{RefersBelow}
+use Rattle.asl_numbered.specs.Expansion.{expansions, RefersBelow}
+use Rattle.asl_numbered.specs.TakenApart.{HasArraysAt, HasObjectsAt}
 use Rattle.asl_numbered.proofs.Expansions.{as_many, keeps_trans}
-use Rattle.asl_numbered.proofs.Growing.{number_step, numbers_end, field_step, numbered_list_refers, list_shape, numbered_object_refers, object_shape, renumbered}
+use Rattle.asl_numbered.proofs.Growing.{number_step, numbers_end, field_step, numbered_list_refers, numbered_object_refers, arrays_added, objects_added}
 use Rattle.asl_numbered.proofs.adding.+add.Goals as goal
-
-pub add-put-requires-in-List : goal.add-put-requires-in-List
-add-put-requires-in-List t c =
-    let places = c.in_ok-places-in-List in
-    let further = c.in_ok-further-in-List in
-    subst (λ n. RefersBelow n (Elements places.places further.further)) (as_many _) (numbered_list_refers _ _ _ _ places.places further.further further.ensures.keeps places.ensures.numbers further.ensures.number)
-
-pub add-returns-in_ok-further-in-List : goal.add-returns-in_ok-further-in-List
-add-returns-in_ok-further-in-List t c =
-    let places = c.in_ok-places-in-List in
-    let further = c.in_ok-further-in-List in
-    let whole : model.ArrayShape (shapes_view c.deref.result.now) (view c.deref-in-List.result.now) ≡ view c.args.shape.now = rw (c.deref.ensures.value, c.deref-in-List.ensures) (sym (ap view c.in-List.is ∙ view_list c.in-List.first c.in-List.rest)) in
-    record {
-      number = renumbered _ _ _ c.put-in-List.result (list_shape _ _ _ _ places.places further.further further.ensures.keeps places.ensures.numbers further.ensures.number ∙ whole) c.put-in-List.ensures.number;
-      keeps = keeps_trans _ _ _ places.ensures.keeps (keeps_trans _ _ _ further.ensures.keeps c.put-in-List.ensures.keeps);
-    }
-
-pub add_object-put-requires : goal.add_object-put-requires
-add_object-put-requires t c = subst (λ n. RefersBelow n (Object c.in_ok-numbered.numbered c.args.extra)) (as_many _) (numbered_object_refers _ _ c.in_ok-numbered.numbered c.args.extra c.in_ok-numbered.ensures.numbers)
-
-pub add_object-returns : goal.add_object-returns
-add_object-returns t c = record {
-  number = renumbered _ _ _ c.put.result (object_shape _ _ c.in_ok-numbered.numbered c.args.extra c.in_ok-numbered.ensures.numbers) c.put.ensures.number;
-  keeps = keeps_trans _ _ _ c.in_ok-numbered.ensures.keeps c.put.ensures.keeps;
-}
-
-pub add-returns-in-Object : goal.add-returns-in-Object
-add-returns-in-Object t c = record {
-  number = renumbered _ _ _ c.add_object.result (sym (ap view c.in-Object.is ∙ view_object c.in-Object.fields c.in-Object.extra)) c.add_object.ensures.number;
-  keeps = c.add_object.ensures.keeps;
-}
 
 pub add_all-loop-shape-preserved : goal.add_all-loop-shape-preserved
 add_all-loop-shape-preserved t c =
@@ -74,3 +45,39 @@ add_fields-loop-name-preserved t c =
       keeps_trans _ _ _ l.invariant.2 c.in_ok-shape.ensures.keeps,
       field_step _ _ done left m l.numbered.entries c.insert.new.self.entries c.in_ok-key.key _ sorted c.in_ok-shape.ensures.keeps l.invariant.3 c.in_ok-key.ensures.cases refl c.in_ok-shape.ensures.number c.in_ok-insert.ensures.entries,
     )
+
+-- the parts are less deep
+
+pub add_all-add-requires : goal.add_all-add-requires
+add_all-add-requires t c =
+    let i = c.loop-shape.shape-index in
+    let shapes = c.args.shapes.now in
+    let item = c.shape-item.result in
+    let split : drop i shapes ≡ item ∷ drop (i + 1) shapes = grind (arith, common_steps) in
+    let here : depth (view item) ≤ depth_of_elements (shapes_view shapes) = place_depth i shapes (drop (i + 1) shapes) item split in
+    (omega arith, tt)
+
+pub add_fields-add-requires : goal.add_fields-add-requires
+add_fields-add-requires t c =
+    let l = c.loop-name in
+    let e : Mention = (c.in-Some.name.now, c.in-Some.field.now) in
+    let here : depth (view e.1.shape) ≤ depth_of_fields (fields_view c.args.fields.now.entries) = entry_depth c.args.fields.now.entries l.invariant.0 l.name-iterator c.next.new.self e l.invariant.1 c.in-Some.ensures.steps in
+    (omega arith, tt)
+
+-- lists and objects
+
+pub add_arrays-put-requires-clause-refers : goal.add_arrays-put-requires-clause-refers
+add_arrays-put-requires-clause-refers t c =
+    subst (λ n. RefersBelow n (Elements c.in_ok-places.places c.in_ok-further.further)) (as_many _) (numbered_list_refers _ _ _ _ c.in_ok-places.places c.in_ok-further.further c.in_ok-further.ensures.keeps c.in_ok-places.ensures.numbers c.in_ok-further.ensures.number)
+
+pub add_arrays-returns-clause-number : goal.add_arrays-returns-clause-number
+add_arrays-returns-clause-number t c =
+    subst (λ arrays. HasArraysAt (expansions c.put.new.self) (arrays_view arrays) (Some c.in_ok-put.field-0)) (sym c.in-Some.is) (arrays_added _ _ _ _ _ c.in_ok-places.places c.in_ok-further.further c.in_ok-put.field-0 c.in_ok-further.ensures.keeps c.in_ok-places.ensures.numbers c.in_ok-further.ensures.number c.in_ok-put.ensures.number)
+
+pub add_objects-put-requires-clause-refers : goal.add_objects-put-requires-clause-refers
+add_objects-put-requires-clause-refers t c =
+    subst (λ n. RefersBelow n (Object c.in_ok-fields.fields c.in-Some.mentions.extra)) (as_many _) (numbered_object_refers _ _ c.in_ok-fields.fields c.in-Some.mentions.extra c.in_ok-fields.ensures.numbers)
+
+pub add_objects-returns-clause-number : goal.add_objects-returns-clause-number
+add_objects-returns-clause-number t c =
+    subst (λ objects. HasObjectsAt (expansions c.put.new.self) (objects_view objects) (Some c.in_ok-put.field-0)) (sym c.in-Some.is) (objects_added _ _ _ c.in_ok-fields.fields c.in-Some.mentions.extra c.in_ok-put.field-0 c.in_ok-fields.ensures.numbers c.in_ok-put.ensures.number)

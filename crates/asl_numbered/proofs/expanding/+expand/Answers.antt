@@ -1,25 +1,16 @@
-use Rattle.std.proofs.Common.{◌≡◌, ◌+◌, ◌∷◌, [], ◌++◌, take, drop, None, String, Global, refl, sym, ap, ◌∙◌, subst, append_assoc, arith, get_or}
+use Rattle.std.proofs.Common.{◌≡◌, ◌+◌, ◌∷◌, [], ◌++◌, take, drop, String, Global, refl, sym, ap, ◌∙◌, subst, append_assoc, arith, get_or}
 use Rattle.std.proofs.lemmas.Grind.{common_steps}
 use Rattle.std.specs.List.Sorted.{IsStrictlySortedBy}
 use Rattle.std.specs.Map.{keys_of}
 use Rattle.std.specs.String.{string_cmp}
-use Rattle.asl_model.specs.Shape as model
 use Rattle.asl_shape.specs.declared.shape.Shape.TheViews.{roll-Field}
-use Rattle.asl_shape.proofs.Views.{view_object}
+use Rattle.asl_shape.proofs.Sights.{inserted_proper, pushed_proper}
 use Rattle.asl_numbered.specs.declared.node.NodeField.{NodeField}
-use Rattle.asl_numbered.specs.Expansion.{expansions, shape_over, RefersBelow}
-use Rattle.asl_numbered.proofs.Expansions.{list_parts, below_next, below_next_field}
-use Rattle.asl_numbered.proofs.Growing.{expanded_push, expanded_step, view_never}
-use Rattle.asl_numbered.proofs.Tables.{none_past}
+use Rattle.asl_numbered.specs.Expansion.{expansions}
+use Rattle.asl_numbered.specs.TakenApart.{AreArraysAt, AreObjectsAt, AreArraysIfAny, AreObjectsIfAny}
+use Rattle.asl_numbered.proofs.Expansions.{below-wider, below_next, below_next_field}
+use Rattle.asl_numbered.proofs.Growing.{expanded_push, expanded_step}
 use Rattle.asl_numbered.proofs.expanding.+expand.Goals as goal
-
-pub expand_node-returns-in_ok-expand_fields-in-Object : goal.expand_node-returns-in_ok-expand_fields-in-Object
-expand_node-returns-in_ok-expand_fields-in-Object t c =
-    let given = c.in-Object in
-    let fields = c.in_ok-expand_fields-in-Object in
-    record {
-      expanded = view_object fields.field-0 given.extra ∙ (ap (λ ms. model.ObjectShape ms given.extra) fields.ensures ∙ sym (ap (shape_over (expansions c.args.table.now)) given.is));
-    }
 
 pub expand_fields-loop-name-preserved : goal.expand_fields-loop-name-preserved
 expand_fields-loop-name-preserved t c =
@@ -34,27 +25,10 @@ expand_fields-loop-name-preserved t c =
       all ∙ sym (append_assoc done (m ∷ []) left),
       expanded_step (expansions c.args.table.now) done left m l.expanded.entries c.insert.new.self.entries c.in_ok-key.key field sorted l.invariant.2 c.in_ok-key.ensures.cases refl c.in_ok-shape.ensures.expanded c.in_ok-insert.ensures.entries,
       (below_next_field c.args.bound l.name-iterator left m c.in-Some.ensures.steps l.invariant.3).1,
+      inserted_proper l.expanded.entries c.insert.new.self.entries c.in_ok-key.key field l.invariant.4 c.in_ok-shape.ensures.proper c.in_ok-insert.ensures.entries,
     )
 
 -- what is expanded has smaller numbers
-
-pub expand-expand_node-requires : goal.expand-expand_node-requires
-expand-expand_node-requires t c = (omega arith, c.in-Some.ensures.earlier)
-
-pub expand_node-expand_all-requires : goal.expand_node-expand_all-requires
-expand_node-expand_all-requires t c =
-    let below = list_parts c.args.bound c.in-List.first c.in-List.rest (subst (RefersBelow c.args.bound) c.in-List.is c.requires) in
-    (omega arith, rw c.deref.ensures.value below.1)
-
-pub expand_node-expand-requires : goal.expand_node-expand-requires
-expand_node-expand-requires t c =
-    let below = list_parts c.args.bound c.in-List.first c.in-List.rest (subst (RefersBelow c.args.bound) c.in-List.is c.requires) in
-    (omega (arith, below.0), tt)
-
-pub expand_node-expand_fields-requires : goal.expand_node-expand_fields-requires
-expand_node-expand_fields-requires t c =
-    let below = subst (RefersBelow c.args.bound) c.in-Object.is c.requires in
-    (omega arith, below.each)
 
 pub expand_all-expand-requires : goal.expand_all-expand-requires
 expand_all-expand-requires t c =
@@ -75,6 +49,7 @@ expand_all-loop-number-preserved t c =
     let more : take (i + 1) numbers ≡ take i numbers ++ n ∷ [] = grind (arith, common_steps) in (
       expanded_push (expansions c.args.table.now) (take i numbers) (take (i + 1) numbers) n l.shapes.items c.push.new.self.items c.in_ok-expand.field-0 l.invariant.0 c.in_ok-expand.ensures.expanded more c.in_ok-push.ensures.items,
       (below_next c.args.bound (drop i numbers) (drop (i + 1) numbers) n split l.invariant.1).1,
+      pushed_proper l.shapes.items c.push.new.self.items c.in_ok-expand.field-0 l.invariant.2 c.in_ok-expand.ensures.proper c.in_ok-push.ensures.items,
     )
 
 pub expand_fields-expand-requires : goal.expand_fields-expand-requires
@@ -84,5 +59,12 @@ expand_fields-expand-requires t c =
     let below = below_next_field c.args.bound l.name-iterator c.next.new.self m c.in-Some.ensures.steps l.invariant.3 in
     (omega (arith, below.0), tt)
 
-pub expand-returns-in-None : goal.expand-returns-in-None
-expand-returns-in-None t c = record { expanded = view_never ∙ none_past c.args.table.now c.args.number None refl c.in-None.ensures.there }
+pub expand_arrays-expand_all-requires : goal.expand_arrays-expand_all-requires
+expand_arrays-expand_all-requires t c =
+    let own : AreArraysAt (expansions c.args.table.now) c.args.number c.in-Some.lists = subst (AreArraysIfAny (expansions c.args.table.now) c.args.number) c.in-Some.is c.requires in
+    (omega arith, below-wider _ _ _ own.within own.first)
+
+pub expand_objects-expand_fields-requires : goal.expand_objects-expand_fields-requires
+expand_objects-expand_fields-requires t c =
+    let own : AreObjectsAt (expansions c.args.table.now) c.args.number c.in-Some.mentions = subst (AreObjectsIfAny (expansions c.args.table.now) c.args.number) c.in-Some.is c.requires in
+    (omega arith, below-wider _ _ _ own.within own.fields)

@@ -1,19 +1,19 @@
-use Rattle.std.proofs.Common.{◌≡◌, length, sym, ap, arith}
+use Rattle.std.proofs.Common.{◌≡◌, ◌∷◌, [], ◌++◌, length, ap, ◌∙◌, arith}
 use Rattle.asl_numbered.specs.declared.joining.JoinTask.TheVariants.{Finish}
-use Rattle.asl_numbered.specs.Comparison.{IsNodeAt}
-use Rattle.asl_numbered.proofs.Comparisons.{node_there}
-use Rattle.asl_numbered.proofs.Looking.{pair_looked}
+use Rattle.asl_numbered.specs.Expansion.{expansions}
+use Rattle.asl_numbered.proofs.Looking.{any_leads, kinds_lead}
 use Rattle.asl_numbered.proofs.joining.look_inside.Goals as goal
 
-pub returns-in-None-clause-looks : goal.returns-in-None-clause-looks
-returns-in-None-clause-looks c = absurd (node_there c.args.table.now c.args.pair.first c.node.result c.requires.within.first c.in-None.is c.node.ensures.there)
+pub returns-in-None : goal.returns-in-None
+returns-in-None c =
+    let counted : c.len-start.result ≡ length c.args.work.now.numbers.items = omega (arith, c.len-start.ensures, c.args.work.now.numbers.ok) in
+    record {
+      moves = any_leads (expansions c.args.table.now) c.args.pair c.requires.within c.requires.inhabited c.args.work.now.numbers.items c.requires.below c.args.work.now.tasks.items c.push.new.self.items c.in-None.ensures.both (c.in_ok-push.ensures.items ∙ ap (λ n. c.args.work.now.tasks.items ++ Finish c.args.pair n ∷ []) counted);
+    }
 
-pub returns-in-None-node-clause-looks : goal.returns-in-None-node-clause-looks
-returns-in-None-node-clause-looks c = absurd (node_there c.args.table.now c.args.pair.second c.node-in-Some.result c.requires.within.second c.in-None-node.is c.node-in-Some.ensures.there)
-
-pub returns-in-Some-node-clause-looks : goal.returns-in-Some-node-clause-looks
-returns-in-Some-node-clause-looks c =
-    let first : IsNodeAt c.args.table.now c.args.pair.first c.in-Some.first.now = record { at = sym c.in-Some.ensures.exactly; level = c.in-Some.ensures.level; below = c.in-Some.ensures.earlier } in
-    let second : IsNodeAt c.args.table.now c.args.pair.second c.in-Some-node.second.now = record { at = sym c.in-Some-node.ensures.exactly; level = c.in-Some-node.ensures.level; below = c.in-Some-node.ensures.earlier } in
-    let counted : c.len.result ≡ length c.args.work.now.numbers.items = omega (arith, c.len.ensures, c.args.work.now.numbers.ok) in
-    pair_looked c.args.table.now c.args.pair c.args.work.now.numbers.items _ _ _ _ _ c.look_at.result c.requires.within c.requires.inhabited c.requires.below first second (ap (Finish c.args.pair) counted) c.look_at.ensures.put
+pub returns-in_ok-put_arrays-in-Some : goal.returns-in_ok-put_arrays-in-Some
+returns-in_ok-put_arrays-in-Some c =
+    let counted : c.len-start.result ≡ length c.args.work.now.numbers.items = omega (arith, c.len-start.ensures, c.args.work.now.numbers.ok) in
+    record {
+      moves = kinds_lead (expansions c.args.table.now) c.args.pair c.requires.within c.requires.inhabited c.args.work.now.numbers.items c.requires.below c.args.work.now.tasks.items _ c.in-Some.first c.in-Some.second _ _ c.in-Some.ensures.both (c.in_ok-push.ensures.items ∙ ap (λ n. c.args.work.now.tasks.items ++ Finish c.args.pair n ∷ []) counted) c.in_ok-put_objects-in-Some.ensures.put c.in_ok-put_arrays-in-Some.ensures.put;
+    }

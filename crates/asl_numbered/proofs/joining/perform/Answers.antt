@@ -5,9 +5,6 @@ use Rattle.asl_numbered.proofs.joining.perform.Goals as goal
 
 -- what is remembered stays right
 
-pub returns-in-Join-clause-right : goal.returns-in-Join-clause-right
-returns-in-Join-clause-right c = joins_kept _ _ c.args.joined.now.entries c.look.ensures.keeps c.requires.right
-
 pub returns-in_err-never-in-Nothing-clause-right :
     goal.returns-in_err-never-in-Nothing-clause-right
 returns-in_err-never-in-Nothing-clause-right c = joins_kept _ _ c.args.joined.now.entries c.in_err-never-in-Nothing.ensures.keeps c.requires.right

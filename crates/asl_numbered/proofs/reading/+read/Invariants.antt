@@ -1,9 +1,9 @@
-use Rattle.std.proofs.Common.{◌≡◌, ◌+◌, ◌*◌, List, ◌++◌, String, take}
+use Rattle.std.proofs.Common.{◌≡◌, ◌+◌, ◌*◌, List, ◌++◌, String, option_map, take}
 use Rattle.std.specs.declared.alloc.Global.{Global}
 use Rattle.serde_json.specs.declared.value.Value.{Value}
-use Rattle.asl_shape.specs.LevelView.{level_view, list_view}
+use Rattle.asl_shape.specs.LevelView.{level_view, list_view, object_view}
 use Rattle.asl_shape.specs.Spelled as trees
-use Rattle.asl_shape.proofs.Sizes.{size, elements_size, fields_size, size_there, level_size}
+use Rattle.asl_shape.proofs.Sizes.{size, elements_size, fields_size, size_there, level_size, list_size, object_size}
 use Rattle.asl_numbered.specs.Expansion.{expansions, Keeps}
 use Rattle.asl_numbered.specs.Reading.{AreRead, AreFieldsRead}
 use Rattle.asl_numbered.specs.References.{shapes_given}
@@ -17,10 +17,10 @@ abbrev pub decreases-read_spelling : goal.decreases-read_spelling
 decreases-read_spelling l = 8 * size (trees.view l.value.now)
 
 abbrev pub decreases-read_over : goal.decreases-read_over
-decreases-read_over l = 8 * level_size (level_view l.level.now) + 5
+decreases-read_over l = 8 * level_size (level_view l.level) + 5
 
 abbrev pub decreases-read_list : goal.decreases-read_list
-decreases-read_list l = 8 * level_size (list_view l.first.now l.rest) + 4
+decreases-read_list l = 8 * list_size (option_map list_view l.list) + 4
 
 abbrev pub decreases-read_rest : goal.decreases-read_rest
 decreases-read_rest l = 8 * size_there (trees.value_there l.rest) + 2
@@ -29,7 +29,7 @@ abbrev pub decreases-read_elements : goal.decreases-read_elements
 decreases-read_elements l = 8 * elements_size (trees.elements_view l.elements.now) + 2
 
 abbrev pub decreases-read_object : goal.decreases-read_object
-decreases-read_object l = 8 * fields_size (trees.entries_there l.properties) + 4
+decreases-read_object l = 8 * object_size (option_map object_view l.object) + 4
 
 abbrev pub decreases-read_properties : goal.decreases-read_properties
 decreases-read_properties l = 8 * fields_size (trees.entries_there l.properties) + 3
@@ -40,11 +40,11 @@ decreases-read_members l = 8 * fields_size (trees.entries_view l.members.now.ent
 abbrev pub invariant-read_elements-loop-element : goal.invariant-read_elements-loop-element
 invariant-read_elements-loop-element l =
     Keeps (expansions l.initial.table) (expansions l.table)
-    × AreRead (shapes_given (expansions l.initial.table) l.given) (trees.elements_view (take l.element-index l.elements)) (expansions l.table) l.numbers.items
+    × AreRead l.several (shapes_given (expansions l.initial.table) l.given) (trees.elements_view (take l.element-index l.elements)) (expansions l.table) l.numbers.items
 
 abbrev pub invariant-read_members-loop-name : goal.invariant-read_members-loop-name
 invariant-read_members-loop-name l =
     (done : List (String Global × Value)) × (l.members.entries ≡ done ++ l.name-iterator)
     × Keeps (expansions l.initial.table) (expansions l.table)
     × (names l.fields.entries ≡ names done)
-    × AreFieldsRead (shapes_given (expansions l.initial.table) l.given) (trees.entries_view done) (expansions l.table) l.fields.entries
+    × AreFieldsRead l.several (shapes_given (expansions l.initial.table) l.given) (trees.entries_view done) (expansions l.table) l.fields.entries

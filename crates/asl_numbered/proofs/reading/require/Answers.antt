@@ -12,8 +12,11 @@ returns-in-Some-clause-needed c =
     let g : NodeField = record { needed = true; shape = c.in-Some.field.now.shape } in
     mark_found (expansions c.args.table.now) c.args.extra c.args.name.now c.in-Some.field.now g c.args.fields.now.entries _ (rw (as_many c.args.table.now) c.requires) refl refl (sym c.in-Some.ensures.value) (c.get_mut.follows.holds g).0
 
-pub put-requires : goal.put-requires
-put-requires c = c.unmentioned.ensures.refers _
+pub put-requires-clause-refers : goal.put-requires-clause-refers
+put-requires-clause-refers c = c.unmentioned.ensures.refers _
+
+pub put-requires-clause-proper : goal.put-requires-clause-proper
+put-requires-clause-proper c = c.unmentioned.ensures.proper _
 
 pub returns-clause-needed : goal.returns-clause-needed
 returns-clause-needed c =
