@@ -1,13 +1,13 @@
 -- The walk over a rule of a Choice, and over `Default`.
-use Rattle.std.proofs.Common.{◌≡◌, ◌<◌, ℕ, List, [], length, codes, Option, Some, None, Result, Err, refl, ap}
+use Rattle.std.proofs.Common.{◌≡◌, ◌<◌, ℕ, List, length, map, codes, Bool, Option, Some, None, Result, Err, refl, ap}
 use Rattle.asl_choice.specs.View.{view as test_view}
-use Rattle.asl_states.specs.Machine.{target_name}
+use Rattle.asl_states.specs.Machine.{choice_rule_view, target_name}
 use Rattle.asl_states.specs.declared.states.ChoiceRule.{ChoiceRule}
 use Rattle.asl_states.specs.declared.target.Target.{Target}
-use Rattle.asl_model.specs.Edges.{walk_chosen}
-use Rattle.asl_model.specs.Finding.{PathMayBeMissing}
+use Rattle.asl_model.specs.Edges.{breaks_unless, walk_chosen}
+use Rattle.asl_model.specs.Finding.{NoDefault, PathMayBeMissing}
 use Rattle.asl_model.specs.Shape.{Shape}
-use Rattle.asl_model.specs.ShapeFlow.{rule_shape}
+use Rattle.asl_model.specs.ShapeFlow.{rule_shape, is_settled}
 use Rattle.asl_numbered.specs.declared.node.Node.{Node}
 use Rattle.asl_numbered.specs.Expansion.{expansions, shape_at, Keeps}
 use Rattle.asl_edges.specs.Steps.{settings_of, kind_of, chosen_steps, default_steps, rule_steps}
@@ -32,8 +32,9 @@ pub rule_missing : (a b : List Shape) (edges : List Edge) (walk : Walk) (rule : 
 rule_missing a b edges walk rule n s keeps none told = walks_broken a b edges (rule_steps a walk rule n) s (record { field = codes "Choices"; fault = PathMayBeMissing }) keeps told (rw none refl)
 
 -- `Default`
-pub default_walked : (a c : List Shape) (e0 e1 : List Edge) (walk : Walk) (default : Option Target) (next : Target) (n : ℕ) (r : Result (Unit {0}) Stopped) → default ≡ Some next → Walks a c e0 e1 (chosen_steps a walk (codes "Default") (target_name next) n) r → Walks a c e0 e1 (default_steps a walk default n) r
-default_walked a c e0 e1 walk default next n r is w = rw is w
+pub default_walked : (a c : List Shape) (e0 e1 : List Edge) (walk : Walk) (rules : List ChoiceRule) (default : Option Target) (next : Target) (n : ℕ) (r : Result (Unit {0}) Stopped) → default ≡ Some next → Walks a c e0 e1 (chosen_steps a walk (codes "Default") (target_name next) n) r → Walks a c e0 e1 (default_steps a walk rules default n) r
+default_walked a c e0 e1 walk rules default next n r is w = rw is w
 
-pub no_default : (table : List Shape) (walk : Walk) (default : Option Target) (n : ℕ) → default ≡ None → default_steps table walk default n ≡ []
-no_default table walk default n is = rw is refl
+-- the rules that stand for it
+pub without_default : (table : List Shape) (edges : List Edge) (walk : Walk) (rules : List ChoiceRule) (default : Option Target) (n : ℕ) (settled : Bool) (r : Result (Unit {0}) Stopped) → default ≡ None → settled ≡ is_settled (map choice_rule_view rules) (shape_at table n) → Walks table table edges edges (breaks_unless settled (codes "Default") NoDefault) r → Walks table table edges edges (default_steps table walk rules default n) r
+without_default table edges walk rules default n settled r is told w = rw (is, ← told) w

@@ -1,7 +1,7 @@
 -- The steps of a walk on shapes of a table that has grown.
 use Rattle.std.proofs.Common.{◌≡◌, ◌<◌, ◌+◌, ℕ, List, ◌∷◌, ◌++◌, length, get_or, drop, map, Option, option_map, refl, ap, ◌∙◌, drop-cons, add-one}
 use Rattle.asl_choice.specs.View.{view as test_view}
-use Rattle.asl_states.specs.Machine.{catcher_view, target_name}
+use Rattle.asl_states.specs.Machine.{catcher_view, choice_rule_view, target_name}
 use Rattle.asl_states.specs.declared.states.ChoiceRule.{ChoiceRule}
 use Rattle.asl_states.specs.declared.target.Target.{Target}
 use Rattle.asl_states.specs.declared.states.Catcher.{Catcher}
@@ -34,10 +34,10 @@ module _ (a b : List Node) (walk : Walk) (keeps : Keeps (expansions a) (expansio
         ap (λ s. walk_rule (settings_of walk) (kind_of walk) s (target_name rule.next) (rule_shape (test_view rule.test) (shape_at (expansions b) n))) (shown a b walk.entry.input keeps input)
         ∙ ap (λ s. walk_rule (settings_of walk) (kind_of walk) (input_of (expansions a) walk) (target_name rule.next) (rule_shape (test_view rule.test) s)) (shown a b n keeps number)
 
-    pub default_kept : (default : Option Target) → default_steps (expansions b) walk default n ≡ default_steps (expansions a) walk default n
-    default_kept default =
-        ap (λ s. walk_default (settings_of walk) (kind_of walk) s (option_map target_name default) (shape_at (expansions b) n)) (shown a b walk.entry.input keeps input)
-        ∙ ap (walk_default (settings_of walk) (kind_of walk) (input_of (expansions a) walk) (option_map target_name default)) (shown a b n keeps number)
+    pub default_kept : (rules : List ChoiceRule) (default : Option Target) → default_steps (expansions b) walk rules default n ≡ default_steps (expansions a) walk rules default n
+    default_kept rules default =
+        ap (λ s. walk_default (settings_of walk) (kind_of walk) s (map choice_rule_view rules) (option_map target_name default) (shape_at (expansions b) n)) (shown a b walk.entry.input keeps input)
+        ∙ ap (walk_default (settings_of walk) (kind_of walk) (input_of (expansions a) walk) (map choice_rule_view rules) (option_map target_name default)) (shown a b n keeps number)
 
   -- on the input alone
   pub catcher_kept : (catcher : Catcher) → walk.entry.input < length a → catcher_steps (expansions b) walk catcher ≡ catcher_steps (expansions a) walk catcher

@@ -1,8 +1,8 @@
 -- The steps of a state's walk, by its type.
 use Rattle.std.proofs.Common.{◌≡◌, ℕ, List, [], ◌++◌, true, false, Option, Some, None, codes, refl}
 use Rattle.asl_model.specs.Certificate.{StateShapes}
-use Rattle.asl_model.specs.Edges.{breaks, to_branches, to_end, walk, walk_catchers, walk_default, walk_delay, walk_elements, walk_items, walk_result, walk_rules, walk_settled, walk_then, walk_work}
-use Rattle.asl_model.specs.Finding.{NoDefault, as_first_elements, effective_flow}
+use Rattle.asl_model.specs.Edges.{to_branches, to_end, walk, walk_catchers, walk_default, walk_delay, walk_elements, walk_items, walk_result, walk_rules, walk_settled, walk_then, walk_work}
+use Rattle.asl_model.specs.Finding.{as_first_elements, effective_flow}
 use Rattle.asl_model.specs.Machine.{Settings, Kind, Pass, Task, Choice, Wait, Succeed, Fail, Parallel, Map, Delay, Scope, Scopes}
 use Rattle.asl_model.specs.Path.{Segment}
 use Rattle.asl_model.specs.Shape.{Shape, Never, ArrayShape, inhabited}
@@ -23,7 +23,7 @@ module _ (settings : Settings) (kind : Kind) (entry : StateShapes) where
   pub task_steps : (resource : List ℕ) (s : Shape) → kind ≡ Task resource → walk_work settings kind entry s ≡ payload_step s
   task_steps resource s e = rw e refl
 
-  pub choice_steps : (rules : List Rule) (default : Option (List ℕ)) (s : Shape) → kind ≡ Choice rules default → walk_rules settings kind entry.input rules s ++ walk_default settings kind entry.input default s ≡ walk_work settings kind entry s
+  pub choice_steps : (rules : List Rule) (default : Option (List ℕ)) (s : Shape) → kind ≡ Choice rules default → walk_rules settings kind entry.input rules s ++ walk_default settings kind entry.input rules default s ≡ walk_work settings kind entry s
   choice_steps rules default s e = rw e refl
 
   pub wait_steps : (delay : Delay) (s : Shape) → kind ≡ Wait delay → walk_delay delay s ++ walk_result settings kind entry.input s ≡ walk_work settings kind entry s
@@ -48,17 +48,14 @@ module _ (settings : Settings) (kind : Kind) (entry : StateShapes) where
   pub answer_steps : (resource : List ℕ) (gives : Shape) → kind ≡ Task resource → walk_result settings kind entry.input gives ≡ walk_settled gives settings kind entry
   answer_steps resource gives e = rw e refl
 
-  pub choice_without_default : (rules : List Rule) (gives : Shape) → kind ≡ Choice rules None → walk_settled gives settings kind entry ≡ breaks (codes "Default") NoDefault
-  choice_without_default rules gives e = rw e refl
-
   pub ends_steps : (branches : Scopes) (gives : Shape) → kind ≡ Parallel branches → walk_result settings kind entry.input (ArrayShape (as_first_elements entry.branches) Never) ≡ walk_settled gives settings kind entry
   ends_steps branches gives e = rw e refl
 
   pub pass_settled : (gives : Shape) → kind ≡ Pass None → walk_settled gives settings kind entry ≡ []
   pass_settled gives e = rw e refl
 
-  pub choice_settled : (rules : List Rule) (next : List ℕ) (gives : Shape) → kind ≡ Choice rules (Some next) → walk_settled gives settings kind entry ≡ []
-  choice_settled rules next gives e = rw e refl
+  pub choice_settled : (rules : List Rule) (default : Option (List ℕ)) (gives : Shape) → kind ≡ Choice rules default → walk_settled gives settings kind entry ≡ []
+  choice_settled rules default gives e = rw e refl
 
   pub wait_settled : (delay : Delay) (gives : Shape) → kind ≡ Wait delay → walk_settled gives settings kind entry ≡ []
   wait_settled delay gives e = rw e refl

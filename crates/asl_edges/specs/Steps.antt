@@ -68,10 +68,10 @@ rule_steps table walk rule effective =
     model.walk_rule (settings_of walk) (kind_of walk) (input_of table walk) (target_name rule.next)
     (rule_shape (test_view rule.test) (shape_at table effective))
 
-abbrev pub default_steps : List Shape → Walk → Option Target → ℕ → List model.Walked
-default_steps table walk default effective =
-    model.walk_default (settings_of walk) (kind_of walk) (input_of table walk) (option_map target_name default)
-    (shape_at table effective)
+abbrev pub default_steps : List Shape → Walk → List ChoiceRule → Option Target → ℕ → List model.Walked
+default_steps table walk rules default effective =
+    model.walk_default (settings_of walk) (kind_of walk) (input_of table walk) (map choice_rule_view rules)
+    (option_map target_name default) (shape_at table effective)
 
 -- the catchers
 abbrev pub catchers_steps : List Shape → Walk → List Catcher → List model.Walked

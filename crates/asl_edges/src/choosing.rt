@@ -8,7 +8,8 @@ ghost use Rattle.asl_numbered.specs.Expansion.{expansions};
 use crate::faults::{FindingFault, Stopped, broken_at};
 use crate::found::Edge;
 use crate::walking::Walk;
-use asl_flow::{RuleShapeRefusal, rule_shape_at};
+use crate::working::stop_unless;
+use asl_flow::{RuleShapeRefusal, rule_shape_at, settles_at};
 use asl_numbered::Shapes;
 use asl_states::{ChoiceRule, Target};
 
@@ -27,10 +28,11 @@ impl<'m> Walk<'_, 'm> {
         ensures { Walks (expansions shapes.old) (expansions shapes.new) edges.old.items
             edges.new.items
             (rules_steps (expansions shapes.old) self.now rules.now effective
-            ++ default_steps (expansions shapes.old) self.now default.now effective) result }
+            ++ default_steps (expansions shapes.old) self.now rules.now default.now effective)
+            result }
     {
         self.walk_rules(shapes, edges, rules, effective)?;
-        self.walk_default(shapes, edges, default, effective)
+        self.walk_default(shapes, edges, rules, default, effective)
     }
 
     /// Walks over the rules, each of which is taken on the whole effective input.
@@ -76,11 +78,13 @@ impl<'m> Walk<'_, 'm> {
         }
     }
 
-    /// Walks over the output that goes to `Default`, where there is one.
+    /// Walks over the output that goes to `Default`. Where there is none, two of the rules are to stand for it: they ask
+    /// the same, one for yes and one for no.
     fn walk_default(
         &self,
         shapes: &mut Shapes,
         edges: &mut Vec<Edge<'m>>,
+        rules: &[ChoiceRule],
         default: &'m Option<Target>,
         effective: usize,
     ) -> Result<(), Stopped>
@@ -88,11 +92,15 @@ impl<'m> Walk<'_, 'm> {
         requires effective { effective < length shapes.old }
         ensures { Walks (expansions shapes.old) (expansions shapes.new) edges.old.items
             edges.new.items
-            (default_steps (expansions shapes.old) self.now default.now effective) result }
+            (default_steps (expansions shapes.old) self.now rules.now default.now effective)
+            result }
     {
         match default {
             Some(next) => self.walk_chosen(shapes, edges, "Default", &next.name, effective),
-            None => Ok(()),
+            None => {
+                let settled = settles_at(self.alloc, shapes, rules, effective)?;
+                stop_unless(settled, "Default", FindingFault::NoDefault)
+            }
         }
     }
 }

@@ -29,7 +29,7 @@ pub enum FindingFault {
     ResultMayNotFit,
     /// A call of an intrinsic function may fail.
     IntrinsicMayFail,
-    /// A Choice has no `Default`.
+    /// A Choice has no `Default`, and no two of its rules stand for one.
     NoDefault,
     /// A payload isn't within what its task takes.
     PayloadNotTaken,

@@ -1,16 +1,16 @@
 // The walk over what comes of an effective input, and over what needs none, by the state's type.
 
-ghost use Rattle.std.specs.Prelude.{◌≡◌, ◌<◌, ◌++◌, List, length};
+ghost use Rattle.std.specs.Prelude.{◌<◌, ◌++◌, List, length};
 ghost use Rattle.asl_edges.specs.Entry.{IsEntryBelow};
 ghost use Rattle.asl_edges.specs.Named.{Named};
 ghost use Rattle.asl_edges.specs.Steps.{result_steps, settled_steps, work_steps};
+ghost use Rattle.asl_edges.specs.View.{finding_fault_view};
 ghost use Rattle.asl_edges.specs.Walks.{Walks};
 ghost use Rattle.asl_edges.specs.declared.found.Edge.{Edge};
 ghost use Rattle.asl_states.specs.Machine.{delay_view};
 ghost use Rattle.asl_model.specs.Edges as model;
-ghost use Rattle.asl_model.specs.Finding.{WrongKind};
 ghost use Rattle.asl_model.specs.Shape.{Shape};
-ghost use Rattle.asl_model.specs.ShapeFlow.{look, is_integer_shape, is_string_shape};
+ghost use Rattle.asl_model.specs.ShapeFlow.{look};
 ghost use Rattle.asl_numbered.specs.Expansion.{expansions, shape_at};
 
 use crate::faults::{FindingFault, Stopped, broken_at};
@@ -18,8 +18,8 @@ use crate::found::Edge;
 use crate::items::Children;
 use crate::pushing::{push_branches, push_payload};
 use crate::walking::Walk;
-use asl_flow::{LookRefusal, list_at, literal_shape_at, look_at};
-use asl_numbered::{Node, Shapes};
+use asl_flow::{LookRefusal, is_only_integers, is_only_texts, list_at, literal_shape_at, look_at};
+use asl_numbered::Shapes;
 use asl_path::RefPath;
 use asl_states::{Delay, Kind};
 
@@ -68,7 +68,7 @@ impl<'m> Walk<'_, 'm> {
     }
 
     /// Walks over what needs no effective input: a result that is a literal, given by the task, or the list of what stands
-    /// at the branches' ends; and a Choice without `Default`.
+    /// at the branches' ends.
     pub(crate) fn walk_settled(
         &self,
         shapes: &mut Shapes,
@@ -86,18 +86,12 @@ impl<'m> Walk<'_, 'm> {
                 self.walk_result(shapes, edges, literal)
             }
             Kind::Task { .. } => self.walk_result(shapes, edges, gives),
-            Kind::Choice { default: None, .. } => {
-                Err(broken_at("Default", FindingFault::NoDefault))
-            }
             Kind::Parallel { .. } => {
                 let ends = list_at(self.alloc, shapes, self.entry.branches)?;
                 self.walk_result(shapes, edges, ends)
             }
             Kind::Pass { result: None }
-            | Kind::Choice {
-                default: Some(_),
-                ..
-            }
+            | Kind::Choice { .. }
             | Kind::Wait { .. }
             | Kind::Succeed
             | Kind::Fail { .. }
@@ -136,25 +130,32 @@ fn check_delay(shapes: &mut Shapes, delay: &Delay, effective: usize) -> Result<(
     match delay {
         Delay::SecondsPath(path) => {
             let named = named_in(shapes, effective, path, "SecondsPath")?;
-            check_kind(is_int(shapes, named), "SecondsPath")
+            let is_number = is_only_integers(shapes, named);
+            stop_unless(is_number, "SecondsPath", FindingFault::WrongKind)
         }
         Delay::TimestampPath(path) => {
             let named = named_in(shapes, effective, path, "TimestampPath")?;
-            check_kind(is_text(shapes, named), "TimestampPath")
+            let is_text = is_only_texts(shapes, named);
+            stop_unless(is_text, "TimestampPath", FindingFault::WrongKind)
         }
         Delay::Seconds(_) | Delay::Timestamp(_) => Ok(()),
     }
 }
 
-/// Stops the walk where what a path names is of the wrong kind for that field.
-fn check_kind(is_right: bool, field: &'static str) -> Result<(), Stopped>
+/// Stops the walk with that fault at that field, unless the rule holds.
+pub(crate) fn stop_unless(
+    holds: bool,
+    field: &'static str,
+    fault: FindingFault,
+) -> Result<(), Stopped>
     ensures { (table : List Shape) (edges : List Edge)
-        → Walks table table edges edges (model.breaks_unless is_right field.now WrongKind) result }
+        → Walks table table edges edges
+        (model.breaks_unless holds field.now (finding_fault_view fault)) result }
 {
-    if is_right {
+    if holds {
         Ok(())
     } else {
-        Err(broken_at(field, FindingFault::WrongKind))
+        Err(broken_at(field, fault))
     }
 }
 
@@ -174,20 +175,4 @@ pub(crate) fn named_in(
         Err(LookRefusal::MayBeMissing(_)) => Err(broken_at(field, FindingFault::PathMayBeMissing)),
         Err(LookRefusal::OutOfMemory) => Err(Stopped::OutOfMemory),
     }
-}
-
-/// Whether the shape of that number is that of whole numbers.
-fn is_int(shapes: &Shapes, number: usize) -> bool
-    requires { number < length shapes.now }
-    ensures { result ≡ is_integer_shape (shape_at (expansions shapes.now) number) }
-{
-    matches!(shapes.node(number), Some(Node::Int))
-}
-
-/// Whether the shape of that number is that of texts.
-fn is_text(shapes: &Shapes, number: usize) -> bool
-    requires { number < length shapes.now }
-    ensures { result ≡ is_string_shape (shape_at (expansions shapes.now) number) }
-{
-    matches!(shapes.node(number), Some(Node::Text))
 }

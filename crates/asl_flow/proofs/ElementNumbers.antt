@@ -1,26 +1,13 @@
 -- The numbers of the shapes of elements, and of lists that are made of them.
-use Rattle.std.proofs.Common.{◌≡◌, ◌<◌, ◌≤◌, ◌+◌, ℕ, zero, suc, List, [], ◌∷◌, length, get_or, drop, replicate, Vec, Global, refl, sym, ap, subst, ◌∙◌, drop-cons, add-one, arith}
+use Rattle.std.proofs.Common.{◌≡◌, ◌<◌, ◌≤◌, ◌+◌, ℕ, zero, suc, List, [], ◌∷◌, length, get_or, drop, replicate, Vec, Global, refl, sym, ap, ◌∙◌, drop-cons, add-one}
 use Rattle.std.proofs.lemmas.List.{drop_all}
 use Rattle.std.specs.Prelude.{if◌then◌else◌}
 use Rattle.asl_model.specs.Finding.{at_each_place, element_shape, map_result}
 use Rattle.asl_model.specs.Shape.{Shape, Never, AndShape, inhabited}
 use Rattle.asl_model.specs.ShapeOrder.{join, joined_with_each}
-use Rattle.asl_numbered.specs.declared.node.Node.{Node}
 use Rattle.asl_numbered.specs.declared.node.Node.TheVariants.{List as Elements}
 use Rattle.asl_numbered.specs.Expansion.{shape_at, shapes_at, shape_over, AreBelow, RefersBelow}
-use Rattle.asl_numbered.proofs.Expansions.{below-wider}
 use Rattle.asl_flow.specs.Elements.{AreElementsBelow}
-
--- ---- the elements of an array
-
--- their numbers are in the table, as that of the array is
-pub elements_below : (bound number : ℕ) (node : Node) (first copied : Vec ℕ Global) (rest : ℕ) → number < bound
-    → RefersBelow number node → node ≡ Elements first rest → copied.items ≡ first.items
-    → AreElementsBelow bound (record { first = copied; rest = rest })
-elements_below bound number node first copied rest within refers is same =
-    let own = subst (RefersBelow number) is refers in
-    let below : AreBelow number copied.items = rw same own.each.1 in
-    record { first = below-wider number bound copied.items (omega arith) below; rest = omega (arith, own.each.0) }
 
 -- ---- the join of all
 

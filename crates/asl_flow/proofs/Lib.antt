@@ -1,9 +1,11 @@
+pub mod AloneParts
 pub mod ArgumentShapes
 pub mod Composed
 pub mod Doubts
 pub mod ElementNumbers
 pub mod Enterings
 pub mod FunctionShapes
+pub mod KindNumbers
 pub mod Leavings
 pub mod LiteralFields
 pub mod NarrowedParts
@@ -13,6 +15,8 @@ pub mod Numbered
 pub mod NumberedParts
 pub mod Puts
 pub mod Replaced
+pub mod Settlings
 pub mod ShapeParts
 pub mod SourcesKept
 pub mod Stays
+pub mod TestedKinds

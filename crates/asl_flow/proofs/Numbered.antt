@@ -1,6 +1,7 @@
 -- Numbers of a table: what stays as it grows, and what a shape's own number is.
-use Rattle.std.proofs.Common.{◌≡◌, ◌<◌, ℕ, List, Option, Some, IfSome, length, refl, sym, ◌∙◌, arith}
+use Rattle.std.proofs.Common.{◌≡◌, ◌<◌, ℕ, List, Option, Some, IfSome, Result, IfOk, length, refl, sym, ◌∙◌, arith}
 use Rattle.asl_model.specs.Shape.{Shape}
+use Rattle.asl_tree.specs.declared.OutOfMemory.{OutOfMemory}
 use Rattle.asl_flow.specs.Numbers.{Shows}
 use Rattle.asl_numbered.specs.declared.node.Node.{Node}
 use Rattle.asl_numbered.specs.declared.node.Node.TheVariants.{Never}
@@ -36,6 +37,10 @@ number_shows nodes s n is = record { within = number_within nodes s n is; same =
 -- what was told as the number of a shape shows it
 pub told_shows : (nodes : List Node) (s : Shape) (told : Option ℕ) (n : ℕ) → IfSome told (IsNumberOf (expansions nodes) s) → told ≡ Some n → Shows nodes s n
 told_shows nodes s told n is there = number_shows nodes s n (rw there at is)
+
+-- the number of a shape is that of an equal one
+pub renumbered : (table : List Shape) (s t : Shape) (r : Result ℕ OutOfMemory) → s ≡ t → IfOk r (IsNumberOf table s) → IfOk r (IsNumberOf table t)
+renumbered table s t r e h = rw (← e) h
 
 -- a number that shows a shape is its number, where no shape stands under two
 pub its_number : (nodes : List Node) (s : Shape) (n : ℕ) → AreDistinct (expansions nodes) → n < length nodes → shape_at (expansions nodes) n ≡ s → IsNumberOf (expansions nodes) s n

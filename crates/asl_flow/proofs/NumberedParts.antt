@@ -1,13 +1,12 @@
 -- What one segment, and then the segments behind it, lead to in a shape of a table, by number.
-use Rattle.std.proofs.Common.{◌≡◌, ℕ, zero, suc, ◌<◌, ◌≤◌, Bool, List, [], ◌∷◌, Option, Some, None, Result, Ok, Err, option_map, is_some, is_ok, IfOk, IsErrAnd, MatchResult, Bor, String, Global, string_bytes, IfSome, length, get_or, drop, drop-cons, refl, ap, sym, ◌∙◌, arith, subst, Vec}
+use Rattle.std.proofs.Common.{◌≡◌, ℕ, zero, suc, ◌<◌, ◌≤◌, List, [], ◌∷◌, Option, Some, None, Result, Ok, Err, option_map, is_some, is_ok, IfOk, IsErrAnd, MatchResult, Bor, String, Global, string_bytes, IfSome, length, get_or, drop, drop-cons, refl, ap, sym, ◌∙◌, arith}
 use borrow.Author.Tests.{ltb-true, ltb-false}
 use lib.Dec.{ltb}
 use Rattle.std.specs.BTreeMap.{BTreeMap, get_by}
 use Rattle.std.specs.Option.{option_copied}
 use Rattle.std.specs.String.{string_cmp}
-use Rattle.asl_model.specs.Path as path
 use Rattle.asl_model.specs.Shape as model
-use Rattle.asl_model.specs.ShapeFlow.{part_at, place_at, look_at, if_needed}
+use Rattle.asl_model.specs.ShapeFlow.{part_at, place_at, look_at}
 use Rattle.asl_model.specs.ShapeOrder.{mention_of}
 use Rattle.asl_flow.specs.Counting.{counted_on}
 use Rattle.asl_flow.specs.Putting.{mentioned}
@@ -15,10 +14,8 @@ use Rattle.asl_flow.specs.declared.looking.LookRefusal.{LookRefusal}
 use Rattle.asl_flow.proofs.Numbered.{own_number}
 use Rattle.asl_flow.proofs.ShapeParts.{counted_one}
 use Rattle.asl_numbered.specs.declared.node.Node.{Node}
-use Rattle.asl_numbered.specs.declared.node.Node.TheVariants.{List as Elements, Object}
 use Rattle.asl_numbered.specs.declared.node.NodeField.{NodeField}
-use Rattle.asl_numbered.specs.Expansion.{expansions, shape_at, shapes_at, fields_at, shape_over, numbers_in, AreBelow, AreDistinct, IsNumberOf, RefersBelow}
-use Rattle.asl_numbered.proofs.Expansions.{below-wider}
+use Rattle.asl_numbered.specs.Expansion.{expansions, shape_at, shapes_at, fields_at, numbers_in, AreBelow, AreDistinct, IsNumberOf}
 use Rattle.asl_numbered.proofs.Comparisons.{mention_of_number, found-below}
 use Rattle.asl_path.specs.View.{segment_view, segments_view}
 use Rattle.asl_path.specs.declared.Segment as code
@@ -52,24 +49,6 @@ pub place_below : (bound : ℕ) (ns : List ℕ) (i : ℕ) (r : Option (Bor ℕ))
 place_below bound ns i None e h below = tt
 place_below bound ns i (Some x) e h below = rw h (below_at bound ns i x.now (ltb-true i (length ns) (sym e)) below)
 
--- the place of a node of lists
-pub first_part : (table : List model.Shape) (node : Node) (first : Vec ℕ Global) (rest i : ℕ) (ns : List ℕ) (r : Option (Bor ℕ)) (answer : Option ℕ) → node ≡ Elements first rest → ns ≡ first.items → is_some r ≡ ltb i (length ns) → IfSome r (λ x. x.now ≡ get_or ns i x.now) → answer ≡ option_copied r
-    → option_map (shape_at table) answer ≡ part_at (path.Index i) (shape_over table node)
-first_part table node first rest i ns r answer is same some got copied =
-    ap (option_map (shape_at table)) copied ∙ place_got table ns i r some got ∙ ap (λ ms. place_at i (shapes_at table ms)) same ∙ sym (ap (λ x. part_at (path.Index i) (shape_over table x)) is)
-
-pub first_below : (node : Node) (first : Vec ℕ Global) (rest i : ℕ) (ns : List ℕ) (r : Option (Bor ℕ)) (answer : Option ℕ) → node ≡ Elements first rest → ns ≡ first.items → is_some r ≡ ltb i (length ns) → IfSome r (λ x. x.now ≡ get_or ns i x.now) → answer ≡ option_copied r
-    → (bound : ℕ) → RefersBelow bound node → IfSome answer (λ n. n < bound)
-first_below node first rest i ns r answer is same some got copied bound refers =
-    let own = subst (RefersBelow bound) is refers in
-    let below : AreBelow bound ns = subst (AreBelow bound) (sym same) own.each.1 in
-    rw copied (place_below bound ns i r some got below)
-
--- a part's number is below that of the whole, and so in the table
-pub part_within : (answer : Option ℕ) (bound wider : ℕ) → bound ≤ wider → IfSome answer (λ n. n < bound) → IfSome answer (λ n. n < wider)
-part_within None bound wider h below = tt
-part_within (Some n) bound wider h below = omega arith
-
 -- ---- fields
 
 -- the mention of a field, as the map of a node has it
@@ -79,26 +58,6 @@ mention_got table k m r got = mention_of_number table k m.entries ∙ rw (← go
 pub field_below : (bound : ℕ) (k : String Global) (m : BTreeMap (String Global) NodeField) (r : Option NodeField) → r ≡ get_by (string_cmp k) m → AreBelow bound (numbers_in m.entries) → IfSome r (λ f. f.shape < bound)
 field_below bound k m None got below = tt
 field_below bound k m (Some f) got below = found-below bound _ m.entries f below (sym got)
-
--- the needed field of a node of objects
-pub needed_part : (table : List model.Shape) (node : Node) (m : BTreeMap (String Global) NodeField) (extra : Bool) (k : String Global) (found : Option NodeField) (answer : Option ℕ) → node ≡ Object m extra → found ≡ get_by (string_cmp k) m → option_map (shape_at table) answer ≡ if_needed (option_map (mentioned table) found)
-    → option_map (shape_at table) answer ≡ part_at (path.Name (string_bytes k)) (shape_over table node)
-needed_part table node m extra k found answer is got h = h ∙ sym (ap (λ x. part_at (path.Name (string_bytes k)) (shape_over table x)) is ∙ ap if_needed (mention_got table k m found got))
-
-pub needed_below : (bound : ℕ) (node : Node) (m : BTreeMap (String Global) NodeField) (extra : Bool) (k : String Global) (f : NodeField) → node ≡ Object m extra → Some f ≡ get_by (string_cmp k) m → RefersBelow bound node → f.shape < bound
-needed_below bound node m extra k f is got refers =
-    let own = subst (RefersBelow bound) is refers in
-    field_below bound k m (Some f) got own.each
-
--- the field of a node of objects is in the table
-pub field_within : (bound n : ℕ) (node : Node) (m : BTreeMap (String Global) NodeField) (extra : Bool) (k : String Global) (r : Option NodeField) → node ≡ Object m extra → RefersBelow n node → n < bound → r ≡ get_by (string_cmp k) m → IfSome r (λ f. f.shape < bound)
-field_within bound n node m extra k r is refers within got =
-    let own = subst (RefersBelow n) is refers in
-    field_below bound k m r got (below-wider n bound (numbers_in m.entries) (omega arith) own.each)
-
--- the shape of a node of objects
-pub object_level : (table : List model.Shape) (node : Node) (m : BTreeMap (String Global) NodeField) (extra : Bool) (s : model.Shape) → node ≡ Object m extra → shape_over table node ≡ s → s ≡ model.ObjectShape (fields_at table m.entries) extra
-object_level table node m extra s is level = sym level ∙ ap (shape_over table) is
 
 -- ---- the whole path
 

@@ -4,10 +4,11 @@ use Rattle.std.specs.BTreeMap.{BTreeMap, get_by}
 use Rattle.std.specs.Prelude.{IfOk}
 use Rattle.std.specs.String.{string_cmp}
 use Rattle.asl_model.specs.Path.{Segment, Name, Index}
-use Rattle.asl_model.specs.Shape.{Shape, Arrays, WithoutArrays, ArraysOf, FieldShapes, NoFieldShapes, AndFieldShape, ObjectShape, Never, inhabited}
-use Rattle.asl_model.specs.ShapeFlow.{part_at, place_in, arrays_alone, put, put_under, put_in_arrays, put_mentioned, array_with, object_with, around, join_results}
+use Rattle.asl_model.specs.Shape.{Shape, Arrays, WithoutArrays, ArraysOf, ObjectsOf, FieldShapes, NoFieldShapes, AndFieldShape, ObjectShape, Never, inhabited}
+use Rattle.asl_model.specs.ShapeFlow.{part_at, place_in, arrays_alone, objects_alone, put, put_under, put_in_arrays, put_mentioned, array_with, object_with, around, join_results}
 use Rattle.asl_model.specs.ShapeOrder.{mention_of, join}
-use Rattle.asl_flow.specs.Changing.{arrays_with, with_field, with_place}
+use Rattle.asl_flow.proofs.AloneParts.{alone_objects, alone_placed}
+use Rattle.asl_flow.specs.Changing.{arrays_with, objects_with, with_field, with_place}
 use Rattle.asl_flow.specs.Counting.{counted_on}
 use Rattle.asl_flow.specs.Numbers.{Shows}
 use Rattle.asl_flow.specs.Putting.{Answers, mentioned}
@@ -72,7 +73,9 @@ put_in_place_of go_on s i (ArraysOf first rest) t at = rw at (changed (go_on t))
 
 -- putting under an index changes the place there
 pub put_at_index : (go_on : Shape → Result Shape ℕ) (p : List Segment) (w s : Shape) (i : ℕ) (part : Option Shape) (t : Shape) → part ≡ part_at (Index i) s → part ≡ Some t → put_under go_on (Index i) p w s ≡ changed_by (λ u. with_place i u s) (go_on t)
-put_at_index go_on p w s i part t is found = put_in_place_of go_on s i (arrays_alone s) t (sym is ∙ found)
+put_at_index go_on p w s i part t is found =
+    let placed : place_in i (arrays_alone s) ≡ Some t = sym is ∙ found in
+    put_in_place_of go_on s i (arrays_alone s) t placed ∙ ap (λ arrays. changed_by (λ u. arrays_with i u arrays s) (go_on t)) (alone_placed s i t placed)
 
 -- where there is no such place, nothing can be put
 pub no_index : (nodes : List Node) (at : ℕ) (go_on : Shape → Result Shape ℕ) (p : List Segment) (w s : Shape) (i : ℕ) → None ≡ part_at (Index i) s → Answers nodes (counted_on at (put_under go_on (Index i) p w s)) (Err (MayNotFit at))
@@ -102,22 +105,22 @@ answered_in_list old mid new at i go_on p w number r place n m within keeps part
 -- ---- objects
 
 -- putting under a name changes the field
-pub put_at_name : (go_on : Shape → Result Shape ℕ) (p : List Segment) (w s : Shape) (n : List ℕ) (shapes : FieldShapes) (extra : Bool) (mention : Option (Bool × Shape)) → s ≡ ObjectShape shapes extra → mention_of n shapes ≡ mention → put_under go_on (Name n) p w s ≡ changed_by (λ u. with_field n u s) (put_mentioned go_on extra p w mention)
-put_at_name go_on p w s n shapes extra mention is found = rw (is, found) (changed (put_mentioned go_on extra p w mention))
+pub put_at_name : (go_on : Shape → Result Shape ℕ) (p : List Segment) (w s : Shape) (n : List ℕ) (shapes : FieldShapes) (extra : Bool) (mention : Option (Bool × Shape)) → objects_alone s ≡ ObjectsOf shapes extra → mention_of n shapes ≡ mention → put_under go_on (Name n) p w s ≡ changed_by (λ u. with_field n u s) (put_mentioned go_on extra p w mention)
+put_at_name go_on p w s n shapes extra mention is found = rw (is, found, alone_objects s shapes extra is) (changed (put_mentioned go_on extra p w mention))
   where
-    changed : (r : Result Shape ℕ) → object_with n shapes extra r ≡ changed_by (λ u. with_field n u (ObjectShape shapes extra)) r
+    changed : (r : Result Shape ℕ) → object_with n shapes extra r ≡ changed_by (λ u. objects_with n u (ObjectsOf shapes extra) s) r
     changed (Ok u) = refl
     changed (Err at) = refl
 
 pub refused_in_object : (new : List Node) (at : ℕ) (go_on : Shape → Result Shape ℕ) (p : List Segment) (w s : Shape) (table : List Shape) (k : String Global) (fields : BTreeMap (String Global) NodeField) (extra : Bool) (field : Option NodeField) (refusal : PutRefusal) (answer : Result ℕ PutRefusal)
-    → s ≡ ObjectShape (fields_at table fields.entries) extra → field ≡ get_by (string_cmp k) fields → Answers new (counted_on (at + 1) (put_mentioned go_on extra p w (option_map (mentioned table) field))) (Err refusal) → answer ≡ Err refusal
+    → objects_alone s ≡ ObjectsOf (fields_at table fields.entries) extra → field ≡ get_by (string_cmp k) fields → Answers new (counted_on (at + 1) (put_mentioned go_on extra p w (option_map (mentioned table) field))) (Err refusal) → answer ≡ Err refusal
     → Answers new (counted_on at (put_under go_on (Name (string_bytes k)) p w s)) answer
 refused_in_object new at go_on p w s table k fields extra field refusal answer is got h e =
     let whole = put_at_name go_on p w s (string_bytes k) (fields_at table fields.entries) extra (option_map (mentioned table) field) is (mention_got table k fields field got) in
     rw e (refused_below new new at (λ u. with_field (string_bytes k) u s) _ (put_mentioned go_on extra p w (option_map (mentioned table) field)) refusal whole h)
 
 pub answered_in_object : (old mid new : List Node) (at : ℕ) (go_on : Shape → Result Shape ℕ) (p : List Segment) (w : Shape) (number : ℕ) (k : String Global) (fields : BTreeMap (String Global) NodeField) (extra : Bool) (field : Option NodeField) (n m : ℕ)
-    → number < length old → Keeps (expansions old) (expansions mid) → shape_at (expansions old) number ≡ ObjectShape (fields_at (expansions old) fields.entries) extra → field ≡ get_by (string_cmp k) fields
+    → number < length old → Keeps (expansions old) (expansions mid) → objects_alone (shape_at (expansions old) number) ≡ ObjectsOf (fields_at (expansions old) fields.entries) extra → field ≡ get_by (string_cmp k) fields
     → Answers mid (counted_on (at + 1) (put_mentioned go_on extra p w (option_map (mentioned (expansions old)) field))) (Ok n) → Shows new (with_field (string_bytes k) (shape_at (expansions mid) n) (shape_at (expansions mid) number)) m
     → Answers new (counted_on at (put_under go_on (Name (string_bytes k)) p w (shape_at (expansions old) number))) (Ok m)
 answered_in_object old mid new at go_on p w number k fields extra field n m within keeps is got h shows =
@@ -126,10 +129,6 @@ answered_in_object old mid new at go_on p w number k fields extra field n m with
     let whole = put_at_name go_on p w s (string_bytes k) (fields_at table fields.entries) extra (option_map (mentioned table) field) is (mention_got table k fields field got) in
     let shown = subst (λ t. Shows new (with_field (string_bytes k) (shape_at (expansions mid) n) t) m) (still_shown old mid number keeps within) shows in
     changed_below mid new at (λ u. with_field (string_bytes k) u s) _ (put_mentioned go_on extra p w (option_map (mentioned table) field)) n m whole h shown
-
--- where the shape isn't one of objects, nothing can be put
-pub no_object : (nodes : List Node) (at : ℕ) (whole : Result Shape ℕ) → whole ≡ Err 0 → Answers nodes (counted_on at whole) (Err (MayNotFit at))
-no_object nodes at whole none = record { within = tt; shape = tt; refusal = ap (counted_on at) none ∙ ap Err (omega arith) }
 
 -- ---- where there is no tree
 

@@ -15,10 +15,8 @@ use Rattle.asl_model.specs.Tree.{comes_before}
 use Rattle.asl_flow.proofs.Stays.{unmentioned, in_front, before_next}
 use Rattle.asl_shape.proofs.Spellings.{put}
 use Rattle.asl_numbered.specs.declared.node.NodeField.{NodeField}
-use Rattle.asl_numbered.specs.declared.node.Node.{Node}
 use Rattle.asl_numbered.specs.declared.node.Node.TheVariants.{List as Elements, Object}
 use Rattle.asl_numbered.specs.Expansion.{shape_at, shapes_at, fields_at, numbers_in, AreBelow, RefersBelow}
-use Rattle.asl_numbered.proofs.Expansions.{below-wider}
 use Rattle.asl_numbered.proofs.Parts.{Entry, put-shown, put-below}
 
 -- ---- fields
@@ -77,10 +75,8 @@ field_set name k f old cloned new same needed alike inserted = record {
 }
 
 -- the node with the changed fields has numbers of the table alone
-pub field_refers : (bound n m : ℕ) (name : List ℕ) (node : Node) (old new : BTreeMap (String Global) NodeField) (extra : Bool) → node ≡ Object old extra → RefersBelow n node → n < bound → m < bound → AreWithField name m old.entries new.entries → RefersBelow bound (Object new extra)
-field_refers bound n m name node old new extra is refers within also are =
-    let own = subst (RefersBelow n) is refers in
-    record { each = are.below bound also (below-wider n bound (numbers_in old.entries) (omega arith) own.each) }
+pub field_refers : (bound m : ℕ) (name : List ℕ) (old : List Entry) (new : BTreeMap (String Global) NodeField) (extra : Bool) → AreBelow bound (numbers_in old) → m < bound → AreWithField name m old new.entries → RefersBelow bound (Object new extra)
+field_refers bound m name old new extra below also are = record { each = are.below bound also below }
 
 -- ---- places
 
@@ -122,8 +118,5 @@ pub copy_set : (ns copied new : List ℕ) (i n : ℕ) → copied ≡ ns → AreW
 copy_set ns copied new i n same are = subst (λ ms. AreWithPlace i n ms new) same are
 
 -- the node with the changed places has numbers of the table alone
-pub place_refers : (bound n m i : ℕ) (node : Node) (old new : Vec ℕ Global) (rest : ℕ) (places : List ℕ) → node ≡ Elements old rest → RefersBelow n node → n < bound → m < bound → places ≡ old.items → AreWithPlace i m places new.items → RefersBelow bound (Elements new rest)
-place_refers bound n m i node old new rest places is refers within also lent are =
-    let own = subst (RefersBelow n) is refers in
-    let below : AreBelow bound old.items = below-wider n bound old.items (omega arith) own.each.1 in
-    record { each = (omega (arith, own.each.0), are.below bound also (subst (AreBelow bound) (sym lent) below)) }
+pub place_refers : (bound m i : ℕ) (old : List ℕ) (new : Vec ℕ Global) (rest : ℕ) → AreBelow bound old → rest < bound → m < bound → AreWithPlace i m old new.items → RefersBelow bound (Elements new rest)
+place_refers bound m i old new rest below further also are = record { each = (further, are.below bound also below) }

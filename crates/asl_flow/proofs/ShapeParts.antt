@@ -1,5 +1,5 @@
 -- What one segment, and then the segments behind it, lead to in a shape.
-use Rattle.std.proofs.Common.{◌≡◌, ℕ, zero, suc, ◌<◌, ◌≤◌, Bool, List, [], ◌∷◌, Option, Some, None, Result, Ok, Err, option_map, Bor, String, string_bytes, is_some, IfSome, length, get_or, drop, drop-cons, refl, ap, sym, ◌∙◌, arith, Vec, Box, BTreeMap}
+use Rattle.std.proofs.Common.{◌≡◌, ℕ, zero, suc, ◌<◌, ◌≤◌, Bool, List, [], ◌∷◌, Option, Some, None, Result, Ok, Err, option_map, Bor, String, string_bytes, is_some, IfSome, length, get_or, drop, drop-cons, refl, ap, sym, ◌∙◌, arith, BTreeMap}
 use borrow.Author.Tests.{ltb-true, ltb-false}
 use lib.Dec.{ltb}
 use Rattle.std.specs.BTreeMap.{is_at}
@@ -8,16 +8,14 @@ use Rattle.std.specs.String.{string_cmp}
 use Rattle.std.specs.declared.alloc.Global.{Global}
 use Rattle.asl_model.specs.Path as path
 use Rattle.asl_model.specs.Shape as model
-use Rattle.asl_model.specs.ShapeFlow.{part_at, place_at, look_at, if_needed, one_further}
+use Rattle.asl_model.specs.ShapeFlow.{part_at, place_at, objects_alone, look_at, if_needed, one_further}
 use Rattle.asl_flow.specs.Counting.{counted_on}
 use Rattle.asl_path.specs.View.{segment_view, segments_view}
 use Rattle.asl_path.specs.declared.Segment as code
 use Rattle.asl_shape.specs.declared.shape.Field.{Field}
 use Rattle.asl_shape.specs.declared.shape.Shape.{Shape}
-use Rattle.asl_shape.specs.declared.shape.Shape.TheViews
-use Rattle.asl_shape.specs.View.{view, shapes_view}
+use Rattle.asl_shape.specs.View.{view, shapes_view, fields_view}
 use Rattle.asl_shape.proofs.Lookups.{mention_of_lookup}
-use Rattle.asl_shape.proofs.Views.{view_list, view_object}
 
 -- the place at an index that a list has
 pub place_within : (ss : List Shape) (i : ℕ) (d : Shape) → i < length ss → Some (view (get_or ss i d)) ≡ place_at i (shapes_view ss)
@@ -37,15 +35,11 @@ pub place_got : (ss : List Shape) (i : ℕ) (r : Option (Bor Shape)) → is_some
 place_got ss i None e h = place_past ss i (ltb-false i (length ss) (sym e))
 place_got ss i (Some x) e h = ap (λ t. Some (view t)) h ∙ place_within ss i x.now (ltb-true i (length ss) (sym e))
 
-pub list_part : (s : Shape) (first : Vec Shape Global) (rest : Box Shape Global) (i : ℕ) → s ≡ TheViews.List first rest
-    → place_at i (shapes_view first.items) ≡ part_at (path.Index i) (view s)
-list_part s first rest i e = rw (e, view_list first rest) refl
-
--- what a look-up in an object's fields says of the part of that name
-pub object_part : (s : Shape) (m : BTreeMap (String Global) Field) (extra : Bool) (k : String Global) (found : Option Field) → s ≡ TheViews.Object m extra
+-- what a look-up in the fields of objects says of the part of that name
+pub object_part : (s : model.Shape) (m : BTreeMap (String Global) Field) (extra : Bool) (k : String Global) (found : Option Field) → model.ObjectsOf (fields_view m.entries) extra ≡ objects_alone s
     → found ≡ lookup (is_at (string_cmp k)) m.entries
-    → if_needed (option_map (λ (f : Field). (f.needed, view f.shape)) found) ≡ part_at (path.Name (string_bytes k)) (view s)
-object_part s m extra k found e l = rw (e, view_object m extra, mention_of_lookup k m.entries, ← l) refl
+    → if_needed (option_map (λ (f : Field). (f.needed, view f.shape)) found) ≡ part_at (path.Name (string_bytes k)) s
+object_part s m extra k found e l = rw (← e, mention_of_lookup k m.entries, ← l) refl
 
 -- counted behind none it is itself
 pub counted_none : (r : Result model.Shape ℕ) → counted_on 0 r ≡ r

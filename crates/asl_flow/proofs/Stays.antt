@@ -1,14 +1,14 @@
--- An object shape stays as it is where a field is put that it has already.
-use Rattle.std.proofs.Common.{◌≡◌, ℕ, List, Bool, true, false, Some, IsTrue, bytes_eq, refl, ap, subst, arith}
+-- Objects stay as they are where a field is put that they have already.
+use Rattle.std.proofs.Common.{◌≡◌, ℕ, List, Bool, true, false, Some, IsTrue, bytes_eq, refl, ap, subst}
 use Rattle.std.proofs.lemmas.Slice.Eq.{bytes_eq-Decides}
-use Rattle.asl_model.specs.Path.{Name}
-use Rattle.asl_model.specs.Shape.{Shape, Any, OfKinds, ObjectShape, WithoutObjects, ObjectsOf, FieldShapes, NoFieldShapes, AndFieldShape, before_mentions, insert_mention, IsProperShape, AreProperFields}
-use Rattle.asl_model.specs.ShapeFlow.{part_at, if_needed}
+use Rattle.asl_model.specs.Shape.{Shape, Any, OfKinds, ObjectShape, ObjectsOf, FieldShapes, NoFieldShapes, AndFieldShape, before_mentions, insert_mention, IsProperShape, AreProperObjects, AreProperFields}
+use Rattle.asl_model.specs.ShapeFlow.{if_needed}
 use Rattle.asl_model.specs.ShapeOrder.{mention_of, set_mention, without_mention}
 use Rattle.asl_model.specs.Tree.{comes_before}
 use Rattle.asl_model.proofs.ShapeWitness.{comes_before-trans, comes_before-other, bytes_eq-comm}
 use Rattle.asl_model.proofs.TemplateGrammar.{one_way}
 use Rattle.asl_flow.specs.Changing.{with_field}
+use Rattle.asl_numbered.specs.TakenApart.{objects_of}
 
 -- a name before all mentions comes before that of one of them
 before_mentioned : (m n : List ℕ) (w : Shape) (shapes : FieldShapes) → IsTrue (before_mentions m shapes) → AreProperFields shapes → if_needed (mention_of n shapes) ≡ Some w → IsTrue (comes_before m n)
@@ -52,10 +52,9 @@ set_again n w (AndFieldShape m needed s shapes) proper there = go (bytes_eq m n)
         let behind : comes_before n m ≡ false = one_way n m (before_mentioned m n w shapes proper.1 proper.3 further) in
         rw (is, behind) (ap (AndFieldShape m must s) (below further))
 
--- so for the field of an object shape
-pub field_stays : (n : List ℕ) (w s : Shape) → IsProperShape s → part_at (Name n) s ≡ Some w → with_field n w s ≡ s
-field_stays n w Any proper there = refl
-field_stays n w (OfKinds simple arrays WithoutObjects) proper there = absurd (grind arith)
-field_stays n w (OfKinds simple arrays (ObjectsOf shapes extra)) proper there =
-    let alone : ObjectShape shapes extra ≡ OfKinds simple arrays (ObjectsOf shapes extra) = grind arith in
-    subst (λ s. part_at (Name n) s ≡ Some w → with_field n w s ≡ s) alone (λ named. ap (λ fields. ObjectShape fields extra) (set_again n w shapes proper.2 named)) there
+-- so for the field of the objects of a shape
+pub field_stays : (n : List ℕ) (w s : Shape) (shapes : FieldShapes) (extra : Bool) → IsProperShape s → objects_of s ≡ ObjectsOf shapes extra → if_needed (mention_of n shapes) ≡ Some w → ObjectShape shapes extra ≡ with_field n w s
+field_stays n w Any shapes extra proper objects there = absurd (cc)
+field_stays n w (OfKinds simple arrays own) shapes extra proper objects there =
+    let fields : AreProperFields shapes = subst AreProperObjects objects proper.1 in
+    rw (objects, set_again n w shapes fields there) refl

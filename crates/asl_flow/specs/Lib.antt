@@ -3,10 +3,12 @@ pub mod Changing
 pub mod Counting
 pub mod Elements
 pub mod Items
+pub mod Kinds
 pub mod Leaving
 pub mod Looking
 pub mod Narrowed
 pub mod Numbers
 pub mod Putting
+pub mod Settling
 pub mod Sources
 pub mod TemplateAnswer

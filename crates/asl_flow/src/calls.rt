@@ -1,5 +1,5 @@
 //! The shapes of calls' values, by number.
-ghost use Rattle.std.specs.Prelude.{◌≡◌, ◌<◌, ◌||◌, List, Some, option_map, length, not};
+ghost use Rattle.std.specs.Prelude.{◌≡◌, ◌<◌, ◌||◌, Some, option_map, length, not};
 ghost use Rattle.asl_flow.specs.CallAnswer.{Answers, AnswersAll};
 ghost use Rattle.asl_flow.specs.Sources.{input_of, item_of, IsWithin};
 ghost use Rattle.asl_intrinsic.specs.View.{argument_view, arguments_view};
@@ -7,9 +7,10 @@ ghost use Rattle.asl_intrinsic.specs.View as calls;
 ghost use Rattle.asl_model.specs.Intrinsic.{literal_pieces};
 ghost use Rattle.asl_model.specs.Shape as model;
 ghost use Rattle.asl_model.specs.ShapeFlow as flow;
-ghost use Rattle.asl_numbered.specs.Expansion.{expansions, shape_at, shapes_at, shape_over, AreBelow, Keeps};
+ghost use Rattle.asl_numbered.specs.Expansion.{expansions, shape_at, shapes_at, AreBelow, Keeps};
 
 use crate::composing::closed_list;
+use crate::kinds::{arrays_alone, kinds_of, some_array_or_object};
 use crate::numbers::{is_inhabited, put_node};
 use crate::references::{Doubt, Sources};
 use asl_intrinsic::{Arg, Call};
@@ -124,22 +125,14 @@ fn array_length_shape(shapes: &mut Shapes, arguments: &[usize]) -> Result<usize,
     }
 }
 
-/// Whether the shape of that number is one of lists, or no tree has it.
+/// Whether lists alone have the shape of that number, or no tree has it.
 fn is_list_or_never(shapes: &Shapes, number: usize) -> bool
     requires number { number < length shapes.now }
     ensures { result
         ≡ (not (model.inhabited (shape_at (expansions shapes.now) number))
         || flow.is_array_shape (shape_at (expansions shapes.now) number)) }
 {
-    !is_inhabited(shapes, number) || is_list(shapes.node(number).unwrap())
-}
-
-/// Whether the node is of lists.
-fn is_list(node: &Node) -> bool
-    ensures { (table : List model.Shape) → result
-        ≡ flow.is_array_shape (shape_over table node.now) }
-{
-    matches!(node, Node::List { .. })
+    !is_inhabited(shapes, number) || arrays_alone(shapes, number).is_some()
 }
 
 /// `States.Format`: a text and what fills its holes.
@@ -203,13 +196,8 @@ fn is_formattable(shapes: &Shapes, number: usize) -> bool
     requires number { number < length shapes.now }
     ensures { result ≡ flow.is_formattable (shape_at (expansions shapes.now) number) }
 {
-    !is_inhabited(shapes, number) || is_written(shapes.node(number).unwrap())
-}
-
-/// Whether the node is of a kind that can be put in a text.
-fn is_written(node: &Node) -> bool
-    ensures { (table : List model.Shape) → flow.is_formattable (shape_over table node.now)
-        ≡ (not (model.inhabited (shape_over table node.now)) || result) }
-{
-    matches!(node, Node::Null | Node::Bool | Node::Int | Node::Text)
+    match kinds_of(shapes, number) {
+        Some(kinds) => !some_array_or_object(shapes, &kinds),
+        None => false,
+    }
 }

@@ -8,6 +8,7 @@ ghost use Rattle.asl_model.specs.Shape as kinds;
 ghost use Rattle.asl_numbered.specs.Expansion.{expansions, shape_at, shapes_at, AreBelow, IsNumberOf, Keeps};
 
 use crate::composing::closed_list;
+use crate::kinds::arrays_alone;
 use crate::numbers::{is_inhabited, put_join, put_never, put_node};
 use asl_numbered::{Node, Shapes};
 use asl_tree::OutOfMemory;
@@ -20,7 +21,7 @@ pub struct Elements {
     pub rest: usize,
 }
 
-/// The numbers of the shapes of the elements, where the shape of that number is one of arrays. Refuses only where an
+/// The numbers of the shapes of the elements, where arrays alone have the shape of that number. Refuses only where an
 /// allocation was refused.
 pub fn elements_of(
     alloc: Global,
@@ -33,21 +34,12 @@ pub fn elements_of(
         ≡ model.array_parts (shape_at (expansions shapes.now) number)) }
     ensures within { IfOk result (λ r. IfSome r (AreElementsBelow (length shapes.now))) }
 {
-    match shapes.node(number) {
-        Some(Node::List { first, rest }) => Ok(Some(Elements {
-            first: Vec::from_slice(alloc, first)?,
-            rest: *rest,
+    match arrays_alone(shapes, number) {
+        Some(arrays) => Ok(Some(Elements {
+            first: Vec::from_slice(alloc, arrays.first)?,
+            rest: arrays.rest,
         })),
-        Some(
-            Node::Any
-            | Node::Never
-            | Node::Null
-            | Node::Bool
-            | Node::Int
-            | Node::Text
-            | Node::Object { .. },
-        )
-        | None => Ok(None),
+        None => Ok(None),
     }
 }
 

@@ -14,7 +14,7 @@ use std::collections::BTreeMap;
 
 /// The number of the shape of the error output, which catchers place: the error's name and its cause, both texts.
 /// Refuses only where an allocation was refused.
-#[tactic(auto, using(asl_numbered::proofs::Growing::renumbered, asl_numbered::proofs::Expansions::keeps_same))]
+#[tactic(auto, using(crate::proofs::Numbered::renumbered, asl_numbered::proofs::Expansions::keeps_same))]
 pub fn error_output_at(alloc: Global, shapes: &mut Shapes) -> Result<usize, OutOfMemory>
     ensures number { IfOk result (IsNumberOf (expansions shapes.new) error_output_shape) }
     ensures keeps { Keeps (expansions shapes.old) (expansions shapes.new) }

@@ -7,15 +7,19 @@
 //! output. [`look_at`], [`put_at`], [`template_shape_at`], [`literal_shape_at`], [`rule_shape_at`] and [`leave_at`] give
 //! the same by the numbers of a table of shapes. By number alone stand the other ways through a state: [`effective_at`]
 //! and [`item_input_at`] lead into it and into a Map's children, [`elements_of`] and [`element_at`] tell of an array's
-//! elements, [`outputs_at`] and [`list_at`] make the lists of children's outputs, and [`error_output_at`] is what a
-//! catcher places.
+//! elements, [`outputs_at`] and [`list_at`] make the lists of children's outputs, [`error_output_at`] is what a
+//! catcher places, [`is_only_integers`] and [`is_only_texts`] tell whether a value of that kind is sure, and
+//! [`settles_at`] whether a Choice needs no `Default`.
 #![tactic(auto)]
 
+mod alone;
 mod calls;
 mod composing;
 mod elements;
 mod entering;
 mod errors;
+mod kind_tests;
+mod kinds;
 mod leaving;
 mod literals;
 mod looking;
@@ -26,14 +30,17 @@ mod putting;
 mod references;
 mod replacing;
 mod rules;
+mod settling;
 mod templates;
 
 pub use elements::{Elements, element_at, elements_of, list_at, outputs_at};
 pub use entering::{effective_at, item_input_at};
 pub use errors::error_output_at;
+pub use kinds::{is_only_integers, is_only_texts};
 pub use leaving::{FlowFault, leave, leave_at};
 pub use literals::{literal_shape, literal_shape_at};
 pub use looking::{LookRefusal, find_shape, look, look_at};
 pub use putting::{PutRefusal, put, put_at};
 pub use rules::{RuleShapeRefusal, rule_shape, rule_shape_at};
+pub use settling::settles_at;
 pub use templates::{TemplateShapeRefusal, template_shape, template_shape_at};

@@ -11,6 +11,7 @@ ghost use Rattle.asl_numbered.specs.Expansion.{expansions, shape_at, IsNumberOf,
 ghost use Rattle.asl_path.specs.View.{segment_view};
 ghost use Rattle.asl_shape.specs.View.{view};
 
+use crate::alone::{arrays_alone, objects_alone};
 use crate::numbers::{is_inhabited, put_never};
 use crate::parts::find_part;
 use asl_model::shape_laws::look_means_named;
@@ -104,23 +105,11 @@ fn part<'s>(shape: &'s Shape, segment: &Segment) -> Option<&'s Shape>
     }
 }
 
-/// The shape of a needed field.
+/// The shape of the field of that name, where each tree of the shape is an object that has it.
 fn needed_field<'s>(shape: &'s Shape, name: &String) -> Option<&'s Shape>
     ensures { option_map (λ s. view s.now) result ≡ part_at (Name (string_bytes name.now)) (view shape.now) }
 {
-    match shape {
-        Shape::Object { fields, extra: _ } => match fields.get(name) {
-            Some(field) => if_needed(field),
-            None => None,
-        },
-        Shape::Any
-        | Shape::Never
-        | Shape::Null
-        | Shape::Bool
-        | Shape::Int
-        | Shape::Text
-        | Shape::List { first: _, rest: _ } => None,
-    }
+    if_needed(objects_alone(shape)?.fields.get(name)?)
 }
 
 /// The shape of a field, where it is needed.
@@ -134,21 +123,9 @@ fn if_needed(field: &Field) -> Option<&Shape>
     }
 }
 
-/// The shape of the place at an index, where each list of the shape has it.
+/// The shape of the place at an index, where each tree of the shape is a list that has it.
 fn first_place<'s>(shape: &'s Shape, index: u32) -> Option<&'s Shape>
     ensures { option_map (λ s. view s.now) result ≡ part_at (Index index) (view shape.now) }
 {
-    match shape {
-        Shape::List { first, rest: _ } => first.get(index as usize),
-        Shape::Any
-        | Shape::Never
-        | Shape::Null
-        | Shape::Bool
-        | Shape::Int
-        | Shape::Text
-        | Shape::Object {
-            fields: _,
-            extra: _,
-        } => None,
-    }
+    arrays_alone(shape)?.first.get(index as usize)
 }

@@ -1,10 +1,12 @@
 // Narrowing the shape of a number to the trees in which a path names something.
 ghost use Rattle.asl_flow.specs.Numbers.{Shows};
+ghost use Rattle.asl_model.specs.Path.{Name, Index};
 ghost use Rattle.asl_model.specs.ShapeFlow.{narrow_under as narrowed_under, where_present};
 ghost use Rattle.asl_numbered.specs.Expansion.{expansions, shape_at, Keeps};
 ghost use Rattle.asl_path.specs.View.{segment_view, segments_view};
-ghost use Rattle.std.specs.Prelude.{◌<◌, IfOk, length};
+ghost use Rattle.std.specs.Prelude.{◌<◌, IfOk, length, string_bytes};
 
+use crate::kinds::kinds_of;
 use crate::numbers::{put_never, put_node};
 use crate::replacing::{put_field, put_place};
 use asl_numbered::{Node, Shapes};
@@ -32,9 +34,7 @@ pub(crate) fn narrow_to_present(
     narrow_under(alloc, shapes, number, segment, rest)
 }
 
-// Narrows what stands under the segment: a place of its own, where further elements stay as they are; or a field, which is
-// needed then, and which must be mentioned unless the object may have further fields. Where the segment names nothing in
-// any tree, the shape is `Never`.
+// Narrows what stands under the segment, in the lists or in the objects of the shape.
 #[cycle(narrow)]
 fn narrow_under(
     alloc: Global,
@@ -50,34 +50,76 @@ fn narrow_under(
         (shape_at (expansions shapes.old) number))) }
     ensures keeps { Keeps (expansions shapes.old) (expansions shapes.new) }
 {
-    match shapes.node(number) {
-        Some(Node::Any) => Ok(number),
-        Some(Node::List { first, .. }) => match segment {
-            Segment::Index(index) => match first.get(*index as usize).copied() {
-                Some(place) => {
-                    let narrowed = narrow_to_present(alloc, shapes, place, rest)?;
-                    put_place(alloc, shapes, number, *index as usize, narrowed)
-                }
-                None => Ok(number),
-            },
-            Segment::Name(_) => put_never(shapes),
-        },
-        Some(Node::Object { fields, extra }) => match segment {
-            Segment::Name(name) => match fields.get(name).copied() {
-                Some(field) => {
-                    let narrowed = narrow_to_present(alloc, shapes, field.shape, rest)?;
-                    put_field(shapes, number, name, narrowed)
-                }
-                None if *extra => {
-                    let any = put_node(shapes, Node::Any)?;
-                    put_field(shapes, number, name, any)
-                }
-                None => put_never(shapes),
-            },
-            Segment::Index(_) => put_never(shapes),
-        },
-        Some(Node::Never | Node::Null | Node::Bool | Node::Int | Node::Text) | None => {
-            put_never(shapes)
+    match segment {
+        Segment::Name(name) => narrow_field(alloc, shapes, number, name, rest),
+        Segment::Index(index) => narrow_place(alloc, shapes, number, *index, rest),
+    }
+}
+
+// Narrows a field of the objects of the shape, which is needed then, and which must be mentioned unless they may have
+// further fields. Where the name names nothing in any tree, the shape is `Never`.
+#[cycle(narrow)]
+fn narrow_field(
+    alloc: Global,
+    shapes: &mut Shapes,
+    number: usize,
+    name: &String,
+    rest: &[Segment],
+) -> Result<usize, OutOfMemory>
+    requires number { number < length shapes.old }
+    ensures shown { IfOk result
+        (Shows shapes.new
+        (narrowed_under (where_present (segments_view rest.now)) (Name (string_bytes name.now))
+        (shape_at (expansions shapes.old) number))) }
+    ensures keeps { Keeps (expansions shapes.old) (expansions shapes.new) }
+{
+    let Some(kinds) = kinds_of(shapes, number) else {
+        return Ok(number);
+    };
+    let Some(objects) = kinds.objects else {
+        return put_never(shapes);
+    };
+    match objects.fields.get(name).copied() {
+        Some(field) => {
+            let narrowed = narrow_to_present(alloc, shapes, field.shape, rest)?;
+            put_field(shapes, number, name, narrowed)
         }
+        None if objects.extra => {
+            let any = put_node(shapes, Node::Any)?;
+            put_field(shapes, number, name, any)
+        }
+        None => put_never(shapes),
+    }
+}
+
+// Narrows a place of the lists of the shape, where it has a shape of its own; further elements stay as they are. Where no
+// list has the shape, it is `Never`.
+#[cycle(narrow)]
+fn narrow_place(
+    alloc: Global,
+    shapes: &mut Shapes,
+    number: usize,
+    index: u32,
+    rest: &[Segment],
+) -> Result<usize, OutOfMemory>
+    requires number { number < length shapes.old }
+    ensures shown { IfOk result
+        (Shows shapes.new
+        (narrowed_under (where_present (segments_view rest.now)) (Index index)
+        (shape_at (expansions shapes.old) number))) }
+    ensures keeps { Keeps (expansions shapes.old) (expansions shapes.new) }
+{
+    let Some(kinds) = kinds_of(shapes, number) else {
+        return Ok(number);
+    };
+    let Some(arrays) = kinds.arrays else {
+        return put_never(shapes);
+    };
+    match arrays.first.get(index as usize).copied() {
+        Some(place) => {
+            let narrowed = narrow_to_present(alloc, shapes, place, rest)?;
+            put_place(alloc, shapes, number, index as usize, narrowed)
+        }
+        None => Ok(arrays.number),
     }
 }

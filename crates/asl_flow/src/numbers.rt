@@ -5,6 +5,7 @@ ghost use Rattle.asl_model.specs.Shape as model;
 ghost use Rattle.asl_model.specs.ShapeOrder as order;
 ghost use Rattle.asl_flow.specs.Numbers.{Shows};
 ghost use Rattle.asl_numbered.specs.Expansion.{expansions, shape_at, shape_over, Keeps, RefersBelow};
+ghost use Rattle.asl_numbered.specs.Kinds.{HasProperParts};
 ghost use Rattle.asl_shape.specs.View.{view};
 
 use asl_numbered::{Node, Shapes};
@@ -33,6 +34,7 @@ pub(crate) fn are_inhabited(shapes: &Shapes, first: usize, second: usize) -> boo
 /// The number of the shape whose first level is the node.
 pub(crate) fn put_node(shapes: &mut Shapes, node: Node) -> Result<usize, OutOfMemory>
     requires refers { RefersBelow (length shapes.old) node }
+    requires proper { HasProperParts (expansions shapes.old) node }
     ensures shown { IfOk result (Shows shapes.new (shape_over (expansions shapes.old) node)) }
     ensures keeps { Keeps (expansions shapes.old) (expansions shapes.new) }
 {

@@ -3,13 +3,16 @@
 ghost use Rattle.std.specs.Prelude.{◌≡◌, ◌<◌, ℕ, List, Some, IfOk, IfSome, length, option_map, string_bytes};
 ghost use Rattle.asl_model.specs.Path.{Name, Index};
 ghost use Rattle.asl_model.specs.Shape as model;
-ghost use Rattle.asl_model.specs.ShapeFlow.{look_at, part_at, if_needed as needed_shape};
+ghost use Rattle.asl_model.specs.ShapeFlow.{look_at, part_at, place_at, if_needed as needed_shape};
+ghost use Rattle.asl_model.specs.ShapeOrder.{mention_of};
 ghost use Rattle.asl_flow.specs.Numbers.{shown};
-ghost use Rattle.asl_numbered.specs.Expansion.{expansions, shape_at, shape_over, RefersBelow};
+ghost use Rattle.asl_numbered.specs.Expansion.{expansions, shape_at, shapes_at, fields_at, numbers_in, AreBelow};
 ghost use Rattle.asl_path.specs.View.{segment_view};
 
-use asl_numbered::{Node, NodeField, Shapes};
+use crate::kinds::{arrays_alone, objects_alone};
+use asl_numbered::{NodeField, Shapes};
 use asl_path::{RefPath, Segment};
+use std::collections::BTreeMap;
 
 /// The number of the shape of what `path` names in every tree of a shape that some tree has, or that of the segment that
 /// may name nothing, counted from 0 (States Language, "Reference Paths").
@@ -40,13 +43,13 @@ fn part_of(shapes: &Shapes, number: usize, segment: &Segment) -> Option<usize>
 }
 
 /// The number of the shape of the field of that name, where each tree of the shape is an object that has it.
-pub(crate) fn field_of(shapes: &Shapes, number: usize, name: &String) -> Option<usize>
+fn field_of(shapes: &Shapes, number: usize, name: &String) -> Option<usize>
     requires number { number < length shapes.now }
     ensures part { option_map (shape_at (expansions shapes.now)) result
         ≡ part_at (Name (string_bytes name.now)) (shape_at (expansions shapes.now) number) }
     ensures within { IfSome result (λ field. field < length shapes.now) }
 {
-    needed_field(shapes.node(number)?, name)
+    needed_field(objects_alone(shapes, number)?.fields, name)
 }
 
 /// The number of the shape of the place at an index, where each tree of the shape is a list that has it.
@@ -56,26 +59,17 @@ pub(crate) fn place_of(shapes: &Shapes, number: usize, index: u32) -> Option<usi
         ≡ part_at (Index index) (shape_at (expansions shapes.now) number) }
     ensures within { IfSome result (λ place. place < length shapes.now) }
 {
-    first_place(shapes.node(number)?, index)
+    first_place(arrays_alone(shapes, number)?.first, index)
 }
 
 /// The number of the shape of a needed field.
-fn needed_field(node: &Node, name: &String) -> Option<usize>
+pub(crate) fn needed_field(fields: &BTreeMap<String, NodeField>, name: &String) -> Option<usize>
     ensures part { (table : List model.Shape) → option_map (shape_at table) result
-        ≡ part_at (Name (string_bytes name.now)) (shape_over table node.now) }
-    ensures within { (bound : ℕ) → RefersBelow bound node.now
+        ≡ needed_shape (mention_of (string_bytes name.now) (fields_at table fields.now.entries)) }
+    ensures within { (bound : ℕ) → AreBelow bound (numbers_in fields.now.entries)
         → IfSome result (λ part. part < bound) }
 {
-    match node {
-        Node::Object { fields, .. } => if_needed(fields.get(name)?),
-        Node::Any
-        | Node::Never
-        | Node::Null
-        | Node::Bool
-        | Node::Int
-        | Node::Text
-        | Node::List { .. } => None,
-    }
+    if_needed(fields.get(name)?)
 }
 
 /// The number of the shape of a field, where it is needed.
@@ -92,21 +86,12 @@ fn if_needed(field: &NodeField) -> Option<usize>
     }
 }
 
-/// The number of the shape of the place at an index, where each list of the shape has it.
-fn first_place(node: &Node, index: u32) -> Option<usize>
+/// The number of the shape of the place at an index.
+fn first_place(first: &[usize], index: u32) -> Option<usize>
     ensures part { (table : List model.Shape) → option_map (shape_at table) result
-        ≡ part_at (Index index) (shape_over table node.now) }
-    ensures within { (bound : ℕ) → RefersBelow bound node.now
+        ≡ place_at index (shapes_at table first.now) }
+    ensures within { (bound : ℕ) → AreBelow bound first.now
         → IfSome result (λ part. part < bound) }
 {
-    match node {
-        Node::List { first, .. } => first.get(index as usize).copied(),
-        Node::Any
-        | Node::Never
-        | Node::Null
-        | Node::Bool
-        | Node::Int
-        | Node::Text
-        | Node::Object { .. } => None,
-    }
+    first.get(index as usize).copied()
 }

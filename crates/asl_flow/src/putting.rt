@@ -16,6 +16,7 @@ ghost use Rattle.asl_path.specs.View.{segments_view};
 ghost use Rattle.asl_shape.specs.View.{view};
 
 use crate::composing::set_field;
+use crate::kinds::objects_alone;
 use crate::numbers::{are_inhabited, expand, put_join, put_never, put_node};
 use crate::parts::place_of;
 use crate::replacing::{put_field, put_place};
@@ -163,11 +164,11 @@ fn put_in_object(
         (shape_at (expansions shapes.old) number))) result }
     ensures keeps { Keeps (expansions shapes.old) (expansions shapes.new) }
 {
-    let Some(Node::Object { fields, extra }) = shapes.node(number) else {
+    let Some(objects) = objects_alone(shapes, number) else {
         return Err(PutRefusal::MayNotFit(at));
     };
-    let field = fields.get(name).copied();
-    let extra = *extra;
+    let field = objects.fields.get(name).copied();
+    let extra = objects.extra;
     let value = put_in_field(alloc, shapes, field, extra, further, at + 1, placed)?;
     Ok(put_field(shapes, number, name, value)?)
 }

@@ -6,15 +6,16 @@ ghost use Rattle.asl_flow.specs.Numbers.{Shows};
 ghost use Rattle.asl_numbered.specs.Expansion.{expansions, shape_at, Keeps};
 
 use crate::composing::set_field;
+use crate::kinds::{arrays_of, objects_of};
 use crate::numbers::put_node;
-use crate::parts::field_of;
+use crate::parts::needed_field;
 use asl_numbered::{Node, NodeField, Shapes};
 use asl_tree::OutOfMemory;
 use std::alloc::Global;
 use std::collections::BTreeMap;
 
-/// The number of an object shape with a field of that name, which is needed and has the shape of the other number, in
-/// place of any other of its name. Another shape stays as it is, and so does one that has that field already.
+/// The number of the shape of the objects alone of that number's shape, with a field of that name, which is needed and
+/// has the shape of the other number, in place of any other of its name. A shape without objects stays as it is.
 pub(crate) fn put_field(
     shapes: &mut Shapes,
     number: usize,
@@ -30,21 +31,20 @@ pub(crate) fn put_field(
     ensures keeps { Keeps (expansions shapes.old) (expansions shapes.new) }
 {
     shapes.are_proper();
-    if field_of(shapes, number, name) == Some(field) {
+    let Some(objects) = objects_of(shapes, number) else {
         return Ok(number);
+    };
+    if needed_field(objects.fields, name) == Some(field) {
+        return Ok(objects.number);
     }
-    let Some(Node::Object { fields, extra }) = shapes.node(number) else {
-        return Ok(number);
-    };
-    let changed = Node::Object {
-        fields: with_field(fields, name, field)?,
-        extra: *extra,
-    };
+    let extra = objects.extra;
+    let fields = with_field(objects.fields, name, field)?;
+    let changed = Node::Object { fields, extra };
     put_node(shapes, changed)
 }
 
-/// The number of a list shape with the shape of the other number at an index, where that is among the first places.
-/// Another shape stays as it is.
+/// The number of the shape of the lists alone of that number's shape, with the shape of the other number at an index,
+/// where that is among the first places. A shape without lists stays as it is.
 pub(crate) fn put_place(
     alloc: Global,
     shapes: &mut Shapes,
@@ -60,11 +60,11 @@ pub(crate) fn put_place(
         (shape_at (expansions shapes.old) number))) }
     ensures keeps { Keeps (expansions shapes.old) (expansions shapes.new) }
 {
-    let Some(Node::List { first, rest }) = shapes.node(number) else {
+    let Some(arrays) = arrays_of(shapes, number) else {
         return Ok(number);
     };
-    let first = with_place(alloc, first, index, place)?;
-    let rest = *rest;
+    let rest = arrays.rest;
+    let first = with_place(alloc, arrays.first, index, place)?;
     put_node(shapes, Node::List { first, rest })
 }
 

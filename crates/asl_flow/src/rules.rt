@@ -10,6 +10,7 @@ ghost use Rattle.asl_model.specs.Tree.{Tree};
 ghost use Rattle.asl_numbered.specs.Expansion.{expansions, shape_at, IsNumberOf, Keeps};
 ghost use Rattle.asl_shape.specs.View.{view};
 
+use crate::kind_tests::narrow_to_kind;
 use crate::narrowing::narrow_to_present;
 use crate::numbers::{expand, is_inhabited, put_never};
 use crate::parts::find_part;
@@ -44,7 +45,8 @@ impl From<OutOfMemory> for RuleShapeRefusal {
 ///
 /// Each path but that of `IsPresent` must name something in every tree of the shape at hand; else the refusal is
 /// `MayBeMissing`, and where there is no such path, only `OutOfMemory` is possible. `IsPresent` narrows the shape to the
-/// trees in which its path names something, where that is wanted. `And` hands the narrowed shape from each part to the
+/// trees in which its path names something, where that is wanted, and `IsNull`, `IsBoolean`, `IsNumeric` and `IsString` to
+/// those in which what the path names is of that kind, or else of another. `And` hands the narrowed shape from each part to the
 /// next and answers the last; `Or` and `Not` look at each part with the shape as it is, and answer that. Of a shape
 /// without a tree the answer is `Never`, also of one that a part of an `And` hands to the next.
 pub fn rule_shape(alloc: Global, test: &Test, shape: &Shape) -> Result<Shape, RuleShapeRefusal>
@@ -144,9 +146,14 @@ fn narrow(
                 && is_operand_found(shapes, number, operand);
             keep_if(found, number)
         }
-        Test::StringMatches { variable, .. } | Test::IsOfKind { variable, .. } => {
+        Test::StringMatches { variable, .. } => {
             keep_if(is_found(shapes, number, variable), number)
         }
+        Test::IsOfKind {
+            variable,
+            kind,
+            wanted,
+        } => narrow_to_kind(alloc, shapes, number, variable, *kind, *wanted),
         Test::IsPresent { variable, wanted } => {
             if *wanted {
                 Ok(narrow_to_present(alloc, shapes, number, variable.segments())?)
@@ -204,8 +211,8 @@ fn check_all(
     Ok(())
 }
 
-// Refuses where the test may be neither true nor false of a tree of the shape. `IsPresent` always is one of them, so
-// nothing is narrowed for it.
+// Refuses where the test may be neither true nor false of a tree of the shape. `IsPresent` always is one of them, and a
+// test of a kind where its path is found, so nothing is narrowed for these.
 #[cycle(narrow)]
 fn check(
     alloc: Global,
@@ -221,10 +228,19 @@ fn check(
         (model.true_of (test_view test.now) (shape_at (expansions shapes.old) number))) }
     ensures keeps { Keeps (expansions shapes.old) (expansions shapes.new) }
 {
-    if let Test::IsPresent { .. } = test {
-        return Ok(());
+    match test {
+        Test::IsPresent { .. } => {}
+        Test::IsOfKind { variable, .. } => {
+            keep_if(is_found(shapes, number, variable), number)?;
+        }
+        Test::And(_)
+        | Test::Or(_)
+        | Test::Not(_)
+        | Test::Compare { .. }
+        | Test::StringMatches { .. } => {
+            narrow(alloc, shapes, test, number)?;
+        }
     }
-    narrow(alloc, shapes, test, number)?;
     Ok(())
 }
 

@@ -4,14 +4,12 @@ use Rattle.asl_flow.proofs.ElementNumbers.{outputs_refer, outputs_shape}
 use Rattle.asl_flow.proofs.Numbered.{its_number, still_shown, still_within}
 use Rattle.asl_flow.proofs.elements.outputs_at.Goals as goal
 
-pub put_node-requires : goal.put_node-requires
-put_node-requires c =
+pub put_node-requires-clause-refers : goal.put_node-requires-clause-refers
+put_node-requires-clause-refers c =
     let grown = c.further_output.new.shapes in
     let within = still_within c.args.shapes.now grown c.args.output c.in_ok-rest.ensures.keeps c.requires.output in
-    record {
-      refers = outputs_refer (length grown) c.len.result c.args.output c.in_ok-first.first c.in_ok-rest.rest
-          within c.in_ok-rest.ensures.shown.within (c.in_ok-first.ensures.items_if_clones_equal (λ y h. h));
-    }
+    outputs_refer (length grown) c.len.result c.args.output c.in_ok-first.first c.in_ok-rest.rest within
+    c.in_ok-rest.ensures.shown.within (c.in_ok-first.ensures.items_if_clones_equal (λ y h. h))
 
 pub returns-clause-number : goal.returns-clause-number
 returns-clause-number c =

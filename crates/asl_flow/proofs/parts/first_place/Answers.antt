@@ -1,10 +1,13 @@
-use Rattle.asl_flow.proofs.NumberedParts.{first_part, first_below}
+use Rattle.std.proofs.Common.{ap, ◌∙◌, option_map}
+use Rattle.asl_numbered.specs.Expansion.{shape_at}
+use Rattle.asl_flow.proofs.NumberedParts.{place_got, place_below}
 use Rattle.asl_flow.proofs.parts.first_place.Goals as goal
 
-pub returns-in-List-clause-part : goal.returns-in-List-clause-part
-returns-in-List-clause-part c =
-    λ table. first_part table c.args.node.now c.in-List.first c.in-List.rest c.args.index c.deref.result.now c.get.result c.copied.result c.in-List.is c.deref.ensures.value c.get.ensures.lookup.0 c.get.ensures.lookup.1 c.copied.ensures
+pub returns-clause-part : goal.returns-clause-part
+returns-clause-part c =
+    λ table. ap (option_map (shape_at table)) c.copied.ensures
+    ∙ place_got table c.args.first.now c.args.index c.get.result c.get.ensures.lookup.0 c.get.ensures.lookup.1
 
-pub returns-in-List-clause-within : goal.returns-in-List-clause-within
-returns-in-List-clause-within c =
-    first_below c.args.node.now c.in-List.first c.in-List.rest c.args.index c.deref.result.now c.get.result c.copied.result c.in-List.is c.deref.ensures.value c.get.ensures.lookup.0 c.get.ensures.lookup.1 c.copied.ensures
+pub returns-clause-within : goal.returns-clause-within
+returns-clause-within c =
+    λ bound below. rw c.copied.ensures (place_below bound c.args.first.now c.args.index c.get.result c.get.ensures.lookup.0 c.get.ensures.lookup.1 below)

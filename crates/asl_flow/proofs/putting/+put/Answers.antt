@@ -6,9 +6,8 @@ use Rattle.asl_model.specs.ShapeFlow.{put as put_shape, built_shape}
 use Rattle.asl_flow.specs.Counting.{counted_on}
 use Rattle.asl_flow.specs.Putting.{Answers}
 use Rattle.asl_flow.proofs.Numbered.{still_within, still_shown}
-use Rattle.asl_flow.proofs.NumberedParts.{field_within, object_level}
+use Rattle.asl_flow.proofs.NumberedParts.{field_below}
 use Rattle.asl_flow.proofs.Puts.{answered_in_list, refused_in_object, answered_in_object, nothing_put, put_first, second_refused, both_joined, answered}
-use Rattle.asl_numbered.specs.declared.node.Node.TheVariants.{Object}
 use Rattle.asl_numbered.specs.Expansion.{expansions, shape_at}
 use Rattle.asl_path.specs.View.{segment_view, segments_view}
 use Rattle.asl_flow.proofs.putting.+put.Goals as goal
@@ -26,9 +25,8 @@ put_in_list-returns-clause-answers t c =
 
 pub put_in_object-put_in_field-requires : goal.put_in_object-put_in_field-requires
 put_in_object-put_in_field-requires t c =
-    let object = c.in-Some-Object in
-    let is : object.field-0.now ≡ Object object.fields object.extra = cc in
-    let there = field_within (length c.args.shapes.now) c.args.number object.field-0.now object.fields object.extra c.args.name.now c.copied-field.result is object.ensures.earlier c.requires.number (c.copied-field.ensures ∙ c.get.ensures.value) in
+    let objects = c.in-Some.objects in
+    let there = field_below (length c.args.shapes.now) c.args.name.now objects.fields.now c.copied-field.result (c.copied-field.ensures ∙ c.get.ensures.value) c.in-Some.ensures.within.fields in
     (omega (arith, c.decreases), (there, (c.requires.placed, omega arith)))
 
 pub put_in_object-returns-in_err-value-clause-answers :
@@ -38,10 +36,8 @@ put_in_object-returns-in_err-value-clause-answers t c =
     let table = expansions c.args.shapes.now in
     let w = shape_at table c.args.placed in
     let s = shape_at table c.args.number in
-    let object = c.in-Some-Object in
-    let is : object.field-0.now ≡ Object object.fields object.extra = cc in
-    let level = object_level table object.field-0.now object.fields object.extra s is object.ensures.level in
-    refused_in_object c.put_in_field.new.shapes c.args.at (put_shape p w) p w s table c.args.name.now object.fields object.extra c.copied-field.result c.in_err-value.field-0.0 c.from_residual.result level (c.copied-field.ensures ∙ c.get.ensures.value) c.in_err-value.ensures.answers (search rules)
+    let objects = c.in-Some.objects in
+    refused_in_object c.put_in_field.new.shapes c.args.at (put_shape p w) p w s table c.args.name.now objects.fields.now objects.extra c.copied-field.result c.in_err-value.field-0.0 c.from_residual.result (sym c.in-Some.ensures.shown) (c.copied-field.ensures ∙ c.get.ensures.value) c.in_err-value.ensures.answers (search rules)
 
 pub put_in_object-put_field-requires-clause-number :
     goal.put_in_object-put_field-requires-clause-number
@@ -50,14 +46,10 @@ put_in_object-put_field-requires-clause-number t c = still_within c.args.shapes.
 pub put_in_object-returns-clause-answers : goal.put_in_object-returns-clause-answers
 put_in_object-returns-clause-answers t c =
     let p = segments_view c.args.further.now in
-    let table = expansions c.args.shapes.now in
-    let w = shape_at table c.args.placed in
-    let s = shape_at table c.args.number in
-    let object = c.in-Some-Object in
-    let is : object.field-0.now ≡ Object object.fields object.extra = cc in
-    let level = object_level table object.field-0.now object.fields object.extra s is object.ensures.level in
-    answered_in_object c.args.shapes.now c.put_in_field.new.shapes c.put_field.new.shapes c.args.at (put_shape p w) p w c.args.number c.args.name.now object.fields object.extra c.copied-field.result c.in_ok-value.value c.in_ok-put_field.field-0
-    c.requires.number c.put_in_field.ensures.keeps level (c.copied-field.ensures ∙ c.get.ensures.value) c.in_ok-value.ensures.answers c.in_ok-put_field.ensures.shown
+    let w = shape_at (expansions c.args.shapes.now) c.args.placed in
+    let objects = c.in-Some.objects in
+    answered_in_object c.args.shapes.now c.put_in_field.new.shapes c.put_field.new.shapes c.args.at (put_shape p w) p w c.args.number c.args.name.now objects.fields.now objects.extra c.copied-field.result c.in_ok-value.value c.in_ok-put_field.field-0
+    c.requires.number c.put_in_field.ensures.keeps (sym c.in-Some.ensures.shown) (c.copied-field.ensures ∙ c.get.ensures.value) c.in_ok-value.ensures.answers c.in_ok-put_field.ensures.shown
 
 pub put_in_optional-build-requires-clause-placed :
     goal.put_in_optional-build-requires-clause-placed

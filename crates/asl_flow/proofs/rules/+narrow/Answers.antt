@@ -1,7 +1,9 @@
-use Rattle.std.proofs.Common.{◌≡◌, Some, ◌∙◌, rules}
-use Rattle.asl_choice.specs.View.{view as test_view}
+use Rattle.std.proofs.Common.{◌≡◌, Some, sym, ◌∙◌, rules}
+use Rattle.asl_choice.specs.View.{kind_view, view as test_view}
 use Rattle.asl_choice.specs.declared.rule.Test.{the_lemmas}
 use Rattle.asl_model.specs.ShapeFlow.{true_of}
+use Rattle.asl_model.specs.Test.{IsOfKind}
+use Rattle.asl_flow.proofs.TestedKinds.{found_tested}
 use Rattle.asl_numbered.specs.Expansion.{expansions, shape_at}
 use Rattle.asl_numbered.proofs.Expansions.{keeps_trans}
 use Rattle.asl_flow.proofs.NarrowedTests.{found_next, refused_next, kept_narrowed}
@@ -34,3 +36,10 @@ narrow-returns-in_ok-check-in-Not-clause-narrowed t c =
     let s = shape_at (expansions c.args.shapes.now) c.args.number in
     let whole : true_of (test_view c.args.test.now) s ≡ Some s = search (rules, the_lemmas) in
     kept_narrowed c.args.shapes.now _ c.args.number _ c.in_ok-check-in-Not.ensures.keeps c.requires.number whole
+
+pub check-returns-in_ok-keep_if-in-IsOfKind-clause-found : goal.check-returns-in_ok-keep_if-in-IsOfKind-clause-found
+check-returns-in_ok-keep_if-in-IsOfKind-clause-found t c =
+    let test = c.in-IsOfKind in
+    let s = shape_at (expansions c.args.shapes.now) c.args.number in
+    let is : test_view c.args.test.now ≡ IsOfKind test.variable (kind_view test.kind) test.wanted = search (rules, the_lemmas) in
+    rw is (found_tested test.variable (kind_view test.kind) test.wanted s (sym c.is_found.ensures ∙ c.in_ok-keep_if-in-IsOfKind.ensures.found.0))

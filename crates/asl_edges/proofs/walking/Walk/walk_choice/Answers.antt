@@ -17,5 +17,5 @@ returns-in_err-walk_rules c =
 
 pub returns : goal.returns
 returns c =
-    let same = default_kept c.args.shapes.now c.walk_rules.new.shapes c.args.self.now c.in_ok-walk_rules.ensures.keeps c.args.effective c.requires.input c.requires.effective c.args.default.now in
+    let same = default_kept c.args.shapes.now c.walk_rules.new.shapes c.args.self.now c.in_ok-walk_rules.ensures.keeps c.args.effective c.requires.input c.requires.effective c.args.rules.now c.args.default.now in
     walks_then _ _ _ _ _ _ _ _ _ _ c.in_ok-walk_rules.ensures (walks_same _ _ _ _ _ _ _ same c.walk_default.ensures)

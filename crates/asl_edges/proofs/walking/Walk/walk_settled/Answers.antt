@@ -1,17 +1,15 @@
-use Rattle.std.proofs.Common.{◌≡◌, None, Some, codes, map, string_bytes, ap, rules}
-use Rattle.asl_states.specs.Machine.{branches_view, choice_rule_view, kind_view}
-use Rattle.asl_model.specs.Finding.{NoDefault}
-use Rattle.asl_model.specs.Machine.{Choice, Pass}
+use Rattle.std.proofs.Common.{◌≡◌, Some, string_bytes, ap, rules}
+use Rattle.asl_states.specs.Machine.{branches_view, kind_view}
+use Rattle.asl_model.specs.Machine.{Pass}
 use Rattle.asl_model.specs.ShapeFlow.{literal}
 use Rattle.asl_numbered.specs.Expansion.{expansions, shape_at}
-use Rattle.asl_numbered.proofs.Expansions.{keeps_same}
 use Rattle.asl_tree.specs.View as trees
 use Rattle.asl_edges.specs.Entry.{entry_view}
 use Rattle.asl_edges.specs.Steps.{settings_of, kind_of}
 use Rattle.asl_edges.proofs.Kept.{among, within}
-use Rattle.asl_edges.proofs.KindSteps.{answer_steps, choice_without_default, ends_steps, literal_steps}
+use Rattle.asl_edges.proofs.KindSteps.{answer_steps, ends_steps, literal_steps}
 use Rattle.asl_edges.proofs.Settled.{settled_walked}
-use Rattle.asl_edges.proofs.WalkSteps.{walks_broken, walks_same}
+use Rattle.asl_edges.proofs.WalkSteps.{walks_same}
 use Rattle.asl_edges.proofs.walking.Walk.walk_settled.Goals as goal
 
 pub walk_result-requires-clause-input : goal.walk_result-requires-clause-input
@@ -48,10 +46,3 @@ returns-in_ok-ends-in-Parallel c =
     let table = expansions a in
     let same = ends_steps (settings_of walk) (kind_of walk) (entry_view table walk.entry) (branches_view c.in-Parallel.branches.items) (shape_at table c.args.gives) (ap kind_view c.in-Parallel.is) in
     walks_same _ _ _ _ _ _ _ same (settled_walked a c.list_at.new.shapes _ _ _ walk _ c.in_ok-ends-in-Parallel.ends _ c.in_ok-ends-in-Parallel.ensures.keeps c.requires.entry.input c.in_ok-ends-in-Parallel.ensures.number c.walk_result-in-Parallel.ensures)
-
-pub returns-in-Choice-default-None : goal.returns-in-Choice-default-None
-returns-in-Choice-default-None c =
-    let walk = c.args.self.now in
-    let table = expansions c.args.shapes.now in
-    let is : kind_of walk ≡ Choice (map choice_rule_view c.in-Choice-default-None.choices.items) None = search rules in
-    walks_broken table table _ _ _ (record { field = codes "Default"; fault = NoDefault }) (keeps_same table) c.broken_at.ensures (choice_without_default (settings_of walk) (kind_of walk) (entry_view table walk.entry) (map choice_rule_view c.in-Choice-default-None.choices.items) (shape_at table c.args.gives) is)

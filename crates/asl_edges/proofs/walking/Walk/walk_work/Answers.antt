@@ -24,7 +24,7 @@ returns-in-Choice c =
     let walk = c.args.self.now in
     let table = expansions c.args.shapes.now in
     let same = choice_steps (settings_of walk) (kind_of walk) (entry_view table walk.entry) (map choice_rule_view c.in-Choice.choices.items) (option_map target_name c.in-Choice.default) (shape_at table c.args.effective) (ap kind_view c.in-Choice.is) in
-    walks_same _ _ _ _ _ _ _ (ap (λ rules. rules_steps table walk rules c.args.effective ++ default_steps table walk c.in-Choice.default c.args.effective) c.deref.ensures.value ∙ same) c.walk_choice.ensures
+    walks_same _ _ _ _ _ _ _ (ap (λ rules. rules_steps table walk rules c.args.effective ++ default_steps table walk rules c.in-Choice.default c.args.effective) c.deref.ensures.value ∙ same) c.walk_choice.ensures
 
 pub returns-in-Wait : goal.returns-in-Wait
 returns-in-Wait c =
