@@ -1,5 +1,5 @@
 -- What is wrong with a certificate, by the parts in which it is read.
-use Rattle.std.proofs.Common.{◌≡◌, ◌<◌, List, length, refl, arith, Option, [], ◌∷◌, ◌++◌, codes, Some, None, unwrap_or, true, ℕ, Bor, Vec, String, Global, ⊎_elim, sym, ap, ap₂, subst, ◌∙◌}
+use Rattle.std.proofs.Common.{◌≡◌, ◌<◌, List, length, refl, arith, Option, [], ◌∷◌, ◌++◌, codes, pos, Some, None, unwrap_or, Bool, true, ℕ, Bor, Vec, String, Global, ⊎_elim, sym, ap, ap₂, subst, ◌∙◌}
 use Rattle.std.specs.List.{Contains}
 use Rattle.std.proofs.lemmas.List.Elements.{Contains-append_left, Contains-append_right, Contains-append_cases}
 use Rattle.serde_json.specs.Data as json
@@ -7,14 +7,14 @@ use Rattle.serde_json.specs.Data.{Data, Members}
 use Rattle.serde_json.specs.Find.{as_object, get_member}
 use Rattle.serde_json.specs.declared.value.Value.{Value}
 use Rattle.asl_model.specs.Tree.{Tree}
-use Rattle.asl_model.specs.Records.{RecordComplaint, certificate_rows, state_rows, listed_complaints, listed_from, listed_in, entries_complaints, members_in, members_under}
-use Rattle.asl_records.specs.Parts.{TellsOneOf, certified, certified_complaints, field_complaints, foreign_complaints, listed_row, shape_row, entries_row, version_row, members_there, shape_there, states_complaints, states_there, trees_there, value_in}
+use Rattle.asl_model.specs.Records.{Reading, RecordComplaint, certificate_reading, certificate_rows, state_rows, listed_complaints, listed_from, listed_in, entries_complaints, members_in, members_under}
+use Rattle.asl_records.specs.Parts.{TellsOneOf, certified, certified_complaints, field_complaints, foreign_complaints, is_number, listed_row, reading_of, shape_row, entries_row, version_row, members_there, shape_there, states_complaints, states_there, trees_there, unlisted, value_in}
 use Rattle.asl_records.specs.declared.refusals.ReadFault.{ReadFault}
 use Rattle.asl_numbered.specs.Expansion.{expansions, IsNumberOf, Keeps}
 use Rattle.asl_numbered.specs.declared.node.Node.{Node}
 use Rattle.asl_numbered.proofs.Expansions.{as_many}
 use Rattle.asl_numbered.specs.References.{numbers_given}
-use Rattle.asl_records.specs.Listed.{MeanListed}
+use Rattle.asl_records.specs.Listed.{IsReading}
 use Rattle.asl_records.specs.Numbered.{numbered_view}
 use Rattle.asl_records.specs.Numbering.{AreStatesOf}
 use Rattle.asl_records.specs.declared.records.NumberedCertificate.{NumberedCertificate}
@@ -23,38 +23,34 @@ use Rattle.asl_records.proofs.Meant.{IsLent, kept_items, lent_meant}
 use Rattle.asl_records.proofs.Objects.{names_of, parts, shown}
 use Rattle.asl_records.proofs.Telling.{told_all, told_same}
 
--- ---- what no listed tree changes
+-- ---- what references don't change
 
-pub same_version : (listed : Option (List Tree)) (o : Option Data) → field_complaints None [] version_row o ≡ field_complaints listed [] version_row o
-same_version listed None = refl
-same_version listed (Some v) = refl
-
-pub same_list : (listed : Option (List Tree)) (o : Option Data) → field_complaints None [] listed_row o ≡ field_complaints listed [] listed_row o
-same_list listed None = refl
-same_list listed (Some v) = refl
+pub same_list : (reading : Reading) (o : Option Data) → field_complaints (unlisted reading.several) [] listed_row o ≡ field_complaints reading [] listed_row o
+same_list reading None = refl
+same_list reading (Some v) = refl
 
 -- about fields that aren't known
 abbrev pub of_others : Members → List RecordComplaint
 of_others ms = foreign_complaints [] (names_of certificate_rows) ms
 
--- ---- where those trees are listed
+-- ---- where shapes are read so
 
-module _ (listed : Option (List Tree)) where
+module _ (reading : Reading) where
   -- about the version, the list of shapes, the output, the states as a field, and the states' entries
   abbrev pub of_version : Members → List RecordComplaint
-  of_version ms = field_complaints listed [] version_row (get_member (codes "version") ms)
+  of_version ms = field_complaints reading [] version_row (get_member (codes "version") ms)
 
   abbrev pub of_list : Members → List RecordComplaint
-  of_list ms = field_complaints listed [] listed_row (get_member (codes "shapes") ms)
+  of_list ms = field_complaints reading [] listed_row (get_member (codes "shapes") ms)
 
   abbrev pub of_output : Members → List RecordComplaint
-  of_output ms = field_complaints listed [] (shape_row (codes "output") true) (get_member (codes "output") ms)
+  of_output ms = field_complaints reading [] (shape_row (codes "output") true) (get_member (codes "output") ms)
 
   abbrev pub of_states : Members → List RecordComplaint
-  of_states ms = field_complaints listed [] (entries_row (codes "states") true) (get_member (codes "states") ms)
+  of_states ms = field_complaints reading [] (entries_row (codes "states") true) (get_member (codes "states") ms)
 
   abbrev pub of_entries : Members → List RecordComplaint
-  of_entries ms = entries_complaints listed state_rows (members_there (get_member (codes "states") ms))
+  of_entries ms = entries_complaints reading state_rows (members_there (get_member (codes "states") ms))
 
   -- about the fields behind the list
   abbrev pub of_parts : Members → List RecordComplaint
@@ -67,13 +63,13 @@ module _ (listed : Option (List Tree)) where
   abbrev of_all : Members → List RecordComplaint
   of_all ms = (of_rows ms ++ of_others ms) ++ of_entries ms
 
-  all_of : (v : Data) (ms : Members) → as_object v ≡ Some ms → listed_complaints listed v ≡ of_all ms
+  all_of : (v : Data) (ms : Members) → as_object v ≡ Some ms → listed_complaints reading v ≡ of_all ms
   all_of v ms is =
-      ap (λ cs. cs ++ entries_complaints listed state_rows (members_under (codes "states") v)) (shown listed [] certificate_rows v ms is)
-      ∙ ap (λ o. parts listed [] certificate_rows ms ++ entries_complaints listed state_rows (members_there (get_member (codes "states") (unwrap_or o json.no_members)))) is
+      ap (λ cs. cs ++ entries_complaints reading state_rows (members_under (codes "states") v)) (shown reading [] certificate_rows v ms is)
+      ∙ ap (λ o. parts reading [] certificate_rows ms ++ entries_complaints reading state_rows (members_there (get_member (codes "states") (unwrap_or o json.no_members)))) is
 
   -- where no part has a complaint, there is none
-  pub none_wrong : (v : Data) (ms : Members) → as_object v ≡ Some ms → of_others ms ≡ [] → of_version ms ≡ [] → of_list ms ≡ [] → of_parts ms ≡ [] → listed_complaints listed v ≡ []
+  pub none_wrong : (v : Data) (ms : Members) → as_object v ≡ Some ms → of_others ms ≡ [] → of_version ms ≡ [] → of_list ms ≡ [] → of_parts ms ≡ [] → listed_complaints reading v ≡ []
   none_wrong v ms is others version list further = all_of v ms is ∙ (rw (version, list) (by (of_output ms) (of_states ms) (of_others ms) (of_entries ms) others further))
     where
       by : (xs ys zs us : List RecordComplaint) → zs ≡ [] → xs ++ (ys ++ us) ≡ [] → ((xs ++ (ys ++ [])) ++ zs) ++ us ≡ []
@@ -82,29 +78,29 @@ module _ (listed : Option (List Tree)) where
       by (x ∷ xs) ys zs us e h = absurd (cc)
 
   -- what is told of a part is told of the whole
-  told_of : (v : Data) (ms : Members) (xs : List RecordComplaint) (f : ReadFault) → as_object v ≡ Some ms → ((c : RecordComplaint) → Contains xs c → Contains (of_all ms) c) → TellsOneOf xs f → TellsOneOf (listed_complaints listed v) f
+  told_of : (v : Data) (ms : Members) (xs : List RecordComplaint) (f : ReadFault) → as_object v ≡ Some ms → ((c : RecordComplaint) → Contains xs c → Contains (of_all ms) c) → TellsOneOf xs f → TellsOneOf (listed_complaints reading v) f
   told_of v ms xs f is all told = told_same f _ _ (told_all f xs _ all told) (sym (all_of v ms is))
 
   in_rows : (ms : Members) (c : RecordComplaint) → Contains (of_rows ms) c → Contains (of_all ms) c
   in_rows ms c h = Contains-append_left (of_rows ms ++ of_others ms) (of_entries ms) c (Contains-append_left (of_rows ms) (of_others ms) c h)
 
-  pub others_told : (v : Data) (ms : Members) (f : ReadFault) → as_object v ≡ Some ms → TellsOneOf (of_others ms) f → TellsOneOf (listed_complaints listed v) f
+  pub others_told : (v : Data) (ms : Members) (f : ReadFault) → as_object v ≡ Some ms → TellsOneOf (of_others ms) f → TellsOneOf (listed_complaints reading v) f
   others_told v ms f is told =
       told_of v ms (of_others ms) f is (λ c h. Contains-append_left (of_rows ms ++ of_others ms) (of_entries ms) c (Contains-append_right (of_rows ms) (of_others ms) c h)) told
 
-  pub version_told : (v : Data) (ms : Members) (f : ReadFault) → as_object v ≡ Some ms → TellsOneOf (of_version ms) f → TellsOneOf (listed_complaints listed v) f
+  pub version_told : (v : Data) (ms : Members) (f : ReadFault) → as_object v ≡ Some ms → TellsOneOf (of_version ms) f → TellsOneOf (listed_complaints reading v) f
   version_told v ms f is told = told_of v ms (of_version ms) f is (λ c h. in_rows ms c (Contains-append_left (of_version ms) (of_list ms ++ (of_output ms ++ (of_states ms ++ []))) c h)) told
 
   behind_version : (ms : Members) (c : RecordComplaint) → Contains (of_list ms ++ (of_output ms ++ (of_states ms ++ []))) c → Contains (of_all ms) c
   behind_version ms c h = in_rows ms c (Contains-append_right (of_version ms) (of_list ms ++ (of_output ms ++ (of_states ms ++ []))) c h)
 
-  pub list_told : (v : Data) (ms : Members) (f : ReadFault) → as_object v ≡ Some ms → TellsOneOf (of_list ms) f → TellsOneOf (listed_complaints listed v) f
+  pub list_told : (v : Data) (ms : Members) (f : ReadFault) → as_object v ≡ Some ms → TellsOneOf (of_list ms) f → TellsOneOf (listed_complaints reading v) f
   list_told v ms f is told = told_of v ms (of_list ms) f is (λ c h. behind_version ms c (Contains-append_left (of_list ms) (of_output ms ++ (of_states ms ++ [])) c h)) told
 
   behind_list : (ms : Members) (c : RecordComplaint) → Contains (of_output ms ++ (of_states ms ++ [])) c → Contains (of_all ms) c
   behind_list ms c h = behind_version ms c (Contains-append_right (of_list ms) (of_output ms ++ (of_states ms ++ [])) c h)
 
-  pub parts_told : (v : Data) (ms : Members) (f : ReadFault) → as_object v ≡ Some ms → TellsOneOf (of_parts ms) f → TellsOneOf (listed_complaints listed v) f
+  pub parts_told : (v : Data) (ms : Members) (f : ReadFault) → as_object v ≡ Some ms → TellsOneOf (of_parts ms) f → TellsOneOf (listed_complaints reading v) f
   parts_told v ms f is told = told_of v ms (of_parts ms) f is (λ c h. ⊎_elim (as_output c) (as_state c) (Contains-append_cases (of_output ms) (of_states ms ++ of_entries ms) c h)) told
     where
       as_output : (c : RecordComplaint) → Contains (of_output ms) c → Contains (of_all ms) c
@@ -120,10 +116,10 @@ module _ (listed : Option (List Tree)) where
       as_state c h = ⊎_elim (as_row c) (as_entry c) (Contains-append_cases (of_states ms) (of_entries ms) c h)
 
   -- the fields that are left behind the list are as they were
-  pub same_parts : (ms : Members) (fields : List (String Global × Value)) → value_in (codes "output") fields ≡ get_member (codes "output") ms → value_in (codes "states") fields ≡ get_member (codes "states") ms → certified_complaints listed fields ≡ of_parts ms
-  same_parts ms fields output states = ap₂ (λ o s. field_complaints listed [] (shape_row (codes "output") true) o ++ states_complaints listed s) output states
+  pub same_parts : (ms : Members) (fields : List (String Global × Value)) → value_in (codes "output") fields ≡ get_member (codes "output") ms → value_in (codes "states") fields ≡ get_member (codes "states") ms → certified_complaints reading fields ≡ of_parts ms
+  same_parts ms fields output states = ap₂ (λ o s. field_complaints reading [] (shape_row (codes "output") true) o ++ states_complaints reading s) output states
 
-  pub stands_for : (v : Data) (ms : Members) (fields : List (String Global × Value)) → as_object v ≡ Some ms → value_in (codes "output") fields ≡ get_member (codes "output") ms → value_in (codes "states") fields ≡ get_member (codes "states") ms → certified listed fields ≡ listed_from listed v
+  pub stands_for : (v : Data) (ms : Members) (fields : List (String Global × Value)) → as_object v ≡ Some ms → value_in (codes "output") fields ≡ get_member (codes "output") ms → value_in (codes "states") fields ≡ get_member (codes "states") ms → certified reading.listed fields ≡ listed_from reading.listed v
   stands_for v ms fields is output states = rw (output, states, is) refl
 
 -- what was read of the output and of the states makes the certificate, in a table that grew between
@@ -133,10 +129,15 @@ numbered_for listed one numbered output states number keeps are =
     let below : numbered.output < length one = omega (arith, number.within, as_many one) in
     rw (shown_still one numbered.shapes keeps numbered.output below, number.same, are.same) refl
 
--- ---- what the numbers of its list mean
+-- ---- how its shapes are read
 
-pub listed_meant : (nodes : List Node) (kept : Option (Vec ℕ Global)) (lent : Option (Bor (List ℕ))) (v : Data) (ms : Members) (fields : List (String Global × Value)) → as_object v ≡ Some ms → value_in (codes "shapes") fields ≡ get_member (codes "shapes") ms
-    → IsLent kept lent → MeanListed nodes (kept_items kept) (trees_there (value_in (codes "shapes") fields)) → MeanListed nodes (numbers_given lent) (listed_in (members_in v))
-listed_meant nodes kept lent v ms fields is there lends means =
+-- as its version and its list say
+pub is_its_reading : (several : Bool) (v : Data) (ms : Members) → as_object v ≡ Some ms → several ≡ is_number (pos 2) (get_member (codes "version") ms) → reading_of several (listed_in (members_in v)) ≡ certificate_reading (members_in v)
+is_its_reading several v ms is version = rw (version, is) refl
+
+-- the numbers of its list mean its trees
+pub reading_meant : (several : Bool) (nodes : List Node) (kept : Option (Vec ℕ Global)) (lent : Option (Bor (List ℕ))) (v : Data) (ms : Members) (fields : List (String Global × Value)) → as_object v ≡ Some ms → value_in (codes "shapes") fields ≡ get_member (codes "shapes") ms
+    → IsLent kept lent → IsReading several nodes (kept_items kept) (reading_of several (trees_there (value_in (codes "shapes") fields))) → IsReading several nodes (numbers_given lent) (reading_of several (listed_in (members_in v)))
+reading_meant several nodes kept lent v ms fields is there lends means =
     let same : trees_there (value_in (codes "shapes") fields) ≡ listed_in (members_in v) = ap trees_there there ∙ ap listed_in (sym (ap (λ o. unwrap_or o json.no_members) is)) in
-    lent_meant nodes kept lent (listed_in (members_in v)) lends (subst (MeanListed nodes (kept_items kept)) same means)
+    lent_meant several nodes kept lent (reading_of several (listed_in (members_in v))) lends (subst (λ trees. IsReading several nodes (kept_items kept) (reading_of several trees)) same means)

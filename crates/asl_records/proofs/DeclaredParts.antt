@@ -1,11 +1,11 @@
 -- What is wrong with declared shapes, and with the entry of a task, by the parts in which they are read.
-use Rattle.std.proofs.Common.{◌≡◌, ℕ, List, [], ◌∷◌, ◌++◌, codes, Some, None, unwrap_or, true, false, refl, ⊎_elim, sym, ap, ◌∙◌}
+use Rattle.std.proofs.Common.{◌≡◌, ℕ, List, [], ◌∷◌, ◌++◌, codes, Some, unwrap_or, true, false, refl, ⊎_elim, sym, ap, ◌∙◌}
 use Rattle.std.specs.List.{Contains}
 use Rattle.std.proofs.lemmas.List.Elements.{Contains-append_left, Contains-append_right, Contains-append_cases}
 use Rattle.serde_json.specs.Data as json
 use Rattle.serde_json.specs.Data.{Data, Members}
 use Rattle.serde_json.specs.Find.{as_object, get_member}
-use Rattle.asl_model.specs.Records.{RecordComplaint, declared_rows, task_rows, object_complaints, declared_complaints, entries_complaints, members_under}
+use Rattle.asl_model.specs.Records.{declared_reading, RecordComplaint, declared_rows, task_rows, object_complaints, declared_complaints, entries_complaints, members_under}
 use Rattle.asl_records.specs.Parts.{TellsOneOf, field_complaints, foreign_complaints, shape_row, entries_row, members_there}
 use Rattle.asl_records.specs.declared.refusals.ReadFault.{ReadFault}
 use Rattle.asl_records.proofs.Objects.{names_of, parts, rows_told_of, shown}
@@ -15,21 +15,21 @@ use Rattle.asl_records.proofs.Telling.{told_all, told_left, told_right, told_sam
 
 -- about the input, the tasks as a field, fields that aren't known, and the tasks' entries
 abbrev pub of_input : Members → List RecordComplaint
-of_input ms = field_complaints None [] (shape_row (codes "input") true) (get_member (codes "input") ms)
+of_input ms = field_complaints declared_reading [] (shape_row (codes "input") true) (get_member (codes "input") ms)
 
 abbrev pub of_tasks : Members → List RecordComplaint
-of_tasks ms = field_complaints None [] (entries_row (codes "tasks") false) (get_member (codes "tasks") ms)
+of_tasks ms = field_complaints declared_reading [] (entries_row (codes "tasks") false) (get_member (codes "tasks") ms)
 
 abbrev pub of_others : Members → List RecordComplaint
 of_others ms = foreign_complaints [] (names_of declared_rows) ms
 
 abbrev pub of_entries : Members → List RecordComplaint
-of_entries ms = entries_complaints None task_rows (members_there (get_member (codes "tasks") ms))
+of_entries ms = entries_complaints declared_reading task_rows (members_there (get_member (codes "tasks") ms))
 
 all_of : (v : Data) (ms : Members) → as_object v ≡ Some ms → declared_complaints v ≡ ((of_input ms ++ (of_tasks ms ++ [])) ++ of_others ms) ++ of_entries ms
 all_of v ms is =
-    ap (λ cs. cs ++ entries_complaints None task_rows (members_under (codes "tasks") v)) (shown None [] declared_rows v ms is)
-    ∙ ap (λ o. parts None [] declared_rows ms ++ entries_complaints None task_rows (members_there (get_member (codes "tasks") (unwrap_or o json.no_members)))) is
+    ap (λ cs. cs ++ entries_complaints declared_reading task_rows (members_under (codes "tasks") v)) (shown declared_reading [] declared_rows v ms is)
+    ∙ ap (λ o. parts declared_reading [] declared_rows ms ++ entries_complaints declared_reading task_rows (members_there (get_member (codes "tasks") (unwrap_or o json.no_members)))) is
 
 -- where no part has a complaint, there is none
 pub none_wrong : (v : Data) (ms : Members) → as_object v ≡ Some ms → of_others ms ≡ [] → of_input ms ≡ [] → of_tasks ms ++ of_entries ms ≡ [] → declared_complaints v ≡ []
@@ -61,17 +61,17 @@ tasks_told v ms f is told =
 -- ---- the entry of a task
 
 abbrev pub of_takes : List ℕ → Members → List RecordComplaint
-of_takes name ms = field_complaints None name (shape_row (codes "takes") false) (get_member (codes "takes") ms)
+of_takes name ms = field_complaints declared_reading name (shape_row (codes "takes") false) (get_member (codes "takes") ms)
 
 abbrev pub of_gives : List ℕ → Members → List RecordComplaint
-of_gives name ms = field_complaints None name (shape_row (codes "gives") true) (get_member (codes "gives") ms)
+of_gives name ms = field_complaints declared_reading name (shape_row (codes "gives") true) (get_member (codes "gives") ms)
 
-pub task_right : (name : List ℕ) (v : Data) (ms : Members) → as_object v ≡ Some ms → foreign_complaints name (names_of task_rows) ms ≡ [] → of_takes name ms ≡ [] → of_gives name ms ≡ [] → object_complaints None name task_rows v ≡ []
-task_right name v ms is others takes gives = shown None name task_rows v ms is ∙ rw (takes, gives, others) refl
+pub task_right : (name : List ℕ) (v : Data) (ms : Members) → as_object v ≡ Some ms → foreign_complaints name (names_of task_rows) ms ≡ [] → of_takes name ms ≡ [] → of_gives name ms ≡ [] → object_complaints declared_reading name task_rows v ≡ []
+task_right name v ms is others takes gives = shown declared_reading name task_rows v ms is ∙ rw (takes, gives, others) refl
 
-pub takes_told : (name : List ℕ) (v : Data) (ms : Members) (f : ReadFault) → as_object v ≡ Some ms → TellsOneOf (of_takes name ms) f → TellsOneOf (object_complaints None name task_rows v) f
-takes_told name v ms f is told = rows_told_of None name task_rows v ms f is (told_left f (of_takes name ms) (of_gives name ms ++ []) told)
+pub takes_told : (name : List ℕ) (v : Data) (ms : Members) (f : ReadFault) → as_object v ≡ Some ms → TellsOneOf (of_takes name ms) f → TellsOneOf (object_complaints declared_reading name task_rows v) f
+takes_told name v ms f is told = rows_told_of declared_reading name task_rows v ms f is (told_left f (of_takes name ms) (of_gives name ms ++ []) told)
 
-pub gives_told : (name : List ℕ) (v : Data) (ms : Members) (f : ReadFault) → as_object v ≡ Some ms → TellsOneOf (of_gives name ms) f → TellsOneOf (object_complaints None name task_rows v) f
+pub gives_told : (name : List ℕ) (v : Data) (ms : Members) (f : ReadFault) → as_object v ≡ Some ms → TellsOneOf (of_gives name ms) f → TellsOneOf (object_complaints declared_reading name task_rows v) f
 gives_told name v ms f is told =
-    rows_told_of None name task_rows v ms f is (told_right f (of_takes name ms) (of_gives name ms ++ []) (told_left f (of_gives name ms) [] told))
+    rows_told_of declared_reading name task_rows v ms f is (told_right f (of_takes name ms) (of_gives name ms ++ []) (told_left f (of_gives name ms) [] told))

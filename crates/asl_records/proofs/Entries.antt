@@ -9,8 +9,7 @@ use Rattle.std.specs.Map.{keys_of}
 use Rattle.std.specs.Ordering.{ordering_reverse}
 use Rattle.serde_json.specs.Data.{Data}
 use Rattle.serde_json.specs.View.{view, members_view}
-use Rattle.asl_model.specs.Tree.{Tree}
-use Rattle.asl_model.specs.Records.{RecordRow, entries_complaints, entries_from, object_complaints}
+use Rattle.asl_model.specs.Records.{Reading, RecordRow, entries_complaints, entries_from, object_complaints}
 use Rattle.asl_records.specs.Parts.{TellsOneOf, IsWhole, AreWhole}
 use Rattle.asl_records.specs.declared.refusals.ReadFault.{ReadFault}
 use Rattle.asl_records.proofs.Members.{Member}
@@ -30,9 +29,8 @@ insert_last (e ∷ es) k x more h =
     nat_list_cmp_total.antisymm (string_bytes k) (string_bytes e.0) ∙ ap ordering_reverse (below_middle e.0 es k more h.0) in
     rw above (ap (λ rest. e ∷ rest) (insert_last es k x more h.1))
 
--- T is what a table keeps of an entry, A what that stands for, by `see`; f reads an entry's value, where those trees are
--- listed
-module _ {T A : Type 0} (listed : Option (List Tree)) (see : T → A) (rows : List RecordRow) (f : Data → A) where
+-- T is what a table keeps of an entry, A what that stands for, by `see`; f reads an entry's value, where shapes are read so
+module _ {T A : Type 0} (reading : Reading) (see : T → A) (rows : List RecordRow) (f : Data → A) where
   -- each entry under its name
   abbrev pub shown : List (String Global × T) → List (List ℕ × A)
   shown es = map (λ e. (string_bytes e.0, see e.1)) es
@@ -40,7 +38,7 @@ module _ {T A : Type 0} (listed : Option (List Tree)) (see : T → A) (rows : Li
   -- so far the entries es were read, nothing was wrong, and those that are left make up the rest
   pub record Reads (all left : List Member) (es : List (String Global × T)) : Type 0 where
     pub whole : AreWhole (members_view left)
-    pub wrong : entries_complaints listed rows (members_view all) ≡ entries_complaints listed rows (members_view left)
+    pub wrong : entries_complaints reading rows (members_view all) ≡ entries_complaints reading rows (members_view left)
     pub names : keys_of all ≡ keys_of es ++ keys_of left
     pub entries : entries_from f (members_view all) ≡ shown es ++ entries_from f (members_view left)
 
@@ -66,30 +64,30 @@ module _ {T A : Type 0} (listed : Option (List Tree)) (see : T → A) (rows : Li
 
   -- one more entry was read
   pub gone_on : (all left rest : List Member) (es more : List (String Global × T)) (e : Member) (n : List ℕ) (x : T) → Reads all left es → left ≡ e ∷ rest → IsStrictlySortedBy string_cmp (keys_of all)
-      → n ≡ string_bytes e.0 → object_complaints listed n rows (view e.1) ≡ [] → see x ≡ f (view e.1) → more ≡ insert_entry string_cmp es e.0 x → Reads all rest more
+      → n ≡ string_bytes e.0 → object_complaints reading n rows (view e.1) ≡ [] → see x ≡ f (view e.1) → more ≡ insert_entry string_cmp es e.0 x → Reads all rest more
   gone_on all left rest es more e n x h split sorted named right is made =
       let last = goes_last all left rest es more e x h split sorted made in
       record {
         whole = tail_whole (string_bytes e.0) (view e.1) (members_view rest) (subst (λ ms. AreWhole (members_view ms)) split h.whole);
-        wrong = h.wrong ∙ ap (λ ms. entries_complaints listed rows (members_view ms)) split ∙ ap (λ cs. cs ++ entries_complaints listed rows (members_view rest)) (rw named at right);
+        wrong = h.wrong ∙ ap (λ ms. entries_complaints reading rows (members_view ms)) split ∙ ap (λ cs. cs ++ entries_complaints reading rows (members_view rest)) (rw named at right);
         names = h.names ∙ ap (λ ms. keys_of es ++ keys_of ms) split ∙ sym (ap (λ es. keys_of es ++ keys_of rest) last ∙ names_more es e.0 x (keys_of rest));
         entries = h.entries ∙ ap (λ ms. shown es ++ entries_from f (members_view ms)) split ∙ ap (λ a. shown es ++ (string_bytes e.0, a) ∷ entries_from f (members_view rest)) (sym is) ∙ sym (ap (λ es. shown es ++ entries_from f (members_view rest)) last ∙ shown_more es e.0 x (entries_from f (members_view rest)));
       }
 
   -- what is told of the next entry is told of all
   pub next_told : (all left rest : List Member) (es : List (String Global × T)) (e : Member) (n : List ℕ) (fault : ReadFault) → Reads all left es → left ≡ e ∷ rest
-      → n ≡ string_bytes e.0 → TellsOneOf (object_complaints listed n rows (view e.1)) fault → TellsOneOf (entries_complaints listed rows (members_view all)) fault
+      → n ≡ string_bytes e.0 → TellsOneOf (object_complaints reading n rows (view e.1)) fault → TellsOneOf (entries_complaints reading rows (members_view all)) fault
   next_told all left rest es e n fault h split named told =
-      told_same fault _ _ (told_left fault (object_complaints listed (string_bytes e.0) rows (view e.1)) (entries_complaints listed rows (members_view rest)) (rw named at told)) (sym (h.wrong ∙ ap (λ ms. entries_complaints listed rows (members_view ms)) split))
+      told_same fault _ _ (told_left fault (object_complaints reading (string_bytes e.0) rows (view e.1)) (entries_complaints reading rows (members_view rest)) (rw named at told)) (sym (h.wrong ∙ ap (λ ms. entries_complaints reading rows (members_view ms)) split))
 
   -- at the end
-  pub none_wrong : (all left : List Member) (es : List (String Global × T)) → Reads all left es → left ≡ [] → entries_complaints listed rows (members_view all) ≡ []
-  none_wrong all left es h end = h.wrong ∙ ap (λ ms. entries_complaints listed rows (members_view ms)) end
+  pub none_wrong : (all left : List Member) (es : List (String Global × T)) → Reads all left es → left ≡ [] → entries_complaints reading rows (members_view all) ≡ []
+  none_wrong all left es h end = h.wrong ∙ ap (λ ms. entries_complaints reading rows (members_view ms)) end
 
   pub all_read : (all left : List Member) (es : List (String Global × T)) → Reads all left es → left ≡ [] → shown es ≡ entries_from f (members_view all)
   all_read all left es h end = sym (h.entries ∙ ap (λ ms. shown es ++ entries_from f (members_view ms)) end ∙ append-nil (shown es))
 
 -- the same, where what the table keeps stands for the same by another function
-pub seen_again : {T A : Type 0} (listed : Option (List Tree)) (see also : T → A) (rows : List RecordRow) (f : Data → A) (all left : List Member) (es : List (String Global × T)) → shown listed also rows f es ≡ shown listed see rows f es → Reads listed see rows f all left es → Reads listed also rows f all left es
-seen_again listed see also rows f all left es same h =
+pub seen_again : {T A : Type 0} (reading : Reading) (see also : T → A) (rows : List RecordRow) (f : Data → A) (all left : List Member) (es : List (String Global × T)) → shown reading also rows f es ≡ shown reading see rows f es → Reads reading see rows f all left es → Reads reading also rows f all left es
+seen_again reading see also rows f all left es same h =
     record { whole = h.whole; wrong = h.wrong; names = h.names; entries = h.entries ∙ ap (λ front. front ++ entries_from f (members_view left)) (sym same) }

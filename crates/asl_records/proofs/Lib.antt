@@ -9,6 +9,7 @@ pub mod Members
 pub mod Numberings
 pub mod Numbers
 pub mod Objects
+pub mod Properness
 pub mod References
 pub mod Shapes
 pub mod StateEntries

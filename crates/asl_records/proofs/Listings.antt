@@ -3,16 +3,20 @@ use Rattle.std.proofs.Common.{◌≡◌, ◌≢◌, ◌<◌, ℕ, suc, List, [],
 use Rattle.std.proofs.lemmas.Bool.{cases_eq}
 use Rattle.std.proofs.lemmas.List.{map-append, length-map, length-set, get_or-set_same, get_or-set_other}
 use Rattle.std.specs.List.{AllByRecursion}
+use Rattle.std.specs.Prelude.{IfSome}
 use Rattle.asl_model.specs.Shape.{Shape, IsProperShape}
-use Rattle.asl_model.specs.WrittenNumbered.{same_shape, place_of, with_last, list_after, list_after_all, list_after_state, list_after_states}
+use Rattle.asl_model.specs.WrittenNumbered.{same_shape, place_of, with_last, is_listed, list_after, list_after_all, list_after_state, list_after_states}
 use Rattle.asl_model.proofs.SameShapes.{same_are, same_itself}
 use Rattle.asl_model.proofs.Listing.{AreBehind, goes_last, proper_all}
-use Rattle.asl_numbered.specs.Expansion.{expansions, shape_at, numbers_in, AreBelow, RefersBelow, AreDistinct}
+use Rattle.asl_numbered.specs.Expansion.{expansions, shape_at, numbers_in, AreBelow, AreDistinct}
+use Rattle.asl_numbered.specs.TakenApart.{AreArraysIfAny, AreObjectsIfAny, AreKindsAt}
+use Rattle.asl_numbered.specs.declared.kinds.NodeArrays.{NodeArrays}
+use Rattle.asl_numbered.specs.declared.kinds.NodeKinds.{NodeKinds}
+use Rattle.asl_numbered.specs.declared.kinds.NodeObjects.{NodeObjects}
 use Rattle.asl_numbered.specs.declared.node.Node.{Node}
-use Rattle.asl_numbered.specs.declared.node.Node.TheVariants.{Any as AnyNode, Never as NeverNode, Null, Bool as Truth, Int, Text, List as Elements, Object}
 use Rattle.asl_numbered.proofs.Expansions.{as_many, below-append, below-front, below-behind, below-wider}
 use Rattle.asl_records.specs.Numbered.{numbers_view, numbered_entries, AreEntriesBelow}
-use Rattle.asl_records.specs.Listing.{IsPlaced, IsListing, Opens, Puts, listed_shapes, visits, tasks_at}
+use Rattle.asl_records.specs.Listing.{IsPlaced, IsListing, Opens, Puts, array_visits, listed_shapes, object_visits, task_if, tasks_at, visits}
 use Rattle.asl_records.specs.declared.listing.Listing.{Listing}
 use Rattle.asl_records.specs.declared.listing.Task.{Task}
 use Rattle.asl_records.specs.declared.listing.Task.TheVariants.{Visit, List as Put}
@@ -120,18 +124,30 @@ visits_below : (bound : ℕ) (ns : List ℕ) → AreBelow bound ns → AreBelow 
 visits_below bound [] h = tt
 visits_below bound (n ∷ ns) h = subst (AreBelow bound) (sym (map-append number_of (visits ns) (Visit n ∷ []))) (below-append bound (map number_of (visits ns)) (n ∷ []) (visits_below bound ns h.1) (h.0, tt))
 
-tasks_below : (bound n : ℕ) (node : Node) → n < bound → RefersBelow n node → AreBelow bound (map number_of (tasks_at n node))
-tasks_below bound n AnyNode h refers = tt
-tasks_below bound n NeverNode h refers = tt
-tasks_below bound n Null h refers = tt
-tasks_below bound n Truth h refers = tt
-tasks_below bound n Int h refers = tt
-tasks_below bound n Text h refers = tt
-tasks_below bound n (Elements first rest) h refers =
-    let wider = below-wider n bound (rest ∷ first.items) (omega (arith, h)) refers.each in
-    (h, (wider.0, visits_below bound first.items wider.1))
-tasks_below bound n (Object fields extra) h refers =
-    (h, visits_below bound (numbers_in fields.entries) (below-wider n bound (numbers_in fields.entries) (omega (arith, h)) refers.each))
+arrays_below : (table : List Shape) (bound n : ℕ) (arrays : Option NodeArrays) → n < bound → AreArraysIfAny table n arrays → AreBelow bound (map number_of (array_visits arrays))
+arrays_below table bound n None h at = tt
+arrays_below table bound n (Some arrays) h at =
+    (omega (arith, h, at.within, at.rest), visits_below bound arrays.first.now (below-wider arrays.number bound arrays.first.now (omega (arith, h, at.within)) at.first))
+
+objects_below : (table : List Shape) (bound n : ℕ) (objects : Option NodeObjects) → n < bound → AreObjectsIfAny table n objects → AreBelow bound (map number_of (object_visits objects))
+objects_below table bound n None h at = tt
+objects_below table bound n (Some objects) h at =
+    let numbers = numbers_in objects.fields.now.entries in
+    visits_below bound numbers (below-wider objects.number bound numbers (omega (arith, h, at.within)) at.fields)
+
+itself_below : (bound n : ℕ) (wanted : Bool) → n < bound → AreBelow bound (map number_of (task_if wanted (Put n)))
+itself_below bound n true h = (h, tt)
+itself_below bound n false h = tt
+
+tasks_below : (table : List Shape) (bound n : ℕ) (kinds : Option NodeKinds) → n < bound → IfSome kinds (AreKindsAt table n) → AreBelow bound (map number_of (tasks_at table n kinds))
+tasks_below table bound n None h lends = tt
+tasks_below table bound n (Some kinds) h lends =
+    let front = task_if (is_listed (shape_at table n)) (Put n) in
+    let objects = object_visits kinds.objects in
+    let arrays = array_visits kinds.arrays in
+    rw (map-append number_of front (objects ++ arrays), map-append number_of objects arrays)
+    (below-append bound (map number_of front) (map number_of objects ++ map number_of arrays) (itself_below bound n (is_listed (shape_at table n)) h)
+    (below-append bound (map number_of objects) (map number_of arrays) (objects_below table bound n kinds.objects h lends.objects) (arrays_below table bound n kinds.arrays h lends.arrays)))
 
 module _ (nodes : List Node) (final : List Shape) (tasks front new : List Task) (n : ℕ) (listing : Listing) (split : tasks ≡ front ++ Visit n ∷ []) (opens : Opens (get_or listing.places.items n None) nodes n front new) (going : IsGoing nodes final tasks listing) where
   within-table : n < length nodes
@@ -153,16 +169,17 @@ module _ (nodes : List Node) (final : List Shape) (tasks front new : List Task) 
           let idle = nothing_more shown s going.behind (λ _. (place, at)) in
           go_on nodes final tasks front (Visit n) listing split going [] new listing (none-added new same) going.placed going.behind tt tt (sym idle)
       by None is opened =
-          let node = opened.node in
-          let over = tasks_done (expansions nodes) n node shown opened.level ∙ ap (list_after shown) opened.level in
-          go_on nodes final tasks front (Visit n) listing split going (tasks_at n node) new listing opened.put going.placed going.behind (tasks_below (length nodes) n node within-table opened.below) (tasks_fed (expansions nodes) n node shown proper going.behind opened.level) over
+          let table = expansions nodes in
+          let kinds = opened.kinds in
+          let over = tasks_done table n kinds shown opened.shown ∙ ap (list_after shown) opened.shown in
+          go_on nodes final tasks front (Visit n) listing split going (tasks_at table n kinds) new listing opened.put going.placed going.behind (tasks_below table (length nodes) n kinds within-table opened.below) (tasks_fed table n kinds shown proper going.behind opened.shown) over
 
   pub visited_less : work (steps_of (expansions nodes) new) < work (steps_of (expansions nodes) tasks)
   visited_less = by (get_or listing.places.items n None) opens
     where
       by : (o : Option ℕ) → Opens o nodes n front new → work (steps_of (expansions nodes) new) < work (steps_of (expansions nodes) tasks)
       by (Some place) same = less nodes final tasks front (Visit n) listing split going [] new (none-added new same) (omega (arith, some_cost (shape_at (expansions nodes) n)))
-      by None opened = less nodes final tasks front (Visit n) listing split going (tasks_at n opened.node) new opened.put (rw (← opened.level) (omega (arith, tasks_work (expansions nodes) n opened.node)))
+      by None opened = less nodes final tasks front (Visit n) listing split going (tasks_at (expansions nodes) n opened.kinds) new opened.put (rw (← opened.shown) (omega (arith, tasks_work (expansions nodes) n opened.kinds)))
 
 -- ---- listing a shape
 

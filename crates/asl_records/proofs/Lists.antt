@@ -1,5 +1,5 @@
 -- Reading the elements of a list one after another as shapes of a table.
-use Rattle.std.proofs.Common.{◌≡◌, ℕ, List, [], ◌∷◌, ◌++◌, map, Bor, Option, Some, None, option_map, option_and_then, is_some, true, refl, sym, ap, subst, ◌∙◌, append-nil, append_assoc}
+use Rattle.std.proofs.Common.{◌≡◌, ℕ, Bool, List, [], ◌∷◌, ◌++◌, map, Bor, Option, Some, None, option_map, option_and_then, is_some, true, refl, sym, ap, subst, ◌∙◌, append-nil, append_assoc}
 use Rattle.std.proofs.lemmas.List.{map-append}
 use Rattle.serde_json.specs.Data as json
 use Rattle.serde_json.specs.Data.{Data, Items}
@@ -8,12 +8,11 @@ use Rattle.serde_json.specs.declared.value.Value.{Value}
 use Rattle.asl_model.specs.Json.{tree_of, elements_of}
 use Rattle.asl_model.specs.Shape.{Shape}
 use Rattle.asl_model.specs.Tree as model
-use Rattle.asl_model.specs.Tree.{Tree}
-use Rattle.asl_model.specs.Records.{shape_misfits, shapes_misfits, shape_from, shapes_from}
+use Rattle.asl_model.specs.Records.{Reading, shape_misfits, shapes_misfits, shape_from, shapes_from}
 use Rattle.asl_numbered.specs.Expansion.{expansions, IsNumberOf, Keeps}
 use Rattle.asl_numbered.specs.declared.node.Node.{Node}
 use Rattle.asl_numbered.proofs.Expansions.{keeps_same, keeps_trans}
-use Rattle.asl_records.specs.Listed.{AreInTable, ForListed}
+use Rattle.asl_records.specs.Listed.{AreInTable, ForReading}
 use Rattle.asl_records.specs.Numbering.{AreListOf}
 use Rattle.asl_records.specs.Parts.{TellsOneOf, IsWhole, ElementsAreWhole, complaint_of, shape_complaints, shapes_complaints}
 use Rattle.asl_records.specs.declared.refusals.ReadFault.{ReadFault}
@@ -45,57 +44,57 @@ none_mapped f (x ∷ xs) e = absurd (cc)
 
 -- ---- one element after another
 
--- where those trees are listed
-module _ (listed : Option (List Tree)) where
+-- where shapes are read so
+module _ (reading : Reading) where
   -- so far numbers were read, nothing was wrong, and the elements that are left make up the rest
   pub record ReadsNumbers (now : List Node) (all left : List Value) (ns : List ℕ) : Type 0 where
     pub done : List Shape
     pub numbered : AreListOf now done ns
-    pub wrong : shapes_misfits listed (items_view all) ≡ shapes_misfits listed (items_view left)
-    pub shapes : shapes_from listed (items_view all) ≡ done ++ shapes_from listed (items_view left)
+    pub wrong : shapes_misfits reading (items_view all) ≡ shapes_misfits reading (items_view left)
+    pub shapes : shapes_from reading.listed (items_view all) ≡ done ++ shapes_from reading.listed (items_view left)
 
   numbers_begun : (nodes : List Node) (all left : List Value) (ns : List ℕ) → left ≡ all → ns ≡ [] → ReadsNumbers nodes all left ns
   numbers_begun nodes all left ns same none = rw (same, none) (record { done = []; numbered = none_listed nodes; wrong = refl; shapes = refl })
 
   numbers_gone_on : (name field : List ℕ) (now new : List Node) (all left rest : List Value) (ns more : List ℕ) (v : Value) (n : ℕ) → ReadsNumbers now all left ns → left ≡ v ∷ rest → Keeps (expansions now) (expansions new)
-      → shape_complaints listed name field (view v) ≡ [] → IsNumberOf (expansions new) (shape_from listed (view v)) n → more ≡ ns ++ n ∷ [] → ReadsNumbers new all rest more
+      → shape_complaints reading name field (view v) ≡ [] → IsNumberOf (expansions new) (shape_from reading.listed (view v)) n → more ≡ ns ++ n ∷ [] → ReadsNumbers new all rest more
   numbers_gone_on name field now new all left rest ns more v n h split keeps right is made =
-      let s = shape_from listed (view v) in
+      let s = shape_from reading.listed (view v) in
       record {
         done = h.done ++ s ∷ [];
         numbered = subst (AreListOf new (h.done ++ s ∷ [])) (sym made) (listed_push now new h.done s ns n keeps h.numbered is);
-        wrong = h.wrong ∙ ap (λ vs. shapes_misfits listed (items_view vs)) split ∙ ap (λ fs. fs ++ shapes_misfits listed (items_view rest)) (none_mapped (complaint_of name field) (shape_misfits listed (view v)) right);
-        shapes = h.shapes ∙ ap (λ vs. h.done ++ shapes_from listed (items_view vs)) split ∙ sym (append_assoc h.done (s ∷ []) (shapes_from listed (items_view rest)));
+        wrong = h.wrong ∙ ap (λ vs. shapes_misfits reading (items_view vs)) split ∙ ap (λ fs. fs ++ shapes_misfits reading (items_view rest)) (none_mapped (complaint_of name field) (shape_misfits reading (view v)) right);
+        shapes = h.shapes ∙ ap (λ vs. h.done ++ shapes_from reading.listed (items_view vs)) split ∙ sym (append_assoc h.done (s ∷ []) (shapes_from reading.listed (items_view rest)));
       }
 
   numbers_told : (name field : List ℕ) (now : List Node) (all left rest : List Value) (ns : List ℕ) (v : Value) (fault : ReadFault) → ReadsNumbers now all left ns → left ≡ v ∷ rest
-      → TellsOneOf (shape_complaints listed name field (view v)) fault → TellsOneOf (shapes_complaints listed name field (items_view all)) fault
+      → TellsOneOf (shape_complaints reading name field (view v)) fault → TellsOneOf (shapes_complaints reading name field (items_view all)) fault
   numbers_told name field now all left rest ns v fault h split told =
       let tell = complaint_of name field in
-      let wrong : shapes_complaints listed name field (items_view all) ≡ shape_complaints listed name field (view v) ++ shapes_complaints listed name field (items_view rest) =
-      ap (map tell) (h.wrong ∙ ap (λ vs. shapes_misfits listed (items_view vs)) split) ∙ map-append tell (shape_misfits listed (view v)) (shapes_misfits listed (items_view rest)) in
-      told_same fault _ _ (told_left fault (shape_complaints listed name field (view v)) (shapes_complaints listed name field (items_view rest)) told) (sym wrong)
+      let wrong : shapes_complaints reading name field (items_view all) ≡ shape_complaints reading name field (view v) ++ shapes_complaints reading name field (items_view rest) =
+      ap (map tell) (h.wrong ∙ ap (λ vs. shapes_misfits reading (items_view vs)) split) ∙ map-append tell (shape_misfits reading (view v)) (shapes_misfits reading (items_view rest)) in
+      told_same fault _ _ (told_left fault (shape_complaints reading name field (view v)) (shapes_complaints reading name field (items_view rest)) told) (sym wrong)
 
-  numbers_right : (name field : List ℕ) (now : List Node) (all left : List Value) (ns : List ℕ) → ReadsNumbers now all left ns → left ≡ [] → shapes_complaints listed name field (items_view all) ≡ []
-  numbers_right name field now all left ns h end = ap (map (complaint_of name field)) (h.wrong ∙ ap (λ vs. shapes_misfits listed (items_view vs)) end)
+  numbers_right : (name field : List ℕ) (now : List Node) (all left : List Value) (ns : List ℕ) → ReadsNumbers now all left ns → left ≡ [] → shapes_complaints reading name field (items_view all) ≡ []
+  numbers_right name field now all left ns h end = ap (map (complaint_of name field)) (h.wrong ∙ ap (λ vs. shapes_misfits reading (items_view vs)) end)
 
-  numbers_read : (now : List Node) (all left : List Value) (ns : List ℕ) → ReadsNumbers now all left ns → left ≡ [] → AreListOf now (shapes_from listed (items_view all)) ns
+  numbers_read : (now : List Node) (all left : List Value) (ns : List ℕ) → ReadsNumbers now all left ns → left ≡ [] → AreListOf now (shapes_from reading.listed (items_view all)) ns
   numbers_read now all left ns h end =
-      subst (λ ss. AreListOf now ss ns) (sym (h.shapes ∙ ap (λ vs. h.done ++ shapes_from listed (items_view vs)) end ∙ append-nil h.done)) h.numbered
+      subst (λ ss. AreListOf now ss ns) (sym (h.shapes ∙ ap (λ vs. h.done ++ shapes_from reading.listed (items_view vs)) end ∙ append-nil h.done)) h.numbered
 
--- ---- whatever trees the given numbers mean
+-- ---- however shapes are read, and whatever trees the given numbers mean
 
-module _ (given : Option (Bor (List ℕ))) (start : List Node) where
+module _ (several : Bool) (given : Option (Bor (List ℕ))) (start : List Node) where
   pub record ReadsFor (now : List Node) (all left : List Value) (ns : List ℕ) : Type 0 where
     pub keeps : Keeps (expansions start) (expansions now)
     pub whole : ElementsAreWhole (items_view left)
-    pub reads : ForListed start given (λ listed. ReadsNumbers listed now all left ns)
+    pub reads : ForReading several start given (λ reading. ReadsNumbers reading now all left ns)
 
   pub begun : (all left : List Value) (ns : List ℕ) → ElementsAreWhole (items_view all) → left ≡ all → ns ≡ [] → ReadsFor start all left ns
   begun all left ns whole same none = record {
     keeps = keeps_same (expansions start);
     whole = subst (λ vs. ElementsAreWhole (items_view vs)) (sym same) whole;
-    reads = record { each = λ listed means. numbers_begun listed start all left ns same none };
+    reads = record { each = λ reading means. numbers_begun reading start all left ns same none };
   }
 
   -- the next element is whole
@@ -104,27 +103,27 @@ module _ (given : Option (Bor (List ℕ))) (start : List Node) where
 
   -- one more element was read
   pub gone_on : (name field : List ℕ) (now new : List Node) (all left rest : List Value) (ns more : List ℕ) (v : Value) (n : ℕ) → AreInTable start given → ReadsFor now all left ns → left ≡ v ∷ rest → Keeps (expansions now) (expansions new)
-      → ForListed now given (λ listed. shape_complaints listed name field (view v) ≡ []) → ForListed now given (λ listed. IsNumberOf (expansions new) (shape_from listed (view v)) n) → more ≡ ns ++ n ∷ [] → ReadsFor new all rest more
+      → ForReading several now given (λ reading. shape_complaints reading name field (view v) ≡ []) → ForReading several now given (λ reading. IsNumberOf (expansions new) (shape_from reading.listed (view v)) n) → more ≡ ns ++ n ∷ [] → ReadsFor new all rest more
   gone_on name field now new all left rest ns more v n there h split keeps right is made = record {
     keeps = keeps_trans (expansions start) (expansions now) (expansions new) h.keeps keeps;
     whole = tail_whole (view v) (items_view rest) (subst (λ vs. ElementsAreWhole (items_view vs)) split h.whole);
     reads = record {
-      each = λ listed means.
-          let still = still_meant start now h.keeps given listed there means in
-          numbers_gone_on listed name field now new all left rest ns more v n (h.reads.each listed means) split keeps (right.each listed still) (is.each listed still) made;
+      each = λ reading means.
+          let still = still_meant start now h.keeps given reading there means in
+          numbers_gone_on reading name field now new all left rest ns more v n (h.reads.each reading means) split keeps (right.each reading still) (is.each reading still) made;
     };
   }
 
   -- what is told of the next element is told of all
   pub next_told : (name field : List ℕ) (now : List Node) (all left rest : List Value) (ns : List ℕ) (v : Value) (fault : ReadFault) → AreInTable start given → ReadsFor now all left ns → left ≡ v ∷ rest
-      → ForListed now given (λ listed. TellsOneOf (shape_complaints listed name field (view v)) fault) → ForListed start given (λ listed. TellsOneOf (shapes_complaints listed name field (items_view all)) fault)
+      → ForReading several now given (λ reading. TellsOneOf (shape_complaints reading name field (view v)) fault) → ForReading several start given (λ reading. TellsOneOf (shapes_complaints reading name field (items_view all)) fault)
   next_told name field now all left rest ns v fault there h split told = record {
-    each = λ listed means. numbers_told listed name field now all left rest ns v fault (h.reads.each listed means) split (told.each listed (still_meant start now h.keeps given listed there means));
+    each = λ reading means. numbers_told reading name field now all left rest ns v fault (h.reads.each reading means) split (told.each reading (still_meant start now h.keeps given reading there means));
   }
 
   -- at the end
-  pub none_wrong : (name field : List ℕ) (now : List Node) (all left : List Value) (ns : List ℕ) → ReadsFor now all left ns → left ≡ [] → ForListed start given (λ listed. shapes_complaints listed name field (items_view all) ≡ [])
-  none_wrong name field now all left ns h end = record { each = λ listed means. numbers_right listed name field now all left ns (h.reads.each listed means) end }
+  pub none_wrong : (name field : List ℕ) (now : List Node) (all left : List Value) (ns : List ℕ) → ReadsFor now all left ns → left ≡ [] → ForReading several start given (λ reading. shapes_complaints reading name field (items_view all) ≡ [])
+  none_wrong name field now all left ns h end = record { each = λ reading means. numbers_right reading name field now all left ns (h.reads.each reading means) end }
 
-  pub all_read : (now : List Node) (all left : List Value) (ns : List ℕ) → ReadsFor now all left ns → left ≡ [] → ForListed start given (λ listed. AreListOf now (shapes_from listed (items_view all)) ns)
-  all_read now all left ns h end = record { each = λ listed means. numbers_read listed now all left ns (h.reads.each listed means) end }
+  pub all_read : (now : List Node) (all left : List Value) (ns : List ℕ) → ReadsFor now all left ns → left ≡ [] → ForReading several start given (λ reading. AreListOf now (shapes_from reading.listed (items_view all)) ns)
+  all_read now all left ns h end = record { each = λ reading means. numbers_read reading now all left ns (h.reads.each reading means) end }

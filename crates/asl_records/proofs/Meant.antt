@@ -1,11 +1,12 @@
 -- Listed trees that are meant in a table are meant in one that has grown from it.
-use Rattle.std.proofs.Common.{◌≡◌, ℕ, List, length, Option, Some, None, option_map, IfSome, MatchOption, Bor, Vec, Global, vec_len, refl, sym, ap, subst, ◌∙◌}
+use Rattle.std.proofs.Common.{◌≡◌, ℕ, List, length, Bool, Option, Some, None, option_map, IfSome, MatchOption, Bor, Vec, Global, vec_len, refl, sym, ap, subst, ◌∙◌}
 use Rattle.std.specs.Option.{IsSomeAnd}
+use Rattle.asl_model.specs.Records.{Reading}
 use Rattle.asl_model.specs.Tree.{Tree}
 use Rattle.asl_numbered.specs.Expansion.{expansions, AreBelow, Keeps}
 use Rattle.asl_numbered.specs.References.{numbers_given}
 use Rattle.asl_numbered.specs.declared.node.Node.{Node}
-use Rattle.asl_records.specs.Listed.{AreInTable, Mean, MeanListed}
+use Rattle.asl_records.specs.Listed.{AreInTable, Mean, IsReading}
 use Rattle.asl_records.proofs.Kept.{list_within, list_shown}
 
 module _ (old new : List Node) (keeps : Keeps (expansions old) (expansions new)) where
@@ -14,15 +15,15 @@ module _ (old new : List Node) (keeps : Keeps (expansions old) (expansions new))
   still_there None h = record { below = tt }
   still_there (Some ns) h = record { below = list_within old new keeps ns.now h.below }
 
-  mean : (numbers : Option (Bor (List ℕ))) (listed : Option (List Tree)) → AreInTable old numbers → Mean (expansions old) (numbers_given numbers) listed → Mean (expansions new) (numbers_given numbers) listed
-  mean None None within meant = meant
-  mean None (Some trees) within meant = meant
-  mean (Some ns) None within meant = meant
-  mean (Some ns) (Some trees) within meant = record { shapes = meant.shapes ∙ sym (list_shown old new keeps ns.now within.below); right = meant.right }
+  mean : (several : Bool) (numbers : Option (Bor (List ℕ))) (listed : Option (List Tree)) → AreInTable old numbers → Mean several (expansions old) (numbers_given numbers) listed → Mean several (expansions new) (numbers_given numbers) listed
+  mean several None None within meant = meant
+  mean several None (Some trees) within meant = meant
+  mean several (Some ns) None within meant = meant
+  mean several (Some ns) (Some trees) within meant = record { shapes = meant.shapes ∙ sym (list_shown old new keeps ns.now within.below); right = meant.right }
 
   -- and mean the same
-  pub still_meant : (numbers : Option (Bor (List ℕ))) (listed : Option (List Tree)) → AreInTable old numbers → MeanListed old (numbers_given numbers) listed → MeanListed new (numbers_given numbers) listed
-  still_meant numbers listed within means = record { meant = mean numbers listed within means.meant }
+  pub still_meant : {several : Bool} (numbers : Option (Bor (List ℕ))) (reading : Reading) → AreInTable old numbers → IsReading several old (numbers_given numbers) reading → IsReading several new (numbers_given numbers) reading
+  still_meant numbers reading within means = record { same = means.same; meant = mean _ numbers reading.listed within means.meant }
 
 -- ---- numbers that are kept, and lent
 
@@ -39,8 +40,8 @@ lent_same None (Some ns) h = absurd (cc)
 lent_same (Some v) None h = absurd h
 lent_same (Some v) (Some ns) h = ap Some h.0
 
-pub lent_meant : (nodes : List Node) (kept : Option (Vec ℕ Global)) (lent : Option (Bor (List ℕ))) (listed : Option (List Tree)) → IsLent kept lent → MeanListed nodes (kept_items kept) listed → MeanListed nodes (numbers_given lent) listed
-lent_meant nodes kept lent listed is means = subst (λ ns. MeanListed nodes ns listed) (sym (lent_same kept lent is)) means
+pub lent_meant : (several : Bool) (nodes : List Node) (kept : Option (Vec ℕ Global)) (lent : Option (Bor (List ℕ))) (reading : Reading) → IsLent kept lent → IsReading several nodes (kept_items kept) reading → IsReading several nodes (numbers_given lent) reading
+lent_meant several nodes kept lent reading is means = subst (λ ns. IsReading several nodes ns reading) (sym (lent_same kept lent is)) means
 
 pub lent_there : (nodes : List Node) (kept : Option (Vec ℕ Global)) (lent : Option (Bor (List ℕ))) → IsLent kept lent → IfSome kept (λ ns. AreBelow (length nodes) ns.items) → AreInTable nodes lent
 lent_there nodes None None is below = record { below = tt }

@@ -3,9 +3,8 @@ use Rattle.std.proofs.Common.{◌≡◌, ℕ, List, [], ◌∷◌, ◌++◌, map
 use Rattle.serde_json.specs.Data as json
 use Rattle.serde_json.specs.Data.{Data, Members}
 use Rattle.serde_json.specs.Find.{as_object}
-use Rattle.asl_model.specs.Tree.{Tree}
 use Rattle.asl_model.specs.ShapeSpelling.{is_among}
-use Rattle.asl_model.specs.Records.{RecordComplaint, RecordRow, UnknownField, has_row, object_complaints, rows_complaints, unknown_complaints}
+use Rattle.asl_model.specs.Records.{Reading, RecordComplaint, RecordRow, UnknownField, has_row, object_complaints, rows_complaints, unknown_complaints}
 use Rattle.asl_records.specs.Parts.{TellsOneOf, complaint_of, foreign_complaints}
 use Rattle.asl_records.specs.declared.refusals.ReadFault.{ReadFault}
 use Rattle.asl_records.proofs.Telling.{told_left, told_right, told_same}
@@ -26,16 +25,16 @@ unknown_are_foreign name rows (json.member n v ms) =
     ∙ ap (λ cs. if is_among n (names_of rows) then cs else complaint_of name n UnknownField ∷ cs) (unknown_are_foreign name rows ms)
 
 -- the complaints about an object, that of its members known
-abbrev pub parts : Option (List Tree) → List ℕ → List RecordRow → Members → List RecordComplaint
-parts listed name rows ms = rows_complaints listed name rows ms ++ foreign_complaints name (names_of rows) ms
+abbrev pub parts : Reading → List ℕ → List RecordRow → Members → List RecordComplaint
+parts reading name rows ms = rows_complaints reading name rows ms ++ foreign_complaints name (names_of rows) ms
 
-pub shown : (listed : Option (List Tree)) (name : List ℕ) (rows : List RecordRow) (v : Data) (ms : Members) → as_object v ≡ Some ms → object_complaints listed name rows v ≡ parts listed name rows ms
-shown listed name rows v ms is = (rw is refl) ∙ ap (λ cs. rows_complaints listed name rows ms ++ cs) (unknown_are_foreign name rows ms)
+pub shown : (reading : Reading) (name : List ℕ) (rows : List RecordRow) (v : Data) (ms : Members) → as_object v ≡ Some ms → object_complaints reading name rows v ≡ parts reading name rows ms
+shown reading name rows v ms is = (rw is refl) ∙ ap (λ cs. rows_complaints reading name rows ms ++ cs) (unknown_are_foreign name rows ms)
 
-pub foreign_told_of : (listed : Option (List Tree)) (name : List ℕ) (rows : List RecordRow) (v : Data) (ms : Members) (f : ReadFault) → as_object v ≡ Some ms → TellsOneOf (foreign_complaints name (names_of rows) ms) f → TellsOneOf (object_complaints listed name rows v) f
-foreign_told_of listed name rows v ms f is told =
-    told_same f _ _ (told_right f (rows_complaints listed name rows ms) (foreign_complaints name (names_of rows) ms) told) (sym (shown listed name rows v ms is))
+pub foreign_told_of : (reading : Reading) (name : List ℕ) (rows : List RecordRow) (v : Data) (ms : Members) (f : ReadFault) → as_object v ≡ Some ms → TellsOneOf (foreign_complaints name (names_of rows) ms) f → TellsOneOf (object_complaints reading name rows v) f
+foreign_told_of reading name rows v ms f is told =
+    told_same f _ _ (told_right f (rows_complaints reading name rows ms) (foreign_complaints name (names_of rows) ms) told) (sym (shown reading name rows v ms is))
 
-pub rows_told_of : (listed : Option (List Tree)) (name : List ℕ) (rows : List RecordRow) (v : Data) (ms : Members) (f : ReadFault) → as_object v ≡ Some ms → TellsOneOf (rows_complaints listed name rows ms) f → TellsOneOf (object_complaints listed name rows v) f
-rows_told_of listed name rows v ms f is told =
-    told_same f _ _ (told_left f (rows_complaints listed name rows ms) (foreign_complaints name (names_of rows) ms) told) (sym (shown listed name rows v ms is))
+pub rows_told_of : (reading : Reading) (name : List ℕ) (rows : List RecordRow) (v : Data) (ms : Members) (f : ReadFault) → as_object v ≡ Some ms → TellsOneOf (rows_complaints reading name rows ms) f → TellsOneOf (object_complaints reading name rows v) f
+rows_told_of reading name rows v ms f is told =
+    told_same f _ _ (told_left f (rows_complaints reading name rows ms) (foreign_complaints name (names_of rows) ms) told) (sym (shown reading name rows v ms is))

@@ -1,5 +1,5 @@
 -- What is read of a value that spells a shape, and what is told of one that doesn't.
-use Rattle.std.proofs.Common.{◌≡◌, ℕ, zero, suc, ◌<◌, List, [], ◌∷◌, map, length, slice_index_or, Option, Some, None, option_map, IfSome, Bor, ◌⊎◌, inl, inr, refl, sym, ap, ◌∙◌, subst, arith}
+use Rattle.std.proofs.Common.{◌≡◌, ℕ, Bool, zero, suc, ◌<◌, List, [], ◌∷◌, map, length, slice_index_or, Option, Some, None, option_map, IfSome, Bor, ◌⊎◌, inl, inr, refl, sym, ap, ◌∙◌, subst, arith}
 use Rattle.std.proofs.lemmas.List.Elements.{Contains-append_right}
 use Rattle.std.specs.List.{Contains}
 use Rattle.serde_json.specs.Data.{Data}
@@ -8,7 +8,7 @@ use Rattle.asl_model.specs.Tree.{Tree}
 use Rattle.asl_model.specs.ShapeSpelling as model
 use Rattle.asl_model.specs.Shape.{Shape}
 use Rattle.asl_model.specs.ShapeSpelling.{shape_of, shape_faults}
-use Rattle.asl_model.specs.Records.{RecordFault, RecordComplaint, BadShape, BadNumber, number_misfits, plain, shape_from, tree_misfits}
+use Rattle.asl_model.specs.Records.{Reading, RecordFault, RecordComplaint, BadShape, BadNumber, number_misfits, plain, shape_from, tree_misfits}
 use Rattle.asl_shape.specs.declared.ShapeRefusal.{ShapeRefusal}
 use Rattle.asl_shape.specs.declared.ShapeRefusal.TheVariants as shape
 use Rattle.asl_shape.specs.Refusal.{Tells, fault_named}
@@ -19,9 +19,9 @@ use Rattle.asl_numbered.specs.References.{numbers_given, shapes_given, SpellsWit
 use Rattle.asl_numbered.specs.declared.node.Node.{Node}
 use Rattle.asl_numbered.specs.declared.NumberedRefusal.{NumberedRefusal}
 use Rattle.asl_numbered.specs.declared.NumberedRefusal.TheVariants as numbered
-use Rattle.asl_records.specs.Listed.{AreMeant, Mean, MeanListed}
+use Rattle.asl_records.specs.Listed.{AreMeant, IsReading, Mean}
 use Rattle.asl_records.specs.View.{record_fault_view}
-use Rattle.asl_records.specs.Parts.{TellsOneOf, complaint_of, fault_told, shape_complaints}
+use Rattle.asl_records.specs.Parts.{TellsOneOf, complaint_of, fault_told, reading_of, shape_complaints, unlisted}
 use Rattle.asl_records.specs.declared.refusals.ReadFault.{ReadFault}
 use Rattle.asl_records.specs.declared.refusals.RecordFault.TheVariants as kept
 use Rattle.asl_records.proofs.Telling.{told_within}
@@ -54,86 +54,98 @@ pub mapped : {A B : Type 0} (g : A → B) (xs : List A) (x : A) → Contains xs 
 mapped g xs x h = mapped_at g xs x h.0 h.1 h.2
 
 -- the complaints about a value that is a tree are those of its misfits as a spelling
-complaints_shown : (listed : Option (List Tree)) (name field : List ℕ) (v : Data) (t : Tree) → tree_of v ≡ Some t → shape_complaints listed name field v ≡ map (complaint_of name field) (tree_misfits listed t)
-complaints_shown listed name field v t e = rw e refl
+complaints_shown : (reading : Reading) (name field : List ℕ) (v : Data) (t : Tree) → tree_of v ≡ Some t → shape_complaints reading name field v ≡ map (complaint_of name field) (tree_misfits reading t)
+complaints_shown reading name field v t e = rw e refl
 
-misfit_listed : (listed : Option (List Tree)) (name field : List ℕ) (v : Data) (t : Tree) (f : RecordFault) → tree_of v ≡ Some t → Contains (tree_misfits listed t) f → Contains (shape_complaints listed name field v) (complaint_of name field f)
-misfit_listed listed name field v t f is h =
-    subst (λ cs. Contains cs (complaint_of name field f)) (sym (complaints_shown listed name field v t is)) (mapped (complaint_of name field) (tree_misfits listed t) f h)
+misfit_listed : (reading : Reading) (name field : List ℕ) (v : Data) (t : Tree) (f : RecordFault) → tree_of v ≡ Some t → Contains (tree_misfits reading t) f → Contains (shape_complaints reading name field v) (complaint_of name field f)
+misfit_listed reading name field v t f is h =
+    subst (λ cs. Contains cs (complaint_of name field f)) (sym (complaints_shown reading name field v t is)) (mapped (complaint_of name field) (tree_misfits reading t) f h)
 
-shape_listed : (listed : Option (List Tree)) (name field : List ℕ) (v : Data) (t : Tree) (f : model.ShapeFault) → tree_of v ≡ Some t → Contains (shape_faults (plain listed t)) f → Contains (shape_complaints listed name field v) (complaint_of name field (BadShape f))
-shape_listed listed name field v t f is h =
-    misfit_listed listed name field v t (BadShape f) is (Contains-append_right (number_misfits listed t) (map BadShape (shape_faults (plain listed t))) (BadShape f) (mapped BadShape (shape_faults (plain listed t)) f h))
+shape_listed : (reading : Reading) (name field : List ℕ) (v : Data) (t : Tree) (f : model.ShapeFault) → tree_of v ≡ Some t → Contains (shape_faults reading.several (plain reading.listed t)) f → Contains (shape_complaints reading name field v) (complaint_of name field (BadShape f))
+shape_listed reading name field v t f is h =
+    let faults = shape_faults reading.several (plain reading.listed t) in
+    misfit_listed reading name field v t (BadShape f) is (Contains-append_right (number_misfits reading.listed t) (map BadShape faults) (BadShape f) (mapped BadShape faults f h))
 
 -- a refusal of the tree names a complaint about the value
-pub refusal_listed : (refusal : ShapeRefusal) (name field : List ℕ) (v : Data) (t : Tree) → tree_of v ≡ Some t → Tells refusal (shape_faults t) → IfSome (fault_named refusal) (λ f. Contains (shape_complaints None name field v) (complaint_of name field (BadShape f)))
-refusal_listed refusal name field v t is h = by (fault_named refusal) h.listed
+pub refusal_listed : (several : Bool) (refusal : ShapeRefusal) (name field : List ℕ) (v : Data) (t : Tree) → tree_of v ≡ Some t → Tells refusal (shape_faults several t) → IfSome (fault_named refusal) (λ f. Contains (shape_complaints (unlisted several) name field v) (complaint_of name field (BadShape f)))
+refusal_listed several refusal name field v t is h = by (fault_named refusal) h.listed
   where
-    by : (o : Option model.ShapeFault) → IfSome o (Contains (shape_faults t)) → IfSome o (λ f. Contains (shape_complaints None name field v) (complaint_of name field (BadShape f)))
+    by : (o : Option model.ShapeFault) → IfSome o (Contains (shape_faults several t)) → IfSome o (λ f. Contains (shape_complaints (unlisted several) name field v) (complaint_of name field (BadShape f)))
     by None k = k
-    by (Some f) k = shape_listed None name field v t f is k
+    by (Some f) k = shape_listed (unlisted several) name field v t f is k
 
 -- ---- where references mean listed trees
 
-spelled_in : (table : List Shape) (numbers : List ℕ) (trees : List Tree) → AreMeant table numbers trees → AreSpelledIn trees (map (shape_at table) numbers)
-spelled_in table numbers trees are = record { shapes = are.shapes; right = are.right }
+spelled_in : (several : Bool) (table : List Shape) (numbers : List ℕ) (trees : List Tree) → AreMeant several table numbers trees → AreSpelledIn several trees (map (shape_at table) numbers)
+spelled_in several table numbers trees are = record { shapes = are.shapes; right = are.right }
 
 -- what is read of a tree: nothing is wrong with it, and it spells the shape
-pub record IsReadAs (listed : Option (List Tree)) (t : Tree) (s : Shape) : Type 0 where
-  pub none_wrong : tree_misfits listed t ≡ []
-  pub same : shape_of (plain listed t) ≡ s
+pub record IsReadAs (reading : Reading) (t : Tree) (s : Shape) : Type 0 where
+  pub none_wrong : tree_misfits reading t ≡ []
+  pub same : shape_of (plain reading.listed t) ≡ s
 
-read_as : (table : List Shape) (numbers : Option (Bor (List ℕ))) (listed : Option (List Tree)) (t : Tree) (s : Shape) → Mean table (numbers_given numbers) listed → SpellsWith (shapes_given table numbers) t s → IsReadAs listed t s
-read_as table None None t s meant h =
-    let spells = spells_plain h in
+read_so : (several : Bool) (table : List Shape) (numbers : Option (Bor (List ℕ))) (listed : Option (List Tree)) (t : Tree) (s : Shape) → Mean several table (numbers_given numbers) listed → SpellsWith several (shapes_given table numbers) t s → IsReadAs (reading_of several listed) t s
+read_so several table None None t s meant h =
+    let spells = spells_plain several h in
     record { none_wrong = rw spells.none_wrong refl; same = spells.same }
-read_as table None (Some trees) t s meant h = absurd meant
-read_as table (Some ns) None t s meant h = absurd meant
-read_as table (Some ns) (Some trees) t s meant h =
+read_so several table None (Some trees) t s meant h = absurd meant
+read_so several table (Some ns) None t s meant h = absurd meant
+read_so several table (Some ns) (Some trees) t s meant h =
     let given = map (shape_at table) ns.now in
-    let out = spells_out trees given (spelled_in table ns.now trees meant) h in
+    let out = spells_out several trees given (spelled_in several table ns.now trees meant) h in
     record { none_wrong = rw (out.right, out.spells.none_wrong) refl; same = out.spells.same }
 
-pub none_wrong_in : (nodes new : List Node) (numbers : Option (Bor (List ℕ))) (listed : Option (List Tree)) (name field : List ℕ) (v : Data) (t : Tree) (n : ℕ) → tree_of v ≡ Some t → MeanListed nodes (numbers_given numbers) listed
-    → SpellsWith (shapes_given (expansions nodes) numbers) t (shape_at (expansions new) n) → shape_complaints listed name field v ≡ []
-none_wrong_in nodes new numbers listed name field v t n is means h =
-    let read = read_as (expansions nodes) numbers listed t (shape_at (expansions new) n) means.meant h in
-    complaints_shown listed name field v t is ∙ ap (map (complaint_of name field)) read.none_wrong
+-- a way to read has its own trees, and lists of types as it says
+as_said : (several : Bool) (nodes : List Node) (numbers : Option (Bor (List ℕ))) (reading : Reading) → IsReading several nodes (numbers_given numbers) reading → reading_of several reading.listed ≡ reading
+as_said several nodes numbers reading is = ap (λ b. reading_of b reading.listed) (sym is.same)
 
-pub number_in : (nodes new : List Node) (numbers : Option (Bor (List ℕ))) (listed : Option (List Tree)) (v : Data) (t : Tree) (n : ℕ) → tree_of v ≡ Some t → MeanListed nodes (numbers_given numbers) listed
-    → SpellsWith (shapes_given (expansions nodes) numbers) t (shape_at (expansions new) n) → IsNumberOf (expansions new) (shape_at (expansions new) n) n → IsNumberOf (expansions new) (shape_from listed v) n
-number_in nodes new numbers listed v t n is means h number =
-    let read = read_as (expansions nodes) numbers listed t (shape_at (expansions new) n) means.meant h in
-    let from : shape_from listed v ≡ shape_of (plain listed t) = rw is refl in
+read_as : (several : Bool) (nodes : List Node) (numbers : Option (Bor (List ℕ))) (reading : Reading) (t : Tree) (s : Shape) → IsReading several nodes (numbers_given numbers) reading → SpellsWith several (shapes_given (expansions nodes) numbers) t s → IsReadAs reading t s
+read_as several nodes numbers reading t s is h =
+    subst (λ r. IsReadAs r t s) (as_said several nodes numbers reading is) (read_so several (expansions nodes) numbers reading.listed t s is.meant h)
+
+pub none_wrong_in : (several : Bool) (nodes new : List Node) (numbers : Option (Bor (List ℕ))) (reading : Reading) (name field : List ℕ) (v : Data) (t : Tree) (n : ℕ) → tree_of v ≡ Some t → IsReading several nodes (numbers_given numbers) reading
+    → SpellsWith several (shapes_given (expansions nodes) numbers) t (shape_at (expansions new) n) → shape_complaints reading name field v ≡ []
+none_wrong_in several nodes new numbers reading name field v t n is means h =
+    let read = read_as several nodes numbers reading t (shape_at (expansions new) n) means h in
+    complaints_shown reading name field v t is ∙ ap (map (complaint_of name field)) read.none_wrong
+
+pub number_in : (several : Bool) (nodes new : List Node) (numbers : Option (Bor (List ℕ))) (reading : Reading) (v : Data) (t : Tree) (n : ℕ) → tree_of v ≡ Some t → IsReading several nodes (numbers_given numbers) reading
+    → SpellsWith several (shapes_given (expansions nodes) numbers) t (shape_at (expansions new) n) → IsNumberOf (expansions new) (shape_at (expansions new) n) n → IsNumberOf (expansions new) (shape_from reading.listed v) n
+number_in several nodes new numbers reading v t n is means h number =
+    let read = read_as several nodes numbers reading t (shape_at (expansions new) n) means h in
+    let from : shape_from reading.listed v ≡ shape_of (plain reading.listed t) = rw is refl in
     subst (λ s. IsNumberOf (expansions new) s n) (sym (from ∙ read.same)) number
 
-tells : (table : List Shape) (numbers : Option (Bor (List ℕ))) (listed : Option (List Tree)) (refusal : NumberedRefusal) (name field : List ℕ) (v : Data) (t : Tree) → tree_of v ≡ Some t → Mean table (numbers_given numbers) listed → TellsOf (shapes_given table numbers) t refusal
-    → IfSome (fault_told refusal) (λ f. Contains (shape_complaints listed name field v) (complaint_of name field f))
-tells table None None (numbered.Shape refusal) name field v t is meant told =
-    by (fault_named refusal) (refusal_listed refusal name field v t is (tells_plain t (numbered.Shape refusal) told))
+tells : (several : Bool) (table : List Shape) (numbers : Option (Bor (List ℕ))) (listed : Option (List Tree)) (refusal : NumberedRefusal) (name field : List ℕ) (v : Data) (t : Tree) → tree_of v ≡ Some t → Mean several table (numbers_given numbers) listed → TellsOf several (shapes_given table numbers) t refusal
+    → IfSome (fault_told refusal) (λ f. Contains (shape_complaints (reading_of several listed) name field v) (complaint_of name field f))
+tells several table None None (numbered.Shape refusal) name field v t is meant told =
+    by (fault_named refusal) (refusal_listed several refusal name field v t is (tells_plain several t (numbered.Shape refusal) told))
   where
-    by : (o : Option model.ShapeFault) → IfSome o (λ f. Contains (shape_complaints None name field v) (complaint_of name field (BadShape f))) → IfSome (option_map BadShape o) (λ f. Contains (shape_complaints None name field v) (complaint_of name field f))
+    by : (o : Option model.ShapeFault) → IfSome o (λ f. Contains (shape_complaints (unlisted several) name field v) (complaint_of name field (BadShape f))) → IfSome (option_map BadShape o) (λ f. Contains (shape_complaints (unlisted several) name field v) (complaint_of name field f))
     by None k = k
     by (Some f) k = k
-tells table None None numbered.BadNumber name field v t is meant told = absurd (tells_plain t numbered.BadNumber told)
-tells table None None numbered.OutOfMemory name field v t is meant told = tt
-tells table None (Some trees) refusal name field v t is meant told = absurd meant
-tells table (Some ns) None refusal name field v t is meant told = absurd meant
-tells table (Some ns) (Some trees) (numbered.Shape refusal) name field v t is meant told =
+tells several table None None numbered.BadNumber name field v t is meant told = absurd (tells_plain several t numbered.BadNumber told)
+tells several table None None numbered.OutOfMemory name field v t is meant told = tt
+tells several table None (Some trees) refusal name field v t is meant told = absurd meant
+tells several table (Some ns) None refusal name field v t is meant told = absurd meant
+tells several table (Some ns) (Some trees) (numbered.Shape refusal) name field v t is meant told =
     let said = told.said in
     let given = map (shape_at table) ns.now in
-    let there = has_fault_out trees given (spelled_in table ns.now trees meant) t said.0 said.2 in
-    subst (λ o. IfSome (option_map BadShape o) (λ f. Contains (shape_complaints (Some trees) name field v) (complaint_of name field f))) (sym said.1) (shape_listed (Some trees) name field v t said.0 is there)
-tells table (Some ns) (Some trees) numbered.BadNumber name field v t is meant told =
+    let reading = reading_of several (Some trees) in
+    let there = has_fault_out several trees given (spelled_in several table ns.now trees meant) t said.0 said.2 in
+    subst (λ o. IfSome (option_map BadShape o) (λ f. Contains (shape_complaints reading name field v) (complaint_of name field f))) (sym said.1) (shape_listed reading name field v t said.0 is there)
+tells several table (Some ns) (Some trees) numbered.BadNumber name field v t is meant told =
     let given = map (shape_at table) ns.now in
-    let wrong = wrong_number_out trees given (spelled_in table ns.now trees meant) t told.said in
-    misfit_listed (Some trees) name field v t BadNumber is (rw wrong (0, omega arith, refl))
-tells table (Some ns) (Some trees) numbered.OutOfMemory name field v t is meant told = tt
+    let wrong = wrong_number_out several trees given (spelled_in several table ns.now trees meant) t told.said in
+    misfit_listed (reading_of several (Some trees)) name field v t BadNumber is (rw wrong (0, omega arith, refl))
+tells several table (Some ns) (Some trees) numbered.OutOfMemory name field v t is meant told = tt
 
 -- a refusal of the tree for a table names a complaint about the value
-pub number_refusal_listed : (nodes : List Node) (numbers : Option (Bor (List ℕ))) (listed : Option (List Tree)) (refusal : NumberedRefusal) (name field : List ℕ) (v : Data) (t : Tree) → tree_of v ≡ Some t → MeanListed nodes (numbers_given numbers) listed
-    → TellsOf (shapes_given (expansions nodes) numbers) t refusal → IfSome (fault_told refusal) (λ f. Contains (shape_complaints listed name field v) (complaint_of name field f))
-number_refusal_listed nodes numbers listed refusal name field v t is means told = tells (expansions nodes) numbers listed refusal name field v t is means.meant told
+pub number_refusal_listed : (several : Bool) (nodes : List Node) (numbers : Option (Bor (List ℕ))) (reading : Reading) (refusal : NumberedRefusal) (name field : List ℕ) (v : Data) (t : Tree) → tree_of v ≡ Some t → IsReading several nodes (numbers_given numbers) reading
+    → TellsOf several (shapes_given (expansions nodes) numbers) t refusal → IfSome (fault_told refusal) (λ f. Contains (shape_complaints reading name field v) (complaint_of name field f))
+number_refusal_listed several nodes numbers reading refusal name field v t is means told =
+    subst (λ r. IfSome (fault_told refusal) (λ f. Contains (shape_complaints r name field v) (complaint_of name field f))) (as_said several nodes numbers reading means)
+    (tells several (expansions nodes) numbers reading.listed refusal name field v t is means.meant told)
 
 -- ---- what is told of a refusal
 

@@ -1,15 +1,17 @@
 -- What is left to do when shapes are listed, as steps over shapes: what they list, and that they end.
 use Rattle.std.proofs.Common.{◌≡◌, ◌<◌, ◌+◌, ℕ, suc, List, [], ◌∷◌, ◌++◌, map, Bool, true, false, if◌then◌else◌, Option, Some, None, option_map, String, Global, refl, sym, ap, ◌∙◌, subst, append_assoc, arith}
-use Rattle.std.proofs.lemmas.List.{map-append}
-use Rattle.asl_model.specs.Shape.{Shape, Any, OfKinds, Arrays, WithoutArrays, ArraysOf, ArrayShape, Objects, WithoutObjects, ObjectsOf, ObjectShape, Shapes, NoShapes, AndShape, FieldShapes, NoFieldShapes, AndFieldShape, IsProperShape}
-use Rattle.asl_model.specs.WrittenNumbered.{same_shape, place_of, with_last, list_after, list_after_objects, list_after_places, list_after_fields}
+use Rattle.std.proofs.lemmas.List.{append-nil, map-append}
+use Rattle.asl_model.specs.Shape.{Shape, Any, OfKinds, Arrays, WithoutArrays, ArraysOf, Objects, WithoutObjects, ObjectsOf, Shapes, NoShapes, AndShape, FieldShapes, NoFieldShapes, AndFieldShape, IsProperShape, AreProperArrays, AreProperObjects}
+use Rattle.asl_model.specs.WrittenNumbered.{same_shape, place_of, with_last, is_listed, with_last_if_listed, list_after, list_after_arrays, list_after_objects, list_after_places, list_after_fields}
 use Rattle.asl_model.proofs.SameShapes.{same_are}
-use Rattle.asl_model.proofs.Listing.{IsThere, PlacesAreThere, FieldsAreThere, ObjectsAreThere, PartsAreThere, AreBehind, parts_more, places_later, walked, walked_places, walked_fields}
-use Rattle.asl_numbered.specs.Expansion.{shape_at, shapes_at, fields_at, shape_over, numbers_in}
-use Rattle.asl_numbered.specs.declared.node.Node.{Node}
-use Rattle.asl_numbered.specs.declared.node.Node.TheVariants.{Any as AnyNode, Never as NeverNode, Null, Bool as Truth, Int, Text, List as Elements, Object}
+use Rattle.asl_model.proofs.Listing.{IsThere, PlacesAreThere, FieldsAreThere, ArraysAreThere, ObjectsAreThere, KindsAreThere, PartsAreThere, AreBehind, Goes, there_more, parts_more, places_later, walked, walked_places, walked_fields}
+use Rattle.asl_numbered.specs.Expansion.{shape_at, shapes_at, fields_at, numbers_in}
+use Rattle.asl_numbered.specs.TakenApart.{arrays_over, kinds_over, objects_over, taken_apart}
+use Rattle.asl_numbered.specs.declared.kinds.NodeArrays.{NodeArrays}
+use Rattle.asl_numbered.specs.declared.kinds.NodeKinds.{NodeKinds}
+use Rattle.asl_numbered.specs.declared.kinds.NodeObjects.{NodeObjects}
 use Rattle.asl_numbered.specs.declared.node.NodeField.{NodeField}
-use Rattle.asl_records.specs.Listing.{visits, tasks_at}
+use Rattle.asl_records.specs.Listing.{array_visits, object_visits, task_if, tasks_at, visits}
 use Rattle.asl_records.specs.declared.listing.Task.{Task}
 use Rattle.asl_records.specs.declared.listing.Task.TheVariants.{Visit, List as Put}
 
@@ -28,7 +30,14 @@ parts_behind done (t ∷ left) s i h at = go (same_shape s t) refl (place_of s l
 mutual
   pub nothing_more : (listed : List Shape) (s : Shape) → AreBehind [] listed → IsThere listed s → list_after listed s ≡ listed
   nothing_more listed Any h there = refl
-  nothing_more listed (OfKinds simple WithoutArrays WithoutObjects) h there = refl
+  nothing_more listed (OfKinds simple WithoutArrays WithoutObjects) h there = go (is_listed s) refl
+    where
+      s : Shape
+      s = OfKinds simple WithoutArrays WithoutObjects
+
+      go : (b : Bool) → is_listed s ≡ b → (if b then with_last s listed else listed) ≡ listed
+      go true is = rw ((there is).1) refl
+      go false is = refl
   nothing_more listed (OfKinds simple (ArraysOf first rest) objects) h there =
       let at = there refl in
       let parts = parts_behind [] listed (OfKinds simple (ArraysOf first rest) objects) at.0 h at.1 in
@@ -139,6 +148,34 @@ pub some_cost : (s : Shape) → 0 < walk_cost s
 some_cost Any = omega arith
 some_cost (OfKinds simple arrays objects) = omega arith
 
+-- ---- walks through arrays and objects
+
+goes_none : (listed : List Shape) → AreBehind [] listed → Goes listed listed
+goes_none listed h = record { more = []; whole = sym (append-nil listed); behind = h }
+
+goes_then : (a b c : List Shape) → Goes a b → Goes b c → Goes a c
+goes_then a b c g h = record { more = g.more ++ h.more; whole = h.whole ∙ (ap (λ l. l ++ h.more) g.whole ∙ append_assoc a g.more h.more); behind = h.behind }
+
+there_later : (s : Shape) (a b : List Shape) → Goes a b → IsThere a s → IsThere b s
+there_later s a b g h = subst (λ l. IsThere l s) (sym g.whole) (there_more s a g.more h)
+
+arrays_later : (arrays : Arrays) (a b : List Shape) → Goes a b → ArraysAreThere a arrays → ArraysAreThere b arrays
+arrays_later WithoutArrays a b g h = tt
+arrays_later (ArraysOf first rest) a b g h = (places_later first a b g h.0, there_later rest a b g h.1)
+
+walked_arrays : (listed : List Shape) (arrays : Arrays) → AreBehind [] listed → AreProperArrays arrays → Goes listed (list_after_arrays listed arrays) × ArraysAreThere (list_after_arrays listed arrays) arrays
+walked_arrays listed WithoutArrays h p = (goes_none listed h, tt)
+walked_arrays listed (ArraysOf first rest) h p =
+    let one = list_after_places listed first in
+    let two = list_after one rest in
+    let f = walked_places listed first h p.0 in
+    let r = walked one rest f.0.behind p.1 in
+    (goes_then listed one two f.0 r.0, (places_later first one two r.0 f.1, r.1))
+
+walked_objects : (listed : List Shape) (objects : Objects) → AreBehind [] listed → AreProperObjects objects → Goes listed (list_after_objects listed objects) × ObjectsAreThere (list_after_objects listed objects) objects
+walked_objects listed WithoutObjects h p = (goes_none listed h, tt)
+walked_objects listed (ObjectsOf fields extra) h p = walked_fields listed fields h p
+
 -- ---- walks through places and fields
 
 module _ (table : List Shape) where
@@ -175,50 +212,95 @@ module _ (table : List Shape) where
       let s = shape_at table f.1.shape in
       ap work (visit_last (numbers_in fs) f.1.shape) ∙ work-append (steps_of table (visits (numbers_in fs))) (VisitStep s ∷ []) ∙ rw (fields_work fs) (omega arith)
 
+  -- ---- the parts of arrays, and of objects
+
+  arrays_done : (arrays : Option NodeArrays) (listed : List Shape) → all_done (steps_of table (array_visits arrays)) listed ≡ list_after_arrays listed (arrays_over table arrays)
+  arrays_done None listed = refl
+  arrays_done (Some arrays) listed = ap (λ l. list_after l (shape_at table arrays.rest)) (places_done arrays.first.now listed)
+
+  objects_done : (objects : Option NodeObjects) (listed : List Shape) → all_done (steps_of table (object_visits objects)) listed ≡ list_after_objects listed (objects_over table objects)
+  objects_done None listed = refl
+  objects_done (Some objects) listed = fields_done objects.fields.now.entries listed
+
+  arrays_fed : (arrays : Option NodeArrays) (listed : List Shape) → ((n : ℕ) → IsProperShape (shape_at table n)) → AreEachFed (steps_of table (array_visits arrays)) listed
+  arrays_fed None listed proper = tt
+  arrays_fed (Some arrays) listed proper = (proper arrays.rest, visits_fed arrays.first.now listed proper)
+
+  objects_fed : (objects : Option NodeObjects) (listed : List Shape) → ((n : ℕ) → IsProperShape (shape_at table n)) → AreEachFed (steps_of table (object_visits objects)) listed
+  objects_fed None listed proper = tt
+  objects_fed (Some objects) listed proper = visits_fed (numbers_in objects.fields.now.entries) listed proper
+
+  arrays_work : (arrays : Option NodeArrays) → work (steps_of table (array_visits arrays)) ≡ arrays_cost (arrays_over table arrays)
+  arrays_work None = refl
+  arrays_work (Some arrays) = rw (places_work arrays.first.now) refl
+
+  objects_work : (objects : Option NodeObjects) → work (steps_of table (object_visits objects)) ≡ objects_cost (objects_over table objects)
+  objects_work None = refl
+  objects_work (Some objects) = fields_work objects.fields.now.entries
+
+  -- ---- the shape itself
+
+  abbrev itself : Bool → ℕ → List Step
+  itself wanted n = steps_of table (task_if wanted (Put n))
+
+  itself_done : (wanted : Bool) (n : ℕ) (listed : List Shape) → all_done (itself wanted n) listed ≡ (if wanted then with_last (shape_at table n) listed else listed)
+  itself_done true n listed = refl
+  itself_done false n listed = refl
+
+  itself_fed : (wanted : Bool) (n : ℕ) (listed : List Shape) → is_listed (shape_at table n) ≡ wanted → IsProperShape (shape_at table n) → KindsAreThere listed (shape_at table n) → AreEachFed (itself wanted n) listed
+  itself_fed true n listed is proper there = ((proper, (is, there)), tt)
+  itself_fed false n listed is proper there = tt
+
+  itself_work : (wanted : Bool) (n : ℕ) → work (itself wanted n) < 2
+  itself_work true n = omega arith
+  itself_work false n = omega arith
+
   -- ---- the tasks for a shape
 
-  pub tasks_done : (n : ℕ) (node : Node) (listed : List Shape) → shape_over table node ≡ shape_at table n → all_done (steps_of table (tasks_at n node)) listed ≡ list_after listed (shape_over table node)
-  tasks_done n AnyNode listed level = refl
-  tasks_done n NeverNode listed level = refl
-  tasks_done n Null listed level = refl
-  tasks_done n Truth listed level = refl
-  tasks_done n Int listed level = refl
-  tasks_done n Text listed level = refl
-  tasks_done n (Elements first rest) listed level = rw (places_done first.items listed, ← level) refl
-  tasks_done n (Object fields extra) listed level = rw (fields_done fields.entries listed, ← level) refl
+  split : (n : ℕ) (kinds : NodeKinds) → steps_of table (tasks_at table n (Some kinds)) ≡ itself (is_listed (shape_at table n)) n ++ (steps_of table (object_visits kinds.objects) ++ steps_of table (array_visits kinds.arrays))
+  split n kinds =
+      map-append (step_of table) (task_if (is_listed (shape_at table n)) (Put n)) (object_visits kinds.objects ++ array_visits kinds.arrays)
+      ∙ ap (λ steps. itself (is_listed (shape_at table n)) n ++ steps) (map-append (step_of table) (object_visits kinds.objects) (array_visits kinds.arrays))
 
-  pub tasks_fed : (n : ℕ) (node : Node) (listed : List Shape) → ((m : ℕ) → IsProperShape (shape_at table m)) → AreBehind [] listed → shape_over table node ≡ shape_at table n → AreEachFed (steps_of table (tasks_at n node)) listed
-  tasks_fed n AnyNode listed proper behind level = tt
-  tasks_fed n NeverNode listed proper behind level = tt
-  tasks_fed n Null listed proper behind level = tt
-  tasks_fed n Truth listed proper behind level = tt
-  tasks_fed n Int listed proper behind level = tt
-  tasks_fed n Text listed proper behind level = tt
-  tasks_fed n (Elements first rest) listed proper behind level =
-      let places = shapes_at table first.items in
-      let further = shape_at table rest in
-      let one = list_after_places listed places in
-      let own : IsProperShape (ArrayShape places further) = subst IsProperShape (sym level) (proper n) in
-      let f = walked_places listed places behind own.1.0 in
-      let r = walked one further f.0.behind own.1.1 in
-      let parts : PartsAreThere (list_after one further) (ArrayShape places further) = (refl, ((places_later places one (list_after one further) r.0 f.1, r.1), tt)) in
-      let all = steps_of table (visits first.items) in
-      let there : PartsAreThere (list_after (all_done all listed) further) (ArrayShape places further) = subst (λ l. PartsAreThere (list_after l further) (ArrayShape places further)) (sym (places_done first.items listed)) parts in
-      ((proper n, subst (PartsAreThere (list_after (all_done all listed) further)) level there), (proper rest, visits_fed first.items listed proper))
-  tasks_fed n (Object fields extra) listed proper behind level =
-      let shapes = fields_at table fields.entries in
-      let own : IsProperShape (ObjectShape shapes extra) = subst IsProperShape (sym level) (proper n) in
-      let f = walked_fields listed shapes behind own.2 in
-      let all = steps_of table (visits (numbers_in fields.entries)) in
-      let there : PartsAreThere (all_done all listed) (ObjectShape shapes extra) = subst (λ l. PartsAreThere l (ObjectShape shapes extra)) (sym (fields_done fields.entries listed)) (refl, (tt, f.1)) in
-      ((proper n, subst (PartsAreThere (all_done all listed)) level there), visits_fed (numbers_in fields.entries) listed proper)
+  parts_done : (kinds : NodeKinds) (listed : List Shape) → all_done (steps_of table (object_visits kinds.objects) ++ steps_of table (array_visits kinds.arrays)) listed ≡ list_after_objects (list_after_arrays listed (arrays_over table kinds.arrays)) (objects_over table kinds.objects)
+  parts_done kinds listed =
+      done-append (steps_of table (object_visits kinds.objects)) (steps_of table (array_visits kinds.arrays)) listed
+      ∙ ap (all_done (steps_of table (object_visits kinds.objects))) (arrays_done kinds.arrays listed)
+      ∙ objects_done kinds.objects (list_after_arrays listed (arrays_over table kinds.arrays))
 
-  pub tasks_work : (n : ℕ) (node : Node) → work (steps_of table (tasks_at n node)) < walk_cost (shape_over table node)
-  tasks_work n AnyNode = omega arith
-  tasks_work n NeverNode = omega arith
-  tasks_work n Null = omega arith
-  tasks_work n Truth = omega arith
-  tasks_work n Int = omega arith
-  tasks_work n Text = omega arith
-  tasks_work n (Elements first rest) = rw (places_work first.items) (omega arith)
-  tasks_work n (Object fields extra) = rw (fields_work fields.entries) (omega arith)
+  pub tasks_done : (n : ℕ) (kinds : Option NodeKinds) (listed : List Shape) → taken_apart table kinds ≡ shape_at table n → all_done (steps_of table (tasks_at table n kinds)) listed ≡ list_after listed (taken_apart table kinds)
+  tasks_done n None listed shown = refl
+  tasks_done n (Some kinds) listed shown =
+      let parts = steps_of table (object_visits kinds.objects) ++ steps_of table (array_visits kinds.arrays) in
+      let after = list_after_objects (list_after_arrays listed (arrays_over table kinds.arrays)) (objects_over table kinds.objects) in
+      ap (λ steps. all_done steps listed) (split n kinds)
+      ∙ done-append (itself (is_listed (shape_at table n)) n) parts listed
+      ∙ ap (all_done (itself (is_listed (shape_at table n)) n)) (parts_done kinds listed)
+      ∙ itself_done (is_listed (shape_at table n)) n after
+      ∙ ap (λ s. with_last_if_listed s after) (sym shown)
+
+  pub tasks_fed : (n : ℕ) (kinds : Option NodeKinds) (listed : List Shape) → ((m : ℕ) → IsProperShape (shape_at table m)) → AreBehind [] listed → taken_apart table kinds ≡ shape_at table n → AreEachFed (steps_of table (tasks_at table n kinds)) listed
+  tasks_fed n None listed proper behind shown = tt
+  tasks_fed n (Some kinds) listed proper behind shown =
+      let arrays = arrays_over table kinds.arrays in
+      let objects = objects_over table kinds.objects in
+      let one = list_after_arrays listed arrays in
+      let two = list_after_objects one objects in
+      let own : IsProperShape (kinds_over table kinds) = subst IsProperShape (sym shown) (proper n) in
+      let a = walked_arrays listed arrays behind own.0 in
+      let o = walked_objects one objects a.0.behind own.1 in
+      let there : KindsAreThere two (kinds_over table kinds) = (arrays_later arrays one two o.0 a.1, o.1) in
+      let array_steps = steps_of table (array_visits kinds.arrays) in
+      let object_steps = steps_of table (object_visits kinds.objects) in
+      let front = itself_fed (is_listed (shape_at table n)) n two refl (proper n) (subst (KindsAreThere two) shown there) in
+      let parts = fed-append object_steps array_steps listed (objects_fed kinds.objects (all_done array_steps listed) proper) (arrays_fed kinds.arrays listed proper) in
+      subst (λ steps. AreEachFed steps listed) (sym (split n kinds))
+      (fed-append (itself (is_listed (shape_at table n)) n) (object_steps ++ array_steps) listed (subst (AreEachFed (itself (is_listed (shape_at table n)) n)) (sym (parts_done kinds listed)) front) parts)
+
+  pub tasks_work : (n : ℕ) (kinds : Option NodeKinds) → work (steps_of table (tasks_at table n kinds)) < walk_cost (taken_apart table kinds)
+  tasks_work n None = omega arith
+  tasks_work n (Some kinds) =
+      let array_steps = steps_of table (array_visits kinds.arrays) in
+      let object_steps = steps_of table (object_visits kinds.objects) in
+      rw (split n kinds, work-append (itself (is_listed (shape_at table n)) n) (object_steps ++ array_steps), work-append object_steps array_steps, arrays_work kinds.arrays, objects_work kinds.objects)
+      (omega (arith, itself_work (is_listed (shape_at table n)) n))

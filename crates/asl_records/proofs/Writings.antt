@@ -1,5 +1,5 @@
 -- What is written for declared shapes and certificates, field after field and entry after entry.
-use Rattle.std.proofs.Common.{◌≡◌, ℕ, pos, List, [], ◌∷◌, ◌++◌, map, String, Global, string_bytes, string_cmp, codes, refl, sym, ap, ◌∙◌, subst, append_assoc, append-nil, Vec, false, ◌==◌, ◌≤◌, length, take}
+use Rattle.std.proofs.Common.{◌≡◌, ℕ, ℤ, pos, List, [], ◌∷◌, ◌++◌, map, String, Global, string_bytes, string_cmp, codes, refl, sym, ap, ◌∙◌, subst, append_assoc, append-nil, Vec, false, ◌==◌, ◌≤◌, length, take}
 use Rattle.std.proofs.lemmas.List.{take_all}
 use Rattle.std.specs.BTreeMap.{BTreeMap, insert_entry}
 use Rattle.std.specs.Vec.{vec_len}
@@ -8,7 +8,7 @@ use Rattle.std.specs.List.Sorted.{IsStrictlySortedBy}
 use Rattle.std.specs.Map.{keys_of}
 use Rattle.asl_model.specs.Tree as json
 use Rattle.asl_model.specs.Certificate.{Declared, Certificate}
-use Rattle.asl_model.specs.Written.{written_shape, written_list, written_entries, written_task, written_declared, written_state, written_certificate}
+use Rattle.asl_model.specs.Written.{written_shape, written_list, written_entries, written_task, written_declared, written_state, written_certificate, version_of}
 use Rattle.asl_tree.proofs.Texts.{after_first}
 use Rattle.asl_tree.specs.View as trees
 use Rattle.asl_tree.specs.declared.Tree.{Tree}
@@ -28,14 +28,14 @@ use Rattle.asl_records.specs.Writing.{with_list}
 pub view_object : (fields : BTreeMap (String Global) Tree) → trees.view (tree.Object fields) ≡ json.Object (trees.entries_view fields.entries)
 view_object fields = ap trees.view (sym (TreeVariants.rolls-Object fields)) ∙ fold-roll-Tree json.Tree trees.view_step (TreeOpen.Object fields)
 
-pub view_one : trees.view (tree.Int (pos 1)) ≡ json.Integer (pos 1)
-view_one = ap trees.view (sym (TreeVariants.rolls-Int (pos 1))) ∙ fold-roll-Tree json.Tree trees.view_step (TreeOpen.Int (pos 1))
+pub view_number : (n : ℤ) → trees.view (tree.Int n) ≡ json.Integer n
+view_number n = ap trees.view (sym (TreeVariants.rolls-Int n)) ∙ fold-roll-Tree json.Tree trees.view_step (TreeOpen.Int n)
 
 pub declared_made : (declared : Declared) (none one two : json.Fields) → none ≡ json.NoFields → one ≡ with_field (codes "input") (written_shape declared.input) none → two ≡ with_field (codes "tasks") (json.Object (written_entries written_task declared.tasks)) one → json.Object two ≡ written_declared declared
 declared_made declared none one two e f g = rw (g, f, e) refl
 
 pub certificate_made : (certificate : Certificate) (none one two three : json.Fields) → none ≡ json.NoFields → one ≡ with_field (codes "output") (written_shape certificate.output) none
-    → two ≡ with_field (codes "states") (json.Object (written_entries (written_state written_shape) certificate.states)) one → three ≡ with_field (codes "version") (json.Integer (pos 1)) two → json.Object three ≡ written_certificate certificate
+    → two ≡ with_field (codes "states") (json.Object (written_entries (written_state written_shape) certificate.states)) one → three ≡ with_field (codes "version") (json.Integer (pos (version_of certificate))) two → json.Object three ≡ written_certificate certificate
 certificate_made certificate none one two three e f g h = rw (h, g, f, e) refl
 
 -- ---- elements

@@ -3,6 +3,7 @@ pub mod Listing
 pub mod Numbered
 pub mod Numbering
 pub mod Parts
+pub mod Proper
 pub mod Refusal
 pub mod View
 pub mod Writing

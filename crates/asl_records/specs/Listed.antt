@@ -1,7 +1,8 @@
 -- What the numbers that references mean stand for: listed trees that spell the shapes of these numbers. No public
 -- clause cites this module.
-use Rattle.std.specs.Prelude.{◌≡◌, ℕ, List, [], length, map, slice_get, Option, Some, None, IfSome}
+use Rattle.std.specs.Prelude.{◌≡◌, ℕ, List, [], length, map, slice_get, Bool, Option, Some, None, IfSome}
 use Rattle.std.specs.Borrow.{Bor}
+use Rattle.asl_model.specs.Records.{Reading}
 use Rattle.asl_model.specs.Shape.{Shape}
 use Rattle.asl_model.specs.ShapeSpelling.{shape_of, shape_faults}
 use Rattle.asl_model.specs.Tree.{Tree}
@@ -9,26 +10,28 @@ use Rattle.asl_numbered.specs.Expansion.{expansions, shape_at, AreBelow}
 use Rattle.asl_numbered.specs.References.{numbers_given}
 use Rattle.asl_numbered.specs.declared.node.Node.{Node}
 
--- each tree spells the shape of the number in its place
-pub record AreMeant (table : List Shape) (numbers : List ℕ) (trees : List Tree) : Type 0 where
+-- each tree spells the shape of the number in its place, with lists of types where these may stand
+pub record AreMeant (several : Bool) (table : List Shape) (numbers : List ℕ) (trees : List Tree) : Type 0 where
   pub shapes : map shape_of trees ≡ map (shape_at table) numbers
-  pub right : (i : ℕ) (t : Tree) → slice_get trees i ≡ Some t → shape_faults t ≡ []
+  pub right : (i : ℕ) (t : Tree) → slice_get trees i ≡ Some t → shape_faults several t ≡ []
 
 -- so where numbers are given; where none are, no trees are listed
-abbrev pub Mean : List Shape → Option (List ℕ) → Option (List Tree) → Type 0
-Mean table None None = Unit {0}
-Mean table None (Some trees) = ⊥
-Mean table (Some numbers) None = ⊥
-Mean table (Some numbers) (Some trees) = AreMeant table numbers trees
+abbrev pub Mean : Bool → List Shape → Option (List ℕ) → Option (List Tree) → Type 0
+Mean several table None None = Unit {0}
+Mean several table None (Some trees) = ⊥
+Mean several table (Some numbers) None = ⊥
+Mean several table (Some numbers) (Some trees) = AreMeant several table numbers trees
 
-pub record MeanListed (nodes : List Node) (numbers : Option (List ℕ)) (listed : Option (List Tree)) : Type 0 where
-  pub meant : Mean (expansions nodes) numbers listed
+-- shapes are read so where lists of types may stand or not, and references mean those numbers
+pub record IsReading (several : Bool) (nodes : List Node) (numbers : Option (List ℕ)) (reading : Reading) : Type 0 where
+  pub same : reading.several ≡ several
+  pub meant : Mean several (expansions nodes) numbers reading.listed
 
 -- the numbers that are given are in the table
 pub record AreInTable (nodes : List Node) (numbers : Option (Bor (List ℕ))) : Type 0 where
   pub below : IfSome numbers (λ ns. AreBelow (length nodes) ns.now)
 
--- that holds whatever listed trees the numbers mean
-pub record ForListed (nodes : List Node) (numbers : Option (Bor (List ℕ))) (P : Option (List Tree) → Type 0)
-    : Type 0 where
-  pub each : (listed : Option (List Tree)) → MeanListed nodes (numbers_given numbers) listed → P listed
+-- that holds for each such way to read
+pub record ForReading (several : Bool) (nodes : List Node) (numbers : Option (Bor (List ℕ)))
+    (P : Reading → Type 0) : Type 0 where
+  pub each : (reading : Reading) → IsReading several nodes (numbers_given numbers) reading → P reading

@@ -1,11 +1,14 @@
 -- How the shapes of a certificate are listed by their numbers. No public clause cites this module.
-use Rattle.std.specs.Prelude.{◌≡◌, ◌<◌, ℕ, List, [], ◌∷◌, ◌++◌, length, map, get_or, set, Option, Some, None}
+use Rattle.std.specs.Prelude.{◌≡◌, ◌<◌, ℕ, List, [], ◌∷◌, ◌++◌, length, map, get_or, set, Bool, if◌then◌else◌, Option, Some, None, IfSome}
 use Rattle.std.specs.List.{AllByRecursion}
 use Rattle.asl_model.specs.Shape.{Shape, IsProperShape}
-use Rattle.asl_model.specs.WrittenNumbered.{place_of, list_after_all}
-use Rattle.asl_numbered.specs.Expansion.{expansions, shape_at, shape_over, numbers_in, AreBelow, RefersBelow}
+use Rattle.asl_model.specs.WrittenNumbered.{place_of, is_listed, list_after_all}
+use Rattle.asl_numbered.specs.Expansion.{expansions, shape_at, numbers_in, AreBelow}
+use Rattle.asl_numbered.specs.TakenApart.{taken_apart, AreKindsAt}
+use Rattle.asl_numbered.specs.declared.kinds.NodeArrays.{NodeArrays}
+use Rattle.asl_numbered.specs.declared.kinds.NodeKinds.{NodeKinds}
+use Rattle.asl_numbered.specs.declared.kinds.NodeObjects.{NodeObjects}
 use Rattle.asl_numbered.specs.declared.node.Node.{Node}
-use Rattle.asl_numbered.specs.declared.node.Node.TheVariants.{Any, Never, Null, Bool as Truth, Int, Text, List as Elements, Object}
 use Rattle.asl_records.specs.declared.listing.Listing.{Listing}
 use Rattle.asl_records.specs.declared.listing.Task.{Task}
 use Rattle.asl_records.specs.declared.listing.Task.TheVariants.{Visit, List as Put}
@@ -37,23 +40,32 @@ abbrev pub visits : List ℕ → List Task
 visits [] = []
 visits (n ∷ ns) = visits ns ++ Visit n ∷ []
 
--- A shape with parts is to be listed behind them.
-abbrev pub tasks_at : ℕ → Node → List Task
-tasks_at n Any = []
-tasks_at n Never = []
-tasks_at n Null = []
-tasks_at n Truth = []
-tasks_at n Int = []
-tasks_at n Text = []
-tasks_at n (Elements first rest) = Put n ∷ Visit rest ∷ visits first.items
-tasks_at n (Object fields extra) = Put n ∷ visits (numbers_in fields.entries)
+-- those through the shapes of elements, so that the first one's is done first
+abbrev pub array_visits : Option NodeArrays → List Task
+array_visits None = []
+array_visits (Some arrays) = Visit arrays.rest ∷ visits arrays.first.now
+
+-- those through the shapes of fields
+abbrev pub object_visits : Option NodeObjects → List Task
+object_visits None = []
+object_visits (Some objects) = visits (numbers_in objects.fields.now.entries)
+
+-- a task, if it is wanted
+abbrev pub task_if : Bool → Task → List Task
+task_if wanted task = if wanted then task ∷ [] else []
+
+-- a shape is to be listed, where it is, behind its parts, those of objects behind those of arrays
+abbrev pub tasks_at : List Shape → ℕ → Option NodeKinds → List Task
+tasks_at table n None = []
+tasks_at table n (Some kinds) =
+    task_if (is_listed (shape_at table n)) (Put n) ++ (object_visits kinds.objects ++ array_visits kinds.arrays)
 
 -- the tasks for a number's shape were put down
 pub record IsOpened (nodes : List Node) (n : ℕ) (old new : List Task) : Type 0 where
-  pub node : Node
-  pub level : shape_over (expansions nodes) node ≡ shape_at (expansions nodes) n
-  pub below : RefersBelow n node
-  pub put : new ≡ old ++ tasks_at n node
+  pub kinds : Option NodeKinds
+  pub shown : taken_apart (expansions nodes) kinds ≡ shape_at (expansions nodes) n
+  pub below : IfSome kinds (AreKindsAt (expansions nodes) n)
+  pub put : new ≡ old ++ tasks_at (expansions nodes) n kinds
 
 -- so where it has no place
 abbrev pub Opens : Option ℕ → List Node → ℕ → List Task → List Task → Type 0

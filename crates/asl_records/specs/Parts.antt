@@ -1,11 +1,12 @@
 -- What is wrong with the parts of a record, and what a part is refused with. No public clause cites this module.
-use Rattle.std.specs.Prelude.{◌≡◌, ℕ, List, [], ◌∷◌, ◌++◌, map, Bool, true, false, if◌then◌else◌, Option, Some, None, option_map, option_and_then, codes, bytes_eq, ⊤, IsTrue, is_some, String}
+use Rattle.std.specs.Prelude.{◌≡◌, ℕ, ℤ, List, [], ◌∷◌, ◌++◌, map, Bool, true, false, if◌then◌else◌, Option, Some, None, option_map, option_and_then, codes, bytes_eq, ⊤, IsTrue, is_some, String}
 use Rattle.std.specs.declared.alloc.Global.{Global}
 use Rattle.std.specs.Option.{unwrap_or}
 use Rattle.std.specs.List.{Contains}
+use Rattle.std.specs.Ordering.{int_eq}
 use Rattle.serde_json.specs.Data as json
 use Rattle.serde_json.specs.Data.{Data, Items, Members}
-use Rattle.serde_json.specs.Find.{as_array, get_member}
+use Rattle.serde_json.specs.Find.{as_array, as_i64, as_number, get_member}
 use Rattle.serde_json.specs.View.{members_view}
 use Rattle.serde_json.specs.declared.value.Value.{Value}
 use Rattle.asl_model.specs.Shape.{Shape, Any}
@@ -13,7 +14,7 @@ use Rattle.asl_model.specs.ShapeSpelling.{is_among}
 use Rattle.asl_model.specs.Json.{tree_of, elements_of, members_of}
 use Rattle.asl_model.specs.Tree.{Tree}
 use Rattle.asl_model.specs.Certificate as model
-use Rattle.asl_model.specs.Records.{RecordFault, UnknownField, BadShape, BadNumber, RecordComplaint, RecordRow, ShapeValue, ShapesValue, ListedValue, EntriesValue, VersionValue, record_row_faults, members_in, shape_from, shapes_from, shape_misfits, shapes_misfits, listed_after, listed_misfits, state_rows, state_from, entries_complaints, entries_from}
+use Rattle.asl_model.specs.Records.{Reading, RecordFault, UnknownField, BadShape, BadNumber, RecordComplaint, RecordRow, ShapeValue, ShapesValue, ListedValue, EntriesValue, VersionValue, record_row_faults, members_in, shape_from, shapes_from, shape_misfits, shapes_misfits, listed_after, listed_misfits, state_rows, state_from, entries_complaints, entries_from}
 use Rattle.asl_shape.specs.Refusal.{fault_named}
 use Rattle.asl_numbered.specs.declared.NumberedRefusal.{NumberedRefusal}
 use Rattle.asl_numbered.specs.declared.NumberedRefusal.TheVariants as numbered
@@ -54,21 +55,21 @@ pub record ElementsAreWhole (vs : Items) : Type 0 where
 abbrev pub complaint_of : List ℕ → List ℕ → RecordFault → RecordComplaint
 complaint_of name field fault = record { fault = fault; name = name; field = field }
 
--- what is wrong with a value that should be a shape, where those trees are listed
-abbrev pub shape_complaints : Option (List Tree) → List ℕ → List ℕ → Data → List RecordComplaint
-shape_complaints listed name field v = map (complaint_of name field) (shape_misfits listed v)
+-- what is wrong with a value that should be a shape, read so
+abbrev pub shape_complaints : Reading → List ℕ → List ℕ → Data → List RecordComplaint
+shape_complaints reading name field v = map (complaint_of name field) (shape_misfits reading v)
 
 -- what is wrong with values that should be shapes
-abbrev pub shapes_complaints : Option (List Tree) → List ℕ → List ℕ → Items → List RecordComplaint
-shapes_complaints listed name field vs = map (complaint_of name field) (shapes_misfits listed vs)
+abbrev pub shapes_complaints : Reading → List ℕ → List ℕ → Items → List RecordComplaint
+shapes_complaints reading name field vs = map (complaint_of name field) (shapes_misfits reading vs)
 
--- what is wrong with values that should be listed behind those trees
-abbrev pub listing_complaints : List Tree → Items → List RecordComplaint
-listing_complaints trees vs = map (complaint_of [] (codes "shapes")) (listed_misfits trees vs)
+-- what is wrong with values that should be listed behind those trees, where lists of types may stand or not
+abbrev pub listing_complaints : Bool → List Tree → Items → List RecordComplaint
+listing_complaints several trees vs = map (complaint_of [] (codes "shapes")) (listed_misfits several trees vs)
 
 -- what is wrong with what stands in a field
-abbrev pub field_complaints : Option (List Tree) → List ℕ → RecordRow → Option Data → List RecordComplaint
-field_complaints listed name row value = map (complaint_of name row.field) (record_row_faults listed row value)
+abbrev pub field_complaints : Reading → List ℕ → RecordRow → Option Data → List RecordComplaint
+field_complaints reading name row value = map (complaint_of name row.field) (record_row_faults reading row value)
 
 -- a field with a shape
 abbrev pub shape_row : List ℕ → Bool → RecordRow
@@ -86,9 +87,22 @@ entries_row field required = record { field = field; value = EntriesValue; requi
 abbrev pub version_row : RecordRow
 version_row = record { field = codes "version"; value = VersionValue; required = true }
 
+-- it is that number
+abbrev pub is_number : ℤ → Option Data → Bool
+is_number n value =
+    unwrap_or (option_map (int_eq n) (option_and_then as_i64 (option_and_then as_number value))) false
+
 -- the shapes that references mean
 abbrev pub listed_row : RecordRow
 listed_row = record { field = codes "shapes"; value = ListedValue; required = false }
+
+-- shapes are read so: with lists of types where these may stand, and with those listed trees
+abbrev pub reading_of : Bool → Option (List Tree) → Reading
+reading_of several listed = record { several = several; listed = listed }
+
+-- without references
+abbrev pub unlisted : Bool → Reading
+unlisted several = reading_of several None
 
 -- a complaint for each field that isn't one of those
 abbrev pub foreign_complaints : List ℕ → List (List ℕ) → Members → List RecordComplaint
@@ -125,16 +139,16 @@ trees_there value = option_map (λ v. listed_after [] (unwrap_or (as_array v) js
 -- ---- a certificate behind its list of shapes
 
 -- what is wrong with its states: with the field, and with each entry
-abbrev pub states_complaints : Option (List Tree) → Option Data → List RecordComplaint
-states_complaints listed states =
-    field_complaints listed [] (entries_row (codes "states") true) states
-    ++ entries_complaints listed state_rows (members_there states)
+abbrev pub states_complaints : Reading → Option Data → List RecordComplaint
+states_complaints reading states =
+    field_complaints reading [] (entries_row (codes "states") true) states
+    ++ entries_complaints reading state_rows (members_there states)
 
 -- what is wrong with its output and with its states
-abbrev pub certified_complaints : Option (List Tree) → List (String Global × Value) → List RecordComplaint
-certified_complaints listed fields =
-    field_complaints listed [] (shape_row (codes "output") true) (value_in (codes "output") fields)
-    ++ states_complaints listed (value_in (codes "states") fields)
+abbrev pub certified_complaints : Reading → List (String Global × Value) → List RecordComplaint
+certified_complaints reading fields =
+    field_complaints reading [] (shape_row (codes "output") true) (value_in (codes "output") fields)
+    ++ states_complaints reading (value_in (codes "states") fields)
 
 -- the states that stand there
 abbrev pub states_there : Option (List Tree) → Option Data → List (List ℕ × model.StateShapes)

@@ -1,9 +1,11 @@
 -- What is written over a list of shapes, part by part. No public clause cites this module.
-use Rattle.std.specs.Prelude.{ℕ, List}
+use Rattle.std.specs.Prelude.{◌<◌, ℕ, List}
 use Rattle.asl_model.specs.Shape.{Shape}
 use Rattle.asl_model.specs.Tree.{Tree}
 use Rattle.asl_model.specs.WrittenNumbered.{referring, written_over}
-use Rattle.asl_numbered.specs.Expansion.{expansions, shape_at}
+use Rattle.asl_numbered.specs.Expansion.{expansions, shape_at, numbers_in, AreBelow}
+use Rattle.asl_numbered.specs.declared.kinds.NodeArrays.{NodeArrays}
+use Rattle.asl_numbered.specs.declared.kinds.NodeObjects.{NodeObjects}
 use Rattle.asl_records.specs.Listing.{IsPlaced, listed_shapes}
 use Rattle.asl_records.specs.declared.writing_numbered.Writer.{Writer}
 
@@ -18,6 +20,14 @@ listed_by writer = listed_shapes writer.shapes.now writer.listing.now
 -- each number of the table has the place of its shape in the list
 pub record IsReady (writer : Writer) : Type 0 where
   pub placed : IsPlaced writer.shapes.now writer.listing.now
+
+-- the numbers in arrays that are lent are below that bound, and those in objects
+pub record ArraysAreBelow (bound : ℕ) (arrays : NodeArrays) : Type 0 where
+  pub first : AreBelow bound arrays.first.now
+  pub rest : arrays.rest < bound
+
+pub record ObjectsAreBelow (bound : ℕ) (objects : NodeObjects) : Type 0 where
+  pub fields : AreBelow bound (numbers_in objects.fields.now.entries)
 
 -- what is written for a shape, and for one of the list
 abbrev pub referred : Writer → Shape → Tree

@@ -1,15 +1,16 @@
 // Reading certificates.
 
-ghost use Rattle.std.specs.Prelude.{◌≡◌, [], IfOk, IfErr, IfSome, OnOk, None, option_map, codes};
+ghost use Rattle.std.specs.Prelude.{◌≡◌, [], pos, IfOk, IfErr, IfSome, OnOk, option_map, codes};
 ghost use Rattle.serde_json.specs.View.{view, members_view};
-ghost use Rattle.asl_model.specs.Records.{StandsForCertificate, certificate_complaints, certificate_from, object_complaints, entries_complaints, entries_from, state_rows, state_from};
+ghost use Rattle.asl_model.specs.Records.{Reading, StandsForCertificate, certificate_complaints, certificate_from, object_complaints, entries_complaints, entries_from, state_rows, state_from};
 ghost use Rattle.asl_numbered.specs.Expansion.{expansions, Keeps};
 ghost use Rattle.asl_records.specs.Numbered.{AreWithin, numbered_view};
-ghost use Rattle.asl_records.specs.Listed.{AreInTable, ForListed};
+ghost use Rattle.asl_records.specs.Listed.{AreInTable, ForReading};
 ghost use Rattle.asl_records.specs.Numbering.{AreStateOf, AreStatesOf};
+ghost use Rattle.asl_records.specs.Proper.{IsProperCertificate};
 ghost use Rattle.asl_records.specs.View.{certificate_view};
 ghost use Rattle.asl_records.specs.Refusal.{IsCertificateRefusal};
-ghost use Rattle.asl_records.specs.Parts.{AreWhole, IsWhole, TellsOneOf, certified, certified_complaints, field_complaints, states_complaints, states_there, value_in, version_row};
+ghost use Rattle.asl_records.specs.Parts.{AreWhole, IsWhole, TellsOneOf, certified, certified_complaints, field_complaints, is_number, states_complaints, states_there, value_in, version_row};
 
 use crate::fields::{Reader, entries, take};
 use crate::listed::read_listed;
@@ -21,17 +22,23 @@ use serde_json::{Map, Value};
 use std::alloc::Global;
 use std::collections::BTreeMap;
 
-/// The certificate that a JSON value stands for. Refuses where a rule is broken, with a fault that stands there.
+/// The certificate that a JSON value stands for: of version 1, or of version 2, in which shapes may be of several kinds,
+/// with a list of types. Each of its shapes is proper.
+///
+/// Refuses where a rule is broken, with a fault that stands there; also where it is broken in a listed shape that nothing
+/// refers to. Of a list of types in version 1 the fault is `BadShape` with `BadType`.
 pub fn read_certificate(alloc: Global, value: Value) -> Result<Certificate, ReadFault>
     ensures certificate { IfOk result
         (λ certificate. StandsForCertificate (view value) (certificate_view certificate)) }
+    ensures proper { IfOk result IsProperCertificate }
     ensures refused { IfErr result (IsCertificateRefusal (view value)) }
 {
     let numbered = read_numbered(alloc, value)?;
     Ok(expand_certificate(alloc, &numbered)?)
 }
 
-/// The same with its shapes in a table, each distinct one once.
+/// The same with its shapes in a table, each distinct one once. The table may have further shapes, such as those that are
+/// listed and not referred to.
 pub fn read_numbered(alloc: Global, value: Value) -> Result<NumberedCertificate, ReadFault>
     ensures certificate { IfOk result
         (λ certificate. StandsForCertificate (view value) (numbered_view certificate)) }
@@ -57,41 +64,42 @@ fn read_record(alloc: Global, value: Value) -> Result<NumberedCertificate, ReadF
     let record = Reader {
         alloc,
         name: "",
+        several: false,
         listed: None,
     };
     let mut fields = record.members(value)?;
     record.check_fields(&fields, &["version", "shapes", "output", "states"])?;
-    check_version(alloc, take(&mut fields, "version"))?;
+    let several = read_version(alloc, take(&mut fields, "version"))?;
     let mut shapes = Shapes::new(alloc);
-    let numbers = read_listed(alloc, &mut shapes, &mut fields)?;
-    read_parts(alloc, numbers.as_deref(), shapes, fields)
+    let numbers = read_listed(alloc, several, &mut shapes, &mut fields)?;
+    let reader = Reader {
+        several,
+        listed: numbers.as_deref(),
+        ..record
+    };
+    read_parts(reader, shapes, fields)
 }
 
-/// The certificate whose output and states stand in these fields, where references mean the shapes of those numbers.
+/// The certificate whose output and states stand in these fields, their shapes read so.
 fn read_parts(
-    alloc: Global,
-    numbers: Option<&[usize]>,
+    reader: Reader<'_>,
     mut shapes: Shapes,
     mut fields: Map<String, Value>,
 ) -> Result<NumberedCertificate, ReadFault>
     requires whole { AreWhole (members_view fields.entries) }
-    requires listed { AreInTable shapes numbers }
-    ensures right { OnOk result (ForListed shapes numbers.entry
-        (λ listed. certified_complaints listed fields.entries ≡ [])) }
-    ensures certificate { IfOk result (λ certificate. ForListed shapes numbers.entry
-        (λ listed. numbered_view certificate ≡ certified listed fields.entries)) }
-    ensures within { IfOk result (λ certificate. ForListed shapes numbers.entry
+    requires listed { AreInTable shapes reader.listed }
+    ensures right { OnOk result (ForReading reader.entry.several shapes reader.entry.listed
+        (λ reading. certified_complaints reading fields.entries ≡ [])) }
+    ensures certificate { IfOk result (λ certificate. ForReading reader.entry.several shapes reader.entry.listed
+        (λ reading. numbered_view certificate ≡ certified reading.listed fields.entries)) }
+    ensures within { IfOk result (λ certificate. ForReading reader.entry.several shapes reader.entry.listed
         (λ _. AreWithin certificate)) }
-    ensures refused { IfErr result (λ fault. ForListed shapes numbers.entry
-        (λ listed. TellsOneOf (certified_complaints listed fields.entries) fault)) }
+    ensures refused { IfErr result (λ fault. ForReading reader.entry.several shapes reader.entry.listed
+        (λ reading. TellsOneOf (certified_complaints reading fields.entries) fault)) }
 {
-    let record = Reader {
-        alloc,
-        name: "",
-        listed: numbers,
-    };
+    let record = Reader { name: "", ..reader };
     let output = record.required_number(&mut shapes, "output", &mut fields)?;
-    let states = read_states(alloc, numbers, &mut shapes, &mut fields)?;
+    let states = read_states(reader, &mut shapes, &mut fields)?;
     Ok(NumberedCertificate {
         shapes,
         output,
@@ -99,21 +107,23 @@ fn read_parts(
     })
 }
 
-/// Checks that the version is 1.
-fn check_version(alloc: Global, version: Option<Value>) -> Result<(), ReadFault>
+/// Whether lists of types may stand in a certificate of this version: not in 1, but in 2. There are no others.
+fn read_version(alloc: Global, version: Option<Value>) -> Result<bool, ReadFault>
     requires { IfSome version (λ v. IsWhole (view v)) }
-    ensures right { OnOk result
-        (field_complaints None [] version_row (option_map view version) ≡ []) }
-    ensures refused { IfErr result
-        (TellsOneOf (field_complaints None [] version_row (option_map view version))) }
+    ensures right { OnOk result ((reading : Reading)
+        → field_complaints reading [] version_row (option_map view version) ≡ []) }
+    ensures several { IfOk result
+        (λ several. several ≡ is_number (pos 2) (option_map view version)) }
+    ensures refused { IfErr result (λ fault. (reading : Reading)
+        → TellsOneOf (field_complaints reading [] version_row (option_map view version)) fault) }
 {
     match version {
         Some(version) => match version.as_i64() {
             Some(number) => {
-                if number != 1 {
+                if number != 1 && number != 2 {
                     return Err(ReadFault::record(alloc, RecordFault::BadVersion, "", "version"));
                 }
-                Ok(())
+                Ok(number == 2)
             }
             None => Err(ReadFault::record(alloc, RecordFault::WrongKind, "", "version")),
         },
@@ -123,52 +133,50 @@ fn check_version(alloc: Global, version: Option<Value>) -> Result<(), ReadFault>
 
 /// Takes the field `states` out of the record, and reads the shapes of all states.
 fn read_states(
-    alloc: Global,
-    numbers: Option<&[usize]>,
+    reader: Reader<'_>,
     shapes: &mut Shapes,
     fields: &mut Map<String, Value>,
 ) -> Result<BTreeMap<String, StateNumbers>, ReadFault>
     requires whole { AreWhole (members_view fields.old.entries) }
-    requires listed { AreInTable shapes.old numbers }
-    ensures right { OnOk result (ForListed shapes.old numbers.entry
-        (λ listed. states_complaints listed
+    requires listed { AreInTable shapes.old reader.listed }
+    ensures right { OnOk result (ForReading reader.entry.several shapes.old reader.entry.listed
+        (λ reading. states_complaints reading
         (value_in (codes "states") fields.old.entries) ≡ [])) }
-    ensures states { IfOk result (λ states. ForListed shapes.old numbers.entry
-        (λ listed. AreStatesOf shapes.new
-        (states_there listed (value_in (codes "states") fields.old.entries)) states.entries)) }
-    ensures refused { IfErr result (λ fault. ForListed shapes.old numbers.entry
-        (λ listed. TellsOneOf (states_complaints listed
+    ensures states { IfOk result (λ states. ForReading reader.entry.several shapes.old reader.entry.listed
+        (λ reading. AreStatesOf shapes.new
+        (states_there reading.listed (value_in (codes "states") fields.old.entries)) states.entries)) }
+    ensures refused { IfErr result (λ fault. ForReading reader.entry.several shapes.old reader.entry.listed
+        (λ reading. TellsOneOf (states_complaints reading
         (value_in (codes "states") fields.old.entries)) fault)) }
     ensures keeps { Keeps (expansions shapes.old) (expansions shapes.new) }
 {
     match take(fields, "states") {
-        Some(states) => read_entries(alloc, numbers, shapes, entries(alloc, "states", states)?),
-        None => Err(ReadFault::record(alloc, RecordFault::MissingField, "", "states")),
+        Some(states) => read_entries(reader, shapes, entries(reader.alloc, "states", states)?),
+        None => Err(ReadFault::record(reader.alloc, RecordFault::MissingField, "", "states")),
     }
 }
 
 /// The shapes of the states of these entries.
 fn read_entries(
-    alloc: Global,
-    numbers: Option<&[usize]>,
+    reader: Reader<'_>,
     shapes: &mut Shapes,
     entries: Map<String, Value>,
 ) -> Result<BTreeMap<String, StateNumbers>, ReadFault>
     requires whole { AreWhole (members_view entries.entries) }
-    requires listed { AreInTable shapes.old numbers }
-    ensures right { OnOk result (ForListed shapes.old numbers.entry
-        (λ listed. entries_complaints listed state_rows (members_view entries.entries) ≡ [])) }
-    ensures states { IfOk result (λ states. ForListed shapes.old numbers.entry
-        (λ listed. AreStatesOf shapes.new
-        (entries_from (state_from listed) (members_view entries.entries)) states.entries)) }
-    ensures refused { IfErr result (λ fault. ForListed shapes.old numbers.entry
-        (λ listed. TellsOneOf
-        (entries_complaints listed state_rows (members_view entries.entries)) fault)) }
+    requires listed { AreInTable shapes.old reader.listed }
+    ensures right { OnOk result (ForReading reader.entry.several shapes.old reader.entry.listed
+        (λ reading. entries_complaints reading state_rows (members_view entries.entries) ≡ [])) }
+    ensures states { IfOk result (λ states. ForReading reader.entry.several shapes.old reader.entry.listed
+        (λ reading. AreStatesOf shapes.new
+        (entries_from (state_from reading.listed) (members_view entries.entries)) states.entries)) }
+    ensures refused { IfErr result (λ fault. ForReading reader.entry.several shapes.old reader.entry.listed
+        (λ reading. TellsOneOf
+        (entries_complaints reading state_rows (members_view entries.entries)) fault)) }
     ensures keeps { Keeps (expansions shapes.old) (expansions shapes.new) }
 {
-    let mut states = BTreeMap::new(alloc);
+    let mut states = BTreeMap::new(reader.alloc);
     for (name, state) in entries {
-        let state = read_state(alloc, numbers, shapes, &name, state)?;
+        let state = read_state(reader, shapes, &name, state)?;
         drop(states.insert(name, state)?);
     }
     Ok(states)
@@ -176,28 +184,23 @@ fn read_entries(
 
 /// The shapes of the state of this name.
 fn read_state(
-    alloc: Global,
-    numbers: Option<&[usize]>,
+    reader: Reader<'_>,
     shapes: &mut Shapes,
     name: &str,
     value: Value,
 ) -> Result<StateNumbers, ReadFault>
     requires whole { IsWhole (view value) }
-    requires listed { AreInTable shapes.old numbers }
-    ensures right { OnOk result (ForListed shapes.old numbers.entry
-        (λ listed. object_complaints listed name.now state_rows (view value) ≡ [])) }
-    ensures numbers { IfOk result (λ state. ForListed shapes.old numbers.entry
-        (λ listed. AreStateOf shapes.new (state_from listed (view value)) state)) }
-    ensures refused { IfErr result (λ fault. ForListed shapes.old numbers.entry
-        (λ listed. TellsOneOf
-        (object_complaints listed name.now state_rows (view value)) fault)) }
+    requires listed { AreInTable shapes.old reader.listed }
+    ensures right { OnOk result (ForReading reader.entry.several shapes.old reader.entry.listed
+        (λ reading. object_complaints reading name.now state_rows (view value) ≡ [])) }
+    ensures numbers { IfOk result (λ state. ForReading reader.entry.several shapes.old reader.entry.listed
+        (λ reading. AreStateOf shapes.new (state_from reading.listed (view value)) state)) }
+    ensures refused { IfErr result (λ fault. ForReading reader.entry.several shapes.old reader.entry.listed
+        (λ reading. TellsOneOf
+        (object_complaints reading name.now state_rows (view value)) fault)) }
     ensures keeps { Keeps (expansions shapes.old) (expansions shapes.new) }
 {
-    let state = Reader {
-        alloc,
-        name,
-        listed: numbers,
-    };
+    let state = Reader { name, ..reader };
     let mut fields = state.members(value)?;
     state.check_fields(&fields, &["input", "output", "branches", "item"])?;
     Ok(StateNumbers {

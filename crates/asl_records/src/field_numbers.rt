@@ -2,9 +2,12 @@
 
 ghost use Rattle.std.specs.Prelude.{◌≡◌, List, [], map, true, false, Some, option_map, Contains, IfOk, IfErr, IfSome, OnOk};
 ghost use Rattle.serde_json.specs.View.{view, items_view, members_view};
+ghost use Rattle.asl_model.specs.Json.{tree_of};
 ghost use Rattle.asl_model.specs.Records.{RecordComplaint, ShapesValue, misfits, shape_from, shapes_from};
-ghost use Rattle.asl_numbered.specs.Expansion.{expansions, IsNumberOf, Keeps};
-ghost use Rattle.asl_records.specs.Listed.{AreInTable, ForListed};
+ghost use Rattle.asl_model.specs.Tree.{Tree};
+ghost use Rattle.asl_numbered.specs.Expansion.{expansions, shape_at, IsNumberOf, Keeps};
+ghost use Rattle.asl_numbered.specs.References.{shapes_given, SpellsWith, TellsOf};
+ghost use Rattle.asl_records.specs.Listed.{AreInTable, ForReading};
 ghost use Rattle.asl_records.specs.Numbering.{AreListOf, IsItemOf};
 ghost use Rattle.asl_records.specs.Parts.{AreWhole, ElementsAreWhole, IsWhole, Takes, TellsOneOf, complaint_of, fault_told, field_complaints, shape_complaints, shape_row, shape_there, shapes_complaints, shapes_row, shapes_there, value_in};
 
@@ -24,14 +27,14 @@ impl Reader<'_> {
         requires whole { AreWhole (members_view fields.old.entries) }
         requires listed { AreInTable shapes.old self.now.listed }
         ensures taken { Takes field.now fields.old.entries fields.new.entries }
-        ensures right { OnOk result (ForListed shapes.old self.now.listed
-            (λ listed. field_complaints listed self.now.name.now
+        ensures right { OnOk result (ForReading self.now.several shapes.old self.now.listed
+            (λ reading. field_complaints reading self.now.name.now
             (shape_row field.now true) (value_in field.now fields.old.entries) ≡ [])) }
-        ensures number { IfOk result (λ number. ForListed shapes.old self.now.listed
-            (λ listed. IsNumberOf (expansions shapes.new)
-            (shape_there listed (value_in field.now fields.old.entries)) number)) }
-        ensures refused { IfErr result (λ fault. ForListed shapes.old self.now.listed
-            (λ listed. TellsOneOf (field_complaints listed self.now.name.now
+        ensures number { IfOk result (λ number. ForReading self.now.several shapes.old self.now.listed
+            (λ reading. IsNumberOf (expansions shapes.new)
+            (shape_there reading.listed (value_in field.now fields.old.entries)) number)) }
+        ensures refused { IfErr result (λ fault. ForReading self.now.several shapes.old self.now.listed
+            (λ reading. TellsOneOf (field_complaints reading self.now.name.now
             (shape_row field.now true) (value_in field.now fields.old.entries)) fault)) }
         ensures keeps { Keeps (expansions shapes.old) (expansions shapes.new) }
     {
@@ -51,14 +54,14 @@ impl Reader<'_> {
         requires whole { AreWhole (members_view fields.old.entries) }
         requires listed { AreInTable shapes.old self.now.listed }
         ensures taken { Takes field.now fields.old.entries fields.new.entries }
-        ensures right { OnOk result (ForListed shapes.old self.now.listed
-            (λ listed. field_complaints listed self.now.name.now
+        ensures right { OnOk result (ForReading self.now.several shapes.old self.now.listed
+            (λ reading. field_complaints reading self.now.name.now
             (shape_row field.now false) (value_in field.now fields.old.entries) ≡ [])) }
-        ensures number { IfOk result (λ number. ForListed shapes.old self.now.listed
-            (λ listed. IsItemOf shapes.new
-            (option_map (shape_from listed) (value_in field.now fields.old.entries)) number)) }
-        ensures refused { IfErr result (λ fault. ForListed shapes.old self.now.listed
-            (λ listed. TellsOneOf (field_complaints listed self.now.name.now
+        ensures number { IfOk result (λ number. ForReading self.now.several shapes.old self.now.listed
+            (λ reading. IsItemOf shapes.new
+            (option_map (shape_from reading.listed) (value_in field.now fields.old.entries)) number)) }
+        ensures refused { IfErr result (λ fault. ForReading self.now.several shapes.old self.now.listed
+            (λ reading. TellsOneOf (field_complaints reading self.now.name.now
             (shape_row field.now false) (value_in field.now fields.old.entries)) fault)) }
         ensures keeps { Keeps (expansions shapes.old) (expansions shapes.new) }
     {
@@ -81,14 +84,14 @@ impl Reader<'_> {
         requires whole { AreWhole (members_view fields.old.entries) }
         requires listed { AreInTable shapes.old self.now.listed }
         ensures taken { Takes field.now fields.old.entries fields.new.entries }
-        ensures right { OnOk result (ForListed shapes.old self.now.listed
-            (λ listed. field_complaints listed self.now.name.now
+        ensures right { OnOk result (ForReading self.now.several shapes.old self.now.listed
+            (λ reading. field_complaints reading self.now.name.now
             (shapes_row field.now) (value_in field.now fields.old.entries) ≡ [])) }
-        ensures numbers { IfOk result (λ numbers. ForListed shapes.old self.now.listed
-            (λ listed. AreListOf shapes.new
-            (shapes_there listed (value_in field.now fields.old.entries)) numbers.items)) }
-        ensures refused { IfErr result (λ fault. ForListed shapes.old self.now.listed
-            (λ listed. TellsOneOf (field_complaints listed self.now.name.now
+        ensures numbers { IfOk result (λ numbers. ForReading self.now.several shapes.old self.now.listed
+            (λ reading. AreListOf shapes.new
+            (shapes_there reading.listed (value_in field.now fields.old.entries)) numbers.items)) }
+        ensures refused { IfErr result (λ fault. ForReading self.now.several shapes.old self.now.listed
+            (λ reading. TellsOneOf (field_complaints reading self.now.name.now
             (shapes_row field.now) (value_in field.now fields.old.entries)) fault)) }
         ensures keeps { Keeps (expansions shapes.old) (expansions shapes.new) }
     {
@@ -107,15 +110,15 @@ impl Reader<'_> {
     ) -> Result<Vec<usize>, ReadFault>
         requires whole { IsWhole (view value) }
         requires listed { AreInTable shapes.old self.now.listed }
-        ensures right { OnOk result (ForListed shapes.old self.now.listed
-            (λ listed. map (complaint_of self.now.name.now field.now)
-            (misfits listed ShapesValue (view value)) ≡ [])) }
-        ensures numbers { IfOk result (λ numbers. ForListed shapes.old self.now.listed
-            (λ listed. AreListOf shapes.new
-            (shapes_there listed (Some (view value))) numbers.items)) }
-        ensures refused { IfErr result (λ fault. ForListed shapes.old self.now.listed
-            (λ listed. TellsOneOf (map (complaint_of self.now.name.now field.now)
-            (misfits listed ShapesValue (view value))) fault)) }
+        ensures right { OnOk result (ForReading self.now.several shapes.old self.now.listed
+            (λ reading. map (complaint_of self.now.name.now field.now)
+            (misfits reading ShapesValue (view value)) ≡ [])) }
+        ensures numbers { IfOk result (λ numbers. ForReading self.now.several shapes.old self.now.listed
+            (λ reading. AreListOf shapes.new
+            (shapes_there reading.listed (Some (view value))) numbers.items)) }
+        ensures refused { IfErr result (λ fault. ForReading self.now.several shapes.old self.now.listed
+            (λ reading. TellsOneOf (map (complaint_of self.now.name.now field.now)
+            (misfits reading ShapesValue (view value))) fault)) }
         ensures keeps { Keeps (expansions shapes.old) (expansions shapes.new) }
     {
         match value {
@@ -134,14 +137,14 @@ impl Reader<'_> {
     ) -> Result<Vec<usize>, ReadFault>
         requires whole { ElementsAreWhole (items_view elements.items) }
         requires listed { AreInTable shapes.old self.now.listed }
-        ensures right { OnOk result (ForListed shapes.old self.now.listed
-            (λ listed. shapes_complaints listed self.now.name.now field.now
+        ensures right { OnOk result (ForReading self.now.several shapes.old self.now.listed
+            (λ reading. shapes_complaints reading self.now.name.now field.now
             (items_view elements.items) ≡ [])) }
-        ensures numbers { IfOk result (λ numbers. ForListed shapes.old self.now.listed
-            (λ listed. AreListOf shapes.new
-            (shapes_from listed (items_view elements.items)) numbers.items)) }
-        ensures refused { IfErr result (λ fault. ForListed shapes.old self.now.listed
-            (λ listed. TellsOneOf (shapes_complaints listed self.now.name.now field.now
+        ensures numbers { IfOk result (λ numbers. ForReading self.now.several shapes.old self.now.listed
+            (λ reading. AreListOf shapes.new
+            (shapes_from reading.listed (items_view elements.items)) numbers.items)) }
+        ensures refused { IfErr result (λ fault. ForReading self.now.several shapes.old self.now.listed
+            (λ reading. TellsOneOf (shapes_complaints reading self.now.name.now field.now
             (items_view elements.items)) fault)) }
         ensures keeps { Keeps (expansions shapes.old) (expansions shapes.new) }
     {
@@ -161,21 +164,42 @@ impl Reader<'_> {
     ) -> Result<usize, ReadFault>
         requires whole { IsWhole (view value) }
         requires listed { AreInTable shapes.old self.now.listed }
-        ensures right { OnOk result (ForListed shapes.old self.now.listed
-            (λ listed. shape_complaints listed self.now.name.now field.now (view value) ≡ [])) }
-        ensures number { IfOk result (λ number. ForListed shapes.old self.now.listed
-            (λ listed. IsNumberOf (expansions shapes.new)
-            (shape_from listed (view value)) number)) }
-        ensures refused { IfErr result (λ fault. ForListed shapes.old self.now.listed
-            (λ listed. TellsOneOf (shape_complaints listed self.now.name.now field.now
+        ensures right { OnOk result (ForReading self.now.several shapes.old self.now.listed
+            (λ reading. shape_complaints reading self.now.name.now field.now (view value) ≡ [])) }
+        ensures number { IfOk result (λ number. ForReading self.now.several shapes.old self.now.listed
+            (λ reading. IsNumberOf (expansions shapes.new)
+            (shape_from reading.listed (view value)) number)) }
+        ensures refused { IfErr result (λ fault. ForReading self.now.several shapes.old self.now.listed
+            (λ reading. TellsOneOf (shape_complaints reading self.now.name.now field.now
             (view value)) fault)) }
         ensures keeps { Keeps (expansions shapes.old) (expansions shapes.new) }
     {
-        let answer = shapes.read_value_with(&value, self.listed);
+        let answer = self.read_spelled(shapes, &value);
         drop(value);
         match answer {
             Ok(number) => Ok(number),
             Err(refusal) => Err(self.no_number(refusal, field)),
+        }
+    }
+
+    /// The number of the shape that the value spells, with lists of types where these may stand.
+    fn read_spelled(&self, shapes: &mut Shapes, value: &Value) -> Result<usize, NumberedRefusal>
+        requires listed { AreInTable shapes.old self.now.listed }
+        ensures number { IfOk result
+            (λ n. IsNumberOf (expansions shapes.new) (shape_at (expansions shapes.new) n) n) }
+        ensures spelled { IfOk result (λ n. (t : Tree) → tree_of (view value.now) ≡ Some t
+            → SpellsWith self.now.several
+            (shapes_given (expansions shapes.old) self.now.listed) t
+            (shape_at (expansions shapes.new) n)) }
+        ensures refused { IfErr result (λ e. (t : Tree) → tree_of (view value.now) ≡ Some t
+            → TellsOf self.now.several
+            (shapes_given (expansions shapes.old) self.now.listed) t e) }
+        ensures keeps { Keeps (expansions shapes.old) (expansions shapes.new) }
+    {
+        if self.several {
+            shapes.read_value_with(value, self.listed)
+        } else {
+            shapes.read_value_with_v1(value, self.listed)
         }
     }
 

@@ -6,12 +6,13 @@ ghost use Rattle.serde_json.specs.Find.{as_object};
 ghost use Rattle.serde_json.specs.View.{view, members_view};
 ghost use Rattle.asl_model.specs.ShapeSpelling.{is_among};
 ghost use Rattle.asl_model.specs.Records as model;
-ghost use Rattle.asl_model.specs.Records.{RecordRow, RecordComplaint, BadShape, EntriesValue, misfits, object_complaints, shape_from, shape_misfits};
+ghost use Rattle.asl_model.specs.Records.{Reading, RecordRow, RecordComplaint, BadShape, EntriesValue, declared_reading, misfits, object_complaints, shape_from, shape_misfits};
 ghost use Rattle.asl_model.specs.Tree.{Tree};
 ghost use Rattle.asl_shape.specs.View.{view as shape_view};
 ghost use Rattle.asl_shape.specs.Refusal.{fault_named};
 ghost use Rattle.asl_records.specs.View.{record_fault_view};
 ghost use Rattle.asl_records.specs.Parts.{AreWhole, IsWhole, Takes, TellsOneOf, complaint_of, field_complaints, foreign_complaints, shape_complaints, shape_row, shape_there, value_in};
+ghost use Rattle.asl_records.specs.Proper.{IsProper};
 
 use crate::refusals::{ReadFault, RecordFault};
 use asl_shape::{Shape, ShapeRefusal};
@@ -24,6 +25,8 @@ use std::alloc::Global;
 pub(crate) struct Reader<'n> {
     pub(crate) alloc: Global,
     pub(crate) name: &'n str,
+    /// Whether lists of types may stand in the shapes of a certificate; in declared shapes they may.
+    pub(crate) several: bool,
     /// The numbers of the shapes that references mean, where a certificate lists shapes.
     pub(crate) listed: Option<&'n [usize]>,
 }
@@ -36,8 +39,8 @@ impl Reader<'_> {
             (λ members. as_object (view value) ≡ Some (members_view members.entries)) }
         ensures whole { IfOk result (λ members. AreWhole (members_view members.entries)) }
         ensures refused { IfErr result
-            (λ fault. (listed : Option (List Tree)) (rows : List RecordRow) → TellsOneOf
-            (object_complaints listed self.now.name.now rows (view value)) fault) }
+            (λ fault. (reading : Reading) (rows : List RecordRow) → TellsOneOf
+            (object_complaints reading self.now.name.now rows (view value)) fault) }
     {
         match value {
             Value::Object(members) => Ok(members),
@@ -73,11 +76,12 @@ impl Reader<'_> {
     ) -> Result<Shape, ReadFault>
         requires { AreWhole (members_view fields.old.entries) }
         ensures taken { Takes field.now fields.old.entries fields.new.entries }
-        ensures right { OnOk result (field_complaints None self.now.name.now
+        ensures right { OnOk result (field_complaints declared_reading self.now.name.now
             (shape_row field.now true) (value_in field.now fields.old.entries) ≡ []) }
         ensures shape { IfOk result
             (λ shape. shape_view shape ≡ shape_there None (value_in field.now fields.old.entries)) }
-        ensures refused { IfErr result (TellsOneOf (field_complaints None self.now.name.now
+        ensures proper { IfOk result IsProper }
+        ensures refused { IfErr result (TellsOneOf (field_complaints declared_reading self.now.name.now
             (shape_row field.now true) (value_in field.now fields.old.entries))) }
     {
         match take(fields, field) {
@@ -94,11 +98,12 @@ impl Reader<'_> {
     ) -> Result<Option<Shape>, ReadFault>
         requires { AreWhole (members_view fields.old.entries) }
         ensures taken { Takes field.now fields.old.entries fields.new.entries }
-        ensures right { OnOk result (field_complaints None self.now.name.now
+        ensures right { OnOk result (field_complaints declared_reading self.now.name.now
             (shape_row field.now false) (value_in field.now fields.old.entries) ≡ []) }
         ensures shape { IfOk result (λ shape. option_map shape_view shape
             ≡ option_map (shape_from None) (value_in field.now fields.old.entries)) }
-        ensures refused { IfErr result (TellsOneOf (field_complaints None self.now.name.now
+        ensures proper { IfOk result (λ shape. IfSome shape IsProper) }
+        ensures refused { IfErr result (TellsOneOf (field_complaints declared_reading self.now.name.now
             (shape_row field.now false) (value_in field.now fields.old.entries))) }
     {
         match take(fields, field) {
@@ -113,10 +118,11 @@ impl Reader<'_> {
     /// The shape that a field's value stands for.
     fn read_shape(&self, field: &str, value: Value) -> Result<Shape, ReadFault>
         requires { IsWhole (view value) }
-        ensures right { OnOk result (shape_misfits None (view value) ≡ []) }
+        ensures right { OnOk result (shape_misfits declared_reading (view value) ≡ []) }
         ensures shape { IfOk result (λ shape. shape_view shape ≡ shape_from None (view value)) }
+        ensures proper { IfOk result IsProper }
         ensures refused { IfErr result
-            (TellsOneOf (shape_complaints None self.now.name.now field.now (view value))) }
+            (TellsOneOf (shape_complaints declared_reading self.now.name.now field.now (view value))) }
     {
         match asl_shape::read_value(self.alloc, &value) {
             Ok(shape) => Ok(shape),
@@ -159,7 +165,7 @@ pub(crate) fn entries(
         (λ members. as_object (view value) ≡ Some (members_view members.entries)) }
     ensures whole { IfOk result (λ members. AreWhole (members_view members.entries)) }
     ensures refused { IfErr result
-        (TellsOneOf (map (complaint_of [] field.now) (misfits None EntriesValue (view value)))) }
+        (TellsOneOf (map (complaint_of [] field.now) (misfits declared_reading EntriesValue (view value)))) }
 {
     match value {
         Value::Object(members) => Ok(members),

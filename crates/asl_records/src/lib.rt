@@ -5,6 +5,10 @@
 //! never a second whole copy of a text. The shapes of a certificate are read into a table, where each distinct one
 //! stands once; [`number_certificate`] and [`expand_certificate`] lead there and back. A certificate may list shapes, and
 //! then have references to them.
+//!
+//! A shape of several kinds is spelled with a list of types. It may stand among declared shapes, which have no version,
+//! and in a certificate of version 2, but in none of version 1. [`Certificate::version`] and
+//! [`NumberedCertificate::version`] tell which version is written. Each plain shape that is answered is proper.
 #![tactic(auto)]
 
 mod certificates;
@@ -16,6 +20,7 @@ mod listing;
 mod numbering;
 mod records;
 mod refusals;
+mod version;
 mod writing;
 mod writing_numbered;
 

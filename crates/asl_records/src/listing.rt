@@ -1,16 +1,19 @@
 // The list of a certificate's shapes.
 //
-// A walk goes through the shapes, and lists each shape of lists or objects once its parts are listed. What is still to
-// be done stands in a list of tasks, so that no call goes from a shape to its parts.
+// A walk goes through the shapes, and lists each shape of lists, of objects or of several kinds once its parts are
+// listed. What is still to be done stands in a list of tasks, so that no call goes from a shape to its parts.
 
-ghost use Rattle.std.specs.Prelude.{◌≡◌, ◌<◌, ◌++◌, [], IfOk, IfSome, OnOk, None, Some, get_or, length, map, option_map, slice_get};
-ghost use Rattle.asl_model.specs.WrittenNumbered.{list_after, list_after_all, list_after_item, list_after_state, shapes_listed};
-ghost use Rattle.asl_numbered.specs.Expansion.{expansions, shape_at, shape_over, numbers_in, AreBelow, RefersBelow};
-ghost use Rattle.asl_records.specs.Listing.{IsListing, Opens, Puts, listed_shapes, visits, tasks_at};
+ghost use Rattle.std.specs.Prelude.{◌≡◌, ◌<◌, ◌++◌, [], IfOk, IfSome, OnOk, None, Some, get_or, length, map, option_map};
+ghost use Rattle.asl_model.specs.WrittenNumbered.{is_listed, list_after, list_after_all, list_after_item, list_after_state, shapes_listed};
+ghost use Rattle.asl_numbered.specs.Expansion.{expansions, shape_at, numbers_in, AreBelow};
+ghost use Rattle.asl_numbered.specs.TakenApart.{kinds_over};
+ghost use Rattle.asl_records.specs.Listing.{IsListing, IsOpened, Opens, Puts, array_visits, listed_shapes, object_visits, task_if, visits};
+ghost use Rattle.asl_records.specs.declared.listing.Task.TheVariants.{List as Put};
 ghost use Rattle.asl_records.specs.Numbered.{AreWithin, AreNumbersBelow, numbered_view, numbers_view};
 
 use crate::records::{NumberedCertificate, StateNumbers};
-use asl_numbered::{Node, NodeField, Shapes};
+use crate::version::is_with_several;
+use asl_numbered::{NodeArrays, NodeField, NodeKinds, NodeObjects, Shapes};
 use asl_tree::OutOfMemory;
 use std::alloc::Global;
 use std::collections::BTreeMap;
@@ -148,7 +151,7 @@ impl Listing {
     {
         match self.places[number] {
             Some(_) => Ok(()),
-            None => put_parts(tasks, number, node_at(shapes, number)),
+            None => put_parts(tasks, shapes, number),
         }
     }
 
@@ -166,22 +169,70 @@ impl Listing {
     }
 }
 
-/// Puts down that the shape whose first level is the node is to be listed, and its parts before it, unless it has none.
-fn put_parts(tasks: &mut Vec<Task>, number: usize, node: &Node) -> Result<(), OutOfMemory>
+/// Puts down that the shape of that number is to be listed, where it is, and before it its parts: those of its lists, and
+/// then those of its objects.
+fn put_parts(tasks: &mut Vec<Task>, shapes: &Shapes, number: usize) -> Result<(), OutOfMemory>
     ensures put { IfOk result
-        (λ _. tasks.new.items ≡ tasks.old.items ++ tasks_at number node.now) }
+        (λ _. IsOpened shapes.now number tasks.old.items tasks.new.items) }
 {
-    match node {
-        Node::Any | Node::Never | Node::Null | Node::Bool | Node::Int | Node::Text => Ok(()),
-        Node::List { first, rest } => {
-            tasks.push(Task::List(number))?;
-            tasks.push(Task::Visit(*rest))?;
+    let Some(kinds) = shapes.take_apart(number) else {
+        return Ok(());
+    };
+    put_itself(tasks, shapes, number, &kinds)?;
+    put_objects(tasks, kinds.objects)?;
+    put_arrays(tasks, kinds.arrays)
+}
+
+/// Puts down that the shape of that number, which takes these kinds, is to be listed, where it is.
+fn put_itself(
+    tasks: &mut Vec<Task>,
+    shapes: &Shapes,
+    number: usize,
+    kinds: &NodeKinds<'_>,
+) -> Result<(), OutOfMemory>
+    requires shown { kinds_over (expansions shapes.now) kinds.now
+        ≡ shape_at (expansions shapes.now) number }
+    ensures put { IfOk result
+        (λ _. tasks.new.items ≡ tasks.old.items
+        ++ task_if (is_listed (shape_at (expansions shapes.now) number)) (Put number)) }
+{
+    if is_listed(shapes, number, kinds) {
+        tasks.push(Task::List(number))?;
+    }
+    Ok(())
+}
+
+/// Whether the shape of that number is listed: where it takes lists or objects, or is of several kinds.
+fn is_listed(shapes: &Shapes, number: usize, kinds: &NodeKinds<'_>) -> bool
+    requires shown { kinds_over (expansions shapes.now) kinds.now
+        ≡ shape_at (expansions shapes.now) number }
+    ensures { result ≡ is_listed (shape_at (expansions shapes.now) number) }
+{
+    kinds.arrays.is_some() || kinds.objects.is_some() || is_with_several(shapes, number)
+}
+
+/// Puts down the walks through the parts of lists, so that the first element's comes first.
+fn put_arrays(tasks: &mut Vec<Task>, arrays: Option<NodeArrays<'_>>) -> Result<(), OutOfMemory>
+    ensures put { IfOk result
+        (λ _. tasks.new.items ≡ tasks.old.items ++ array_visits arrays.entry) }
+{
+    match arrays {
+        Some(NodeArrays { first, rest, .. }) => {
+            tasks.push(Task::Visit(rest))?;
             put_places(tasks, first)
         }
-        Node::Object { fields, .. } => {
-            tasks.push(Task::List(number))?;
-            put_fields(tasks, fields)
-        }
+        None => Ok(()),
+    }
+}
+
+/// Puts down the walks through the parts of objects, so that the first field's comes first.
+fn put_objects(tasks: &mut Vec<Task>, objects: Option<NodeObjects<'_>>) -> Result<(), OutOfMemory>
+    ensures put { IfOk result
+        (λ _. tasks.new.items ≡ tasks.old.items ++ object_visits objects.entry) }
+{
+    match objects {
+        Some(NodeObjects { fields, .. }) => put_fields(tasks, fields),
+        None => Ok(()),
     }
 }
 
@@ -207,18 +258,4 @@ fn put_fields(
         tasks.push(Task::Visit(field.shape))?;
     }
     Ok(())
-}
-
-/// The first level of the shape of that number.
-pub(crate) fn node_at(shapes: &Shapes, number: usize) -> &Node
-    requires below { number < length shapes.now }
-    ensures node { slice_get shapes.now number ≡ Some result.now }
-    ensures level { shape_over (expansions shapes.now) result.now
-        ≡ shape_at (expansions shapes.now) number }
-    ensures below { RefersBelow number result.now }
-{
-    match shapes.node(number) {
-        Some(node) => node,
-        None => unreachable!(),
-    }
 }

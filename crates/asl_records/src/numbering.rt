@@ -1,10 +1,11 @@
 // Certificates with shapes of their own, and with numbers of a table.
 
-ghost use Rattle.std.specs.Prelude.{◌≡◌, ◌<◌, IfOk, IfSome, length, map, option_map};
+ghost use Rattle.std.specs.Prelude.{◌≡◌, ◌<◌, All, IfOk, IfSome, length, map, option_map};
 ghost use Rattle.asl_numbered.specs.Expansion.{expansions, shape_at, AreBelow, Keeps};
 ghost use Rattle.asl_shape.specs.View.{view};
 ghost use Rattle.asl_records.specs.Numbered.{AreWithin, AreNumbersBelow, AreEntriesBelow, numbered_view, numbers_view, numbered_entries};
 ghost use Rattle.asl_records.specs.Numbering.{IsItemOf, AreListOf, AreStateOf, AreStatesOf};
+ghost use Rattle.asl_records.specs.Proper.{AreProperStates, IsProper, IsProperCertificate, IsProperState};
 ghost use Rattle.asl_records.specs.View.{certificate_view, entry_view, entries_view};
 
 use crate::records::{Certificate, NumberedCertificate, StateNumbers, StateShapes};
@@ -96,7 +97,8 @@ fn number_item(shapes: &mut Shapes, item: &Option<Shape>) -> Result<Option<usize
     }
 }
 
-/// The certificate with shapes of its own, in place of numbers. Refuses only where an allocation was refused.
+/// The certificate with shapes of its own, in place of numbers: each of them is proper. Refuses only where an allocation
+/// was refused.
 pub fn expand_certificate(
     alloc: Global,
     numbered: &NumberedCertificate,
@@ -104,6 +106,7 @@ pub fn expand_certificate(
     requires within { AreWithin numbered.now }
     ensures same { IfOk result
         (λ certificate. certificate_view certificate ≡ numbered_view numbered.now) }
+    ensures proper { IfOk result IsProperCertificate }
 {
     let shapes = &numbered.shapes;
     Ok(Certificate {
@@ -121,6 +124,7 @@ fn expand_states(
     requires below { AreEntriesBelow (length shapes.now) states.now.entries }
     ensures same { IfOk result (λ expanded. entries_view expanded.entries
         ≡ numbered_entries (expansions shapes.now) states.now.entries) }
+    ensures proper { IfOk result (λ expanded. AreProperStates expanded.entries) }
 {
     let mut expanded = BTreeMap::new(alloc);
     for (name, state) in states.iter() {
@@ -139,6 +143,7 @@ fn expand_state(
     requires below { AreNumbersBelow (length shapes.now) state.now }
     ensures same { IfOk result
         (λ expanded. entry_view expanded ≡ numbers_view (expansions shapes.now) state.now) }
+    ensures proper { IfOk result IsProperState }
 {
     Ok(StateShapes {
         input: expand(shapes, state.input)?,
@@ -158,6 +163,7 @@ fn expand_branches(
     ensures same { IfOk result
         (λ expanded. map view expanded.items
         ≡ map (shape_at (expansions shapes.now)) branches.now) }
+    ensures proper { IfOk result (λ expanded. All IsProper expanded.items) }
 {
     let mut expanded = Vec::with_capacity(alloc, branches.len())?;
     for number in branches {
@@ -172,6 +178,7 @@ fn expand_item(shapes: &Shapes, item: Option<usize>) -> Result<Option<Shape>, Ou
     ensures same { IfOk result
         (λ expanded. option_map view expanded
         ≡ option_map (shape_at (expansions shapes.now)) item) }
+    ensures proper { IfOk result (λ expanded. IfSome expanded IsProper) }
 {
     match item {
         Some(number) => Ok(Some(expand(shapes, number)?)),
@@ -183,6 +190,7 @@ fn expand_item(shapes: &Shapes, item: Option<usize>) -> Result<Option<Shape>, Ou
 pub(crate) fn expand(shapes: &Shapes, number: usize) -> Result<Shape, OutOfMemory>
     requires below { number < length shapes.now }
     ensures same { IfOk result (λ shape. view shape ≡ shape_at (expansions shapes.now) number) }
+    ensures proper { IfOk result IsProper }
 {
     match shapes.expand(number)? {
         Some(shape) => Ok(shape),

@@ -17,9 +17,9 @@ pub enum RecordFault {
     UnknownField,
     /// A field has a value of another kind.
     WrongKind,
-    /// A shape is none.
+    /// A shape is none; in a certificate of version 1 also where its type is a list.
     BadShape(ShapeRefusal),
-    /// The certificate has another version.
+    /// The version of the certificate is a whole number other than 1 and 2.
     BadVersion,
     /// A reference means none of the shapes that the certificate lists.
     BadNumber,

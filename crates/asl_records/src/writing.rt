@@ -1,10 +1,11 @@
 // Writing declared shapes and certificates.
 
-ghost use Rattle.std.specs.Prelude.{◌≡◌, IfOk, IfSome, Some, map, option_map};
+ghost use Rattle.std.specs.Prelude.{◌≡◌, pos, IfOk, IfSome, Some, codes, if◌then◌else◌, map, option_map};
 ghost use Rattle.serde_json.specs.Data.{Data};
 ghost use Rattle.asl_model.specs.Json.{tree_of};
 ghost use Rattle.asl_model.specs.RecordShapes.{HoldsForTask, HoldsForState};
 ghost use Rattle.asl_model.specs.Records.{StandsForDeclared, StandsForCertificate};
+ghost use Rattle.asl_model.specs.Tree as json;
 ghost use Rattle.asl_model.specs.Written as model;
 ghost use Rattle.asl_shape.specs.Adding.{with_field};
 ghost use Rattle.asl_shape.specs.View.{view};
@@ -34,7 +35,8 @@ pub fn write_declared(alloc: Global, declared: &Declared) -> Result<Tree, OutOfM
 }
 
 /// The tree that is written for a certificate: `branches` stands in a state's entry where there are any, `item` where
-/// there is one. A JSON value that is this tree stands for the same certificate.
+/// there is one. Its version is that of [`Certificate::version`]. A JSON value that is this tree stands for the same
+/// certificate.
 ///
 /// Refuses only where an allocation was refused.
 pub fn write_certificate(alloc: Global, certificate: &Certificate) -> Result<Tree, OutOfMemory>
@@ -45,7 +47,7 @@ pub fn write_certificate(alloc: Global, certificate: &Certificate) -> Result<Tre
     add_shape(alloc, &mut fields, "output", &certificate.output)?;
     let states = write_states(alloc, &certificate.states)?;
     add(alloc, &mut fields, "states", Tree::Object(states))?;
-    add(alloc, &mut fields, "version", Tree::Int(1))?;
+    add_version(alloc, &mut fields, certificate.has_several(alloc)?)?;
     Ok(Tree::Object(fields))
 }
 
@@ -162,6 +164,24 @@ pub(crate) fn add_list(
         add(alloc, fields, name, Tree::List(elements))?;
     }
     Ok(())
+}
+
+/// Adds the version of a certificate with shapes of several kinds, or without.
+#[tactic(auto, using(crate::proofs::Writings::view_number))]
+pub(crate) fn add_version(
+    alloc: Global,
+    fields: &mut BTreeMap<String, Tree>,
+    several: bool,
+) -> Result<(), OutOfMemory>
+    ensures { IfOk result (λ _. trees.entries_view fields.new.entries
+        ≡ with_field (codes "version") (json.Integer (pos (if several then 2 else 1)))
+        (trees.entries_view fields.old.entries)) }
+{
+    if several {
+        add(alloc, fields, "version", Tree::Int(2))
+    } else {
+        add(alloc, fields, "version", Tree::Int(1))
+    }
 }
 
 /// Adds a field.

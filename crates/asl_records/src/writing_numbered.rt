@@ -1,34 +1,38 @@
 // Writing certificates whose shapes stand in a table.
 
-ghost use Rattle.std.specs.Prelude.{◌≡◌, ◌<◌, ◌^◌, IfOk, IfSome, List, Some, length, map, option_map};
+ghost use Rattle.std.specs.Prelude.{◌≡◌, ◌<◌, ◌^◌, IfOk, IfSome, List, Some, is_some, length, map, not, option_map};
 ghost use Rattle.serde_json.specs.Data.{Data};
 ghost use Rattle.asl_model.specs.Json.{tree_of};
 ghost use Rattle.asl_model.specs.Records.{StandsForCertificate};
 ghost use Rattle.asl_model.specs.Shape as shape;
+ghost use Rattle.asl_model.specs.Shape.{has_arrays, has_objects};
 ghost use Rattle.asl_model.specs.ShapeOrder.{is_any_shape};
+ghost use Rattle.asl_model.specs.Tree as json;
 ghost use Rattle.asl_model.specs.Written as model;
 ghost use Rattle.asl_model.specs.WrittenNumbered as list;
 ghost use Rattle.asl_numbered.specs.Expansion.{shape_at, fields_at, numbers_in, AreBelow};
+ghost use Rattle.asl_numbered.specs.TakenApart.{arrays_over, objects_over};
 ghost use Rattle.asl_shape.specs.Adding.{with_field};
+ghost use Rattle.asl_shape.specs.WrittenKinds.{are_closed, with_arrays, with_objects};
 ghost use Rattle.asl_tree.specs.View as trees;
 ghost use Rattle.asl_records.specs.Numbered.{AreWithin, AreNumbersBelow, AreEntriesBelow, numbered_view, numbered_entries, numbers_view};
 ghost use Rattle.asl_records.specs.Writing.{with_item};
-ghost use Rattle.asl_records.specs.WritingNumbered.{IsReady, listed_by, referred, referred_at, spelled_over, table_of};
+ghost use Rattle.asl_records.specs.WritingNumbered.{ArraysAreBelow, IsReady, ObjectsAreBelow, listed_by, referred, referred_at, spelled_over, table_of};
 
-use crate::listing::{Listing, node_at};
+use crate::listing::Listing;
 use crate::numbering::expand;
 use crate::records::{NumberedCertificate, StateNumbers};
-use crate::writing::{add, add_list};
+use crate::writing::{add, add_list, add_version};
 use asl_model::reading_laws::written_records_are_read_back;
-use asl_numbered::{Node, NodeField, Shapes};
-use asl_shape::{write, write_array, write_object};
+use asl_numbered::{NodeArrays, NodeField, NodeObjects, Shapes};
+use asl_shape::{Written, WrittenArrays, WrittenObjects, write, write_kinds};
 use asl_tree::{OutOfMemory, Tree};
 use std::alloc::Global;
 use std::collections::BTreeMap;
 
-/// The tree that is written for a certificate, in which each distinct shape of lists or objects is listed once, in
-/// `shapes`, behind its parts, and stands everywhere as a reference. A JSON value that is this tree stands for the same
-/// certificate.
+/// The tree that is written for a certificate, in which each distinct shape of lists, of objects or of several kinds is
+/// listed once, in `shapes`, behind its parts, and stands everywhere as a reference. Its version is that of
+/// [`NumberedCertificate::version`]. A JSON value that is this tree stands for the same certificate.
 ///
 /// Refuses only where an allocation was refused.
 pub fn write_numbered(alloc: Global, certificate: &NumberedCertificate) -> Result<Tree, OutOfMemory>
@@ -52,7 +56,7 @@ pub fn write_numbered(alloc: Global, certificate: &NumberedCertificate) -> Resul
     add_list(alloc, &mut fields, "shapes", writer.write_listed()?)?;
     let states = writer.write_states(&certificate.states)?;
     add(alloc, &mut fields, "states", Tree::Object(states))?;
-    add(alloc, &mut fields, "version", Tree::Int(1))?;
+    add_version(alloc, &mut fields, certificate.has_several())?;
     Ok(Tree::Object(fields))
 }
 
@@ -156,29 +160,84 @@ impl Writer<'_> {
         ensures written { IfOk result (λ t. trees.view t
             ≡ spelled_over self.now (shape_at (table_of self.now) number)) }
     {
-        match node_at(self.shapes, number) {
-            Node::Any | Node::Never | Node::Null | Node::Bool | Node::Int | Node::Text => {
-                write(self.alloc, &expand(self.shapes, number)?)
-            }
-            Node::List { first, rest } => {
-                let prefix_items = self.refer_all(first)?;
-                let items = self.refer(*rest)?;
-                write_array(self.alloc, prefix_items, !self.is_any(*rest), items)
-            }
-            Node::Object { fields, extra } => {
-                let properties = self.refer_fields(fields)?;
-                let required = needed_names(self.alloc, fields)?;
-                write_object(self.alloc, properties, required, *extra)
-            }
-        }
+        let Some(kinds) = self.shapes.take_apart(number) else {
+            return Ok(Tree::Bool(true));
+        };
+        let written = Written {
+            null: kinds.null,
+            boolean: kinds.boolean,
+            integer: kinds.integer,
+            text: kinds.text,
+            arrays: self.refer_arrays(kinds.arrays)?,
+            objects: self.refer_objects(kinds.objects)?,
+        };
+        write_kinds(self.alloc, written)
     }
 
-    /// Whether the shape of that number is the one of all trees.
-    fn is_any(&self, number: usize) -> bool
-        requires below { number < length self.now.shapes.now }
-        ensures { result ≡ is_any_shape (shape_at (table_of self.now) number) }
+    /// For the lists that a shape takes.
+    fn refer_arrays(
+        &self,
+        arrays: Option<NodeArrays<'_>>,
+    ) -> Result<Option<WrittenArrays>, OutOfMemory>
+        requires ready { IsReady self.now }
+        requires below { IfSome arrays (ArraysAreBelow (length self.now.shapes.now)) }
+        ensures written { IfOk result (λ w. (others : json.Fields) → with_arrays w others
+            ≡ list.with_arrays_over (listed_by self.now)
+            (arrays_over (table_of self.now) arrays.entry) others) }
+        ensures some { IfOk result
+            (λ w. is_some w ≡ has_arrays (arrays_over (table_of self.now) arrays.entry)) }
     {
-        matches!(node_at(self.shapes, number), Node::Any)
+        let Some(arrays) = arrays else {
+            return Ok(None);
+        };
+        let prefix_items = self.refer_all(arrays.first)?;
+        let items = self.refer_unless_any(arrays.rest)?;
+        Ok(Some(WrittenArrays {
+            prefix_items,
+            items,
+        }))
+    }
+
+    /// For the objects that a shape takes.
+    fn refer_objects(
+        &self,
+        objects: Option<NodeObjects<'_>>,
+    ) -> Result<Option<WrittenObjects>, OutOfMemory>
+        requires ready { IsReady self.now }
+        requires below { IfSome objects (ObjectsAreBelow (length self.now.shapes.now)) }
+        ensures written { IfOk result (λ w. (others : json.Fields) → with_objects w others
+            ≡ list.with_objects_over (listed_by self.now)
+            (objects_over (table_of self.now) objects.entry) others) }
+        ensures some { IfOk result
+            (λ w. is_some w ≡ has_objects (objects_over (table_of self.now) objects.entry)) }
+        ensures closed { IfOk result
+            (λ w. are_closed w ≡ model.are_closed (objects_over (table_of self.now) objects.entry)) }
+    {
+        let Some(NodeObjects { fields, extra, .. }) = objects else {
+            return Ok(None);
+        };
+        let properties = self.refer_fields(fields)?;
+        let required = needed_names(self.alloc, fields)?;
+        Ok(Some(WrittenObjects {
+            properties,
+            required,
+            extra,
+        }))
+    }
+
+    /// What stands for a shape, unless it is `Any`.
+    fn refer_unless_any(&self, number: usize) -> Result<Option<Tree>, OutOfMemory>
+        requires ready { IsReady self.now }
+        requires below { number < length self.now.shapes.now }
+        ensures some { IfOk result (λ w. is_some w
+            ≡ not (is_any_shape (shape_at (table_of self.now) number))) }
+        ensures written { IfOk result (λ w. IfSome w
+            (λ t. trees.view t ≡ referred_at self.now number)) }
+    {
+        match self.shapes.take_apart(number) {
+            Some(_) => Ok(Some(self.refer(number)?)),
+            None => Ok(None),
+        }
     }
 
     /// For each mentioned field what stands for its shape.

@@ -16,35 +16,35 @@ use Rattle.asl_records.proofs.certificates.read_state.Goals as goal
 -- ---- the table grows from field to field
 
 pub required_number-requires-2-clause-listed : goal.required_number-requires-2-clause-listed
-required_number-requires-2-clause-listed c = still_there c.args.shapes.now c.required_number.new.shapes c.in_ok-required_number.ensures.keeps c.args.numbers c.requires.listed
+required_number-requires-2-clause-listed c = still_there c.args.shapes.now c.required_number.new.shapes c.in_ok-required_number.ensures.keeps c.args.reader.listed c.requires.listed
 
 pub optional_numbers-requires-clause-listed : goal.optional_numbers-requires-clause-listed
 optional_numbers-requires-clause-listed c =
     let twice = keeps_trans (expansions c.args.shapes.now) (expansions c.required_number.new.shapes) (expansions c.required_number-2.new.shapes) c.in_ok-required_number.ensures.keeps c.in_ok-required_number-2.ensures.keeps in
-    still_there c.args.shapes.now c.required_number-2.new.shapes twice c.args.numbers c.requires.listed
+    still_there c.args.shapes.now c.required_number-2.new.shapes twice c.args.reader.listed c.requires.listed
 
 pub optional_number-requires-clause-listed : goal.optional_number-requires-clause-listed
 optional_number-requires-clause-listed c =
     let twice = keeps_trans (expansions c.args.shapes.now) (expansions c.required_number.new.shapes) (expansions c.required_number-2.new.shapes) c.in_ok-required_number.ensures.keeps c.in_ok-required_number-2.ensures.keeps in
     let thrice = keeps_trans (expansions c.args.shapes.now) (expansions c.required_number-2.new.shapes) (expansions c.optional_numbers.new.shapes) twice c.in_ok-optional_numbers.ensures.keeps in
-    still_there c.args.shapes.now c.optional_numbers.new.shapes thrice c.args.numbers c.requires.listed
+    still_there c.args.shapes.now c.optional_numbers.new.shapes thrice c.args.reader.listed c.requires.listed
 
 -- ---- what is told
 
 pub returns-in_err-fields-clause-refused : goal.returns-in_err-fields-clause-refused
-returns-in_err-fields-clause-refused c = handed_on c.from_residual.result c.in_err-fields.field-0.0 _ c.from_residual.ensures.1 (record { each = λ listed means. c.in_err-fields.ensures.refused listed state_rows })
+returns-in_err-fields-clause-refused c = handed_on c.from_residual.result c.in_err-fields.field-0.0 _ c.from_residual.ensures.1 (record { each = λ reading means. c.in_err-fields.ensures.refused reading state_rows })
 
 pub returns-in_err-check_fields-clause-refused : goal.returns-in_err-check_fields-clause-refused
 returns-in_err-check_fields-clause-refused c =
     let f = c.in_err-check_fields.field-0.0 in
     handed_on c.from_residual-in_err-check_fields.result f _ c.from_residual-in_err-check_fields.ensures.1
-    (record { each = λ listed means. foreign_told_of listed c.args.name.now state_rows (view c.args.value) (members_view c.in_ok-fields.fields.entries) f c.in_ok-fields.ensures.members c.in_err-check_fields.ensures.refused })
+    (record { each = λ reading means. foreign_told_of reading c.args.name.now state_rows (view c.args.value) (members_view c.in_ok-fields.fields.entries) f c.in_ok-fields.ensures.members c.in_err-check_fields.ensures.refused })
 
 pub returns-in_err-required_number-clause-refused : goal.returns-in_err-required_number-clause-refused
 returns-in_err-required_number-clause-refused c =
     let f = c.in_err-required_number.field-0.0 in
     handed_on c.from_residual-in_err-required_number.result f _ c.from_residual-in_err-required_number.ensures.1
-    (record { each = λ listed means. input_told listed c.args.name.now (view c.args.value) (members_view c.in_ok-fields.fields.entries) f c.in_ok-fields.ensures.members (c.in_err-required_number.ensures.refused.each listed means) })
+    (record { each = λ reading means. input_told reading c.args.name.now (view c.args.value) (members_view c.in_ok-fields.fields.entries) f c.in_ok-fields.ensures.members (c.in_err-required_number.ensures.refused.each reading means) })
 
 pub returns-in_err-required_number-2-clause-refused : goal.returns-in_err-required_number-2-clause-refused
 returns-in_err-required_number-2-clause-refused c =
@@ -53,10 +53,10 @@ returns-in_err-required_number-2-clause-refused c =
     let there = c.required_number.ensures.taken.others (codes "output") refl in
     handed_on c.from_residual-in_err-required_number-2.result f _ c.from_residual-in_err-required_number-2.ensures.1
     (record {
-      each = λ listed means.
-          let second = still_meant c.args.shapes.now c.required_number.new.shapes c.in_ok-required_number.ensures.keeps c.args.numbers listed c.requires.listed means in
-          let told = told_same f _ _ (c.in_err-required_number-2.ensures.refused.each listed second) (ap (field_complaints listed name (shape_row (codes "output") true)) there) in
-          output_told listed name (view c.args.value) (members_view c.in_ok-fields.fields.entries) f c.in_ok-fields.ensures.members told;
+      each = λ reading means.
+          let second = still_meant c.args.shapes.now c.required_number.new.shapes c.in_ok-required_number.ensures.keeps c.args.reader.listed reading c.requires.listed means in
+          let told = told_same f _ _ (c.in_err-required_number-2.ensures.refused.each reading second) (ap (field_complaints reading name (shape_row (codes "output") true)) there) in
+          output_told reading name (view c.args.value) (members_view c.in_ok-fields.fields.entries) f c.in_ok-fields.ensures.members told;
     })
 
 pub returns-in_err-optional_numbers-clause-refused : goal.returns-in_err-optional_numbers-clause-refused
@@ -67,10 +67,10 @@ returns-in_err-optional_numbers-clause-refused c =
     let twice = keeps_trans (expansions c.args.shapes.now) (expansions c.required_number.new.shapes) (expansions c.required_number-2.new.shapes) c.in_ok-required_number.ensures.keeps c.in_ok-required_number-2.ensures.keeps in
     handed_on c.from_residual-in_err-optional_numbers.result f _ c.from_residual-in_err-optional_numbers.ensures.1
     (record {
-      each = λ listed means.
-          let third = still_meant c.args.shapes.now c.required_number-2.new.shapes twice c.args.numbers listed c.requires.listed means in
-          let told = told_same f _ _ (c.in_err-optional_numbers.ensures.refused.each listed third) (ap (field_complaints listed name (shapes_row (codes "branches"))) there) in
-          branches_told listed name (view c.args.value) (members_view c.in_ok-fields.fields.entries) f c.in_ok-fields.ensures.members told;
+      each = λ reading means.
+          let third = still_meant c.args.shapes.now c.required_number-2.new.shapes twice c.args.reader.listed reading c.requires.listed means in
+          let told = told_same f _ _ (c.in_err-optional_numbers.ensures.refused.each reading third) (ap (field_complaints reading name (shapes_row (codes "branches"))) there) in
+          branches_told reading name (view c.args.value) (members_view c.in_ok-fields.fields.entries) f c.in_ok-fields.ensures.members told;
     })
 
 pub returns-in_err-optional_number-clause-refused : goal.returns-in_err-optional_number-clause-refused
@@ -82,10 +82,10 @@ returns-in_err-optional_number-clause-refused c =
     let thrice = keeps_trans (expansions c.args.shapes.now) (expansions c.required_number-2.new.shapes) (expansions c.optional_numbers.new.shapes) twice c.in_ok-optional_numbers.ensures.keeps in
     handed_on c.from_residual-in_err-optional_number.result f _ c.from_residual-in_err-optional_number.ensures.1
     (record {
-      each = λ listed means.
-          let fourth = still_meant c.args.shapes.now c.optional_numbers.new.shapes thrice c.args.numbers listed c.requires.listed means in
-          let told = told_same f _ _ (c.in_err-optional_number.ensures.refused.each listed fourth) (ap (field_complaints listed name (shape_row (codes "item") false)) there) in
-          item_told listed name (view c.args.value) (members_view c.in_ok-fields.fields.entries) f c.in_ok-fields.ensures.members told;
+      each = λ reading means.
+          let fourth = still_meant c.args.shapes.now c.optional_numbers.new.shapes thrice c.args.reader.listed reading c.requires.listed means in
+          let told = told_same f _ _ (c.in_err-optional_number.ensures.refused.each reading fourth) (ap (field_complaints reading name (shape_row (codes "item") false)) there) in
+          item_told reading name (view c.args.value) (members_view c.in_ok-fields.fields.entries) f c.in_ok-fields.ensures.members told;
     })
 
 -- ---- what is read
@@ -99,14 +99,14 @@ returns-clause-right c =
     let twice = keeps_trans (expansions c.args.shapes.now) (expansions c.required_number.new.shapes) (expansions c.required_number-2.new.shapes) c.in_ok-required_number.ensures.keeps c.in_ok-required_number-2.ensures.keeps in
     let thrice = keeps_trans (expansions c.args.shapes.now) (expansions c.required_number-2.new.shapes) (expansions c.optional_numbers.new.shapes) twice c.in_ok-optional_numbers.ensures.keeps in
     record {
-      each = λ listed means.
-          let then = still_meant c.args.shapes.now c.required_number.new.shapes c.in_ok-required_number.ensures.keeps c.args.numbers listed c.requires.listed means in
-          let later = still_meant c.args.shapes.now c.required_number-2.new.shapes twice c.args.numbers listed c.requires.listed means in
-          let last = still_meant c.args.shapes.now c.optional_numbers.new.shapes thrice c.args.numbers listed c.requires.listed means in
-          let output = ap (field_complaints listed name (shape_row (codes "output") true)) (sym second) ∙ c.in_ok-required_number-2.ensures.right.each listed then in
-          let branches = ap (field_complaints listed name (shapes_row (codes "branches"))) (sym third) ∙ c.in_ok-optional_numbers.ensures.right.each listed later in
-          let item = ap (field_complaints listed name (shape_row (codes "item") false)) (sym fourth) ∙ c.in_ok-optional_number.ensures.right.each listed last in
-          none_wrong listed name (view c.args.value) (members_view c.in_ok-fields.fields.entries) c.in_ok-fields.ensures.members c.in_ok-check_fields.ensures.right (c.in_ok-required_number.ensures.right.each listed means) output branches item;
+      each = λ reading means.
+          let then = still_meant c.args.shapes.now c.required_number.new.shapes c.in_ok-required_number.ensures.keeps c.args.reader.listed reading c.requires.listed means in
+          let later = still_meant c.args.shapes.now c.required_number-2.new.shapes twice c.args.reader.listed reading c.requires.listed means in
+          let last = still_meant c.args.shapes.now c.optional_numbers.new.shapes thrice c.args.reader.listed reading c.requires.listed means in
+          let output = ap (field_complaints reading name (shape_row (codes "output") true)) (sym second) ∙ c.in_ok-required_number-2.ensures.right.each reading then in
+          let branches = ap (field_complaints reading name (shapes_row (codes "branches"))) (sym third) ∙ c.in_ok-optional_numbers.ensures.right.each reading later in
+          let item = ap (field_complaints reading name (shape_row (codes "item") false)) (sym fourth) ∙ c.in_ok-optional_number.ensures.right.each reading last in
+          none_wrong reading name (view c.args.value) (members_view c.in_ok-fields.fields.entries) c.in_ok-fields.ensures.members c.in_ok-check_fields.ensures.right (c.in_ok-required_number.ensures.right.each reading means) output branches item;
     }
 
 pub returns-clause-numbers : goal.returns-clause-numbers
@@ -122,11 +122,11 @@ returns-clause-numbers c =
     let twice = keeps_trans (expansions c.args.shapes.now) (expansions c.required_number.new.shapes) (expansions c.required_number-2.new.shapes) c.in_ok-required_number.ensures.keeps c.in_ok-required_number-2.ensures.keeps in
     let thrice = keeps_trans (expansions c.args.shapes.now) (expansions c.required_number-2.new.shapes) (expansions c.optional_numbers.new.shapes) twice c.in_ok-optional_numbers.ensures.keeps in
     record {
-      each = λ listed means.
-          let then = still_meant c.args.shapes.now c.required_number.new.shapes c.in_ok-required_number.ensures.keeps c.args.numbers listed c.requires.listed means in
-          let later = still_meant c.args.shapes.now c.required_number-2.new.shapes twice c.args.numbers listed c.requires.listed means in
-          let last = still_meant c.args.shapes.now c.optional_numbers.new.shapes thrice c.args.numbers listed c.requires.listed means in
-          let read = read_from listed (value_in (codes "input") fields) (value_in (codes "output") first) (value_in (codes "branches") second) (value_in (codes "item") third) in
-          subst (λ shapes. AreStateOf c.optional_number.new.shapes shapes numbers) (stands_for listed (view c.args.value) (members_view fields) _ _ _ c.in_ok-fields.ensures.members output branches item)
-          (state_numbered c.required_number.new.shapes c.required_number-2.new.shapes c.optional_numbers.new.shapes c.optional_number.new.shapes read numbers (c.in_ok-required_number.ensures.number.each listed means) c.in_ok-required_number-2.ensures.keeps (c.in_ok-required_number-2.ensures.number.each listed then) c.in_ok-optional_numbers.ensures.keeps (c.in_ok-optional_numbers.ensures.numbers.each listed later) c.in_ok-optional_number.ensures.keeps (c.in_ok-optional_number.ensures.number.each listed last));
+      each = λ reading means.
+          let then = still_meant c.args.shapes.now c.required_number.new.shapes c.in_ok-required_number.ensures.keeps c.args.reader.listed reading c.requires.listed means in
+          let later = still_meant c.args.shapes.now c.required_number-2.new.shapes twice c.args.reader.listed reading c.requires.listed means in
+          let last = still_meant c.args.shapes.now c.optional_numbers.new.shapes thrice c.args.reader.listed reading c.requires.listed means in
+          let read = read_from reading (value_in (codes "input") fields) (value_in (codes "output") first) (value_in (codes "branches") second) (value_in (codes "item") third) in
+          subst (λ shapes. AreStateOf c.optional_number.new.shapes shapes numbers) (stands_for reading (view c.args.value) (members_view fields) _ _ _ c.in_ok-fields.ensures.members output branches item)
+          (state_numbered c.required_number.new.shapes c.required_number-2.new.shapes c.optional_numbers.new.shapes c.optional_number.new.shapes read numbers (c.in_ok-required_number.ensures.number.each reading means) c.in_ok-required_number-2.ensures.keeps (c.in_ok-required_number-2.ensures.number.each reading then) c.in_ok-optional_numbers.ensures.keeps (c.in_ok-optional_numbers.ensures.numbers.each reading later) c.in_ok-optional_number.ensures.keeps (c.in_ok-optional_number.ensures.number.each reading last));
     }

@@ -1,7 +1,9 @@
 use Rattle.std.proofs.Common.{◌≡◌, ◌+◌, ◌∷◌, [], ◌++◌, length, take, drop, get_or, arith}
 use Rattle.std.proofs.lemmas.Grind.{common_steps}
+use Rattle.std.proofs.lemmas.List.Elements.{All-push}
 use Rattle.asl_numbered.proofs.Expansions.{below_next}
 use Rattle.asl_numbered.specs.Expansion.{expansions}
+use Rattle.asl_records.specs.Proper.{IsProper}
 use Rattle.asl_records.proofs.Numberings.{made_more}
 use Rattle.asl_records.proofs.numbering.expand_branches.Goals as goal
 
@@ -24,4 +26,5 @@ loop-number-preserved c =
     record {
       same = made_more (expansions c.args.shapes.now) (take i branches) (take (i + 1) branches) n l.expanded.items c.push.new.self.items c.in_ok-expand.field-0 l.invariant.same c.in_ok-expand.ensures.same more c.in_ok-push.ensures.items;
       below = (below_next (length c.args.shapes.now) (drop i branches) (drop (i + 1) branches) n split l.invariant.below).1;
+      proper = rw c.in_ok-push.ensures.items (All-push IsProper l.expanded.items c.in_ok-expand.field-0 l.invariant.proper c.in_ok-expand.ensures.proper);
     }

@@ -6,4 +6,4 @@ use Rattle.asl_records.proofs.fields.Reader.members.Goals as goal
 pub returns : goal.returns
 returns c =
     let none = no_object c.args.value c.in-Null.is in
-    record { members = tt; whole = tt; refused = λ listed rows. rw none (c.refuse.ensures NotObject refl) }
+    record { members = tt; whole = tt; refused = λ reading rows. rw none (c.refuse.ensures NotObject refl) }

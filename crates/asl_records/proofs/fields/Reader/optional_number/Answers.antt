@@ -1,7 +1,7 @@
 use Rattle.std.proofs.Common.{◌≡◌, Some, option_map, subst, rules}
 use Rattle.serde_json.specs.View.{view}
 use Rattle.asl_model.specs.Records.{shape_from}
-use Rattle.asl_records.specs.Listed.{ForListed}
+use Rattle.asl_records.specs.Listed.{ForReading}
 use Rattle.asl_records.specs.Numbering.{IsItemOf}
 use Rattle.asl_records.specs.Parts.{value_in}
 use Rattle.asl_records.proofs.Numberings.{item_numbered}
@@ -13,5 +13,5 @@ returns-in-Ok-clause-number c =
     let new = c.read_number.new.shapes in
     let n = c.in-Ok.number in
     let there : Some v ≡ value_in c.args.field.now c.args.fields.now.entries = search rules in
-    subst (λ o. ForListed c.args.shapes.now c.args.self.now.listed (λ listed. IsItemOf new (option_map (shape_from listed) o) (Some n))) there
-    (record { each = λ listed means. item_numbered new (shape_from listed v) n (c.in-Ok.ensures.number.each listed means) })
+    subst (λ o. ForReading c.args.self.now.several c.args.shapes.now c.args.self.now.listed (λ reading. IsItemOf new (option_map (shape_from reading.listed) o) (Some n))) there
+    (record { each = λ reading means. item_numbered new (shape_from reading.listed v) n (c.in-Ok.ensures.number.each reading means) })

@@ -7,4 +7,4 @@ use Rattle.asl_records.proofs.fields.Reader.required_number.Goals as goal
 pub returns-in-None-clause-refused : goal.returns-in-None-clause-refused
 returns-in-None-clause-refused c =
     let none : get_member c.args.field.now (members_view c.args.fields.now.entries) ≡ None = search rules in
-    rw none (record { each = λ listed means. c.refuse.ensures MissingField refl })
+    rw none (record { each = λ reading means. c.refuse.ensures MissingField refl })
