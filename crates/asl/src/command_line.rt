@@ -182,7 +182,7 @@ fn infer_command<'a>(alloc: Global) -> Result<Command<'a>, AllocError> {
             Arg::new(alloc, NUMBERED)
                 .long(NUMBERED)
                 .action(ArgAction::SetTrue)
-                .help("List each shape of lists or objects once, and refer to it by its number"),
+                .help("List each compound shape once, and refer to it by its number"),
         )
 }
 

@@ -8,14 +8,16 @@ ghost use Rattle.asl_states.specs.Machine.{kind_view, settings_view};
 ghost use Rattle.asl_edges.specs.Entry.{entry_view, AreEdgesOf, IsEntryBelow};
 ghost use Rattle.asl_numbered.specs.Expansion.{expansions, shape_at, shape_over, AreBelow, AreDistinct, Keeps, RefersBelow};
 ghost use Rattle.asl_numbered.specs.Joins.{Shows};
+ghost use Rattle.asl_numbered.specs.Kinds.{IsProperNode};
+ghost use Rattle.asl_numbered.specs.TakenApart.{kinds_at};
 ghost use Rattle.asl_growing.specs.Depths.{told_depth};
 ghost use Rattle.asl_growing.specs.Cuts.{cut_of};
-ghost use Rattle.asl_growing.specs.Parts.{parts_of, with_parts};
+ghost use Rattle.asl_growing.specs.Parts.{parts_of, with_parts, CanBePut, IsPut};
 
 use crate::depths::depth_of;
-use crate::rebuilding::{parts_in, rebuilt};
+use crate::rebuilding::{parts_in, rebuild_kinds};
 use asl_edges::{Edges, Entry, edges_of};
-use asl_numbered::{Node, Shapes};
+use asl_numbered::{KindNumbers, Node, Shapes};
 use asl_shape::Shape;
 use asl_states::State;
 use asl_tree::OutOfMemory;
@@ -102,9 +104,10 @@ impl Store {
         self.shapes.add(shape)
     }
 
-    /// The number of the shape with that first level.
+    /// The number of the shape with that first level, which is proper.
     pub fn put(&mut self, node: Node) -> Result<usize, OutOfMemory>
-        requires { RefersBelow (length self.old) node }
+        requires refers { RefersBelow (length self.old) node }
+        requires proper { IsProperNode (expansions self.old) node }
         ensures number { IfOk result
             (Shows (expansions self.new)
             (shape_over (expansions self.old) node)) }
@@ -202,8 +205,10 @@ impl Store {
         ensures below { IfOk result
             (λ numbers. AreBelow (length self.now) numbers.items) }
     {
-        let node = self.shapes.node(number).unwrap();
-        parts_in(self.alloc, node)
+        match self.shapes.take_apart(number) {
+            Some(kinds) => parts_in(self.alloc, kinds),
+            None => Ok(Vec::new(self.alloc)),
+        }
     }
 
     /// The number of the shape of that number with other parts.
@@ -218,8 +223,45 @@ impl Store {
             (map (shape_at (expansions self.old)) parts.now))) }
         ensures keeps { Keeps (expansions self.old) (expansions self.new) }
     {
-        let node = self.shapes.node(number).unwrap();
-        let built = rebuilt(self.alloc, node, parts)?;
-        self.put(built)
+        let Some(kinds) = self.shapes.take_apart(number) else {
+            return Ok(number);
+        };
+        let simple = KindNumbers {
+            null: kinds.null,
+            boolean: kinds.boolean,
+            integer: kinds.integer,
+            text: kinds.text,
+            arrays: None,
+            objects: None,
+        };
+        let built = rebuild_kinds(self.alloc, kinds, parts)?;
+        let arrays = self.put_level(built.arrays)?;
+        let objects = self.put_level(built.objects)?;
+        self.put_kinds(KindNumbers {
+            arrays,
+            objects,
+            ..simple
+        })
+    }
+
+    // The number of the shape with that first level, if there is one.
+    fn put_level(&mut self, level: Option<Node>) -> Result<Option<usize>, OutOfMemory>
+        requires { CanBePut (length self.old) level }
+        ensures number { IfOk result (IsPut (expansions self.old) level (expansions self.new)) }
+        ensures keeps { Keeps (expansions self.old) (expansions self.new) }
+    {
+        match level {
+            Some(node) => Ok(Some(self.put(node)?)),
+            None => Ok(None),
+        }
+    }
+
+    // The number of the shape of these kinds.
+    fn put_kinds(&mut self, kinds: KindNumbers) -> Result<usize, OutOfMemory>
+        ensures number { IfOk result
+            (Shows (expansions self.new) (kinds_at (expansions self.old) kinds)) }
+        ensures keeps { Keeps (expansions self.old) (expansions self.new) }
+    {
+        self.shapes.add_kinds(kinds)
     }
 }

@@ -4,11 +4,11 @@ use Rattle.std.specs.List.{AllByRecursion}
 use Rattle.std.specs.Prelude.{IsTrue}
 use Rattle.asl_model.specs.Certificate.{StateShapes}
 use Rattle.asl_model.specs.Edges.{ToTask, Walked, Flows, Breaks, breaks_unless, onward, to_branches, to_child, to_end, to_next, walk, walk_catchers, walk_caught, walk_chosen, walk_default, walk_delay, walk_elements, walk_items, walk_items_result, walk_named, walk_result, walk_rule, walk_rules, walk_settled, walk_then, walk_work, with_elements_walked}
-use Rattle.asl_model.specs.Finding.{WrongKind, array_parts, as_first_elements, breach_of, effective_flow, element_shape, error_placed_shape, item_flow, map_result}
+use Rattle.asl_model.specs.Finding.{FindingFault, NoDefault, WrongKind, array_parts, as_first_elements, breach_of, effective_flow, element_shape, error_placed_shape, item_flow, map_result}
 use Rattle.asl_model.specs.Inference.{is_of_machine}
 use Rattle.asl_model.specs.Machine.{Catcher, Delay, Seconds, SecondsPath, Timestamp, TimestampPath, Kind, Pass, Task, Choice, Wait, Succeed, Fail, Parallel, Map, Scope, Scopes, NoScopes, AndScope, Settings}
 use Rattle.asl_model.specs.Shape.{Shape, Shapes, Never, ArrayShape, inhabited}
-use Rattle.asl_model.specs.ShapeFlow.{Flow, FlowFault, MissingAt, FailsAt, MisfitAt, is_integer_shape, is_string_shape, leave, literal, look, rule_shape}
+use Rattle.asl_model.specs.ShapeFlow.{Flow, FlowFault, MissingAt, FailsAt, MisfitAt, is_integer_shape, is_string_shape, is_settled, leave, literal, look, rule_shape}
 use Rattle.asl_model.specs.Template.{Template}
 use Rattle.asl_model.specs.Test.{Rule}
 
@@ -59,12 +59,12 @@ chosen settings kind input field name s = after (to_next field name) (next field
 
 -- ---- the parts of a walk
 
-unless : (holds : Bool) (field : List ℕ) → AreOfMachine (breaks_unless holds field WrongKind)
-unless true field = none
-unless false field = record { each = (refl, tt) }
+unless : (holds : Bool) (field : List ℕ) (fault : FindingFault) → IsTrue (is_of_machine fault) → AreOfMachine (breaks_unless holds field fault)
+unless true field fault own = none
+unless false field fault own = record { each = (own, tt) }
 
 named : (field : List ℕ) (test : Shape → Bool) (r : Result Shape ℕ) → AreOfMachine (walk_named field test r)
-named field test (Ok s) = unless (test s) field
+named field test (Ok s) = unless (test s) field WrongKind refl
 named field test (Err at) = record { each = (refl, tt) }
 
 delay : (d : Delay) (s : Shape) → AreOfMachine (walk_delay d s)
@@ -106,9 +106,9 @@ rules_walked : (settings : Settings) (kind : Kind) (input : Shape) (rs : List Ru
 rules_walked settings kind input [] s = none
 rules_walked settings kind input (r ∷ rs) s = both (walk_rule settings kind input r.next (rule_shape r.test s)) (walk_rules settings kind input rs s) (rule settings kind input r.next (rule_shape r.test s)) (rules_walked settings kind input rs s)
 
-default : (settings : Settings) (kind : Kind) (input : Shape) (o : Option (List ℕ)) (s : Shape) → AreOfMachine (walk_default settings kind input o s)
-default settings kind input None s = none
-default settings kind input (Some name) s = chosen settings kind input (codes "Default") name s
+default : (settings : Settings) (kind : Kind) (input : Shape) (rs : List Rule) (o : Option (List ℕ)) (s : Shape) → AreOfMachine (walk_default settings kind input rs o s)
+default settings kind input rs None s = unless (is_settled rs s) (codes "Default") NoDefault refl
+default settings kind input rs (Some name) s = chosen settings kind input (codes "Default") name s
 
 caught : (name : List ℕ) (r : Result Shape ℕ) → AreOfMachine (walk_caught name r)
 caught name (Ok s) = record { each = ((λ e. absurd (cc)), tt) }
@@ -124,7 +124,7 @@ work : (settings : Settings) (kind : Kind) (entry : StateShapes) (s : Shape) →
 work settings (Pass None) entry s = result settings (Pass None) entry.input s
 work settings (Pass (Some t)) entry s = none
 work settings (Task resource) entry s = record { each = ((λ e. refl), tt) }
-work settings (Choice rs o) entry s = both (walk_rules settings (Choice rs o) entry.input rs s) (walk_default settings (Choice rs o) entry.input o s) (rules_walked settings (Choice rs o) entry.input rs s) (default settings (Choice rs o) entry.input o s)
+work settings (Choice rs o) entry s = both (walk_rules settings (Choice rs o) entry.input rs s) (walk_default settings (Choice rs o) entry.input rs o s) (rules_walked settings (Choice rs o) entry.input rs s) (default settings (Choice rs o) entry.input rs o s)
 work settings (Wait d) entry s = both (walk_delay d s) (walk_result settings (Wait d) entry.input s) (delay d s) (result settings (Wait d) entry.input s)
 work settings Succeed entry s = after (to_end (codes "Type")) (end (codes "Type")) (leave settings Succeed entry.input s)
 work settings (Fail error cause) entry s = none
@@ -135,8 +135,7 @@ settled : (gives : Shape) (settings : Settings) (kind : Kind) (entry : StateShap
 settled gives settings (Pass None) entry = none
 settled gives settings (Pass (Some t)) entry = result settings (Pass (Some t)) entry.input (literal t)
 settled gives settings (Task resource) entry = result settings (Task resource) entry.input gives
-settled gives settings (Choice rs None) entry = record { each = (refl, tt) }
-settled gives settings (Choice rs (Some name)) entry = none
+settled gives settings (Choice rs o) entry = none
 settled gives settings (Wait d) entry = none
 settled gives settings Succeed entry = none
 settled gives settings (Fail error cause) entry = none

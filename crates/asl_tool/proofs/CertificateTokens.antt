@@ -1,15 +1,16 @@
 -- What is written of a certificate reads back where each of its parts does.
-use Rattle.std.proofs.Common.{◌≡◌, ℕ, pos, List, [], ◌∷◌, ◌++◌, Option, Some, None, option_map, option_and_then, Bor, map, codes, string_bytes, string_cmp, refl, sym, ap, ◌∙◌, subst, append_assoc, append-nil, arith}
+use Rattle.std.proofs.Common.{◌≡◌, ℕ, pos, List, [], ◌∷◌, ◌++◌, Bool, true, false, if◌then◌else◌, Option, Some, None, option_map, option_and_then, Bor, map, codes, string_bytes, string_cmp, refl, sym, ap, ◌∙◌, subst, append_assoc, append-nil, arith}
 use Rattle.std.specs.List.Sorted.{IsStrictlySortedBy}
 use Rattle.std.specs.Map.{keys_of}
 use Rattle.serde_json.specs.Data as json
 use Rattle.serde_json.specs.Read.{of_items, of_members}
 use Rattle.serde_json.specs.Written.{items_outline, members_outline}
+use Rattle.asl_model.specs.Certificate.{Certificate}
 use Rattle.asl_model.specs.Json.{ReadsAsTree, elements_of, members_of, value_of, items_of, members_for}
 use Rattle.asl_model.specs.Shape.{Shape, IsProperShape}
 use Rattle.asl_model.specs.Texts.{ReadsAsCertificate}
 use Rattle.asl_model.specs.Tree.{Tree, Integer, Array, Object, Fields, NoFields, AndField}
-use Rattle.asl_model.specs.Written.{written_shape, written_list, written_entries, with_branches, with_item, written_state, written_certificate}
+use Rattle.asl_model.specs.Written.{written_shape, written_list, written_entries, with_branches, with_item, written_state, certificate_has_several, version_of, written_certificate}
 use Rattle.asl_model.proofs.RecordsBack.{proper_certificate_back}
 use Rattle.asl_numbered.specs.Expansion.{expansions, shape_at}
 use Rattle.asl_numbered.specs.declared.shapes.Shapes.{Shapes}
@@ -109,9 +110,19 @@ module _ (table : List Shape) where
   states_back : (es : List Entry) → IsStrictlySortedBy string_cmp (keys_of es) → StatesReadBack table es → ReadsBack (Object (entries es))
   states_back es sorted h = record { value = ap (option_map json.object) (members_back [] es sorted h); tree = ap (option_map Object) (fields_back es h) }
 
+  -- the version
+  version_back : (certificate : Certificate) → ReadsBack (Integer (pos (version_of certificate)))
+  version_back certificate = by (certificate_has_several certificate)
+    where
+      by : (several : Bool) → ReadsBack (Integer (pos (if several then 2 else 1)))
+      by true = integer_back (pos 2) (omega arith)
+      by false = integer_back (pos 1) (omega arith)
+
   -- the whole certificate
   pub certificate_back : (output : ℕ) (states : List Entry) → ReadsBack (shape_tree table output) → IsStrictlySortedBy string_cmp (keys_of states) → StatesReadBack table states → ReadsBack (written_certificate (record { output = shape_at table output; states = numbered_entries table states }))
-  certificate_back output states first sorted h = whole_back (shape_tree table output) (Object (entries states)) (Integer (pos 1)) first (states_back states sorted h) (integer_back (pos 1) (omega arith))
+  certificate_back output states first sorted h =
+      let certificate : Certificate = record { output = shape_at table output; states = numbered_entries table states } in
+      whole_back (shape_tree table output) (Object (entries states)) (Integer (pos (version_of certificate))) first (states_back states sorted h) (version_back certificate)
 
 -- a text that reads as the tree of a certificate reads as the certificate
 pub reads_as_certificate : (certificate : NumberedCertificate) (text : List ℕ) → ((n : ℕ) → IsProperShape (shape_at (expansions certificate.shapes) n)) → ReadsAsTree text (written_certificate (numbered_view certificate)) → ReadsAsCertificate text (numbered_view certificate)

@@ -13,7 +13,7 @@ use Rattle.asl_model.specs.ShapeFlow.{how_many_shapes}
 use Rattle.asl_model.specs.ShapeOrder.{is_any_shape}
 use Rattle.asl_model.specs.Texts.{ReadsAsCertificate}
 use Rattle.asl_model.specs.Tree.{Tree, Integer, Object, Fields, NoFields, AndField}
-use Rattle.asl_model.specs.Written.{some_shapes, some_fields, needed_names, some_names, are_closed, written_shape, written_list, written_entries, with_branches, with_item, with_listed, written_state}
+use Rattle.asl_model.specs.Written.{some_shapes, some_fields, needed_names, some_names, are_closed, written_shape, written_list, written_entries, with_branches, with_item, with_listed, written_state, version_of}
 use Rattle.asl_model.specs.WrittenNumbered.{place_of, reference, referring, places_referring, fields_referring, with_arrays_over, with_objects_over, written_over, written_numbered, shapes_listed}
 use Rattle.asl_model.proofs.Listing.{AreBehind, IsListed, IsThere, PlacesAreThere, FieldsAreThere, ArraysAreThere, ObjectsAreThere, PartsAreThere, all_listed, parts_more}
 use Rattle.asl_model.proofs.WrittenNesting.{nesting, elements_nesting, fields_nesting, array_nests, object_nests, type_nests, kinds_nest, shape_nests}
@@ -103,7 +103,7 @@ pub numbered_nests : (certificate : Certificate) → HoldsForCertificate IsPrope
 numbered_nests certificate proper =
     let listed = shapes_listed certificate in
     let is = all_listed certificate proper in
-    let states = AndField (codes "states") (Object (written_entries (written_state (referring listed)) certificate.states)) (AndField (codes "version") (Integer (pos 1)) NoFields) in
+    let states = AndField (codes "states") (Object (written_entries (written_state (referring listed)) certificate.states)) (AndField (codes "version") (Integer (pos (version_of certificate))) NoFields) in
     let each = listed_nest listed [] listed refl is.behind in
     omega (arith, there_nests listed certificate.output is.there.output, shapes_nest listed states is.behind (omega (arith, states_nest listed certificate.states is.there.states)) listed each)
 

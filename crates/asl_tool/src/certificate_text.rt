@@ -65,7 +65,7 @@ fn write_certificate(
     writer.key("states")?;
     write_states(writer, &mut spellings, &certificate.states)?;
     writer.key("version")?;
-    writer.i64(1)?;
+    writer.i64(certificate.version())?;
     writer.end_object()?;
     Ok(())
 }
