@@ -11,6 +11,7 @@
 <<lists N over K>>  shapes that a certificate lists behind its number K: N, each of the lists of the shape in front of it
 <<pairs N over K>>  the same, each of the lists whose first two elements have the shape in front of it
 <<twins N over K>>  the same, each of the objects whose fields a and b have to be there, and have the shape in front of it
+<<lists or null N over K>>  the same of lists, and of pairs and twins, each of null too
 <<all of PATH>>     the file with that path from the top of the repository
 """
 
@@ -62,9 +63,10 @@ def made_part(part):
     if counted:
         make = {"states": states, "entries": entries, "pairs": pairs, "lists": lists, "loop": loop}[counted[1]]
         return make(int(counted[2])).encode()
-    listed = re.fullmatch(r"(lists|pairs|twins) (\d+) over (\d+)", part)
+    listed = re.fullmatch(r"(lists|pairs|twins)( or null)? (\d+) over (\d+)", part)
     if listed:
-        return chained(SPELLINGS[listed[1]], int(listed[2]), int(listed[3])).encode()
+        spelling = or_null(SPELLINGS[listed[1]]) if listed[2] else SPELLINGS[listed[1]]
+        return chained(spelling, int(listed[3]), int(listed[4])).encode()
     if part.startswith("all of "):
         return (TOP / part[len("all of "):]).read_bytes()
     if part.startswith("bytes "):
@@ -78,6 +80,11 @@ SPELLINGS = {
     "pairs": '{"type":"array","prefixItems":[{"shape":K},{"shape":K}],"minItems":2}',
     "twins": '{"type":"object","properties":{"a":{"shape":K},"b":{"shape":K}},"required":["a","b"]}',
 }
+
+
+def or_null(spelling):
+    """Returns the spelling of a shape of one kind with null as a second one."""
+    return re.sub(r'^{"type":("[a-z]+")', r'{"type":[\1,"null"]', spelling)
 
 
 def chained(spelling, count, first):

@@ -31,7 +31,7 @@ fn test(rt: &impl Abort, alloc: Global, fields: &str) -> Test {
 }
 
 /// The fields of a rule, a shape, and the shape of its trees for which the rule is true, or the refusal.
-const TRUE_OF: [(&str, &str, &str); 24] = [
+const TRUE_OF: [(&str, &str, &str); 33] = [
     (
         r#""Variable":"$.k","IsPresent":true"#,
         r#"{"type":"object","additionalProperties":false}"#,
@@ -144,6 +144,51 @@ const TRUE_OF: [(&str, &str, &str); 24] = [
         "false",
     ),
     (r#""Variable":"$.k","IsPresent":true"#, "true", "true"),
+    (
+        r#""Variable":"$.k","IsPresent":true"#,
+        r#"{"type":["null","object"],"properties":{"k":{"type":"string"}},"additionalProperties":false}"#,
+        r#"{"additionalProperties":false,"properties":{"k":{"type":"string"}},"required":["k"],"type":"object"}"#,
+    ),
+    (
+        r#""Variable":"$.k","IsPresent":true"#,
+        r#"{"type":["null","string"]}"#,
+        "false",
+    ),
+    (
+        r#""Variable":"$[0]","IsPresent":true"#,
+        r#"{"type":["array","null","object"],"items":{"type":"integer"}}"#,
+        r#"{"items":{"type":"integer"},"type":"array"}"#,
+    ),
+    (
+        r#""Variable":"$","IsPresent":true"#,
+        r#"{"type":["null","object"],"properties":{"k":{"type":"string"}},"additionalProperties":false}"#,
+        r#"{"additionalProperties":false,"properties":{"k":{"type":"string"}},"type":["null","object"]}"#,
+    ),
+    (
+        r#""Variable":"$.a.b","IsPresent":true"#,
+        r#"{"type":"object","properties":{"a":{"type":["array","object","string"]}}}"#,
+        r#"{"properties":{"a":{"properties":{"b":true},"required":["b"],"type":"object"}},"required":["a"],"type":"object"}"#,
+    ),
+    (
+        r#""And":[{"Variable":"$.k","IsPresent":true},{"Variable":"$.k","StringEquals":"x"}]"#,
+        r#"{"type":["null","object"],"properties":{"k":{"type":"string"}},"additionalProperties":false}"#,
+        r#"{"additionalProperties":false,"properties":{"k":{"type":"string"}},"required":["k"],"type":"object"}"#,
+    ),
+    (
+        r#""Or":[{"Variable":"$.k","IsPresent":true},{"Variable":"$","IsNull":true}]"#,
+        r#"{"type":["null","object"],"properties":{"k":{"type":"string"}},"additionalProperties":false}"#,
+        r#"{"additionalProperties":false,"properties":{"k":{"type":"string"}},"type":["null","object"]}"#,
+    ),
+    (
+        r#""Variable":"$.a","NumericEquals":1"#,
+        r#"{"type":["null","object"],"properties":{"a":{"type":"integer"}},"required":["a"],"additionalProperties":false}"#,
+        "MayBeMissing",
+    ),
+    (
+        r#""Variable":"$.a","NumericEquals":1"#,
+        r#"{"type":["array","object"],"prefixItems":[false],"minItems":1,"properties":{"a":{"type":"integer"}},"required":["a"],"additionalProperties":false}"#,
+        r#"{"additionalProperties":false,"minItems":1,"prefixItems":[false],"properties":{"a":{"type":"integer"}},"required":["a"],"type":["array","object"]}"#,
+    ),
 ];
 
 #[test]
@@ -159,7 +204,7 @@ fn rules(rt: HostRuntime) {
 }
 
 /// A template, the shape of its input, and the shape of the template's value, or the refusal; there is no item.
-const FILLED: [(&str, &str, &str); 21] = [
+const FILLED: [(&str, &str, &str); 30] = [
     (
         r#"{"p.$":"$"}"#,
         r#"{"type":"object","additionalProperties":false}"#,
@@ -248,6 +293,51 @@ const FILLED: [(&str, &str, &str); 21] = [
         r#"{"l.$":"States.Array($$.Map.Item.Index)"}"#,
         "true",
         r#"MayFail("l")"#,
+    ),
+    (
+        r#"{"p.$":"$.a"}"#,
+        r#"{"type":["null","object"],"properties":{"a":{"type":"integer"}},"required":["a"],"additionalProperties":false}"#,
+        r#"MayBeMissing("p")"#,
+    ),
+    (
+        r#"{"p.$":"$.a"}"#,
+        r#"{"type":["array","object"],"prefixItems":[false],"minItems":1,"properties":{"a":{"type":"integer"}},"required":["a"],"additionalProperties":false}"#,
+        r#"{"additionalProperties":false,"properties":{"p":{"type":"integer"}},"required":["p"],"type":"object"}"#,
+    ),
+    (
+        r#"{"p.$":"$"}"#,
+        r#"{"type":["string","null"]}"#,
+        r#"{"additionalProperties":false,"properties":{"p":{"type":["null","string"]}},"required":["p"],"type":"object"}"#,
+    ),
+    (
+        r#"{"x.$":"States.Format('{}', $)"}"#,
+        r#"{"type":["null","string"]}"#,
+        r#"{"additionalProperties":false,"properties":{"x":{"type":"string"}},"required":["x"],"type":"object"}"#,
+    ),
+    (
+        r#"{"x.$":"States.Format('{}', $)"}"#,
+        r#"{"type":["array","string"]}"#,
+        r#"MayFail("x")"#,
+    ),
+    (
+        r#"{"x.$":"States.Format('{}', $)"}"#,
+        r#"{"type":["array","string"],"prefixItems":[false],"minItems":1}"#,
+        r#"{"additionalProperties":false,"properties":{"x":{"type":"string"}},"required":["x"],"type":"object"}"#,
+    ),
+    (
+        r#"{"n.$":"States.ArrayLength($)"}"#,
+        r#"{"type":["array","null"]}"#,
+        r#"MayFail("n")"#,
+    ),
+    (
+        r#"{"n.$":"States.ArrayLength($)"}"#,
+        r#"{"type":["array","object"],"prefixItems":[{"type":"integer"}],"minItems":1,"items":false,"properties":{"a":false},"required":["a"]}"#,
+        r#"{"additionalProperties":false,"properties":{"n":{"type":"integer"}},"required":["n"],"type":"object"}"#,
+    ),
+    (
+        r#"{"l.$":"States.Array($)"}"#,
+        r#"{"type":["integer","null"]}"#,
+        r#"{"additionalProperties":false,"properties":{"l":{"items":false,"minItems":1,"prefixItems":[{"type":["integer","null"]}],"type":"array"}},"required":["l"],"type":"object"}"#,
     ),
 ];
 
@@ -359,7 +449,7 @@ fn literals(rt: HostRuntime) {
 }
 
 /// A shape, a path, and the shape of what it names in every tree of that one, or the refusal.
-const NAMED: [(&str, &str, &str); 11] = [
+const NAMED: [(&str, &str, &str); 18] = [
     (
         r#"{"type":"object","properties":{"a":{"type":"integer"}},"additionalProperties":false}"#,
         "$.a",
@@ -399,10 +489,45 @@ const NAMED: [(&str, &str, &str); 11] = [
         "$.a",
         "false",
     ),
+    (
+        r#"{"type":["null","object"],"properties":{"a":{"type":"integer"}},"required":["a"],"additionalProperties":false}"#,
+        "$.a",
+        "MayBeMissing(0)",
+    ),
+    (
+        r#"{"type":["null","object"],"properties":{"a":{"type":"integer"}},"required":["a"],"additionalProperties":false}"#,
+        "$",
+        r#"{"additionalProperties":false,"properties":{"a":{"type":"integer"}},"required":["a"],"type":["null","object"]}"#,
+    ),
+    (
+        r#"{"type":["array","object"],"prefixItems":[false],"minItems":1,"properties":{"a":{"type":"integer"}},"required":["a"],"additionalProperties":false}"#,
+        "$.a",
+        r#"{"type":"integer"}"#,
+    ),
+    (
+        r#"{"type":["array","object"],"prefixItems":[{"type":"integer"}],"minItems":1,"items":false,"properties":{"a":false},"required":["a"]}"#,
+        "$[0]",
+        r#"{"type":"integer"}"#,
+    ),
+    (
+        r#"{"type":["array","object"],"prefixItems":[false],"minItems":1,"properties":{"a":{"type":"integer"}},"required":["a"],"additionalProperties":false}"#,
+        "$[0]",
+        "MayBeMissing(0)",
+    ),
+    (
+        r#"{"type":"object","properties":{"b":{"type":["null","object"],"properties":{"a":{"type":"integer"}},"required":["a"],"additionalProperties":false}},"required":["b"]}"#,
+        "$.b.a",
+        "MayBeMissing(1)",
+    ),
+    (
+        r#"{"type":"object","properties":{"b":{"type":["integer","string"]}},"required":["b"]}"#,
+        "$.b",
+        r#"{"type":["integer","string"]}"#,
+    ),
 ];
 
 /// A shape, a path, what is put there, and the shape that comes out, or the refusal.
-const PUT: [(&str, &str, &str, &str); 17] = [
+const PUT: [(&str, &str, &str, &str); 22] = [
     (
         r#"{"type":"object","additionalProperties":false}"#,
         "$.a.b",
@@ -490,6 +615,36 @@ const PUT: [(&str, &str, &str, &str); 17] = [
     ("true", "$.a", r#"{"type":"integer"}"#, "MayNotFit(0)"),
     ("false", "$.a", r#"{"type":"integer"}"#, "false"),
     (r#"{"type":"string"}"#, "$.a", "false", "false"),
+    (
+        r#"{"type":["null","object"],"properties":{"a":{"type":"integer"}},"required":["a"],"additionalProperties":false}"#,
+        "$.b",
+        r#"{"type":"string"}"#,
+        "MayNotFit(0)",
+    ),
+    (
+        r#"{"type":["array","object"],"prefixItems":[false],"minItems":1,"properties":{"a":{"type":"integer"}},"required":["a"],"additionalProperties":false}"#,
+        "$.b",
+        r#"{"type":["string","null"]}"#,
+        r#"{"additionalProperties":false,"properties":{"a":{"type":"integer"},"b":{"type":["null","string"]}},"required":["a","b"],"type":"object"}"#,
+    ),
+    (
+        r#"{"type":["array","object"],"prefixItems":[{"type":"integer"}],"minItems":1,"items":false,"properties":{"a":false},"required":["a"]}"#,
+        "$[0]",
+        r#"{"type":"string"}"#,
+        r#"{"items":false,"minItems":1,"prefixItems":[{"type":"string"}],"type":"array"}"#,
+    ),
+    (
+        r#"{"type":["null","object"],"properties":{"a":{"type":"integer"}},"required":["a"],"additionalProperties":false}"#,
+        "$",
+        r#"{"type":"string"}"#,
+        r#"{"type":"string"}"#,
+    ),
+    (
+        r#"{"type":"object","properties":{"a":{"type":["null","object"]}},"additionalProperties":false}"#,
+        "$.a.b",
+        r#"{"type":"integer"}"#,
+        "MayNotFit(1)",
+    ),
 ];
 
 #[test]

@@ -122,6 +122,13 @@ fn are_same_items(first: &Option<Shape>, second: &Option<Shape>) -> bool {
     }
 }
 
+// The result of a task and what is caught lead to one state.
+const CAUGHT: &str =
+    r#"{"StartAt":"T","States":{"T":{"Type":"Task","Resource":"r","Catch":[{"ErrorEquals":["States.ALL"],"Next":"E"}],"Next":"E"},"E":{"Type":"Succeed"}}}"#;
+
+const NULL_TO_INTEGER: &str =
+    r#"{"input":{"type":"null"},"tasks":{"T":{"gives":{"type":"integer"}}}}"#;
+
 const PASS: &str = r#"{"StartAt":"A","States":{"A":{"Type":"Pass","End":true}}}"#;
 
 const LOOP: &str =
@@ -208,6 +215,18 @@ fn certificates(rt: HostRuntime) {
             18,
             r#"{"output":true,"states":{"A":{"input":{"type":"integer"},"output":{"type":"integer"}},"B":{"input":{"type":"integer"},"output":{"items":{"properties":{"f":false},"required":["f"],"type":"object"},"type":"array"}},"C":{"input":{"type":"integer"},"output":{"items":false,"type":"array"}},"D":{"input":true,"output":true}},"version":1}"#,
         ),
+        (
+            CAUGHT,
+            NULL_TO_INTEGER,
+            3,
+            r#"{"output":{"additionalProperties":false,"properties":{"Cause":{"type":"string"},"Error":{"type":"string"}},"required":["Cause","Error"],"type":["integer","object"]},"states":{"E":{"input":{"additionalProperties":false,"properties":{"Cause":{"type":"string"},"Error":{"type":"string"}},"required":["Cause","Error"],"type":["integer","object"]},"output":{"additionalProperties":false,"properties":{"Cause":{"type":"string"},"Error":{"type":"string"}},"required":["Cause","Error"],"type":["integer","object"]}},"T":{"input":{"type":"null"},"output":{"type":"integer"}}},"version":2}"#,
+        ),
+        (
+            PASS,
+            r#"{"input":{"type":["array","null"],"prefixItems":[false],"minItems":1}}"#,
+            3,
+            r#"{"output":{"type":"null"},"states":{"A":{"input":{"type":"null"},"output":{"type":"null"}}},"version":1}"#,
+        ),
     ];
     for (definition, declared, rounds, certificate) in vectors {
         let is_inferred = infers(&rt, alloc, definition, declared, rounds, certificate);
@@ -228,6 +247,7 @@ fn refusals(rt: HostRuntime) {
         (TWO_RULES, TWO_FIELDS, 1, "not settled"),
         (MAP, INTEGERS, 2, "not settled"),
         (TWO_TASKS, TWO_EMPTY_LISTS, 17, "not settled"),
+        (CAUGHT, NULL_TO_INTEGER, 2, "not settled"),
         (MAP, INTEGER, 3, "M ItemsPath WrongKind"),
         (PAST_BRANCHES, TASKS, 3, "N InputPath PathMayBeMissing"),
         (BRANCHES, INTEGER, 0, "T0 Resource TaskUndeclared"),

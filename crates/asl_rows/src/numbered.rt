@@ -46,6 +46,20 @@ fn added_list(rt: &impl Abort, alloc: Global, shapes: &mut Shapes, rest: usize) 
         .expect(rt, "a number")
 }
 
+/// The number that is given to the shape of several kinds whose parts have these numbers.
+fn added_several(
+    rt: &impl Abort,
+    alloc: Global,
+    shapes: &mut Shapes,
+    numbers: &[usize],
+) -> Option<usize> {
+    let mut parts = Vec::new(alloc);
+    for number in numbers {
+        parts.push(*number).expect(rt, "memory");
+    }
+    shapes.add_node(Node::Several(parts)).expect(rt, "a number")
+}
+
 #[test]
 fn one_shape(rt: HostRuntime) {
     let alloc = rt.alloc();
@@ -105,11 +119,11 @@ fn shared_parts(rt: HostRuntime) {
 }
 
 /// Two shapes and what they are joined to.
-const JOINED: [(&str, &str, &str); 7] = [
+const JOINED: [(&str, &str, &str); 13] = [
     (
         r#"{"type":"array","prefixItems":[{"type":"null"},{"type":"integer"}],"minItems":2,"items":{"type":"integer"}}"#,
         r#"{"type":"array","prefixItems":[{"type":"boolean"}],"minItems":1,"items":false}"#,
-        r#"{"items":{"type":"integer"},"minItems":1,"prefixItems":[true],"type":"array"}"#,
+        r#"{"items":{"type":"integer"},"minItems":1,"prefixItems":[{"type":["boolean","null"]}],"type":"array"}"#,
     ),
     (
         r#"{"type":"array","items":{"type":"string"}}"#,
@@ -124,12 +138,12 @@ const JOINED: [(&str, &str, &str); 7] = [
     (
         r#"{"type":"object","properties":{"a":{"type":"integer"},"b":{"type":"null"}},"required":["a"],"additionalProperties":false}"#,
         r#"{"type":"object","properties":{"a":{"type":"string"},"d":{"type":"boolean"}},"required":["a"]}"#,
-        r#"{"properties":{"a":true,"d":{"type":"boolean"}},"required":["a"],"type":"object"}"#,
+        r#"{"properties":{"a":{"type":["integer","string"]},"d":{"type":"boolean"}},"required":["a"],"type":"object"}"#,
     ),
     (
         r#"{"type":"object","properties":{"a":{"type":"array","items":{"type":"integer"}},"b":{"type":"array","items":{"type":"string"}}},"required":["a"]}"#,
         r#"{"type":"object","properties":{"a":{"type":"array","items":{"type":"null"}},"b":{"type":"array","items":{"type":"string"}}},"required":["a"]}"#,
-        r#"{"properties":{"a":{"type":"array"},"b":{"items":{"type":"string"},"type":"array"}},"required":["a"],"type":"object"}"#,
+        r#"{"properties":{"a":{"items":{"type":["integer","null"]},"type":"array"},"b":{"items":{"type":"string"},"type":"array"}},"required":["a"],"type":"object"}"#,
     ),
     (
         r#"{"type":"array","prefixItems":[false],"minItems":1}"#,
@@ -139,7 +153,33 @@ const JOINED: [(&str, &str, &str); 7] = [
     (
         r#"{"type":"array","items":{"type":"integer"}}"#,
         r#"{"type":"object"}"#,
-        "true",
+        r#"{"items":{"type":"integer"},"type":["array","object"]}"#,
+    ),
+    (
+        r#"{"type":"integer"}"#,
+        r#"{"type":"string"}"#,
+        r#"{"type":["integer","string"]}"#,
+    ),
+    (r#"{"type":["integer","string"]}"#, "true", "true"),
+    (
+        r#"{"type":["array","null"],"prefixItems":[false],"minItems":1}"#,
+        r#"{"type":"null"}"#,
+        r#"{"type":"null"}"#,
+    ),
+    (
+        r#"{"type":["array","integer"],"prefixItems":[false],"minItems":1}"#,
+        r#"{"type":["array","null"],"items":{"type":"string"}}"#,
+        r#"{"items":{"type":"string"},"type":["array","integer","null"]}"#,
+    ),
+    (
+        r#"{"type":["array","object"],"items":{"type":"integer"},"properties":{"a":{"type":"null"}},"required":["a"],"additionalProperties":false}"#,
+        r#"{"type":["object","array","string"],"prefixItems":[{"type":"null"}],"minItems":1,"items":false,"additionalProperties":false}"#,
+        r#"{"additionalProperties":false,"items":{"type":["integer","null"]},"properties":{"a":{"type":"null"}},"type":["array","object","string"]}"#,
+    ),
+    (
+        r#"{"type":["null","object"],"required":["a"]}"#,
+        r#"{"type":["boolean","object"],"properties":{"a":{"type":"integer"}},"required":["a"],"additionalProperties":false}"#,
+        r#"{"properties":{"a":true},"required":["a"],"type":["boolean","null","object"]}"#,
     ),
 ];
 
@@ -237,10 +277,10 @@ fn joined_chains(rt: HostRuntime) {
     let alloc = rt.alloc();
     let mut shapes = Shapes::new(alloc);
     let int = shapes.add(&Shape::Int).expect(&rt, "a number");
-    let any = shapes.add(&Shape::Any).expect(&rt, "a number");
     let text = shapes.add(&Shape::Text).expect(&rt, "a number");
+    let both = added_several(&rt, alloc, &mut shapes, &[int, text]).expect(&rt, "a number");
     let first = chain(&rt, alloc, &mut shapes, int, JOINED_LONG);
-    let second = chain(&rt, alloc, &mut shapes, any, JOINED_LONG);
+    let second = chain(&rt, alloc, &mut shapes, both, JOINED_LONG);
     let third = chain(&rt, alloc, &mut shapes, text, JOINED_LONG);
     assert_eq!(rt;
         joined(&rt, &mut shapes, first, third),
@@ -253,8 +293,10 @@ fn forty_doublings(rt: HostRuntime) {
     let alloc = rt.alloc();
     let mut shapes = Shapes::new(alloc);
     let mut first = shapes.add(&Shape::Int).expect(&rt, "a number");
-    let mut second = shapes.add(&Shape::Any).expect(&rt, "a number");
     let mut third = shapes.add(&Shape::Text).expect(&rt, "a number");
+    let mut second = added_several(&rt, alloc, &mut shapes, &[first, third]).expect(
+        &rt, "a number",
+    );
     for _ in 0..40 {
         first = doubled(&rt, alloc, &mut shapes, first);
         second = doubled(&rt, alloc, &mut shapes, second);
@@ -310,7 +352,7 @@ fn read_over(
 }
 
 /// A spelling that is read behind those above it, where 0 is given, the number of `integer`, and what comes of it.
-const REFERRING: [(&str, &str); 11] = [
+const REFERRING: [(&str, &str); 12] = [
     (r#"{"shape":0}"#, r#"0 {"type":"integer"}"#),
     (r#"{"shape":1}"#, "BadNumber"),
     (r#"{"shape":-1}"#, "BadNumber"),
@@ -340,6 +382,10 @@ const REFERRING: [(&str, &str); 11] = [
         r#"{"type":"object","required":["a","a"]}"#,
         "Shape(NotAShape)",
     ),
+    (
+        r#"{"type":["null","array"],"items":{"shape":2}}"#,
+        "BadNumber",
+    ),
 ];
 
 #[test]
@@ -359,4 +405,243 @@ fn references_stand_for_given_shapes(rt: HostRuntime) {
     );
     let nothing_there = shapes.read_with(&reference, Some(&[]));
     assert_eq!(rt; nothing_there, Err(NumberedRefusal::BadNumber));
+}
+
+/// Parts by the places of shapes in the list of a test, and whether a node of these parts is taken.
+const NODES: [(&[usize], bool); 12] = [
+    (&[2], false),
+    (&[], false),
+    (&[2, 5], true),
+    (&[5, 2], false),
+    (&[2, 2], false),
+    (&[6, 2], false),
+    (&[2, 7], false),
+    (&[0, 8], false),
+    (&[1, 8], false),
+    (&[0, 4], true),
+    (&[0, 1, 2, 3, 4, 5], true),
+    (&[0, 1, 2, 3, 4, 5, 5], false),
+];
+
+/// The shapes of that list: one of each kind, in byte order of the names of types, then `Any`, `Never` and one of several.
+const PARTS: [&str; 9] = [
+    r#"{"type":"array","prefixItems":[false],"minItems":1}"#,
+    r#"{"type":"boolean"}"#,
+    r#"{"type":"integer"}"#,
+    r#"{"type":"null"}"#,
+    r#"{"type":"object","required":["a"]}"#,
+    r#"{"type":"string"}"#,
+    "true",
+    "false",
+    r#"{"type":["integer","string"]}"#,
+];
+
+#[test]
+fn nodes_of_several_kinds(rt: HostRuntime) {
+    let alloc = rt.alloc();
+    let mut shapes = Shapes::new(alloc);
+    let mut numbers = Vec::new(alloc);
+    for text in &PARTS {
+        let number = shapes.add(&shape(&rt, alloc, text)).expect(&rt, "a number");
+        numbers.push(number).expect(&rt, "memory");
+    }
+    for (places, is_taken) in &NODES {
+        let mut parts = Vec::new(alloc);
+        for place in *places {
+            let part = numbers.get(*place).expect(&rt, "a number");
+            parts.push(*part).expect(&rt, "memory");
+        }
+        let length = shapes.len();
+        let added = shapes
+            .add_node(Node::Several(parts))
+            .expect(&rt, "a number");
+        assert_eq!(rt; added.is_some(), *is_taken);
+        assert!(rt; added.is_some() || shapes.len() == length);
+    }
+    let nowhere = shapes.len();
+    let added = added_several(&rt, alloc, &mut shapes, &[0, nowhere]);
+    assert_eq!(rt; added, None);
+}
+
+/// A shape, whether it is inhabited, and whether it or one inside it is of several kinds.
+const TOLD: [(&str, &str); 6] = [
+    (r#"{"type":"integer"}"#, "Some(true) Some(false)"),
+    (r#"{"type":["integer","string"]}"#, "Some(true) Some(true)"),
+    (
+        r#"{"type":"array","items":{"type":["integer","string"]}}"#,
+        "Some(true) Some(true)",
+    ),
+    (
+        r#"{"type":["array","null"],"prefixItems":[false],"minItems":1}"#,
+        "Some(true) Some(true)",
+    ),
+    (
+        r#"{"type":["array","object"],"prefixItems":[false],"minItems":1,"properties":{"a":false},"required":["a"]}"#,
+        "Some(false) Some(true)",
+    ),
+    (
+        r#"{"type":"object","properties":{"a":{"type":"object","properties":{"b":true}}}}"#,
+        "Some(true) Some(false)",
+    ),
+];
+
+#[test]
+fn what_is_told_of_several_kinds(rt: HostRuntime) {
+    let alloc = rt.alloc();
+    let mut shapes = Shapes::new(alloc);
+    for (text, wanted) in &TOLD {
+        let number = shapes.add(&shape(&rt, alloc, text)).expect(&rt, "a number");
+        let inhabited = shapes.inhabited(number);
+        let several = shapes.has_several(number);
+        let answer = format!(in alloc; "{inhabited:?} {several:?}").expect(&rt, "memory");
+        assert_eq!(rt; answer.as_str(), *wanted, "{text}");
+        let written = write(alloc, &shape(&rt, alloc, text)).expect(&rt, "a tree");
+        let written = to_text(alloc, &written).expect(&rt, "a text");
+        let expanded = expanded(&rt, alloc, &shapes, number);
+        assert_eq!(rt; expanded.as_str(), written.as_str(), "{text}");
+    }
+    let nowhere = shapes.len();
+    assert_eq!(rt; shapes.has_several(nowhere), None);
+}
+
+/// Two shapes, whether the first is inside the second, and the second inside the first.
+const COMPARED: [(&str, &str, bool, bool); 6] = [
+    (
+        r#"{"type":"null"}"#,
+        r#"{"type":["null","string"]}"#,
+        true,
+        false,
+    ),
+    (
+        r#"{"type":["null","string"]}"#,
+        r#"{"type":["null","string","integer"]}"#,
+        true,
+        false,
+    ),
+    (
+        r#"{"type":["array","null"],"prefixItems":[false],"minItems":1}"#,
+        r#"{"type":"null"}"#,
+        true,
+        true,
+    ),
+    (
+        r#"{"type":["array","null"],"items":{"type":"integer"}}"#,
+        r#"{"type":["array","null"],"items":{"type":["integer","string"]}}"#,
+        true,
+        false,
+    ),
+    (
+        r#"{"type":["array","object"],"items":false,"required":["a"]}"#,
+        r#"{"type":["array","object"],"items":{"type":"null"}}"#,
+        true,
+        false,
+    ),
+    (
+        r#"{"type":["integer","null"]}"#,
+        r#"{"type":["integer","string"]}"#,
+        false,
+        false,
+    ),
+];
+
+#[test]
+fn several_kinds_are_compared(rt: HostRuntime) {
+    let alloc = rt.alloc();
+    let mut shapes = Shapes::new(alloc);
+    for (left, right, forth, back) in &COMPARED {
+        let first = shapes.add(&shape(&rt, alloc, left)).expect(&rt, "a number");
+        let second = shapes
+            .add(&shape(&rt, alloc, right))
+            .expect(&rt, "a number");
+        for _ in 0..2 {
+            assert_eq!(rt;
+                compared(&rt, &mut shapes, first, second),
+                [Some(*forth), Some(*back)],
+                "{left} {right}"
+            );
+        }
+    }
+}
+
+/// The written shape of what was read, or the refusal.
+fn shape_read(
+    rt: &impl Abort,
+    alloc: Global,
+    shapes: &Shapes,
+    answer: Result<usize, NumberedRefusal>,
+) -> String {
+    match answer {
+        Ok(number) => expanded(rt, alloc, shapes, number),
+        Err(refusal) => format!(in alloc; "{refusal:?}").expect(rt, "memory"),
+    }
+}
+
+/// A spelling, where 0 is given, the number of `integer`; what comes of it, and in the first version of certificates.
+const OF_KINDS: [(&str, &str, &str); 7] = [
+    (
+        r#"{"type":["string","null"]}"#,
+        r#"{"type":["null","string"]}"#,
+        "Shape(BadType)",
+    ),
+    (
+        r#"{"type":["null","array"],"items":{"shape":0}}"#,
+        r#"{"items":{"type":"integer"},"type":["array","null"]}"#,
+        "Shape(BadType)",
+    ),
+    (
+        r#"{"type":["object","array"],"prefixItems":[{"shape":0}],"minItems":1,"properties":{"a":{"shape":0}}}"#,
+        r#"{"minItems":1,"prefixItems":[{"type":"integer"}],"properties":{"a":{"type":"integer"}},"type":["array","object"]}"#,
+        "Shape(BadType)",
+    ),
+    (
+        r#"{"type":["integer"]}"#,
+        r#"{"type":"integer"}"#,
+        "Shape(BadType)",
+    ),
+    (
+        r#"{"type":["null","string"],"items":true}"#,
+        "Shape(Keyword)",
+        "Shape(BadType)",
+    ),
+    (
+        r#"{"type":"array","items":{"shape":0}}"#,
+        r#"{"items":{"type":"integer"},"type":"array"}"#,
+        r#"{"items":{"type":"integer"},"type":"array"}"#,
+    ),
+    (
+        r#"{"shape":0}"#,
+        r#"{"type":"integer"}"#,
+        r#"{"type":"integer"}"#,
+    ),
+];
+
+#[test]
+fn lists_of_types_over_given_shapes(rt: HostRuntime) {
+    let alloc = rt.alloc();
+    let mut shapes = Shapes::new(alloc);
+    let int = shapes.add(&Shape::Int).expect(&rt, "a number");
+    for (text, wanted, of_first) in &OF_KINDS {
+        let tree = asl_tree::read(alloc, text.as_bytes()).expect(&rt, "a tree");
+        let value = asl_tree::to_value(alloc, &tree).expect(&rt, "a value");
+        assert!(rt; int < shapes.len());
+        let answer = shapes.read_with(&tree, Some(&[int]));
+        assert!(rt; int < shapes.len());
+        let again = shapes.read_value_with(&value, Some(&[int]));
+        assert_eq!(rt; answer, again, "{text}");
+        assert_eq!(rt;
+            shape_read(&rt, alloc, &shapes, answer).as_str(),
+            *wanted,
+            "{text}"
+        );
+        assert!(rt; int < shapes.len());
+        let answer = shapes.read_with_v1(&tree, Some(&[int]));
+        assert!(rt; int < shapes.len());
+        let again = shapes.read_value_with_v1(&value, Some(&[int]));
+        assert_eq!(rt; answer, again, "{text}");
+        assert_eq!(rt;
+            shape_read(&rt, alloc, &shapes, answer).as_str(),
+            *of_first,
+            "{text}"
+        );
+    }
 }

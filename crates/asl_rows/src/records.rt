@@ -76,6 +76,10 @@ fn declared_shapes(rt: HostRuntime) {
             r#"{"tasks":{"U":{"takes":false,"gives":true},"T":{"gives":{"type":"string"}}},"input":true}"#,
             r#"{"input":true,"tasks":{"T":{"gives":{"type":"string"},"takes":true},"U":{"gives":true,"takes":false}}}"#,
         ),
+        (
+            r#"{"input":{"type":["string","null"]},"tasks":{"T":{"takes":{"type":["object"]},"gives":{"type":"array","items":{"type":["integer","boolean"]}}}}}"#,
+            r#"{"input":{"type":["null","string"]},"tasks":{"T":{"gives":{"items":{"type":["boolean","integer"]},"type":"array"},"takes":{"type":"object"}}}}"#,
+        ),
     ];
     for (text, wanted) in vectors {
         let (written, declared, again) = declared_in(&rt, alloc, text);
@@ -106,6 +110,30 @@ fn certificates(rt: HostRuntime) {
         (
             r#"{"version":1,"shapes":[],"output":true,"states":{}}"#,
             r#"{"output":true,"states":{},"version":1}"#,
+        ),
+        (
+            r#"{"version":2,"output":{"type":["integer"]},"states":{"A":{"input":true,"output":false}}}"#,
+            r#"{"output":{"type":"integer"},"states":{"A":{"input":true,"output":false}},"version":1}"#,
+        ),
+        (
+            r#"{"version":2,"output":{"type":["string","integer"]},"states":{}}"#,
+            r#"{"output":{"type":["integer","string"]},"states":{},"version":2}"#,
+        ),
+        (
+            r#"{"version":2,"output":true,"states":{"M":{"input":true,"item":{"type":"array","items":{"type":"object","properties":{"a":{"type":["null","boolean"]}}}},"output":true}}}"#,
+            r#"{"output":true,"states":{"M":{"input":true,"item":{"items":{"properties":{"a":{"type":["boolean","null"]}},"type":"object"},"type":"array"},"output":true}},"version":2}"#,
+        ),
+        (
+            r#"{"version":2,"output":true,"states":{"P":{"branches":[true,{"type":["array","null"],"prefixItems":[false],"minItems":1}],"input":true,"output":true}}}"#,
+            r#"{"output":true,"states":{"P":{"branches":[true,{"minItems":1,"prefixItems":[false],"type":["array","null"]}],"input":true,"output":true}},"version":2}"#,
+        ),
+        (
+            r#"{"version":2,"shapes":[{"type":["null","string"]},{"type":["array","integer"],"items":{"shape":0}},true],"output":{"shape":2},"states":{}}"#,
+            r#"{"output":true,"states":{},"version":1}"#,
+        ),
+        (
+            r#"{"version":2,"shapes":[{"type":["null","string"]},{"type":["array","integer"],"items":{"shape":0}}],"output":{"shape":1},"states":{}}"#,
+            r#"{"output":{"items":{"type":["null","string"]},"type":["array","integer"]},"states":{},"version":2}"#,
         ),
     ];
     for (text, wanted) in vectors {
@@ -153,6 +181,48 @@ fn wrong_references(rt: HostRuntime) {
 }
 
 #[test]
+fn versions(rt: HostRuntime) {
+    let alloc = rt.alloc();
+    let vectors = [
+        (
+            r#"{"version":1,"output":{"type":["integer","string"]},"states":{}}"#,
+            r#"Record(RecordRefusal { fault: BadShape(BadType), name: "", field: "output" })"#,
+        ),
+        (
+            r#"{"version":1,"output":{"type":["integer"]},"states":{}}"#,
+            r#"Record(RecordRefusal { fault: BadShape(BadType), name: "", field: "output" })"#,
+        ),
+        (
+            r#"{"version":1,"shapes":[true,{"type":["integer","string"]}],"output":{"shape":0},"states":{}}"#,
+            r#"Record(RecordRefusal { fault: BadShape(BadType), name: "", field: "shapes" })"#,
+        ),
+        (
+            r#"{"version":1,"output":true,"states":{"A":{"input":{"type":"array","items":{"type":["null","string"]}},"output":true}}}"#,
+            r#"Record(RecordRefusal { fault: BadShape(BadType), name: "A", field: "input" })"#,
+        ),
+        (
+            r#"{"output":true,"states":{"A":{"branches":[{"type":["null","string"]}],"input":true,"output":true}},"version":1}"#,
+            r#"Record(RecordRefusal { fault: BadShape(BadType), name: "A", field: "branches" })"#,
+        ),
+        (
+            r#"{"version":2,"output":{"type":["integer","integer"]},"states":{}}"#,
+            r#"Record(RecordRefusal { fault: BadShape(BadType), name: "", field: "output" })"#,
+        ),
+        (
+            r#"{"version":2,"output":{"type":["integer","null"],"items":true},"states":{}}"#,
+            r#"Record(RecordRefusal { fault: BadShape(Keyword), name: "", field: "output" })"#,
+        ),
+        (
+            r#"{"version":3,"output":true,"states":{}}"#,
+            r#"Record(RecordRefusal { fault: BadVersion, name: "", field: "version" })"#,
+        ),
+    ];
+    for (text, wanted) in vectors {
+        assert_eq!(rt; refusal_of(&rt, alloc, text).as_str(), wanted);
+    }
+}
+
+#[test]
 fn listed_shapes(rt: HostRuntime) {
     let alloc = rt.alloc();
     let vectors = [
@@ -167,6 +237,18 @@ fn listed_shapes(rt: HostRuntime) {
         (
             r#"{"version":1,"output":true,"states":{"M":{"input":{"type":"object","properties":{"a":{"type":"array","items":{"type":"string"}},"b":true},"required":["a"],"additionalProperties":false},"item":{"type":"array"},"output":{"type":"array","items":{"type":"array"}}},"P":{"branches":[{"type":"object"},{"type":"array"}],"input":{"type":"array","prefixItems":[{"type":"object"},false],"minItems":2},"output":{"type":"array"}}}}"#,
             r#"{"output":true,"shapes":[{"items":{"type":"string"},"type":"array"},{"additionalProperties":false,"properties":{"a":{"shape":0},"b":true},"required":["a"],"type":"object"},{"type":"array"},{"items":{"shape":2},"type":"array"},{"type":"object"},{"minItems":2,"prefixItems":[{"shape":4},false],"type":"array"}],"states":{"M":{"input":{"shape":1},"item":{"shape":2},"output":{"shape":3}},"P":{"branches":[{"shape":4},{"shape":2}],"input":{"shape":5},"output":{"shape":2}}},"version":1}"#,
+        ),
+        (
+            r#"{"version":2,"output":{"type":["integer","string"]},"states":{}}"#,
+            r#"{"output":{"shape":0},"shapes":[{"type":["integer","string"]}],"states":{},"version":2}"#,
+        ),
+        (
+            r#"{"version":2,"output":{"type":["object","array"],"items":{"type":["null","string"]},"properties":{"a":{"type":"array"}}},"states":{"A":{"input":{"type":"array"},"output":{"type":"object","properties":{"a":{"type":"array"}}}}}}"#,
+            r#"{"output":{"shape":2},"shapes":[{"type":["null","string"]},{"type":"array"},{"items":{"shape":0},"properties":{"a":{"shape":1}},"type":["array","object"]},{"properties":{"a":{"shape":1}},"type":"object"}],"states":{"A":{"input":{"shape":1},"output":{"shape":3}}},"version":2}"#,
+        ),
+        (
+            r#"{"version":2,"shapes":[{"type":["null","string"]}],"output":{"type":"array"},"states":{}}"#,
+            r#"{"output":{"shape":0},"shapes":[{"type":"array"}],"states":{},"version":1}"#,
         ),
     ];
     for (text, wanted) in vectors {

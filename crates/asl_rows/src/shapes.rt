@@ -1,11 +1,14 @@
 //! Vectors for shapes: what each spelling reads as, the tests of shapes on a few pairs, and what is copied, written and
 //! joined, each call once with ample memory.
-use asl_shape::{Shape, ShapeRefusal, copy, has, inhabited, join, read, same, sub, write};
-use asl_tree::{Tree, to_text};
+use asl_shape::{
+    OwnedKinds, Shape, ShapeRefusal, copy, has, inhabited, join, of_kinds, proper, read, read_v1,
+    read_value, read_value_v1, same, sub, take_apart, write,
+};
+use asl_tree::{Tree, to_text, to_value};
 use std::alloc::Global;
 use std::process::Abort;
 
-const REFUSED: [(&str, ShapeRefusal); 15] = [
+const REFUSED: [(&str, ShapeRefusal); 23] = [
     (
         r#"{"type":"array","prefixItems":[true],"minItems":0}"#,
         ShapeRefusal::MinItems,
@@ -16,14 +19,34 @@ const REFUSED: [(&str, ShapeRefusal); 15] = [
     ),
     (r#"{"type":"array","minItems":-1}"#, ShapeRefusal::MinItems),
     (r#"{"type":"number"}"#, ShapeRefusal::BadType),
-    (r#"{"type":["null","string"]}"#, ShapeRefusal::BadType),
+    (r#"{"type":[]}"#, ShapeRefusal::BadType),
+    (r#"{"type":["null","null"]}"#, ShapeRefusal::BadType),
+    (r#"{"type":["null","number"]}"#, ShapeRefusal::BadType),
+    (r#"{"type":["null",7]}"#, ShapeRefusal::BadType),
+    (r#"{"type":["null",["string"]]}"#, ShapeRefusal::BadType),
     (r#"{"colour":1}"#, ShapeRefusal::BadType),
     (r#"{"items":true}"#, ShapeRefusal::BadType),
     (r#"{"type":"string","colour":1}"#, ShapeRefusal::Keyword),
     (r#"{"type":"object","items":true}"#, ShapeRefusal::Keyword),
+    (
+        r#"{"type":["null","string"],"items":true}"#,
+        ShapeRefusal::Keyword,
+    ),
+    (
+        r#"{"type":["array","null"],"required":[]}"#,
+        ShapeRefusal::Keyword,
+    ),
+    (
+        r#"{"type":["null","array"],"prefixItems":[true]}"#,
+        ShapeRefusal::MinItems,
+    ),
     ("7", ShapeRefusal::NotAShape),
     (r#"{"type":null}"#, ShapeRefusal::NotAShape),
     (r#"{"type":7}"#, ShapeRefusal::NotAShape),
+    (
+        r#"{"type":["object","array"],"properties":[]}"#,
+        ShapeRefusal::NotAShape,
+    ),
     (
         r#"{"type":"object","required":["a","a"]}"#,
         ShapeRefusal::NotAShape,
@@ -38,7 +61,7 @@ const REFUSED: [(&str, ShapeRefusal); 15] = [
     ),
 ];
 
-const MEMBERS: [(&str, &str, bool); 14] = [
+const MEMBERS: [(&str, &str, bool); 22] = [
     ("true", "null", true),
     (r#"{"title":1}"#, "[]", true),
     ("false", "null", false),
@@ -77,9 +100,33 @@ const MEMBERS: [(&str, &str, bool); 14] = [
         r#"{"b":1}"#,
         false,
     ),
+    (r#"{"type":["null","string"]}"#, "null", true),
+    (r#"{"type":["null","string"]}"#, r#""x""#, true),
+    (r#"{"type":["null","string"]}"#, "0", false),
+    (r#"{"type":["null","string"]}"#, "[]", false),
+    (
+        r#"{"type":["array","object"],"items":{"type":"integer"},"required":["a"]}"#,
+        "[1,2]",
+        true,
+    ),
+    (
+        r#"{"type":["array","object"],"items":{"type":"integer"},"required":["a"]}"#,
+        r#"["a"]"#,
+        false,
+    ),
+    (
+        r#"{"type":["array","object"],"items":{"type":"integer"},"required":["a"]}"#,
+        r#"{"a":"x"}"#,
+        true,
+    ),
+    (
+        r#"{"type":["array","object"],"items":{"type":"integer"},"required":["a"]}"#,
+        "{}",
+        false,
+    ),
 ];
 
-const INHABITED: [(&str, bool); 5] = [
+const INHABITED: [(&str, bool); 7] = [
     ("true", true),
     ("false", false),
     (r#"{"type":"array","items":false}"#, true),
@@ -88,9 +135,17 @@ const INHABITED: [(&str, bool); 5] = [
         false,
     ),
     (r#"{"type":"object","properties":{"a":false}}"#, true),
+    (
+        r#"{"type":["array","null"],"prefixItems":[false],"minItems":1}"#,
+        true,
+    ),
+    (
+        r#"{"type":["array","object"],"prefixItems":[false],"minItems":1,"required":["a"],"additionalProperties":false}"#,
+        false,
+    ),
 ];
 
-const INSIDE: [(&str, &str, bool); 9] = [
+const INSIDE: [(&str, &str, bool); 17] = [
     (r#"{"type":"integer"}"#, "true", true),
     ("true", r#"{"type":"integer"}"#, false),
     ("false", r#"{"type":"integer"}"#, true),
@@ -124,11 +179,48 @@ const INSIDE: [(&str, &str, bool); 9] = [
         r#"{"type":"object","additionalProperties":false}"#,
         false,
     ),
+    (r#"{"type":"null"}"#, r#"{"type":["null","string"]}"#, true),
+    (r#"{"type":["null","string"]}"#, r#"{"type":"null"}"#, false),
+    (
+        r#"{"type":["null","string"]}"#,
+        r#"{"type":["string","integer","null"]}"#,
+        true,
+    ),
+    (
+        r#"{"type":["array","null"],"prefixItems":[false],"minItems":1}"#,
+        r#"{"type":"null"}"#,
+        true,
+    ),
+    (
+        r#"{"type":["array","null"],"items":{"type":"integer"}}"#,
+        r#"{"type":["array","null"],"items":{"type":["integer","string"]}}"#,
+        true,
+    ),
+    (
+        r#"{"type":["array","null"],"items":{"type":["integer","string"]}}"#,
+        r#"{"type":["array","null"],"items":{"type":"integer"}}"#,
+        false,
+    ),
+    (
+        r#"{"type":"array","items":false}"#,
+        r#"{"type":["array","null"],"prefixItems":[false],"minItems":1}"#,
+        false,
+    ),
+    (r#"{"type":["integer","null"]}"#, "true", true),
 ];
 
-const DIFFERENT: [(&str, &str); 6] = [
+const DIFFERENT: [(&str, &str); 9] = [
     ("true", "false"),
     (r#"{"type":"integer"}"#, r#"{"type":"string"}"#),
+    (r#"{"type":"integer"}"#, r#"{"type":["integer","string"]}"#),
+    (
+        r#"{"type":["integer","null"]}"#,
+        r#"{"type":["integer","string"]}"#,
+    ),
+    (
+        r#"{"type":["array","null"],"prefixItems":[false],"minItems":1}"#,
+        r#"{"type":"null"}"#,
+    ),
     (
         r#"{"type":"array","prefixItems":[{"type":"null"}],"minItems":1,"items":{"type":"null"}}"#,
         r#"{"type":"array","items":{"type":"null"}}"#,
@@ -147,7 +239,7 @@ const DIFFERENT: [(&str, &str); 6] = [
     ),
 ];
 
-const WRITTEN: [(&str, &str); 11] = [
+const WRITTEN: [(&str, &str); 15] = [
     ("true", "true"),
     (r#"{"title":1}"#, "true"),
     ("false", "false"),
@@ -171,16 +263,37 @@ const WRITTEN: [(&str, &str); 11] = [
         r#"{"type":"array","minItems":0,"items":{"type":"object","properties":{"a":{"type":"array","items":true}}}}"#,
         r#"{"items":{"properties":{"a":{"type":"array"}},"type":"object"},"type":"array"}"#,
     ),
+    (
+        r#"{"type":["string","null"]}"#,
+        r#"{"type":["null","string"]}"#,
+    ),
+    (r#"{"type":["integer"]}"#, r#"{"type":"integer"}"#),
+    (
+        r#"{"type":["string","object","null","integer","boolean","array"]}"#,
+        r#"{"type":["array","boolean","integer","null","object","string"]}"#,
+    ),
+    (
+        r#"{"type":["object","array"],"required":["b","a"],"prefixItems":[{"type":["null","boolean"]}],"minItems":1,"items":false,"additionalProperties":false,"properties":{"a":true}}"#,
+        r#"{"additionalProperties":false,"items":false,"minItems":1,"prefixItems":[{"type":["boolean","null"]}],"properties":{"a":true,"b":false},"required":["a","b"],"type":["array","object"]}"#,
+    ),
 ];
 
-const JOINED: [(&str, &str, &str); 12] = [
-    (r#"{"type":"integer"}"#, r#"{"type":"string"}"#, "true"),
+const JOINED: [(&str, &str, &str); 20] = [
+    (
+        r#"{"type":"integer"}"#,
+        r#"{"type":"string"}"#,
+        r#"{"type":["integer","string"]}"#,
+    ),
     (
         r#"{"type":"integer"}"#,
         r#"{"type":"integer"}"#,
         r#"{"type":"integer"}"#,
     ),
-    (r#"{"type":"array"}"#, r#"{"type":"object"}"#, "true"),
+    (
+        r#"{"type":"array"}"#,
+        r#"{"type":"object"}"#,
+        r#"{"type":["array","object"]}"#,
+    ),
     (
         r#"{"type":"integer"}"#,
         r#"{"type":"array","prefixItems":[false],"minItems":1}"#,
@@ -199,7 +312,7 @@ const JOINED: [(&str, &str, &str); 12] = [
     (
         r#"{"type":"array","items":{"type":"integer"}}"#,
         r#"{"type":"array","prefixItems":[{"type":"integer"},{"type":"string"}],"minItems":2,"items":false}"#,
-        r#"{"type":"array"}"#,
+        r#"{"items":{"type":["integer","string"]},"type":"array"}"#,
     ),
     (
         r#"{"type":"object","properties":{"a":{"type":"integer"}},"required":["a"],"additionalProperties":false}"#,
@@ -224,7 +337,43 @@ const JOINED: [(&str, &str, &str); 12] = [
     (
         r#"{"type":"object","properties":{"a":{"type":"null"},"b":{"type":"null"}},"required":["a","b"],"additionalProperties":false}"#,
         r#"{"type":"object","properties":{"a":{"type":"null"},"b":{"type":"string"}},"required":["a"],"additionalProperties":false}"#,
-        r#"{"additionalProperties":false,"properties":{"a":{"type":"null"},"b":true},"required":["a"],"type":"object"}"#,
+        r#"{"additionalProperties":false,"properties":{"a":{"type":"null"},"b":{"type":["null","string"]}},"required":["a"],"type":"object"}"#,
+    ),
+    (r#"{"type":["integer","null"]}"#, "true", "true"),
+    (
+        "false",
+        r#"{"type":["array","null"],"prefixItems":[false],"minItems":1}"#,
+        r#"{"minItems":1,"prefixItems":[false],"type":["array","null"]}"#,
+    ),
+    (
+        r#"{"type":"null"}"#,
+        r#"{"type":["array","null"],"prefixItems":[false],"minItems":1}"#,
+        r#"{"type":"null"}"#,
+    ),
+    (
+        r#"{"type":["array","integer"],"prefixItems":[false],"minItems":1}"#,
+        r#"{"type":["array","null"],"items":{"type":"string"}}"#,
+        r#"{"items":{"type":"string"},"type":["array","integer","null"]}"#,
+    ),
+    (
+        r#"{"type":["integer","string"]}"#,
+        r#"{"type":["boolean","integer"]}"#,
+        r#"{"type":["boolean","integer","string"]}"#,
+    ),
+    (
+        r#"{"type":["array","object"],"items":{"type":"integer"},"properties":{"a":{"type":"null"}},"required":["a"],"additionalProperties":false}"#,
+        r#"{"type":["object","array","string"],"prefixItems":[{"type":"null"}],"minItems":1,"items":false,"additionalProperties":false}"#,
+        r#"{"additionalProperties":false,"items":{"type":["integer","null"]},"properties":{"a":{"type":"null"}},"type":["array","object","string"]}"#,
+    ),
+    (
+        r#"{"type":["null","object"],"required":["a"]}"#,
+        r#"{"type":"array","items":false}"#,
+        r#"{"items":false,"properties":{"a":true},"required":["a"],"type":["array","null","object"]}"#,
+    ),
+    (
+        r#"{"type":["array","object"],"prefixItems":[false],"minItems":1,"properties":{"a":false},"required":["a"]}"#,
+        r#"{"type":"string"}"#,
+        r#"{"type":"string"}"#,
     ),
 ];
 
@@ -272,4 +421,173 @@ fn answers_as_worked_out_by_hand(rt: HostRuntime) {
         let answered = to_text(alloc, &tree).expect(&rt, "a text");
         assert_eq!(rt; answered.as_str(), *written, "{first} {second}");
     }
+}
+
+/// A spelling that is read the same in the first version of certificates, where a list of types is none.
+const FIRST_VERSION: [(&str, Option<ShapeRefusal>); 8] = [
+    (r#"{"type":"integer"}"#, None),
+    (
+        r#"{"type":"array","prefixItems":[{"type":"object","required":["a"]}],"minItems":1}"#,
+        None,
+    ),
+    (r#"{"type":"integer","default":{"type":["null"]}}"#, None),
+    (r#"{"type":["null","string"]}"#, Some(ShapeRefusal::BadType)),
+    (r#"{"type":["integer"]}"#, Some(ShapeRefusal::BadType)),
+    (
+        r#"{"type":["null","string"],"items":true}"#,
+        Some(ShapeRefusal::BadType),
+    ),
+    (
+        r#"{"type":"object","properties":{"a":{"type":"array","items":{"type":["null"]}}}}"#,
+        Some(ShapeRefusal::BadType),
+    ),
+    (
+        r#"{"type":"string","items":true}"#,
+        Some(ShapeRefusal::Keyword),
+    ),
+];
+
+#[test]
+fn lists_of_types_by_version(rt: HostRuntime) {
+    let alloc = rt.alloc();
+    for (text, refusal) in &FIRST_VERSION {
+        let tree = tree(&rt, alloc, text);
+        let value = to_value(alloc, &tree).expect(&rt, "a value");
+        match (read_v1(alloc, &tree), read_value_v1(alloc, &value), refusal) {
+            (Ok(shape), Ok(again), None) => {
+                let other = read(alloc, &tree).expect(&rt, "a shape");
+                assert!(rt; same(&shape, &other) && same(&again, &other), "{text}");
+            }
+            (Err(told), Err(again), Some(wanted)) => {
+                assert!(rt; told == *wanted && again == *wanted, "{text}");
+            }
+            _ => assert!(rt; false, "{text}"),
+        }
+    }
+    let tree = tree(&rt, alloc, r#"{"type":["string","null"]}"#);
+    let value = to_value(alloc, &tree).expect(&rt, "a value");
+    let of_tree = read(alloc, &tree).expect(&rt, "a shape");
+    let of_value = read_value(alloc, &value).expect(&rt, "a shape");
+    assert!(rt; same(&of_tree, &of_value));
+}
+
+/// The shape with these parts.
+fn several(rt: &impl Abort, alloc: Global, texts: &[&str]) -> Shape {
+    let mut parts = Vec::new(alloc);
+    for text in texts {
+        parts.push(shape(rt, alloc, text)).expect(rt, "memory");
+    }
+    Shape::Several(parts)
+}
+
+/// The spellings of parts, and whether the shape of these parts is proper.
+const PROPER: [(&[&str], bool); 14] = [
+    (&[r#"{"type":"integer"}"#], false),
+    (&[r#"{"type":"integer"}"#, r#"{"type":"string"}"#], true),
+    (&[r#"{"type":"string"}"#, r#"{"type":"integer"}"#], false),
+    (&[], false),
+    (&[r#"{"type":"integer"}"#, r#"{"type":"integer"}"#], false),
+    (&["true", r#"{"type":"integer"}"#], false),
+    (&[r#"{"type":"integer"}"#, "false"], false),
+    (
+        &[r#"{"type":["boolean","integer"]}"#, r#"{"type":"null"}"#],
+        false,
+    ),
+    (
+        &[r#"{"type":"array"}"#, r#"{"type":"array","items":false}"#],
+        false,
+    ),
+    (&[r#"{"type":"array"}"#, r#"{"type":"object"}"#], true),
+    (&[r#"{"type":"null"}"#, r#"{"type":"object"}"#], true),
+    (&[r#"{"type":"object"}"#, r#"{"type":"null"}"#], false),
+    (
+        &[
+            r#"{"type":"array","prefixItems":[false],"minItems":1}"#,
+            r#"{"type":"null"}"#,
+        ],
+        true,
+    ),
+    (
+        &[
+            r#"{"type":"array"}"#,
+            r#"{"type":"boolean"}"#,
+            r#"{"type":"integer"}"#,
+            r#"{"type":"null"}"#,
+            r#"{"type":"object"}"#,
+            r#"{"type":"string"}"#,
+        ],
+        true,
+    ),
+];
+
+#[test]
+fn proper_shapes(rt: HostRuntime) {
+    let alloc = rt.alloc();
+    for (texts, answer) in &PROPER {
+        let given = several(&rt, alloc, texts);
+        assert_eq!(rt; proper(&given), *answer);
+        let copied = copy(alloc, &given).expect(&rt, "a copy");
+        assert!(rt; proper(&copied));
+        let outer = Shape::List {
+            first: Vec::new(alloc),
+            rest: Box::new(alloc, given).expect(&rt, "memory"),
+        };
+        assert_eq!(rt; proper(&outer), *answer);
+    }
+    for (text, _) in &WRITTEN {
+        assert!(rt; proper(&shape(&rt, alloc, text)), "{text}");
+    }
+    for (first, second, _) in &JOINED {
+        let joined = join(alloc, &shape(&rt, alloc, first), &shape(&rt, alloc, second));
+        assert!(rt; proper(&joined.expect(&rt, "a join")), "{first} {second}");
+    }
+}
+
+/// The simple kinds of a shape put together again.
+fn simple_part(rt: &impl Abort, alloc: Global, text: &str) -> String {
+    let given = shape(rt, alloc, text);
+    let Some(kinds) = take_apart(&given) else {
+        return String::from_str(alloc, "every tree").expect(rt, "memory");
+    };
+    let owned = OwnedKinds {
+        null: kinds.null,
+        boolean: kinds.boolean,
+        integer: kinds.integer,
+        text: kinds.text,
+        arrays: None,
+        objects: None,
+    };
+    let tree = write(alloc, &of_kinds(alloc, owned).expect(rt, "a shape")).expect(rt, "a tree");
+    to_text(alloc, &tree).expect(rt, "a text")
+}
+
+#[test]
+fn shapes_are_taken_apart(rt: HostRuntime) {
+    let alloc = rt.alloc();
+    for (text, wanted) in [
+        ("true", "every tree"),
+        ("false", "false"),
+        (r#"{"type":"array"}"#, "false"),
+        (r#"{"type":["array","null"]}"#, r#"{"type":"null"}"#),
+        (
+            r#"{"type":["string","object","integer"]}"#,
+            r#"{"type":["integer","string"]}"#,
+        ),
+        (
+            r#"{"type":["null","string","boolean","integer"]}"#,
+            r#"{"type":["boolean","integer","null","string"]}"#,
+        ),
+    ] {
+        assert_eq!(rt; simple_part(&rt, alloc, text).as_str(), wanted, "{text}");
+    }
+    let given = shape(
+        &rt,
+        alloc,
+        r#"{"type":["array","object","null"],"items":{"type":"integer"},"required":["a"]}"#,
+    );
+    let kinds = take_apart(&given).expect(&rt, "kinds");
+    let arrays = kinds.arrays.expect(&rt, "lists");
+    let objects = kinds.objects.expect(&rt, "objects");
+    assert!(rt; arrays.first.is_empty() && same(arrays.rest, &Shape::Int));
+    assert!(rt; objects.extra && objects.fields.len() == 1);
 }
