@@ -13,17 +13,16 @@ use Rattle.asl_model.specs.FindingRules.{HasState}
 use Rattle.asl_model.specs.Machine.{Scope, ScopeOf, States, NoStates, AndState, State, StateOf, Settings, Kind, Pass, Task, Choice, Wait, Succeed, Fail, Parallel, Map, Scopes, NoScopes, AndScope, settings_of, kind_of, start_of, is_task, state_named, state_among, scope_at, child_scope, how_many, names_state, names_task, IsScopeOf, own_scope, scope_of_child, HasNamed, targets_of}
 use Rattle.asl_model.specs.Numbering.{Standing, Table, Placement, IsWellNamed, kind_outline, number_or_0, outline, outlined, placement_of, standing, standing_in, standing_among, standing_inside, standing_by, standing_each, table_of}
 use Rattle.asl_model.specs.Shape.{Shape, Any, Inside}
-use Rattle.asl_model.specs.ShapeOrder.{sub}
 use Rattle.asl_model.specs.ShapeSpelling.{are_distinct}
 use Rattle.asl_model.proofs.FindingNames.{named_task, state_is_named, task_is_named, is_a_task}
 use Rattle.asl_model.proofs.FindingScopes.{append-none, found-none, none-unless}
+use Rattle.asl_model.proofs.FindingStates.{sub-none}
 use Rattle.asl_model.proofs.NumberedRows.{leads_to_row}
 use Rattle.asl_model.proofs.NumberedScopes.{IsListed, all_stand, listed_left, listed_right, scope_holds}
 use Rattle.asl_model.proofs.NumberedStates.{number_found, stands_at}
 use Rattle.asl_model.proofs.Numbering.{names_of_standing, outlined_names}
 use Rattle.asl_model.proofs.OutlinedRules.{how-many-outlined}
 use Rattle.asl_model.proofs.RunOptions.{none_some, some_inj}
-use Rattle.asl_model.proofs.ShapeInside.{sub-inside}
 use Rattle.asl_model.proofs.StandingStates.{is_named, is_shown, state_numbered}
 use Rattle.asl_drafts.specs.Drafts.{Growth, Draft, DraftEntry, Row, MachineOutput, Input, Output, End, children_in, first_draft, entry_with, entry_of, taken_at, end_target, target_of, own_breaches, rows_of, unless_found, unless_told, after_rounds, round, input_taken, certificate_of, undeclared, unknown, misnamed}
 use Rattle.asl_drafts.specs.Fits.{AllFit, certified_at}
@@ -225,7 +224,7 @@ module _ (machine : Scope) (w : IsWellNamed machine) where
           input-inside lead.number next lead.state edge.flowing lead.named lead.shown (subst (λ o. taken_at (option_map Input o) edge.flowing draft ≡ draft) lead.found stays)
       edge-fits edge ToOutput whole stays lead = output-inside k n state edge.flowing named shown stays
       edge-fits edge ToEnd whole stays lead = ends edge.flowing stays
-      edge-fits edge ToTask whole stays lead = sub-inside edge.flowing (takes_of declared n) (none-unless (sub edge.flowing (takes_of declared n)) edge.field edge.fault whole)
+      edge-fits edge ToTask whole stays lead = sub-none edge.field edge.fault edge.flowing (takes_of declared n) whole
 
       steps-fit : (steps : List Walked) → own_breaches (takes_of declared n) steps ≡ [] → AllStay table k steps draft → AllLead LeadsTo steps → AllFit declared certificate end n steps
       steps-fit [] whole stay lead = tt

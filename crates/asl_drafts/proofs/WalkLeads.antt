@@ -11,7 +11,7 @@ use Rattle.asl_model.specs.Machine.{Catcher, Settings, Delay, Seconds, SecondsPa
 use Rattle.asl_model.specs.Numbering.{kind_outline, scope_outline, scopes_outline}
 use Rattle.asl_model.specs.Path.{Segment}
 use Rattle.asl_model.specs.Shape.{Shape, Never, Shapes, ArrayShape, inhabited}
-use Rattle.asl_model.specs.ShapeFlow.{look, literal, is_integer_shape, is_string_shape, rule_shape, is_settled, leave, Flow, FlowFault}
+use Rattle.asl_model.specs.ShapeFlow.{DoubtfulPath, found, literal, is_integer_shape, is_string_shape, rule_shape, is_settled, leave, Flow, FlowFault}
 use Rattle.asl_model.specs.Template.{Template}
 use Rattle.asl_model.specs.Test.{Rule}
 use Rattle.asl_model.proofs.Listed.{first_in, later_in}
@@ -75,15 +75,15 @@ module _ (P : List ℕ → Type 0) where
   unless-leads true field fault = tt
   unless-leads false field fault = (tt, tt)
 
-  named-leads : (field : List ℕ) (test : Shape → Bool) (result : Result Shape ℕ) → AllLead (walk_named field test result)
+  named-leads : (field : List ℕ) (test : Shape → Bool) (result : Result Shape DoubtfulPath) → AllLead (walk_named field test result)
   named-leads field test (Ok s) = unless-leads (test s) field WrongKind
-  named-leads field test (Err at) = (tt, tt)
+  named-leads field test (Err doubtful) = (tt, tt)
 
   delay-leads : (delay : Delay) (s : Shape) → AllLead (walk_delay delay s)
   delay-leads (Seconds n) s = tt
-  delay-leads (SecondsPath path) s = named-leads (codes "SecondsPath") is_integer_shape (look path s)
+  delay-leads (SecondsPath path) s = named-leads (codes "SecondsPath") is_integer_shape (found path s)
   delay-leads (Timestamp t) s = tt
-  delay-leads (TimestampPath path) s = named-leads (codes "TimestampPath") is_string_shape (look path s)
+  delay-leads (TimestampPath path) s = named-leads (codes "TimestampPath") is_string_shape (found path s)
 
   branches-lead : (branches : Scopes) (s : Shape) → StartsLead branches → AllLead (to_branches branches s)
   branches-lead NoScopes s starts = tt
@@ -102,13 +102,13 @@ module _ (P : List ℕ → Type 0) where
   catchers-lead input (catcher ∷ catchers) lead =
       both-lead (walk_caught catcher.next (error_placed_shape catcher.result_path input)) (walk_catchers input catchers) (caught-leads catcher.next (error_placed_shape catcher.result_path input) lead.0) (catchers-lead input catchers lead.1)
 
-  items-lead : (go_on : Shapes × Shape → List Walked) (named : Result Shape ℕ) → ((elements : Shapes × Shape) → AllLead (go_on elements)) → AllLead (walk_items go_on named)
+  items-lead : (go_on : Shapes × Shape → List Walked) (named : Result Shape DoubtfulPath) → ((elements : Shapes × Shape) → AllLead (go_on elements)) → AllLead (walk_items go_on named)
   items-lead go_on (Ok s) lead = by (array_parts s)
     where
       by : (parts : Option (Shapes × Shape)) → AllLead (with_elements_walked go_on parts)
       by None = (tt, tt)
       by (Some elements) = lead elements
-  items-lead go_on (Err at) lead = (tt, tt)
+  items-lead go_on (Err doubtful) lead = (tt, tt)
 
   module _ (settings : Settings) (entry : StateShapes) (next : AllByRecursion P (option_to_list settings.next)) where
     result-leads : (kind : Kind) (s : Shape) → AllLead (walk_result settings kind entry.input s)
@@ -126,9 +126,9 @@ module _ (P : List ℕ → Type 0) where
     rules-lead kind (rule ∷ rules) s lead =
         both-lead (walk_rule settings kind entry.input rule.next (rule_shape rule.test s)) (walk_rules settings kind entry.input rules s) (one (rule_shape rule.test s)) (rules-lead kind rules s lead.1)
       where
-        one : (narrowed : Option Shape) → AllLead (walk_rule settings kind entry.input rule.next narrowed)
-        one None = (tt, tt)
-        one (Some r) = chosen-leads kind (codes "Choices") rule.next r lead.0
+        one : (narrowed : Result Shape DoubtfulPath) → AllLead (walk_rule settings kind entry.input rule.next narrowed)
+        one (Ok r) = chosen-leads kind (codes "Choices") rule.next r lead.0
+        one (Err doubtful) = (tt, tt)
 
     default-leads : (kind : Kind) (rules : List Rule) (default : Option (List ℕ)) (s : Shape) → AllByRecursion P (option_to_list default) → AllLead (walk_default settings kind entry.input rules default s)
     default-leads kind rules None s lead = unless-leads (is_settled rules s) (codes "Default") NoDefault
@@ -146,7 +146,7 @@ module _ (P : List ℕ → Type 0) where
     work-leads (Fail error cause) s lead children = tt
     work-leads (Parallel branches) s lead children = branches-lead branches s children
     work-leads (Map items selector processor) s lead children =
-        items-lead (walk_elements settings (Map items selector processor) entry selector processor s) (look items s) (λ elements.
+        items-lead (walk_elements settings (Map items selector processor) entry selector processor s) (found items s) (λ elements.
         both-lead (walk_then (to_child (codes "ItemProcessor") processor) (item_flow selector s (element_shape elements.0 elements.1))) (walk_items_result settings (Map items selector processor) entry.input entry.item elements)
         (then-leads (to_child (codes "ItemProcessor") processor) (item_flow selector s (element_shape elements.0 elements.1)) (λ input. (children, tt))) (items_result-leads (Map items selector processor) entry.item elements))
 
@@ -204,7 +204,7 @@ module _ (gives : Shape) (settings : Settings) (entry : StateShapes) where
   work-outlined (Fail error cause) s = refl
   work-outlined (Parallel branches) s = branches-outlined branches s
   work-outlined (Map items selector processor) s =
-      ap (λ go_on. walk_items go_on (look items s)) (fun_ext (λ (elements : Shapes × Shape). ap (λ rest. walk_then (to_child (codes "ItemProcessor") processor) (item_flow selector s (element_shape elements.0 elements.1)) ++ rest) (result-outlined items selector processor entry.item elements)))
+      ap (λ go_on. walk_items go_on (found items s)) (fun_ext (λ (elements : Shapes × Shape). ap (λ rest. walk_then (to_child (codes "ItemProcessor") processor) (item_flow selector s (element_shape elements.0 elements.1)) ++ rest) (result-outlined items selector processor entry.item elements)))
 
   settled-outlined : (kind : Kind) → walk_settled gives settings (kind_outline kind) entry ≡ walk_settled gives settings kind entry
   settled-outlined (Pass None) = refl

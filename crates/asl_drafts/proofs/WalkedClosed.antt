@@ -11,7 +11,7 @@ use Rattle.asl_model.specs.Machine.{Catcher, Settings, Delay, Seconds, SecondsPa
 use Rattle.asl_model.specs.Flow.{effective_input, at_output_path, output_of, chosen, delay_in, branch_inputs, work_of, first_move}
 use Rattle.asl_model.specs.Run.{error_output, error_placed}
 use Rattle.asl_model.specs.Shape.{Shape, Never, ArrayShape, Shapes, Has, has, elements_have, inhabited}
-use Rattle.asl_model.specs.ShapeFlow.{look, put, literal, is_integer_shape, is_string_shape, rule_shape, is_settled, Flow, output_flow, result_leaves}
+use Rattle.asl_model.specs.ShapeFlow.{DoubtfulPath, found, put, literal, is_integer_shape, is_string_shape, rule_shape, is_settled, Flow, output_flow, result_leaves}
 use Rattle.asl_model.specs.Certificate.{Declared, StateShapes, Certificate, certified, certified_input, input_among, branches_in, is_map, branch_end, item_end, or_never, gives_of, EachHas, OutputFits, WorkFits, CaughtFits, CatchersFit, HasEntry, IsClosedAt}
 use Rattle.asl_model.specs.Finding.{FindingFault, NoDefault, as_first_elements, element_shape, item_flow, map_result, array_parts, error_output_shape, error_placed_shape, effective_flow}
 use Rattle.asl_model.specs.Edges.{Walked, breaks_unless, walk_then, to_next, to_end, onward, walk_named, walk_delay, to_child, to_branches, walk_items_result, walk_elements, with_elements_walked, walk_items, walk_chosen, walk_rule, walk_rules, walk_default, walk_caught, walk_catchers, walk_result, walk_work, walk_settled, walk}
@@ -20,8 +20,9 @@ use Rattle.asl_model.proofs.Listed.{none_in, first_or_later}
 use Rattle.asl_model.proofs.SettledRules.{AllDecided, SomeTrue, settled-true}
 use Rattle.asl_model.proofs.ShapeInhabited.{has-inhabited}
 use Rattle.asl_model.proofs.FindingStates.{number-there, text-there, branches-have, map-has, items-there, items-have, item-told, inputs-give, each-fits, error-has}
+use Rattle.asl_model.proofs.ShapeLook.{found-looked}
 use Rattle.asl_model.proofs.ShapePut.{put-gives}
-use Rattle.asl_model.proofs.ShapeTemplate.{look-gives, literal-has_itself}
+use Rattle.asl_model.proofs.ShapeTemplate.{found-gives, literal-has_itself}
 use Rattle.asl_model.proofs.ShapeRule.{rule-decided}
 use Rattle.asl_model.proofs.ShapeLeave.{IsTold, leaves-told, output-told, effective-told, leaves-gives, output-gives, effective-gives}
 
@@ -47,21 +48,21 @@ module _ (declared : Declared) (certificate : Certificate) (end : Shape) (n : Li
   unless-fit true field fault f = refl
   unless-fit false field fault f = absurd f.0
 
-  kind-fit : (field : List ℕ) (test : Shape → Bool) (result : Result Shape ℕ) → Fit (walk_named field test result) → (t : Shape) × (result ≡ Ok t) × IsTrue (test t)
+  kind-fit : (field : List ℕ) (test : Shape → Bool) (result : Result Shape DoubtfulPath) → Fit (walk_named field test result) → (t : Shape) × (result ≡ Ok t) × IsTrue (test t)
   kind-fit field test (Ok t) f = (t, refl, unless-fit (test t) field Rattle.asl_model.specs.Finding.WrongKind f)
-  kind-fit field test (Err at) f = absurd f.0
+  kind-fit field test (Err doubtful) f = absurd f.0
 
   delay-fits : (delay : Delay) (s : Shape) (u : Tree) → Fit (walk_delay delay s) → Has s u → (t : Tree) × (delay_in delay u ≡ Ok t)
   delay-fits (Seconds k) s u f m = (u, refl)
   delay-fits (SecondsPath path) s u f m =
-      let kind = kind-fit (codes "SecondsPath") is_integer_shape (look path s) f in
-      let given = look-gives path s kind.0 u kind.1 m in
+      let kind = kind-fit (codes "SecondsPath") is_integer_shape (found path s) f in
+      let given = found-gives path s kind.0 u kind.1 m in
       let number = number-there (codes "SecondsPath") kind.0 given.0 kind.2 given.2 in
       (number.0, rw (given.1) (number.1))
   delay-fits (Timestamp t) s u f m = (u, refl)
   delay-fits (TimestampPath path) s u f m =
-      let kind = kind-fit (codes "TimestampPath") is_string_shape (look path s) f in
-      let given = look-gives path s kind.0 u kind.1 m in
+      let kind = kind-fit (codes "TimestampPath") is_string_shape (found path s) f in
+      let given = found-gives path s kind.0 u kind.1 m in
       let text = text-there (codes "TimestampPath") kind.0 given.0 kind.2 given.2 in
       (text.0, rw (given.1) (text.1))
 
@@ -69,8 +70,8 @@ module _ (declared : Declared) (certificate : Certificate) (end : Shape) (n : Li
   parts-fit go_on None f = absurd f.0
   parts-fit go_on (Some parts) f = (parts, refl, f)
 
-  items-parts : (go_on : Shapes × Shape → List Walked) (result : Result Shape ℕ) → Fit (walk_items go_on result) → (first : Shapes) × (rest : Shape) × (named : Shape) × (result ≡ Ok named) × (array_parts named ≡ Some (first, rest)) × Fit (go_on (first, rest))
-  items-parts go_on (Err at) f = absurd f.0
+  items-parts : (go_on : Shapes × Shape → List Walked) (result : Result Shape DoubtfulPath) → Fit (walk_items go_on result) → (first : Shapes) × (rest : Shape) × (named : Shape) × (result ≡ Ok named) × (array_parts named ≡ Some (first, rest)) × Fit (go_on (first, rest))
+  items-parts go_on (Err doubtful) f = absurd f.0
   items-parts go_on (Ok named) f =
       let parts = parts-fit go_on (array_parts named) f in
       (parts.0.0, parts.0.1, named, refl, parts.1, parts.2)
@@ -146,9 +147,9 @@ module _ (declared : Declared) (certificate : Certificate) (end : Shape) (n : Li
           parts : Fit (walk_rule settings kind entry.input first.next (rule_shape first.test s)) × Fit (walk_rules settings kind entry.input rules s)
           parts = both-fit (walk_rule settings kind entry.input first.next (rule_shape first.test s)) (walk_rules settings kind entry.input rules s) f
 
-          own : (shape : Option Shape) → rule_shape first.test s ≡ shape → Fit (walk_rule settings kind entry.input first.next shape) → (value : Bool) × (truth first.test u ≡ Some value)
-          own None is f' = absurd f'.0
-          own (Some r) is f' =
+          own : (narrowed : Result Shape DoubtfulPath) → rule_shape first.test s ≡ narrowed → Fit (walk_rule settings kind entry.input first.next narrowed) → (value : Bool) × (truth first.test u ≡ Some value)
+          own (Err doubtful) is f' = absurd f'.0
+          own (Ok r) is f' =
               let known = rule-decided first.test s r u is m in
               (known.0, known.1)
 
@@ -176,15 +177,15 @@ module _ (declared : Declared) (certificate : Certificate) (end : Shape) (n : Li
                   absurd (cc)
               which (inr c) = inr (other, c, true_of_it)
 
-          by-truth : (r : Shape) (b : Bool) → truth rule.test u ≡ Some b → (IsTrue b → Has r u) → Fit (walk_rule settings kind entry.input rule.next (Some r)) → (IsTrue (is_some default) ⊎ SomeTrue rules u → ChosenFits rules default u) → ChosenFits (rule ∷ rules) default u
+          by-truth : (r : Shape) (b : Bool) → truth rule.test u ≡ Some b → (IsTrue b → Has r u) → Fit (walk_rule settings kind entry.input rule.next (Ok r)) → (IsTrue (is_some default) ⊎ SomeTrue rules u → ChosenFits rules default u) → ChosenFits (rule ∷ rules) default u
           by-truth r true is holds f' below = (rule.next, rw is refl, one-chosen (codes "Choices") rule.next r v u f' h (holds refl))
           by-truth r false is holds f' below =
               let next = below (later-true is some) in
               (next.0, rw is (next.1), next.2)
 
-          go : (shape : Option Shape) → rule_shape rule.test s ≡ shape → Fit (walk_rule settings kind entry.input rule.next shape) → (IsTrue (is_some default) ⊎ SomeTrue rules u → ChosenFits rules default u) → ChosenFits (rule ∷ rules) default u
-          go None is f' below = absurd f'.0
-          go (Some r) is f' below =
+          go : (narrowed : Result Shape DoubtfulPath) → rule_shape rule.test s ≡ narrowed → Fit (walk_rule settings kind entry.input rule.next narrowed) → (IsTrue (is_some default) ⊎ SomeTrue rules u → ChosenFits rules default u) → ChosenFits (rule ∷ rules) default u
+          go (Err doubtful) is f' below = absurd f'.0
+          go (Ok r) is f' below =
               let truth_known = rule-decided rule.test s r u is m in
               by-truth r truth_known.0 truth_known.1 truth_known.2 f' below
 
@@ -220,10 +221,10 @@ module _ (declared : Declared) (certificate : Certificate) (end : Shape) (n : Li
             let of_branches : count (branch_inputs branches u) ≡ how_many branches = inputs-count branches u in
             omega arith
     work-fits (Map items selector processor) settings s v u long item f g eff m h =
-        let parts = items-parts (walk_elements settings (Map items selector processor) entry selector processor s) (look items s) f in
+        let parts = items-parts (walk_elements settings (Map items selector processor) entry selector processor s) (found items s) f in
         let element = element_shape parts.0 parts.1 in
         let both = both-fit (walk_then (to_child (codes "ItemProcessor") processor) (item_flow selector s element)) (walk_items_result settings (Map items selector processor) entry.input entry.item (parts.0, parts.1)) parts.5 in
-        let list = items-there items s parts.2 parts.0 parts.1 u parts.3 parts.4 m in
+        let list = items-there items s parts.2 parts.0 parts.1 u (found-looked items s parts.2 parts.3) parts.4 m in
         let flow = then-fit (to_child (codes "ItemProcessor") processor) (item_flow selector s element) (item-told selector s element) both.0 in
         let given = inputs-give selector s element flow.0 u 0 list.0 flow.1 m (items-have parts.0 parts.1 list.0 list.2) in
         rw (eff, list.1, given.1) (each-fits flow.0 (certified_input certificate (start_of processor)) given.0 (λ w held. flow.2.0 w held) given.3, λ outputs same each. outputs-fit entry.item refl outputs parts.0 parts.1 list.0 given.0 list.2 given.2 same (subst (λ (o : Option StateShapes). EachHas (λ i. or_never (item_end o)) outputs) at each) both.1)

@@ -5,7 +5,7 @@ use Rattle.asl_model.specs.Template.{Template}
 use Rattle.asl_model.specs.Test.{Rule}
 use Rattle.asl_model.specs.Machine.{Catcher, Settings, Delay, Seconds, SecondsPath, Timestamp, TimestampPath, Scope, Kind, Pass, Task, Choice, Wait, Succeed, Fail, Parallel, Map, Scopes, NoScopes, AndScope, start_of}
 use Rattle.asl_model.specs.Shape.{Shape, Never, Shapes, ArrayShape, inhabited}
-use Rattle.asl_model.specs.ShapeFlow.{look, literal, is_integer_shape, is_string_shape, rule_shape, is_settled, leave, Flow, FlowFault}
+use Rattle.asl_model.specs.ShapeFlow.{DoubtfulPath, found, literal, is_integer_shape, is_string_shape, rule_shape, is_settled, leave, Flow, FlowFault}
 use Rattle.asl_model.specs.Certificate.{takes_of, gives_of}
 use Rattle.asl_model.specs.Finding.{Surroundings, Breach, FindingFault, NoDefault, OutputNotCertified, NextInput, ScopeOutput, BranchInput, PayloadNotTaken, breach_of, breach_unless, breach_unless_sub, breaches_then, effective_flow, next_breaches, end_breaches, output_breaches, result_breaches, kind_breaches, delay_breaches, child_breaches, branch_breaches, item_flow, element_shape, map_result, map_breaches, as_first_elements, array_parts, with_elements, with_items, chosen_breaches, rule_breaches, rules_breaches, default_breaches, error_placed_shape, caught_breaches, catcher_breaches, work_breaches, settled_breaches, flow_breaches}
 use Rattle.asl_model.specs.Edges.{Walked, Breaks, DestinationShapes, destination_shapes, breaks_unless, walk_then, to_next, to_end, onward, walk_result, walk_named, walk_delay, to_child, to_branches, walk_items_result, walk_elements, with_elements_walked, walk_items, walk_chosen, walk_rule, walk_rules, walk_default, walk_caught, walk_catchers, walk_work, walk_settled, walk, breaches_at, breaches_along}
@@ -36,15 +36,15 @@ unless_along standing true field fault = refl
 unless_along standing false field fault = refl
 
 -- what a path names is of the kind that is wanted
-named_along : (standing : DestinationShapes) (field : List ℕ) (test : Shape → Bool) (named : Result Shape ℕ) → breaches_along standing (walk_named field test named) ≡ kind_breaches field test named
+named_along : (standing : DestinationShapes) (field : List ℕ) (test : Shape → Bool) (named : Result Shape DoubtfulPath) → breaches_along standing (walk_named field test named) ≡ kind_breaches field test named
 named_along standing field test (Ok s) = unless_along standing (test s) field _
-named_along standing field test (Err at) = refl
+named_along standing field test (Err doubtful) = refl
 
 delay_along : (standing : DestinationShapes) (delay : Delay) (s : Shape) → breaches_along standing (walk_delay delay s) ≡ delay_breaches delay s
 delay_along standing (Seconds n) s = refl
-delay_along standing (SecondsPath path) s = named_along standing (codes "SecondsPath") is_integer_shape (look path s)
+delay_along standing (SecondsPath path) s = named_along standing (codes "SecondsPath") is_integer_shape (found path s)
 delay_along standing (Timestamp t) s = refl
-delay_along standing (TimestampPath path) s = named_along standing (codes "TimestampPath") is_string_shape (look path s)
+delay_along standing (TimestampPath path) s = named_along standing (codes "TimestampPath") is_string_shape (found path s)
 
 module _ (inputs : List ℕ → Option Shape) (output : Shape) (end : Option Shape) (takes : Shape) where
   -- what stands at the destinations
@@ -106,16 +106,16 @@ module _ (around : Surroundings) (settings : Settings) where
   with_elements_along go_on told same None = refl
   with_elements_along go_on told same (Some elements) = same elements
 
-  items_along : (go_on : Shapes × Shape → List Walked) (told : Shapes × Shape → List Breach) → ((elements : Shapes × Shape) → breaches_along here (go_on elements) ≡ told elements) → (named : Result Shape ℕ) → breaches_along here (walk_items go_on named) ≡ with_items told named
+  items_along : (go_on : Shapes × Shape → List Walked) (told : Shapes × Shape → List Breach) → ((elements : Shapes × Shape) → breaches_along here (go_on elements) ≡ told elements) → (named : Result Shape DoubtfulPath) → breaches_along here (walk_items go_on named) ≡ with_items told named
   items_along go_on told same (Ok s) = with_elements_along go_on told same (array_parts s)
-  items_along go_on told same (Err at) = refl
+  items_along go_on told same (Err doubtful) = refl
 
   chosen_along : (kind : Kind) (field next : List ℕ) (s : Shape) → breaches_along here (walk_chosen settings kind around.entry.input field next s) ≡ chosen_breaches around settings kind field next s
   chosen_along kind field next s = then_along here (to_next field next) (next_breaches around.inputs around.entry.output field next) (next_along around.inputs around.entry.output around.end (takes_of around.declared around.name) field next) (leave settings kind around.entry.input s)
 
-  rule_along : (kind : Kind) (next : List ℕ) (narrowed : Option Shape) → breaches_along here (walk_rule settings kind around.entry.input next narrowed) ≡ rule_breaches around settings kind next narrowed
-  rule_along kind next None = refl
-  rule_along kind next (Some s) = chosen_along kind (codes "Choices") next s
+  rule_along : (kind : Kind) (next : List ℕ) (narrowed : Result Shape DoubtfulPath) → breaches_along here (walk_rule settings kind around.entry.input next narrowed) ≡ rule_breaches around settings kind next narrowed
+  rule_along kind next (Ok s) = chosen_along kind (codes "Choices") next s
+  rule_along kind next (Err doubtful) = refl
 
   rules_along : (kind : Kind) (rules : List Rule) (s : Shape) → breaches_along here (walk_rules settings kind around.entry.input rules s) ≡ rules_breaches around settings kind rules s
   rules_along kind [] s = refl
@@ -147,7 +147,7 @@ module _ (around : Surroundings) (settings : Settings) where
   work_along (Parallel branches) s = branches_along around.inputs around.entry.output around.end (takes_of around.declared around.name) branches s
   work_along (Map items selector processor) s =
       items_along around settings (walk_elements settings (Map items selector processor) around.entry selector processor s) (element_breaches around settings (Map items selector processor) selector processor s)
-      (elements_along around settings (Map items selector processor) selector processor s) (look items s)
+      (elements_along around settings (Map items selector processor) selector processor s) (found items s)
 
   settled_along : (kind : Kind) → breaches_along there (walk_settled (gives_of around.declared around.name) settings kind around.entry) ≡ settled_breaches around settings kind
   settled_along (Pass None) = refl

@@ -1,6 +1,7 @@
 -- Worked widest certificates, and what is found on them: no premise of the laws on inference is empty.
 use Rattle.std.proofs.Common.{◌≡◌, refl, sym, ap, ◌∙◌, ℕ, zero, suc, List, [], ◌∷◌, Bool, true, false, if◌then◌else◌, bytes_eq, slice_get, IsTrue, Some, None, is_some, codes}
 use Rattle.std.proofs.lemmas.Slice.Eq.{bytes_eq-Decides}
+use Rattle.asl_model.specs.Tree.{Null}
 use Rattle.asl_model.specs.Machine.{Scope, ScopeOf, AndState, NoStates, State, StateOf, Kind, Map, kind_of}
 use Rattle.asl_model.specs.Shape.{Any}
 use Rattle.asl_model.specs.Certificate.{StateShapes, Certificate, under, certified}
@@ -59,8 +60,8 @@ second_widest = record { output = refl; entries = entry; no_other_entry = named 
     entry (suc (suc (suc zero))) n state e f = here (codes "T1") n _ state (some_inj e) refl (ap kind_of (some_inj f))
     entry (suc (suc (suc (suc i)))) n state e f = none_some e
 
--- a list of Any may have no second element
-second_may_be_missing : findings second_of_two two_tasks (widest second_of_two) ≡ record { state = codes "N"; field = codes "InputPath"; fault = PathMayBeMissing } ∷ []
+-- Any may have no second element, as null shows
+second_may_be_missing : findings second_of_two two_tasks (widest second_of_two) ≡ record { state = codes "N"; field = codes "InputPath"; fault = PathMayBeMissing; example = Some Null } ∷ []
 second_may_be_missing = refl
 
 -- ---- a Map over its input
@@ -69,5 +70,5 @@ abbrev each_item : Scope
 each_item = ScopeOf (codes "M") (AndState (codes "M") (StateOf ends (Map [] None passing)) NoStates)
 
 -- Any may be no list
-input_of_wrong_kind : findings each_item integers_in (widest each_item) ≡ record { state = codes "M"; field = codes "ItemsPath"; fault = WrongKind } ∷ []
+input_of_wrong_kind : findings each_item integers_in (widest each_item) ≡ record { state = codes "M"; field = codes "ItemsPath"; fault = WrongKind; example = None } ∷ []
 input_of_wrong_kind = refl

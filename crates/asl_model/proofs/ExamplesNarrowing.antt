@@ -1,11 +1,11 @@
 -- Worked examples of rules that narrow by kind, and of rules that stand for a `Default`.
-use Rattle.std.specs.Prelude.{◌≡◌, ℕ, pos, List, [], ◌∷◌, map, Bool, true, false, Option, Some, None, codes, refl}
-use Rattle.asl_model.specs.Tree.{Boolean, Integer}
+use Rattle.std.specs.Prelude.{◌≡◌, ℕ, pos, List, [], ◌∷◌, map, Bool, true, false, Some, None, Result, Ok, Err, codes, refl}
+use Rattle.asl_model.specs.Tree.{Null, Boolean, Integer, Object, fields_of}
 use Rattle.asl_model.specs.Path.{Segment, Name, Index}
 use Rattle.asl_model.specs.Test.{Test, And, Or, Not, Compare, BooleanEquals, Constant, AtPath, IsOfKind, NullKind, NumericKind, StringKind, BooleanKind, IsPresent, NoTests, AndTest, Rule}
 use Rattle.asl_model.specs.Machine.{Scope, ScopeOf, NoStates, AndState, StateOf, Choice, Wait, Succeed, TimestampPath}
 use Rattle.asl_model.specs.Shape.{Shape, Any, OfKinds, no_simple, WithoutArrays, ArraysOf, WithoutObjects, Never, NullShape, BooleanShape, IntegerShape, StringShape, ArrayShape, ObjectShape, NoShapes, AndShape, NoFieldShapes, AndFieldShape}
-use Rattle.asl_model.specs.ShapeFlow.{rule_shape, is_settled}
+use Rattle.asl_model.specs.ShapeFlow.{DoubtfulPath, rule_shape, is_settled}
 use Rattle.asl_model.specs.Certificate.{StateShapes}
 use Rattle.asl_model.specs.Finding.{Finding, PathMayBeMissing, NoDefault, NextInput, findings}
 use Rattle.asl_model.proofs.ExamplesSettings.{bare}
@@ -26,67 +26,70 @@ abbrev null_or_text : Shape
 null_or_text = OfKinds (record no_simple { null = true; text = true }) WithoutArrays WithoutObjects
 
 -- what a rule lets through, and what one that asks for the opposite does
-string_kept : rule_shape (IsOfKind k StringKind true) (with_k null_or_text) ≡ Some (with_k StringShape)
+string_kept : rule_shape (IsOfKind k StringKind true) (with_k null_or_text) ≡ Ok (with_k StringShape)
 string_kept = refl
 
-null_left_out : rule_shape (IsOfKind k NullKind false) (with_k null_or_text) ≡ Some (with_k StringShape)
+null_left_out : rule_shape (IsOfKind k NullKind false) (with_k null_or_text) ≡ Ok (with_k StringShape)
 null_left_out = refl
 
-null_kept : rule_shape (IsOfKind k NullKind true) (with_k null_or_text) ≡ Some (with_k NullShape)
+null_kept : rule_shape (IsOfKind k NullKind true) (with_k null_or_text) ≡ Ok (with_k NullShape)
 null_kept = refl
 
 -- Any becomes the kind; where it asks for another kind, it stays
-abbrev each_kind : Bool → Shape → List (Option Shape)
+abbrev each_kind : Bool → Shape → List (Result Shape DoubtfulPath)
 each_kind expected s = map (λ kind. rule_shape (IsOfKind [] kind expected) s) (NullKind ∷ NumericKind ∷ StringKind ∷ BooleanKind ∷ [])
 
-any_kinds : each_kind true Any ≡ Some NullShape ∷ Some IntegerShape ∷ Some StringShape ∷ Some BooleanShape ∷ []
+any_kinds : each_kind true Any ≡ Ok NullShape ∷ Ok IntegerShape ∷ Ok StringShape ∷ Ok BooleanShape ∷ []
 any_kinds = refl
 
-any_stays : each_kind false Any ≡ Some Any ∷ Some Any ∷ Some Any ∷ Some Any ∷ []
+any_stays : each_kind false Any ≡ Ok Any ∷ Ok Any ∷ Ok Any ∷ Ok Any ∷ []
 any_stays = refl
 
 -- the kind itself stays, and each other becomes Never
-text_kinds : each_kind true StringShape ≡ Some Never ∷ Some Never ∷ Some StringShape ∷ Some Never ∷ []
+text_kinds : each_kind true StringShape ≡ Ok Never ∷ Ok Never ∷ Ok StringShape ∷ Ok Never ∷ []
 text_kinds = refl
 
-text_stays : each_kind false StringShape ≡ Some StringShape ∷ Some StringShape ∷ Some Never ∷ Some StringShape ∷ []
+text_stays : each_kind false StringShape ≡ Ok StringShape ∷ Ok StringShape ∷ Ok Never ∷ Ok StringShape ∷ []
 text_stays = refl
 
-numbers_in_text : rule_shape (IsOfKind k NumericKind true) (with_k StringShape) ≡ Some Never
+numbers_in_text : rule_shape (IsOfKind k NumericKind true) (with_k StringShape) ≡ Ok Never
 numbers_in_text = refl
 
 -- several kinds become the kind, or lose it; a list is of none of the four
 abbrev null_or_list : Shape
 null_or_list = OfKinds (record no_simple { null = true }) (ArraysOf NoShapes IntegerShape) WithoutObjects
 
-several_kinds : each_kind true null_or_list ≡ Some NullShape ∷ Some Never ∷ Some Never ∷ Some Never ∷ []
+several_kinds : each_kind true null_or_list ≡ Ok NullShape ∷ Ok Never ∷ Ok Never ∷ Ok Never ∷ []
 several_kinds = refl
 
-several_lose : each_kind false null_or_list ≡ Some (ArrayShape NoShapes IntegerShape) ∷ Some null_or_list ∷ Some null_or_list ∷ Some null_or_list ∷ []
+several_lose : each_kind false null_or_list ≡ Ok (ArrayShape NoShapes IntegerShape) ∷ Ok null_or_list ∷ Ok null_or_list ∷ Ok null_or_list ∷ []
 several_lose = refl
 
 -- at a place, where the other places and fields stay
 abbrev pair_of : Shape → Shape
 pair_of s = with_k (ArrayShape (AndShape IntegerShape (AndShape s NoShapes)) Any)
 
-at_place : rule_shape (IsOfKind (Name (codes "k") ∷ Index 1 ∷ []) StringKind true) (pair_of null_or_text) ≡ Some (pair_of StringShape)
+at_place : rule_shape (IsOfKind (Name (codes "k") ∷ Index 1 ∷ []) StringKind true) (pair_of null_or_text) ≡ Ok (pair_of StringShape)
 at_place = refl
 
 -- a path that may name nothing, and a shape without a tree
-may_be_missing : rule_shape (IsOfKind k StringKind true) (ObjectShape (AndFieldShape (codes "k") false StringShape NoFieldShapes) false) ≡ None
+abbrev optional_k : Shape
+optional_k = ObjectShape (AndFieldShape (codes "k") false StringShape NoFieldShapes) false
+
+may_be_missing : rule_shape (IsOfKind k StringKind true) optional_k ≡ Err (record { path = k; segment = 0; shape = optional_k })
 may_be_missing = refl
 
-of_nothing : rule_shape (IsOfKind k StringKind true) Never ≡ Some Never
+of_nothing : rule_shape (IsOfKind k StringKind true) Never ≡ Ok Never
 of_nothing = refl
 
 -- `And` goes on with the narrowed shape, `Or` and `Not` don't narrow
-and_narrows : rule_shape (And (AndTest (IsOfKind [] StringKind true) (AndTest (IsOfKind [] NullKind false) NoTests))) Any ≡ Some StringShape
+and_narrows : rule_shape (And (AndTest (IsOfKind [] StringKind true) (AndTest (IsOfKind [] NullKind false) NoTests))) Any ≡ Ok StringShape
 and_narrows = refl
 
-or_keeps : rule_shape (Or (AndTest (IsOfKind k StringKind true) NoTests)) (with_k null_or_text) ≡ Some (with_k null_or_text)
+or_keeps : rule_shape (Or (AndTest (IsOfKind k StringKind true) NoTests)) (with_k null_or_text) ≡ Ok (with_k null_or_text)
 or_keeps = refl
 
-not_keeps : rule_shape (Not (IsOfKind k StringKind false)) (with_k null_or_text) ≡ Some (with_k null_or_text)
+not_keeps : rule_shape (Not (IsOfKind k StringKind false)) (with_k null_or_text) ≡ Ok (with_k null_or_text)
 not_keeps = refl
 
 -- Rules that stand for a `Default`
@@ -186,7 +189,8 @@ waits_for_text = refl
 waits_for_no_null : waiting_findings (IsOfKind k NullKind false) ≡ []
 waits_for_no_null = refl
 
-waits_for_anything : waiting_findings (IsPresent k true) ≡ record { state = codes "A"; field = codes "Choices"; fault = NextInput } ∷ []
+-- null stands at `k` there, which is no text
+waits_for_anything : waiting_findings (IsPresent k true) ≡ record { state = codes "A"; field = codes "Choices"; fault = NextInput; example = Some (Object (fields_of ((codes "k", Null) ∷ []))) } ∷ []
 waits_for_anything = refl
 
 -- a Choice by a truth value, without `Default`
@@ -199,9 +203,10 @@ choosing_findings s = found choosing s s (entry (codes "A") s ∷ entry (codes "
 chooses_by_truth : choosing_findings (with_k BooleanShape) ≡ []
 chooses_by_truth = refl
 
-needs_default : choosing_findings (with_k boolean_or_null) ≡ record { state = codes "A"; field = codes "Default"; fault = NoDefault } ∷ []
+needs_default : choosing_findings (with_k boolean_or_null) ≡ record { state = codes "A"; field = codes "Default"; fault = NoDefault; example = None } ∷ []
 needs_default = refl
 
--- where their path may name nothing, that is told of each of the two, and a `Default` is needed
-needs_presence : choosing_findings Any ≡ record { state = codes "A"; field = codes "Choices"; fault = PathMayBeMissing } ∷ record { state = codes "A"; field = codes "Choices"; fault = PathMayBeMissing } ∷ record { state = codes "A"; field = codes "Default"; fault = NoDefault } ∷ []
+-- where their path may name nothing, that is told of each of the two, with null as a tree in which it names nothing, and
+-- a `Default` is needed
+needs_presence : choosing_findings Any ≡ record { state = codes "A"; field = codes "Choices"; fault = PathMayBeMissing; example = Some Null } ∷ record { state = codes "A"; field = codes "Choices"; fault = PathMayBeMissing; example = Some Null } ∷ record { state = codes "A"; field = codes "Default"; fault = NoDefault; example = None } ∷ []
 needs_presence = refl

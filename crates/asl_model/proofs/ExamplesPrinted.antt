@@ -1,5 +1,5 @@
 -- Worked examples of what is printed.
-use Rattle.std.specs.Prelude.{◌≡◌, ℕ, List, [], ◌∷◌, map, codes, refl}
+use Rattle.std.specs.Prelude.{◌≡◌, ℕ, List, [], ◌∷◌, map, Some, None, codes, refl}
 use Rattle.std.specs.Fmt.{digits}
 use Rattle.serde_json.proofs.OnLiterals.{serde_json_on_literals}
 use Rattle.asl_model.specs.Finding as finding
@@ -8,18 +8,27 @@ use Rattle.asl_model.specs.DefinitionTable as definition
 use Rattle.asl_model.specs.ShapeSpelling.{BadType}
 use Rattle.asl_model.specs.Texts.{DefinitionText, DeclaredText, CertificateText, AnswersText, NotJson, BadDefinition, BadRecord, BadAnswer, NoMemory}
 use Rattle.asl_model.specs.Faults.{ResultPathMatchFailure}
-use Rattle.asl_model.specs.Tree.{Null}
+use Rattle.asl_model.specs.Tree.{Null, Text, Object, NoFields, AndField}
 use Rattle.asl_model.specs.Run.{Entry, Entered, Raised}
 use Rattle.asl_model.specs.TracePrinted.{trace_text, HasNoRaiseLine, is_first_line, is_later_line}
 use Rattle.asl_model.specs.Verdict.{Accepted, Rejected}
-use Rattle.asl_model.specs.Printed.{verdict_text, refusal_line, refusal_status, ClosingVerdict, ClosingRun, ClosingCertificate, ClosingNotSettled, ClosingFault, RefusedText, TooLong, ReadFailed, WriteFailed, OutOfMemory, RunOutput, RunFailed, NoAnswer, StepsSpent, InputShape, AnswerShape, closing_line, closing_status, definition_line, declared_line, certificate_line}
+use Rattle.asl_model.specs.Printed.{verdict_text, finding_line, refusal_line, refusal_status, ClosingVerdict, ClosingRun, ClosingCertificate, ClosingNotSettled, ClosingFault, RefusedText, TooLong, ReadFailed, WriteFailed, OutOfMemory, RunOutput, RunFailed, NoAnswer, StepsSpent, InputShape, AnswerShape, closing_line, closing_status, definition_line, declared_line, certificate_line}
 
 yes_line : verdict_text Accepted ≡ codes "yes\n"
 yes_line = refl
 
-no_lines : verdict_text (Rejected (record { state = codes "A"; field = codes "StartAt"; fault = finding.StartInput } ∷ record { state = codes "\"B\""; field = codes "states"; fault = finding.NotCertified } ∷ [])) ≡ codes "no \"A\" StartAt StartInput\nno \"\\\"B\\\"\" states NotCertified\n"
+no_lines : verdict_text (Rejected (record { state = codes "A"; field = codes "StartAt"; fault = finding.StartInput; example = None } ∷ record { state = codes "\"B\""; field = codes "states"; fault = finding.NotCertified; example = None } ∷ [])) ≡ codes "no \"A\" StartAt StartInput\nno \"\\\"B\\\"\" states NotCertified\n"
 unfolding serde_json_on_literals
 no_lines = refl
+
+-- a line ends with the example, where there is one
+line_with_example : finding_line (record { state = codes "A"; field = codes "Choices"; fault = finding.PathMayBeMissing; example = Some (Object NoFields) }) ≡ codes "no \"A\" Choices PathMayBeMissing {}\n"
+unfolding serde_json_on_literals
+line_with_example = refl
+
+line_with_text : finding_line (record { state = codes "A"; field = codes "Next"; fault = finding.NextInput; example = Some (Object (AndField (codes "k") (Text []) NoFields)) }) ≡ codes "no \"A\" Next NextInput {\"k\":\"\"}\n"
+unfolding serde_json_on_literals
+line_with_text = refl
 
 refused_as_json : refusal_line DefinitionText NotJson ≡ codes "refused definition NotJson\n"
 refused_as_json = refl

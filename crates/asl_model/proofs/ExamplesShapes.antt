@@ -5,11 +5,11 @@ use Rattle.asl_model.specs.Tree.{Tree, Null, Boolean, Integer, Text, Array, Obje
 use Rattle.asl_model.specs.Path.{Segment, Name, Index}
 use Rattle.asl_model.specs.Intrinsic.{InInput, InItem, ItemIndex, CallOf, StatesArray, StatesFormat, StatesArrayLength, Pieces, Argument, IntegerArgument, TextArgument, PathArgument, NoArguments, AndArgument}
 use Rattle.asl_model.specs.Template.{Template, Literal, FromPath, FromCall, ArrayTemplate, ObjectTemplate, NoTemplates, AndTemplate, NoFieldTemplates, AndFieldTemplate}
-use Rattle.asl_model.specs.Test.{Test, And, Or, Not, Compare, StringIs, NumericIs, Equals, LessThan, Constant, IsOfKind, NullKind, IsPresent, Tests, NoTests, AndTest}
+use Rattle.asl_model.specs.Test.{Test, And, Or, Not, Compare, StringIs, NumericIs, Equals, LessThan, Constant, AtPath, IsOfKind, NullKind, IsPresent, Tests, NoTests, AndTest}
 use Rattle.asl_model.specs.Machine.{Kind, Settings, SecondsPath, Scope, ScopeOf, NoStates, AndState, StateOf, Pass, Task, Choice, Wait, Succeed, Parallel, Map, NoScopes, AndScope}
 use Rattle.asl_model.specs.Shape.{Shape, Any, OfKinds, no_simple, WithoutArrays, ArraysOf, WithoutObjects, ObjectsOf, Never, NullShape, BooleanShape, IntegerShape, StringShape, ArrayShape, ObjectShape, NoShapes, AndShape, FieldShapes, NoFieldShapes, AndFieldShape, has}
 use Rattle.asl_model.specs.ShapeOrder.{sub, join}
-use Rattle.asl_model.specs.ShapeFlow.{look, put, literal, template_shape, rule_shape, leave, MayBeMissing, MayFail}
+use Rattle.asl_model.specs.ShapeFlow.{DoubtfulPath, look, put, literal, template_shape, rule_shape, leave, MayBeMissing, MayFail, MissingAt}
 use Rattle.asl_model.specs.Certificate.{TaskShapes, Declared, StateShapes, Certificate}
 use Rattle.asl_model.specs.Finding.{Finding, FindingFault, NotCertified, NotAState, TaskUndeclared, TaskUnknown, StartInput, PathMayBeMissing, WrongKind, ResultMayNotFit, IntrinsicMayFail, NoDefault, PayloadNotTaken, OutputNotCertified, NextInput, ScopeOutput, BranchInput, CatchInput, map_result, findings}
 use Rattle.asl_model.proofs.ExamplesSettings.{bare, bare_catcher}
@@ -204,40 +204,58 @@ k = Name (codes "k") ∷ []
 abbrev with_k : Shape
 with_k = opened (optional (codes "k") StringShape NoFieldShapes)
 
-present_in_closed : rule_shape (IsPresent k true) (closed NoFieldShapes) ≡ Some Never
+present_in_closed : rule_shape (IsPresent k true) (closed NoFieldShapes) ≡ Ok Never
 present_in_closed = refl
 
-present_in_open : rule_shape (IsPresent k true) (opened NoFieldShapes) ≡ Some (opened (needed (codes "k") Any NoFieldShapes))
+present_in_open : rule_shape (IsPresent k true) (opened NoFieldShapes) ≡ Ok (opened (needed (codes "k") Any NoFieldShapes))
 present_in_open = refl
 
-or_keeps : rule_shape (Or (AndTest (IsPresent k true) (AndTest (IsPresent (Name (codes "j") ∷ []) true) NoTests))) with_k ≡ Some with_k
+or_keeps : rule_shape (Or (AndTest (IsPresent k true) (AndTest (IsPresent (Name (codes "j") ∷ []) true) NoTests))) with_k ≡ Ok with_k
 or_keeps = refl
 
 -- a place that has a shape is narrowed, one that only further elements have stays, and a text has none
-present_at_place : rule_shape (IsPresent (Index 0 ∷ Name (codes "k") ∷ []) true) (one_then with_k Any) ≡ Some (one_then (opened (needed (codes "k") StringShape NoFieldShapes)) Any)
+present_at_place : rule_shape (IsPresent (Index 0 ∷ Name (codes "k") ∷ []) true) (one_then with_k Any) ≡ Ok (one_then (opened (needed (codes "k") StringShape NoFieldShapes)) Any)
 present_at_place = refl
 
-present_further : rule_shape (IsPresent (Index 1 ∷ []) true) (one_then IntegerShape Any) ≡ Some (one_then IntegerShape Any)
+present_further : rule_shape (IsPresent (Index 1 ∷ []) true) (one_then IntegerShape Any) ≡ Ok (one_then IntegerShape Any)
 present_further = refl
 
-present_in_text : rule_shape (IsPresent k true) StringShape ≡ Some Never
+present_in_text : rule_shape (IsPresent k true) StringShape ≡ Ok Never
 present_in_text = refl
 
-absent_keeps : rule_shape (IsPresent k false) with_k ≡ Some with_k
+absent_keeps : rule_shape (IsPresent k false) with_k ≡ Ok with_k
 absent_keeps = refl
 
 -- a field that can't have a value stays one, of a shape without a tree
-present_impossible : rule_shape (IsPresent (Name (codes "k") ∷ Name (codes "j") ∷ []) true) (opened (optional (codes "k") StringShape NoFieldShapes)) ≡ Some (opened (needed (codes "k") Never NoFieldShapes))
+present_impossible : rule_shape (IsPresent (Name (codes "k") ∷ Name (codes "j") ∷ []) true) (opened (optional (codes "k") StringShape NoFieldShapes)) ≡ Ok (opened (needed (codes "k") Never NoFieldShapes))
 present_impossible = refl
 
 abbrev k_is_x : Test
 k_is_x = Compare k (StringIs Equals) (Constant (Text (codes "x")))
 
-and_narrows : rule_shape (And (AndTest (IsPresent k true) (AndTest k_is_x NoTests))) with_k ≡ Some (opened (needed (codes "k") StringShape NoFieldShapes))
+-- a path that may name nothing in trees of the shape, from that segment on
+abbrev doubtful : List Segment → ℕ → Shape → DoubtfulPath
+doubtful path segment s = record { path = path; segment = segment; shape = s }
+
+and_narrows : rule_shape (And (AndTest (IsPresent k true) (AndTest k_is_x NoTests))) with_k ≡ Ok (opened (needed (codes "k") StringShape NoFieldShapes))
 and_narrows = refl
 
-and_in_order : rule_shape (And (AndTest k_is_x (AndTest (IsPresent k true) NoTests))) with_k ≡ None
+and_in_order : rule_shape (And (AndTest k_is_x (AndTest (IsPresent k true) NoTests))) with_k ≡ Err (doubtful k 0 with_k)
 and_in_order = refl
+
+-- of the paths of a rule the first that is doubtful is told: that of the second value where the other is found
+abbrev k_j : List Segment
+k_j = Name (codes "k") ∷ Name (codes "j") ∷ []
+
+second_value_doubtful : rule_shape (Compare k (StringIs Equals) (AtPath k_j)) (closed (needed (codes "k") StringShape NoFieldShapes)) ≡ Err (doubtful k_j 1 (closed (needed (codes "k") StringShape NoFieldShapes)))
+second_value_doubtful = refl
+
+first_doubtful : map (λ test. rule_shape test with_k) (Compare k (StringIs Equals) (AtPath k_j) ∷ Or (AndTest k_is_x (AndTest (IsOfKind k_j NullKind true) NoTests)) ∷ Not k_is_x ∷ []) ≡ Err (doubtful k 0 with_k) ∷ Err (doubtful k 0 with_k) ∷ Err (doubtful k 0 with_k) ∷ []
+first_doubtful = refl
+
+-- behind a test that narrows, a path is doubtful in the narrowed shape
+doubtful_in_narrowed : rule_shape (And (AndTest (IsPresent k true) (AndTest (IsOfKind k_j NullKind true) NoTests))) with_k ≡ Err (doubtful k_j 1 (opened (needed (codes "k") StringShape NoFieldShapes)))
+doubtful_in_narrowed = refl
 
 -- in a closed object a field that can't have a value isn't there, so the tests behind that of its presence give Never
 abbrev closed_without_k : Shape
@@ -246,22 +264,22 @@ closed_without_k = closed (optional (codes "k") Never NoFieldShapes)
 abbrev k_is_null : Test
 k_is_null = IsOfKind k NullKind true
 
-and_ends_at_never : rule_shape (And (AndTest (IsPresent k true) (AndTest k_is_null NoTests))) closed_without_k ≡ Some Never
+and_ends_at_never : rule_shape (And (AndTest (IsPresent k true) (AndTest k_is_null NoTests))) closed_without_k ≡ Ok Never
 and_ends_at_never = refl
 
 -- so where a path of such a test would name nothing in the object
-and_asks_no_further : rule_shape (And (AndTest (IsPresent k true) (AndTest (Not (And (AndTest (IsOfKind (Name (codes "j") ∷ []) NullKind true) NoTests))) NoTests))) closed_without_k ≡ Some Never
+and_asks_no_further : rule_shape (And (AndTest (IsPresent k true) (AndTest (Not (And (AndTest (IsOfKind (Name (codes "j") ∷ []) NullKind true) NoTests))) NoTests))) closed_without_k ≡ Ok Never
 and_asks_no_further = refl
 
 -- an And inside another starts from what is narrowed, and one inside Not from the shape as it is
-nested_and_ends_at_never : rule_shape (And (AndTest (And (AndTest (IsPresent k true) NoTests)) (AndTest k_is_null NoTests))) closed_without_k ≡ Some Never
+nested_and_ends_at_never : rule_shape (And (AndTest (And (AndTest (IsPresent k true) NoTests)) (AndTest k_is_null NoTests))) closed_without_k ≡ Ok Never
 nested_and_ends_at_never = refl
 
-never_true_under_not : rule_shape (Not (And (AndTest (IsPresent k true) (AndTest k_is_null NoTests)))) closed_without_k ≡ Some closed_without_k
+never_true_under_not : rule_shape (Not (And (AndTest (IsPresent k true) (AndTest k_is_null NoTests)))) closed_without_k ≡ Ok closed_without_k
 never_true_under_not = refl
 
 -- the last test gives what it narrows to, as it does alone
-and_gives_the_last : rule_shape (And (AndTest (IsPresent k true) NoTests)) closed_without_k ≡ Some (closed (needed (codes "k") Never NoFieldShapes))
+and_gives_the_last : rule_shape (And (AndTest (IsPresent k true) NoTests)) closed_without_k ≡ Ok (closed (needed (codes "k") Never NoFieldShapes))
 and_gives_the_last = refl
 
 -- Templates
@@ -325,7 +343,7 @@ item_and_number = ObjectTemplate (AndFieldTemplate (codes "i") (FromPath ItemInd
 template_with_item : template_shape item_and_number Any (Some (closed (needed (codes "a") StringShape NoFieldShapes))) ≡ Ok (closed (needed (codes "i") IntegerShape (needed (codes "v") StringShape NoFieldShapes)))
 template_with_item = refl
 
-template_missing_item : template_shape item_and_number Any (Some (closed NoFieldShapes)) ≡ Err ((codes "v", MayBeMissing) ∷ [])
+template_missing_item : template_shape item_and_number Any (Some (closed NoFieldShapes)) ≡ Err ((codes "v", MayBeMissing (doubtful (Name (codes "a") ∷ []) 0 (closed NoFieldShapes))) ∷ [])
 template_missing_item = refl
 
 template_without_item : template_shape item_and_number Any None ≡ Err ((codes "i", MayFail) ∷ (codes "v", MayFail) ∷ [])
@@ -341,8 +359,25 @@ ending = bare None
 abbrev going_to : List ℕ → Settings
 going_to n = bare (Some n)
 
+-- a finding that no tree shows, and one that this tree shows
 abbrev finding : List ℕ → List ℕ → FindingFault → Finding
-finding state field fault = record { state = state; field = field; fault = fault }
+finding state field fault = record { state = state; field = field; fault = fault; example = None }
+
+abbrev shown : List ℕ → List ℕ → FindingFault → Tree → Finding
+shown state field fault t = record { state = state; field = field; fault = fault; example = Some t }
+
+-- the tree of whole numbers, of texts, of arrays and of objects that is told first
+abbrev nought : Tree
+nought = Integer (pos 0)
+
+abbrev no_text : Tree
+no_text = Text []
+
+abbrev no_elements : Tree
+no_elements = Array (trees_of [])
+
+abbrev no_fields : Tree
+no_fields = Object (fields_of [])
 
 -- an entry of a state that has no children
 abbrev entry : List ℕ → Shape → Shape → List ℕ × StateShapes
@@ -384,10 +419,14 @@ leave_nulls = refl
 leave_in_order : leave (record (bare None) { result_selector = Some (x_from (FromPath (InInput []))); result_path = Some k; output_path = Some (Name (codes "k") ∷ Name (codes "x") ∷ []) }) (Task (codes "r")) (closed (needed (codes "k") Any NoFieldShapes)) StringShape ≡ Ok StringShape
 leave_in_order = refl
 
+-- a path that is doubtful stops the output: `OutputPath` in what `ResultPath` gives, and not in the input
+leave_doubtful : leave (record (bare None) { result_path = Some k; output_path = Some k_j }) (Task (codes "r")) (closed NoFieldShapes) StringShape ≡ Err (MissingAt (codes "OutputPath") (doubtful k_j 1 (closed (needed (codes "k") StringShape NoFieldShapes))) ∷ [])
+leave_doubtful = refl
+
 pass_yes : findings one_pass of_integers (certificate_of IntegerShape (entry (codes "A") IntegerShape IntegerShape ∷ [])) ≡ []
 pass_yes = refl
 
-pass_start : findings one_pass of_integers (certificate_of IntegerShape (entry (codes "A") Never IntegerShape ∷ [])) ≡ finding (codes "A") (codes "StartAt") StartInput ∷ []
+pass_start : findings one_pass of_integers (certificate_of IntegerShape (entry (codes "A") Never IntegerShape ∷ [])) ≡ shown (codes "A") (codes "StartAt") StartInput nought ∷ []
 pass_start = refl
 
 pass_no_entry : findings one_pass of_integers (certificate_of IntegerShape []) ≡ finding (codes "A") (codes "states") NotCertified ∷ []
@@ -396,17 +435,17 @@ pass_no_entry = refl
 pass_unknown_task : findings one_pass (declared_of IntegerShape (task (codes "Z") Any Any ∷ [])) (certificate_of IntegerShape (entry (codes "A") IntegerShape IntegerShape ∷ [])) ≡ finding (codes "Z") (codes "tasks") TaskUnknown ∷ []
 pass_unknown_task = refl
 
-pass_output : findings one_pass of_integers (certificate_of IntegerShape (entry (codes "A") IntegerShape StringShape ∷ [])) ≡ finding (codes "A") (codes "OutputPath") OutputNotCertified ∷ []
+pass_output : findings one_pass of_integers (certificate_of IntegerShape (entry (codes "A") IntegerShape StringShape ∷ [])) ≡ shown (codes "A") (codes "OutputPath") OutputNotCertified nought ∷ []
 pass_output = refl
 
-pass_end : findings one_pass of_integers (certificate_of StringShape (entry (codes "A") IntegerShape IntegerShape ∷ [])) ≡ finding (codes "A") (codes "End") ScopeOutput ∷ []
+pass_end : findings one_pass of_integers (certificate_of StringShape (entry (codes "A") IntegerShape IntegerShape ∷ [])) ≡ shown (codes "A") (codes "End") ScopeOutput nought ∷ []
 pass_end = refl
 
 pass_further_entry : findings one_pass of_integers (certificate_of IntegerShape (entry (codes "A") IntegerShape IntegerShape ∷ entry (codes "Z") IntegerShape IntegerShape ∷ [])) ≡ finding (codes "Z") (codes "states") NotAState ∷ []
 pass_further_entry = refl
 
 -- a Pass and a Succeed, whose certified input is Never
-pass_next : findings (ScopeOf (codes "A") (AndState (codes "A") (StateOf (going_to (codes "B")) (Pass None)) (AndState (codes "B") (StateOf ending Succeed) NoStates))) of_integers (certificate_of IntegerShape (entry (codes "A") IntegerShape IntegerShape ∷ entry (codes "B") Never IntegerShape ∷ [])) ≡ finding (codes "A") (codes "Next") NextInput ∷ []
+pass_next : findings (ScopeOf (codes "A") (AndState (codes "A") (StateOf (going_to (codes "B")) (Pass None)) (AndState (codes "B") (StateOf ending Succeed) NoStates))) of_integers (certificate_of IntegerShape (entry (codes "A") IntegerShape IntegerShape ∷ entry (codes "B") Never IntegerShape ∷ [])) ≡ shown (codes "A") (codes "Next") NextInput nought ∷ []
 pass_next = refl
 
 -- the length of the input
@@ -447,7 +486,7 @@ choosing_findings tests = findings (choosing tests) (declared_of with_k []) (cer
 choice_yes : choosing_findings (AndTest (IsPresent k true) (AndTest k_is_x NoTests)) ≡ []
 choice_yes = refl
 
-choice_in_order : choosing_findings (AndTest k_is_x (AndTest (IsPresent k true) NoTests)) ≡ finding (codes "A") (codes "Choices") PathMayBeMissing ∷ []
+choice_in_order : choosing_findings (AndTest k_is_x (AndTest (IsPresent k true) NoTests)) ≡ shown (codes "A") (codes "Choices") PathMayBeMissing no_fields ∷ []
 choice_in_order = refl
 
 -- a required integer `n`
@@ -476,10 +515,10 @@ two_tasks_findings i second = findings (two_tasks i) (declared_of IntegerShape (
 parallel_yes : two_tasks_findings 1 IntegerShape ≡ []
 parallel_yes = refl
 
-parallel_past_end : two_tasks_findings 2 IntegerShape ≡ finding (codes "N") (codes "InputPath") PathMayBeMissing ∷ []
+parallel_past_end : two_tasks_findings 2 IntegerShape ≡ shown (codes "N") (codes "InputPath") PathMayBeMissing (Array (trees_of (nought ∷ no_text ∷ []))) ∷ []
 parallel_past_end = refl
 
-parallel_branch : two_tasks_findings 1 Never ≡ finding (codes "P") (codes "Branches") BranchInput ∷ []
+parallel_branch : two_tasks_findings 1 Never ≡ shown (codes "P") (codes "Branches") BranchInput nought ∷ []
 parallel_branch = refl
 
 -- one Task, and one whose payload isn't what it takes
@@ -489,7 +528,7 @@ task_yes = refl
 abbrev keeps_input : Settings
 keeps_input = record (bare None) { result_path = None }
 
-task_payload : findings (ScopeOf (codes "A") (AndState (codes "A") (StateOf keeps_input (Task (codes "r"))) NoStates)) (declared_of IntegerShape (task (codes "A") StringShape Any ∷ [])) (certificate_of IntegerShape (entry (codes "A") IntegerShape IntegerShape ∷ [])) ≡ finding (codes "A") (codes "Parameters") PayloadNotTaken ∷ []
+task_payload : findings (ScopeOf (codes "A") (AndState (codes "A") (StateOf keeps_input (Task (codes "r"))) NoStates)) (declared_of IntegerShape (task (codes "A") StringShape Any ∷ [])) (certificate_of IntegerShape (entry (codes "A") IntegerShape IntegerShape ∷ [])) ≡ shown (codes "A") (codes "Parameters") PayloadNotTaken nought ∷ []
 task_payload = refl
 
 -- A finding stands whatever other findings stand: what a Task gives, a literal and the list of a Parallel's answers are
@@ -503,26 +542,26 @@ looking_up kind = ScopeOf (codes "A") (AndState (codes "A") (StateOf (record (ba
 abbrev looking_up_findings : Kind → List (List ℕ × TaskShapes) → List Finding
 looking_up_findings kind tasks = findings (looking_up kind) (declared_of (closed NoFieldShapes) tasks) (certificate_of StringShape (entry (codes "A") (closed NoFieldShapes) StringShape ∷ []))
 
--- what may be missing, and an output that isn't as certified, at the end of the scope
-abbrev missing_and_not_certified : List Finding
-missing_and_not_certified = finding (codes "A") (codes "Parameters") PathMayBeMissing ∷ finding (codes "A") (codes "OutputPath") OutputNotCertified ∷ finding (codes "A") (codes "End") ScopeOutput ∷ []
+-- what may be missing, and an output that isn't as certified, as the tree shows, at the end of the scope
+abbrev missing_and_not_certified : Tree → List Finding
+missing_and_not_certified t = shown (codes "A") (codes "Parameters") PathMayBeMissing no_fields ∷ shown (codes "A") (codes "OutputPath") OutputNotCertified t ∷ shown (codes "A") (codes "End") ScopeOutput t ∷ []
 
-task_missing_and_not_certified : looking_up_findings (Task (codes "r")) (task (codes "A") Any IntegerShape ∷ []) ≡ missing_and_not_certified
+task_missing_and_not_certified : looking_up_findings (Task (codes "r")) (task (codes "A") Any IntegerShape ∷ []) ≡ missing_and_not_certified nought
 task_missing_and_not_certified = refl
 
-literal_missing_and_not_certified : looking_up_findings (Pass (Some (Integer (pos 7)))) [] ≡ missing_and_not_certified
+literal_missing_and_not_certified : looking_up_findings (Pass (Some (Integer (pos 7)))) [] ≡ missing_and_not_certified nought
 literal_missing_and_not_certified = refl
 
-parallel_missing_and_not_certified : looking_up_findings (Parallel NoScopes) [] ≡ missing_and_not_certified
+parallel_missing_and_not_certified : looking_up_findings (Parallel NoScopes) [] ≡ missing_and_not_certified no_elements
 parallel_missing_and_not_certified = refl
 
 -- the output of a Pass without a literal is what may be missing
-input_missing : looking_up_findings (Pass None) [] ≡ finding (codes "A") (codes "Parameters") PathMayBeMissing ∷ []
+input_missing : looking_up_findings (Pass None) [] ≡ shown (codes "A") (codes "Parameters") PathMayBeMissing no_fields ∷ []
 input_missing = refl
 
 -- a Choice without rules and without `Default`, whose `InputPath` may name nothing: whether two rules stand for the
 -- `Default` hangs on the effective input
-no_default_missing : findings (ScopeOf (codes "A") (AndState (codes "A") (StateOf (record (bare None) { input_path = Some k }) (Choice [] None)) NoStates)) of_integers (certificate_of Any (entry (codes "A") IntegerShape Any ∷ [])) ≡ finding (codes "A") (codes "InputPath") PathMayBeMissing ∷ []
+no_default_missing : findings (ScopeOf (codes "A") (AndState (codes "A") (StateOf (record (bare None) { input_path = Some k }) (Choice [] None)) NoStates)) of_integers (certificate_of Any (entry (codes "A") IntegerShape Any ∷ [])) ≡ shown (codes "A") (codes "InputPath") PathMayBeMissing nought ∷ []
 no_default_missing = refl
 
 -- a Task that catches all errors for a Pass
@@ -533,10 +572,14 @@ catching = ScopeOf (codes "T") (AndState (codes "E") (StateOf ending (Pass None)
 abbrev catching_findings : Shape → List (List ℕ × TaskShapes) → List Finding
 catching_findings caught tasks = findings catching (declared_of Any tasks) (certificate_of Any (entry (codes "E") caught Any ∷ entry (codes "T") Any Any ∷ []))
 
-catch_input : catching_findings IntegerShape (task (codes "T") Any Any ∷ []) ≡ finding (codes "T") (codes "Catch") CatchInput ∷ []
+-- an error without a name and without a cause
+abbrev no_error : Tree
+no_error = Object (fields_of ((codes "Cause", no_text) ∷ (codes "Error", no_text) ∷ []))
+
+catch_input : catching_findings IntegerShape (task (codes "T") Any Any ∷ []) ≡ shown (codes "T") (codes "Catch") CatchInput no_error ∷ []
 catch_input = refl
 
-catch_undeclared : catching_findings IntegerShape [] ≡ finding (codes "T") (codes "Resource") TaskUndeclared ∷ finding (codes "T") (codes "Catch") CatchInput ∷ []
+catch_undeclared : catching_findings IntegerShape [] ≡ finding (codes "T") (codes "Resource") TaskUndeclared ∷ shown (codes "T") (codes "Catch") CatchInput no_error ∷ []
 catch_undeclared = refl
 
 -- the error's name and its cause are there, as texts, and nothing else
@@ -573,7 +616,7 @@ map_yes = refl
 map_no_item : mapping_findings None ≡ finding (codes "M") (codes "states") NotCertified ∷ []
 map_no_item = refl
 
-map_item : mapping_findings (Some Never) ≡ finding (codes "Q") (codes "End") ScopeOutput ∷ []
+map_item : mapping_findings (Some Never) ≡ shown (codes "Q") (codes "End") ScopeOutput no_text ∷ []
 map_item = refl
 
 -- a child's output at the place of each first element, and for each further one if there can be one
@@ -581,7 +624,7 @@ map_results : (map_result StringShape (AndShape IntegerShape (AndShape Any NoSha
 map_results = (refl, refl)
 
 -- a Map whose `ItemSelector` may find nothing; the list of its children's answers isn't as certified either
-selector_missing : findings (ScopeOf (codes "M") (AndState (codes "M") (StateOf ending (Map [] (Some (ObjectTemplate (AndFieldTemplate (codes "x") (FromPath (InInput k)) NoFieldTemplates))) (one_task (codes "Q")))) NoStates)) (declared_of integers (task (codes "Q") Any StringShape ∷ [])) (certificate_of Any ((codes "M", record { input = integers; output = StringShape; branches = []; item = Some StringShape }) ∷ entry (codes "Q") Any StringShape ∷ [])) ≡ finding (codes "M") (codes "ItemSelector") PathMayBeMissing ∷ finding (codes "M") (codes "OutputPath") OutputNotCertified ∷ []
+selector_missing : findings (ScopeOf (codes "M") (AndState (codes "M") (StateOf ending (Map [] (Some (ObjectTemplate (AndFieldTemplate (codes "x") (FromPath (InInput k)) NoFieldTemplates))) (one_task (codes "Q")))) NoStates)) (declared_of integers (task (codes "Q") Any StringShape ∷ [])) (certificate_of Any ((codes "M", record { input = integers; output = StringShape; branches = []; item = Some StringShape }) ∷ entry (codes "Q") Any StringShape ∷ [])) ≡ shown (codes "M") (codes "ItemSelector") PathMayBeMissing no_elements ∷ shown (codes "M") (codes "OutputPath") OutputNotCertified no_elements ∷ []
 selector_missing = refl
 
 -- Membership

@@ -5,9 +5,10 @@ use Rattle.asl_model.specs.Path.{Segment}
 use Rattle.asl_model.specs.Template.{Template, Literal, FromPath, FromCall, ArrayTemplate, ObjectTemplate, Templates, NoTemplates, AndTemplate, FieldTemplates, NoFieldTemplates, AndFieldTemplate}
 use Rattle.asl_model.specs.Machine.{Settings, Kind}
 use Rattle.asl_model.specs.Shape.{Shape, Never, inhabited}
-use Rattle.asl_model.specs.ShapeFlow.{look, put, Doubt, MayFail, reference_shape, call_shape, doubts, element_doubts, field_doubts, doubts_at, or_may_fail, filled_shape, unless_doubts, template_shape, FlowFault, MissingAt, MisfitAt, Flow, flow_then, doubt_fault, faults_of, template_flow, through_template, path_flow, through_path, placing_flow, through_placing, output_flow, result_flow, result_leaves, WithResult, leaving, leave_by, leave}
-use Rattle.asl_model.specs.FindingRules.{HasDoubt, path_is_doubtful, call_is_doubtful, doubt_in_array, doubt_in_object, HaveDoubt, doubt_in_element, doubt_in_later, HasFieldDoubt, doubt_in_field, doubt_in_later_field, IsSelected, GoesOut, goes_out_placed, goes_out_as_it_is}
+use Rattle.asl_model.specs.ShapeFlow.{DoubtfulPath, or_doubtful, look, found, put, Doubt, MayFail, reference_shape, call_shape, doubts, element_doubts, field_doubts, doubts_at, or_may_fail, filled_shape, unless_doubts, template_shape, FlowFault, MissingAt, MisfitAt, Flow, flow_then, doubt_fault, faults_of, template_flow, through_template, path_flow, through_path, placing_flow, through_placing, output_flow, result_flow, result_leaves, WithResult, leaving, leave_by, leave}
+use Rattle.asl_model.specs.FindingRules.{IsSelected, GoesOut, goes_out_placed, goes_out_as_it_is}
 use Rattle.asl_model.proofs.RunOptions.{same_err, ok_or_err}
+use Rattle.asl_model.proofs.FindingShown.{HasDoubt, path_is_doubtful, call_is_doubtful, doubt_in_array, doubt_in_object, HaveDoubt, doubt_in_element, doubt_in_later, HasFieldDoubt, doubt_in_field, doubt_in_later_field}
 use Rattle.asl_model.proofs.Listed.{none_in, first_in, first_or_later, map_in, in_map}
 
 -- ---- doubts of a template
@@ -106,18 +107,22 @@ pub stopped_at : (go_on : Shape → Flow) (o : Flow) (faults : List FlowFault) �
 stopped_at go_on (Ok s) faults h = inr (s, refl, h)
 stopped_at go_on (Err e) faults h = inl h
 
--- a path that is given stops a flow where it may name nothing
-pub path_stopped : (field : List ℕ) (path : Option (List Segment)) (s : Shape) (faults : List FlowFault) (f : FlowFault) → through_path field path s ≡ Err faults → Contains faults f → (p : List Segment) × (at : ℕ) × (path ≡ Some p) × (look p s ≡ Err at) × (MissingAt field ≡ f)
-path_stopped field None s faults f h c = ok_or_err h
-path_stopped field (Some p) s faults f h c = go (look p s) refl h
-  where
-    first : (MissingAt field ≡ f) ⊎ Contains [] f → MissingAt field ≡ f
-    first (inl e) = e
-    first (inr none) = none_in f none
+-- what a path is looked up to name is found
+pub looked_found : (path : List Segment) (s : Shape) {part : Shape} → look path s ≡ Ok part → found path s ≡ Ok part
+looked_found path s h = ap (or_doubtful path s) h
 
-    go : (r : Result Shape ℕ) → look p s ≡ r → path_flow field r ≡ Err faults → (q : List Segment) × (at : ℕ) × (Some p ≡ Some q) × (look q s ≡ Err at) × (MissingAt field ≡ f)
+-- a path that is given stops a flow where it is doubtful
+pub path_stopped : (field : List ℕ) (path : Option (List Segment)) (s : Shape) (faults : List FlowFault) (f : FlowFault) → through_path field path s ≡ Err faults → Contains faults f → (p : List Segment) × (doubtful : DoubtfulPath) × (path ≡ Some p) × (found p s ≡ Err doubtful) × (MissingAt field doubtful ≡ f)
+path_stopped field None s faults f h c = ok_or_err h
+path_stopped field (Some p) s faults f h c = go (found p s) refl h
+  where
+    first : (doubtful : DoubtfulPath) → (MissingAt field doubtful ≡ f) ⊎ Contains [] f → MissingAt field doubtful ≡ f
+    first doubtful (inl e) = e
+    first doubtful (inr none) = none_in f none
+
+    go : (r : Result Shape DoubtfulPath) → found p s ≡ r → path_flow field r ≡ Err faults → (q : List Segment) × (doubtful : DoubtfulPath) × (Some p ≡ Some q) × (found q s ≡ Err doubtful) × (MissingAt field doubtful ≡ f)
     go (Ok t) e k = ok_or_err k
-    go (Err at) e k = (p, at, refl, e, first (first_or_later (MissingAt field) f [] (subst (λ fs. Contains fs f) (sym (same_err k)) c)))
+    go (Err doubtful) e k = (p, doubtful, refl, e, first doubtful (first_or_later (MissingAt field doubtful) f [] (subst (λ fs. Contains fs f) (sym (same_err k)) c)))
 
 -- so for a placing that may not fit
 pub placing_stopped : (path : Option (List Segment)) (raw s : Shape) (faults : List FlowFault) (f : FlowFault) → through_placing (codes "ResultPath") path raw s ≡ Err faults → Contains faults f → (p : List Segment) × (at : ℕ) × (path ≡ Some p) × (put p s raw ≡ Err at) × (MisfitAt (codes "ResultPath") ≡ f)
@@ -179,8 +184,8 @@ way_out settings kind raw made s live (goes_out_as_it_is with) =
     ∙ ap (λ t. if t then output_flow settings made else Ok Never) live
 
 -- what `OutputPath` may stop
-pub output_stops : (settings : Settings) (kind : Kind) (raw made s : Shape) (path : List Segment) (at : ℕ) → IsTrue (inhabited raw) → GoesOut settings kind raw made s → settings.output_path ≡ Some path → look path s ≡ Err at → leave settings kind raw made ≡ Err (MissingAt (codes "OutputPath") ∷ [])
-output_stops settings kind raw made s path at live goes given e =
+pub output_stops : (settings : Settings) (kind : Kind) (raw made s : Shape) (path : List Segment) (doubtful : DoubtfulPath) → IsTrue (inhabited raw) → GoesOut settings kind raw made s → settings.output_path ≡ Some path → found path s ≡ Err doubtful → leave settings kind raw made ≡ Err (MissingAt (codes "OutputPath") doubtful ∷ [])
+output_stops settings kind raw made s path doubtful live goes given e =
     way_out settings kind raw made s live goes
     ∙ (ap (λ p. through_path (codes "OutputPath") p s) given
     ∙ ap (path_flow (codes "OutputPath")) e)

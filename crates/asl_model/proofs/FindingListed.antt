@@ -1,27 +1,37 @@
--- What is broken in a state is in the list of its breaches.
+-- What is told of a state is in the list of its breaches.
 use Rattle.std.proofs.Common.{◌≡◌, ℕ, List, [], ◌∷◌, ◌++◌, Contains, Bool, IsTrue, IsFalse, if◌then◌else◌, Option, Some, None, Ok, Err, codes, refl, sym, ap, subst, ◌∙◌, ◌⊎◌, inl, inr}
 use Rattle.std.proofs.lemmas.List.Elements.{Contains-append_left, Contains-append_right}
 use Rattle.asl_model.specs.Path.{Segment}
+use Rattle.asl_model.specs.Tree.{Tree}
 use Rattle.asl_model.specs.Template.{Template}
 use Rattle.asl_model.specs.Test.{Rule}
 use Rattle.asl_model.specs.Machine.{Catcher, Settings, SecondsPath, TimestampPath, Scope, Kind, Task, Choice, Map, Scopes, start_of}
 use Rattle.asl_model.specs.Shape.{Shape, Never, Arrays, WithoutArrays, ArraysOf, Shapes, has_arrays, inhabited}
-use Rattle.asl_model.specs.ShapeOrder.{sub}
-use Rattle.asl_model.specs.ShapeFlow.{look, put, arrays_alone, is_integer_shape, is_string_shape, Doubt, template_shape, rule_shape, is_settled, FlowFault, MissingAt, MisfitAt, Flow, flow_then, doubt_fault, template_flow, through_template, path_flow, through_path, leave}
+use Rattle.asl_model.specs.Examples.{outside}
+use Rattle.asl_model.specs.ShapeFlow.{DoubtfulPath, look, found, put, arrays_alone, is_integer_shape, is_string_shape, Doubt, template_shape, rule_shape, is_settled, FlowFault, MissingAt, MisfitAt, Flow, flow_then, doubt_fault, template_flow, through_template, path_flow, through_path, leave}
 use Rattle.asl_model.specs.Certificate.{takes_of}
-use Rattle.asl_model.specs.Finding.{FindingFault, PathMayBeMissing, WrongKind, ResultMayNotFit, NoDefault, PayloadNotTaken, OutputNotCertified, NextInput, ScopeOutput, BranchInput, CatchInput, Breach, breach_unless, breach_unless_sub, breach_of, breaches_then, Surroundings, effective_flow, kind_breaches, delay_breaches, child_breaches, branch_breaches, element_shape, item_flow, elements_of, array_parts, with_elements, with_items, rule_breaches, rules_breaches, default_breaches, error_placed_shape, caught_breaches, catcher_breaches, result_breaches, map_breaches, work_breaches, settled_breaches, flow_breaches}
-use Rattle.asl_model.specs.FindingRules.{IsBranch, branch_is_first, branch_is_later, IsEffective, Target, ToState, ToEnd, next_target, Makes, makes_literal, makes_what_it_takes, makes_answer, lets_through, lets_default, lets_wait, lets_succeed, makes_outputs, makes_items, Leaves, Wants, wants_number, wants_text, wants_list, LooksUp, looks_up_input, looks_up_wanted, looks_up_output, Evaluates, evaluates_parameters, evaluates_item_selector, evaluates_result_selector, HasDoubt, Puts, puts_result, puts_error_output, Starts, starts_branch, starts_item, BreaksFlow, path_may_be_missing, template_may_be_missing, rule_may_be_missing, may_be_of_wrong_kind, may_not_fit, may_fail, has_no_default, payload_is_not_taken, output_is_not_certified, is_no_next_input, is_no_scope_output, is_no_branch_input, is_no_catch_input}
+use Rattle.asl_model.specs.Finding.{FindingFault, WrongKind, ResultMayNotFit, NoDefault, PayloadNotTaken, OutputNotCertified, NextInput, ScopeOutput, BranchInput, CatchInput, Breach, plain_breach, breach_unless, breach_shown, breach_unless_sub, missing_breach, breach_of, breaches_then, Surroundings, effective_flow, kind_breaches, delay_breaches, child_breaches, branch_breaches, element_shape, item_flow, elements_of, array_parts, with_elements, with_items, rule_breaches, rules_breaches, default_breaches, error_placed_shape, caught_breaches, catcher_breaches, result_breaches, map_breaches, work_breaches, settled_breaches, flow_breaches}
+use Rattle.asl_model.specs.FindingRules.{IsBranch, branch_is_first, branch_is_later, IsEffective, Target, ToState, ToEnd, next_target, Makes, makes_literal, makes_what_it_takes, makes_answer, lets_through, lets_default, lets_wait, lets_succeed, makes_outputs, makes_items, Leaves, Wants, wants_number, wants_text, wants_list, LooksUp, looks_up_input, looks_up_wanted, looks_up_output, Evaluates, evaluates_parameters, evaluates_item_selector, evaluates_result_selector, Puts, puts_result, puts_error_output, Starts, starts_branch, starts_item}
+use Rattle.asl_model.proofs.FindingShown.{HasDoubt, TellsFlow, tells_path, tells_template, tells_rule, tells_kind, tells_misfit, tells_failure, tells_no_default, tells_payload, tells_output, tells_next, tells_end, tells_child, tells_catch}
 use Rattle.asl_model.proofs.Listed.{none_in, first_in, first_or_later, map_in}
-use Rattle.asl_model.proofs.FindingFlows.{template_stops, selector_stops, placing_stops, output_stops}
+use Rattle.asl_model.proofs.FindingFlows.{looked_found, template_stops, selector_stops, placing_stops, output_stops}
 use Rattle.asl_model.proofs.FindingTold.{going_breaches, going_next}
 
 -- a breach, where the test fails
-pub unless_in : (test : Bool) (field : List ℕ) (fault : FindingFault) → IsFalse test → Contains (breach_unless test field fault) (record { field = field; fault = fault })
-unless_in test field fault h = subst (λ t. Contains (breach_unless t field fault) (record { field = field; fault = fault })) (sym h) (first_in (record { field = field; fault = fault }) [])
+pub unless_in : (test : Bool) (field : List ℕ) (fault : FindingFault) → IsFalse test → Contains (breach_unless test field fault) (plain_breach field fault)
+unless_in test field fault h = subst (λ t. Contains (breach_unless t field fault) (plain_breach field fault)) (sym h) (first_in (plain_breach field fault) [])
+
+-- the breach that a tree shows
+abbrev pub shown_breach : List ℕ → FindingFault → Tree → Breach
+shown_breach field fault t = record { field = field; fault = fault; example = Some t }
+
+-- a breach, where a tree is outside
+pub shown_in : (field : List ℕ) (fault : FindingFault) (s expected : Shape) (t : Tree) → outside s expected ≡ Some t → Contains (breach_shown field fault (outside s expected)) (shown_breach field fault t)
+shown_in field fault s expected t h = subst (λ o. Contains (breach_shown field fault o) (shown_breach field fault t)) (sym h) (first_in (shown_breach field fault t) [])
 
 -- a breach, where the comparison fails
-pub sub_in : (field : List ℕ) (fault : FindingFault) (s : Shape) (o : Option Shape) (expected : Shape) → o ≡ Some expected → IsFalse (sub s expected) → Contains (breach_unless_sub field fault s o) (record { field = field; fault = fault })
-sub_in field fault s o expected e h = subst (λ p. Contains (breach_unless_sub field fault s p) (record { field = field; fault = fault })) (sym e) (unless_in (sub s expected) field fault h)
+pub sub_in : (field : List ℕ) (fault : FindingFault) (s : Shape) (o : Option Shape) (expected : Shape) (t : Tree) → o ≡ Some expected → outside s expected ≡ Some t → Contains (breach_unless_sub field fault s o) (shown_breach field fault t)
+sub_in field fault s o expected t e h = subst (λ p. Contains (breach_unless_sub field fault s p) (shown_breach field fault t)) (sym e) (shown_in field fault s expected t h)
 
 -- what stops a flow
 stopped_in : (go_on : Shape → List Breach) (flow : Flow) (faults : List FlowFault) (f : FlowFault) → flow ≡ Err faults → Contains faults f → Contains (breaches_then go_on flow) (breach_of f)
@@ -99,7 +109,7 @@ module _ (around : Surroundings) (settings : Settings) (live : IsTrue (inhabited
 
   -- what follows for the items of a Map
   elements_in : (items : List Segment) (selector : Option Template) (processor : Scope) (s named : Shape) (first : Shapes) (rest : Shape) (b : Breach) → IsEffective around settings s → look items s ≡ Ok named → array_parts named ≡ Some (first, rest) → Contains (of_elements items selector processor s (first, rest)) b → Contains (flow (Map items selector processor)) b
-  elements_in items selector processor s named first rest b eff e parts c = in_work (Map items selector processor) s b eff (subst (λ r. Contains (with_items (of_elements items selector processor s) r) b) (sym e) (subst (λ o. Contains (with_elements (of_elements items selector processor s) o) b) (sym parts) c))
+  elements_in items selector processor s named first rest b eff e parts c = in_work (Map items selector processor) s b eff (subst (λ r. Contains (with_items (of_elements items selector processor s) r) b) (sym (looked_found items s e)) (subst (λ o. Contains (with_elements (of_elements items selector processor s) o) b) (sym parts) c))
 
   -- ---- what a state makes
 
@@ -154,16 +164,16 @@ module _ (around : Surroundings) (settings : Settings) (live : IsTrue (inhabited
   -- ---- paths
 
   -- what a path wants of the effective input
-  missing_in : {kind : Kind} {field : List ℕ} {path : List Segment} {test : Shape → Bool} (s : Shape) (at : ℕ) → Wants kind field path test → IsEffective around settings s → look path s ≡ Err at → Contains (flow kind) (record { field = field; fault = PathMayBeMissing })
-  missing_in {kind} s at (wants_number {path = path}) eff e = in_work kind s (record { field = codes "SecondsPath"; fault = PathMayBeMissing }) eff (Contains-append_left (delay_breaches (SecondsPath path) s) (result_breaches around settings kind s) (record { field = codes "SecondsPath"; fault = PathMayBeMissing }) (subst (λ r. Contains (kind_breaches (codes "SecondsPath") is_integer_shape r) (record { field = codes "SecondsPath"; fault = PathMayBeMissing })) (sym e) (first_in (record { field = codes "SecondsPath"; fault = PathMayBeMissing }) [])))
-  missing_in {kind} s at (wants_text {path = path}) eff e = in_work kind s (record { field = codes "TimestampPath"; fault = PathMayBeMissing }) eff (Contains-append_left (delay_breaches (TimestampPath path) s) (result_breaches around settings kind s) (record { field = codes "TimestampPath"; fault = PathMayBeMissing }) (subst (λ r. Contains (kind_breaches (codes "TimestampPath") is_string_shape r) (record { field = codes "TimestampPath"; fault = PathMayBeMissing })) (sym e) (first_in (record { field = codes "TimestampPath"; fault = PathMayBeMissing }) [])))
-  missing_in {kind} s at (wants_list {items = items} {selector = selector} {processor = processor}) eff e = in_work kind s (record { field = codes "ItemsPath"; fault = PathMayBeMissing }) eff (subst (λ r. Contains (with_items (of_elements items selector processor s) r) (record { field = codes "ItemsPath"; fault = PathMayBeMissing })) (sym e) (first_in (record { field = codes "ItemsPath"; fault = PathMayBeMissing }) []))
+  missing_in : {kind : Kind} {field : List ℕ} {path : List Segment} {test : Shape → Bool} (s : Shape) (d : DoubtfulPath) → Wants kind field path test → IsEffective around settings s → found path s ≡ Err d → Contains (flow kind) (missing_breach field d)
+  missing_in {kind} s d (wants_number {path = path}) eff e = in_work kind s (missing_breach (codes "SecondsPath") d) eff (Contains-append_left (delay_breaches (SecondsPath path) s) (result_breaches around settings kind s) (missing_breach (codes "SecondsPath") d) (subst (λ r. Contains (kind_breaches (codes "SecondsPath") is_integer_shape r) (missing_breach (codes "SecondsPath") d)) (sym e) (first_in (missing_breach (codes "SecondsPath") d) [])))
+  missing_in {kind} s d (wants_text {path = path}) eff e = in_work kind s (missing_breach (codes "TimestampPath") d) eff (Contains-append_left (delay_breaches (TimestampPath path) s) (result_breaches around settings kind s) (missing_breach (codes "TimestampPath") d) (subst (λ r. Contains (kind_breaches (codes "TimestampPath") is_string_shape r) (missing_breach (codes "TimestampPath") d)) (sym e) (first_in (missing_breach (codes "TimestampPath") d) [])))
+  missing_in {kind} s d (wants_list {items = items} {selector = selector} {processor = processor}) eff e = in_work kind s (missing_breach (codes "ItemsPath") d) eff (subst (λ r. Contains (with_items (of_elements items selector processor s) r) (missing_breach (codes "ItemsPath") d)) (sym e) (first_in (missing_breach (codes "ItemsPath") d) []))
 
-  -- a path that may name nothing
-  looked_up_in : {kind : Kind} {field : List ℕ} {path : List Segment} {s : Shape} (at : ℕ) → LooksUp around settings kind field path s → look path s ≡ Err at → Contains (flow kind) (record { field = field; fault = PathMayBeMissing })
-  looked_up_in {kind} {path = path} at (looks_up_input given) e = in_stopped kind (MissingAt (codes "InputPath") ∷ []) (MissingAt (codes "InputPath")) (ap (flow_then (through_template (codes "Parameters") settings.parameters)) (ap (λ o. through_path (codes "InputPath") o around.entry.input) given ∙ ap (path_flow (codes "InputPath")) e)) (first_in (MissingAt (codes "InputPath")) [])
-  looked_up_in {s = s} at (looks_up_wanted eff wants) e = missing_in s at wants eff e
-  looked_up_in {kind} {path = path} at (looks_up_output {made = made} {s = s} makes goes given) e = made_stopped makes (MissingAt (codes "OutputPath") ∷ []) (MissingAt (codes "OutputPath")) (output_stops settings kind around.entry.input made s path at live goes given e) (first_in (MissingAt (codes "OutputPath")) [])
+  -- a doubtful path
+  looked_up_in : {kind : Kind} {field : List ℕ} {path : List Segment} {s : Shape} (d : DoubtfulPath) → LooksUp around settings kind field path s → found path s ≡ Err d → Contains (flow kind) (missing_breach field d)
+  looked_up_in {kind} {path = path} d (looks_up_input given) e = in_stopped kind (MissingAt (codes "InputPath") d ∷ []) (MissingAt (codes "InputPath") d) (ap (flow_then (through_template (codes "Parameters") settings.parameters)) (ap (λ o. through_path (codes "InputPath") o around.entry.input) given ∙ ap (path_flow (codes "InputPath")) e)) (first_in (MissingAt (codes "InputPath") d) [])
+  looked_up_in {s = s} d (looks_up_wanted eff wants) e = missing_in s d wants eff e
+  looked_up_in {kind} {path = path} d (looks_up_output {made = made} {s = s} makes goes given) e = made_stopped makes (MissingAt (codes "OutputPath") d ∷ []) (MissingAt (codes "OutputPath") d) (output_stops settings kind around.entry.input made s path d live goes given e) (first_in (MissingAt (codes "OutputPath") d) [])
 
   -- of no arrays no elements are known
   no_array : (arrays : Arrays) → IsFalse (has_arrays arrays) → elements_of arrays ≡ None
@@ -171,63 +181,63 @@ module _ (around : Surroundings) (settings : Settings) (live : IsTrue (inhabited
   no_array (ArraysOf first rest) h = absurd (cc)
 
   -- a path that may name something of another kind
-  wrong_in : {kind : Kind} {field : List ℕ} {path : List Segment} {test : Shape → Bool} (s t : Shape) → Wants kind field path test → IsEffective around settings s → look path s ≡ Ok t → IsFalse (test t) → Contains (flow kind) (record { field = field; fault = WrongKind })
-  wrong_in {kind} s t (wants_number {path = path}) eff e h = in_work kind s (record { field = codes "SecondsPath"; fault = WrongKind }) eff (Contains-append_left (delay_breaches (SecondsPath path) s) (result_breaches around settings kind s) (record { field = codes "SecondsPath"; fault = WrongKind }) (subst (λ r. Contains (kind_breaches (codes "SecondsPath") is_integer_shape r) (record { field = codes "SecondsPath"; fault = WrongKind })) (sym e) (unless_in (is_integer_shape t) (codes "SecondsPath") WrongKind h)))
-  wrong_in {kind} s t (wants_text {path = path}) eff e h = in_work kind s (record { field = codes "TimestampPath"; fault = WrongKind }) eff (Contains-append_left (delay_breaches (TimestampPath path) s) (result_breaches around settings kind s) (record { field = codes "TimestampPath"; fault = WrongKind }) (subst (λ r. Contains (kind_breaches (codes "TimestampPath") is_string_shape r) (record { field = codes "TimestampPath"; fault = WrongKind })) (sym e) (unless_in (is_string_shape t) (codes "TimestampPath") WrongKind h)))
-  wrong_in {kind} s t (wants_list {items = items} {selector = selector} {processor = processor}) eff e h = in_work kind s (record { field = codes "ItemsPath"; fault = WrongKind }) eff (subst (λ r. Contains (with_items (of_elements items selector processor s) r) (record { field = codes "ItemsPath"; fault = WrongKind })) (sym e) (subst (λ o. Contains (with_elements (of_elements items selector processor s) o) (record { field = codes "ItemsPath"; fault = WrongKind })) (sym (no_array (arrays_alone t) h)) (first_in (record { field = codes "ItemsPath"; fault = WrongKind }) [])))
+  wrong_in : {kind : Kind} {field : List ℕ} {path : List Segment} {test : Shape → Bool} (s t : Shape) → Wants kind field path test → IsEffective around settings s → look path s ≡ Ok t → IsFalse (test t) → Contains (flow kind) (plain_breach field WrongKind)
+  wrong_in {kind} s t (wants_number {path = path}) eff e h = in_work kind s (plain_breach (codes "SecondsPath") WrongKind) eff (Contains-append_left (delay_breaches (SecondsPath path) s) (result_breaches around settings kind s) (plain_breach (codes "SecondsPath") WrongKind) (subst (λ r. Contains (kind_breaches (codes "SecondsPath") is_integer_shape r) (plain_breach (codes "SecondsPath") WrongKind)) (sym (looked_found path s e)) (unless_in (is_integer_shape t) (codes "SecondsPath") WrongKind h)))
+  wrong_in {kind} s t (wants_text {path = path}) eff e h = in_work kind s (plain_breach (codes "TimestampPath") WrongKind) eff (Contains-append_left (delay_breaches (TimestampPath path) s) (result_breaches around settings kind s) (plain_breach (codes "TimestampPath") WrongKind) (subst (λ r. Contains (kind_breaches (codes "TimestampPath") is_string_shape r) (plain_breach (codes "TimestampPath") WrongKind)) (sym (looked_found path s e)) (unless_in (is_string_shape t) (codes "TimestampPath") WrongKind h)))
+  wrong_in {kind} s t (wants_list {items = items} {selector = selector} {processor = processor}) eff e h = in_work kind s (plain_breach (codes "ItemsPath") WrongKind) eff (subst (λ r. Contains (with_items (of_elements items selector processor s) r) (plain_breach (codes "ItemsPath") WrongKind)) (sym (looked_found items s e)) (subst (λ o. Contains (with_elements (of_elements items selector processor s) o) (plain_breach (codes "ItemsPath") WrongKind)) (sym (no_array (arrays_alone t) h)) (first_in (plain_breach (codes "ItemsPath") WrongKind) [])))
 
   -- ---- placings, children
 
   -- a placing that may not fit
-  put_in : {kind : Kind} {field : List ℕ} {path : List Segment} {s : Shape} (at : ℕ) → Puts around settings kind field path s → put path s around.entry.input ≡ Err at → Contains (flow kind) (record { field = field; fault = ResultMayNotFit })
+  put_in : {kind : Kind} {field : List ℕ} {path : List Segment} {s : Shape} (at : ℕ) → Puts around settings kind field path s → put path s around.entry.input ≡ Err at → Contains (flow kind) (plain_breach field ResultMayNotFit)
   put_in {kind} {path = path} at (puts_result {made = made} {selected = selected} makes selects given) e = made_stopped makes (MisfitAt (codes "ResultPath") ∷ []) (MisfitAt (codes "ResultPath")) (placing_stops settings kind around.entry.input made selected path at live selects given e) (first_in (MisfitAt (codes "ResultPath")) [])
-  put_in {kind} {path = path} at (puts_error_output {catcher = catcher} among given) e = in_catchers kind (record { field = codes "Catch"; fault = ResultMayNotFit }) (catcher_in settings.catchers catcher (record { field = codes "Catch"; fault = ResultMayNotFit }) among (subst (λ r. Contains (caught_breaches around.inputs catcher.next r) (record { field = codes "Catch"; fault = ResultMayNotFit })) (sym (ap (λ o. error_placed_shape o around.entry.input) given ∙ e)) (first_in (record { field = codes "Catch"; fault = ResultMayNotFit }) [])))
+  put_in {kind} {path = path} at (puts_error_output {catcher = catcher} among given) e = in_catchers kind (plain_breach (codes "Catch") ResultMayNotFit) (catcher_in settings.catchers catcher (plain_breach (codes "Catch") ResultMayNotFit) among (subst (λ r. Contains (caught_breaches around.inputs catcher.next r) (plain_breach (codes "Catch") ResultMayNotFit)) (sym (ap (λ o. error_placed_shape o around.entry.input) given ∙ e)) (first_in (plain_breach (codes "Catch") ResultMayNotFit) [])))
 
   -- a child's input
-  started_in : {kind : Kind} {field : List ℕ} {child : Scope} {s : Shape} (expected : Shape) → Starts around settings kind field child s → around.inputs (start_of child) ≡ Some expected → IsFalse (sub s expected) → Contains (flow kind) (record { field = field; fault = BranchInput })
-  started_in {kind} {child = child} expected (starts_branch {s = s} eff branch) e h = in_work kind s (record { field = codes "Branches"; fault = BranchInput }) eff (branch_in s (record { field = codes "Branches"; fault = BranchInput }) branch (sub_in (codes "Branches") BranchInput s (around.inputs (start_of child)) expected e h))
-  started_in {kind} expected (starts_item {items = items} {selector = selector} {processor = processor} {s = s} {named = named} {input = input} {first = first} {rest = rest} eff found parts flows) e h =
-      elements_in items selector processor s named first rest (record { field = codes "ItemProcessor"; fault = BranchInput }) eff found parts
-      (Contains-append_left (breaches_then (child_breaches around.inputs (codes "ItemProcessor") processor) (item_flow selector s (element_shape first rest))) (map_breaches around settings kind around.entry.item (first, rest)) (record { field = codes "ItemProcessor"; fault = BranchInput })
-      (gone_in (child_breaches around.inputs (codes "ItemProcessor") processor) (item_flow selector s (element_shape first rest)) input (record { field = codes "ItemProcessor"; fault = BranchInput }) flows (sub_in (codes "ItemProcessor") BranchInput input (around.inputs (start_of processor)) expected e h)))
+  started_in : {kind : Kind} {field : List ℕ} {child : Scope} {s : Shape} (expected : Shape) (t : Tree) → Starts around settings kind field child s → around.inputs (start_of child) ≡ Some expected → outside s expected ≡ Some t → Contains (flow kind) (shown_breach field BranchInput t)
+  started_in {kind} {child = child} expected t (starts_branch {s = s} eff branch) e h = in_work kind s (shown_breach (codes "Branches") BranchInput t) eff (branch_in s (shown_breach (codes "Branches") BranchInput t) branch (sub_in (codes "Branches") BranchInput s (around.inputs (start_of child)) expected t e h))
+  started_in {kind} expected t (starts_item {items = items} {selector = selector} {processor = processor} {s = s} {named = named} {input = input} {first = first} {rest = rest} eff found parts flows) e h =
+      elements_in items selector processor s named first rest (shown_breach (codes "ItemProcessor") BranchInput t) eff found parts
+      (Contains-append_left (breaches_then (child_breaches around.inputs (codes "ItemProcessor") processor) (item_flow selector s (element_shape first rest))) (map_breaches around settings kind around.entry.item (first, rest)) (shown_breach (codes "ItemProcessor") BranchInput t)
+      (gone_in (child_breaches around.inputs (codes "ItemProcessor") processor) (item_flow selector s (element_shape first rest)) input (shown_breach (codes "ItemProcessor") BranchInput t) flows (sub_in (codes "ItemProcessor") BranchInput input (around.inputs (start_of processor)) expected t e h)))
 
   -- ---- all of them
 
   -- a breach of a Choice, a Task by its type
-  rule_missing : (kind : Kind) (rules : List Rule) (default : Option (List ℕ)) (rule : Rule) (s : Shape) → kind ≡ Choice rules default → IsEffective around settings s → Contains rules rule → rule_shape rule.test s ≡ None → Contains (flow kind) (record { field = codes "Choices"; fault = PathMayBeMissing })
-  rule_missing kind rules default rule s is eff among e =
-      subst (λ k. Contains (flow k) (record { field = codes "Choices"; fault = PathMayBeMissing })) (sym is)
-      (in_work (Choice rules default) s (record { field = codes "Choices"; fault = PathMayBeMissing }) eff
-      (Contains-append_left (rules_breaches around settings (Choice rules default) rules s) (default_breaches around settings (Choice rules default) rules default s) (record { field = codes "Choices"; fault = PathMayBeMissing })
-      (rule_in (Choice rules default) rules s rule (record { field = codes "Choices"; fault = PathMayBeMissing }) among (subst (λ o. Contains (rule_breaches around settings (Choice rules default) rule.next o) (record { field = codes "Choices"; fault = PathMayBeMissing })) (sym e) (first_in (record { field = codes "Choices"; fault = PathMayBeMissing }) [])))))
+  rule_missing : (kind : Kind) (rules : List Rule) (default : Option (List ℕ)) (rule : Rule) (s : Shape) (d : DoubtfulPath) → kind ≡ Choice rules default → IsEffective around settings s → Contains rules rule → rule_shape rule.test s ≡ Err d → Contains (flow kind) (missing_breach (codes "Choices") d)
+  rule_missing kind rules default rule s d is eff among e =
+      subst (λ k. Contains (flow k) (missing_breach (codes "Choices") d)) (sym is)
+      (in_work (Choice rules default) s (missing_breach (codes "Choices") d) eff
+      (Contains-append_left (rules_breaches around settings (Choice rules default) rules s) (default_breaches around settings (Choice rules default) rules default s) (missing_breach (codes "Choices") d)
+      (rule_in (Choice rules default) rules s rule (missing_breach (codes "Choices") d) among (subst (λ o. Contains (rule_breaches around settings (Choice rules default) rule.next o) (missing_breach (codes "Choices") d)) (sym e) (first_in (missing_breach (codes "Choices") d) [])))))
 
-  -- each broken rule
-  pub broken_listed : (kind : Kind) {field : List ℕ} {fault : FindingFault} → BreaksFlow around settings kind field fault → Contains (flow_breaches around settings kind) (record { field = field; fault = fault })
-  broken_listed kind (path_may_be_missing {at = at} looks e) = looked_up_in at looks e
-  broken_listed kind (template_may_be_missing evaluates some doubt) = evaluated_in evaluates some doubt
-  broken_listed kind (rule_may_be_missing {rules = rules} {default = default} {rule = rule} {s = s} is eff among e) = rule_missing kind rules default rule s is eff among e
-  broken_listed kind (may_be_of_wrong_kind {s = s} {t = t} eff wants e h) = wrong_in s t wants eff e h
-  broken_listed kind (may_not_fit {at = at} puts e) = put_in at puts e
-  broken_listed kind (may_fail evaluates some doubt) = evaluated_in evaluates some doubt
-  broken_listed kind (has_no_default {rules = rules} {s = s} is eff h) =
-      subst (λ k. Contains (flow k) (record { field = codes "Default"; fault = NoDefault })) (sym is)
-      (in_work (Choice rules None) s (record { field = codes "Default"; fault = NoDefault }) eff
-      (Contains-append_right (rules_breaches around settings (Choice rules None) rules s) (default_breaches around settings (Choice rules None) rules None s) (record { field = codes "Default"; fault = NoDefault })
+  -- each rule that is told
+  pub told_listed : (kind : Kind) {field : List ℕ} {fault : FindingFault} {example : Option Tree} → TellsFlow around settings kind field fault example → Contains (flow_breaches around settings kind) (record { field = field; fault = fault; example = example })
+  told_listed kind (tells_path {doubtful = d} looks e) = looked_up_in d looks e
+  told_listed kind (tells_template evaluates some doubt) = evaluated_in evaluates some doubt
+  told_listed kind (tells_rule {rules = rules} {default = default} {rule = rule} {s = s} {doubtful = d} is eff among e) = rule_missing kind rules default rule s d is eff among e
+  told_listed kind (tells_kind {s = s} {t = t} eff wants e h) = wrong_in s t wants eff e h
+  told_listed kind (tells_misfit {at = at} puts e) = put_in at puts e
+  told_listed kind (tells_failure evaluates some doubt) = evaluated_in evaluates some doubt
+  told_listed kind (tells_no_default {rules = rules} {s = s} is eff h) =
+      subst (λ k. Contains (flow k) (plain_breach (codes "Default") NoDefault)) (sym is)
+      (in_work (Choice rules None) s (plain_breach (codes "Default") NoDefault) eff
+      (Contains-append_right (rules_breaches around settings (Choice rules None) rules s) (default_breaches around settings (Choice rules None) rules None s) (plain_breach (codes "Default") NoDefault)
       (unless_in (is_settled rules s) (codes "Default") NoDefault h)))
-  broken_listed kind (payload_is_not_taken {resource = resource} {s = s} is eff h) = subst (λ k. Contains (flow k) (record { field = codes "Parameters"; fault = PayloadNotTaken })) (sym is) (in_work (Task resource) s (record { field = codes "Parameters"; fault = PayloadNotTaken }) eff (unless_in (sub s (takes_of around.declared around.name)) (codes "Parameters") PayloadNotTaken h))
-  broken_listed kind (output_is_not_certified {output = output} {target = target} leaves h) = left_in leaves (record { field = codes "OutputPath"; fault = OutputNotCertified }) (own target)
+  told_listed kind (tells_payload {resource = resource} {s = s} {t = t} is eff h) = subst (λ k. Contains (flow k) (shown_breach (codes "Parameters") PayloadNotTaken t)) (sym is) (in_work (Task resource) s (shown_breach (codes "Parameters") PayloadNotTaken t) eff (shown_in (codes "Parameters") PayloadNotTaken s (takes_of around.declared around.name) t h))
+  told_listed kind (tells_output {output = output} {target = target} {t = t} leaves h) = left_in leaves (shown_breach (codes "OutputPath") OutputNotCertified t) (own target)
     where
-      own : (to : Target) → Contains (going_breaches around.inputs around.entry.output around.end to output) (record { field = codes "OutputPath"; fault = OutputNotCertified })
-      own (ToState field next) = Contains-append_left (breach_unless_sub (codes "OutputPath") OutputNotCertified output (Some around.entry.output)) (breach_unless_sub field NextInput output (around.inputs next)) (record { field = codes "OutputPath"; fault = OutputNotCertified }) (unless_in (sub output around.entry.output) (codes "OutputPath") OutputNotCertified h)
-      own (ToEnd field) = Contains-append_left (breach_unless_sub (codes "OutputPath") OutputNotCertified output (Some around.entry.output)) (breach_unless_sub field ScopeOutput output around.end) (record { field = codes "OutputPath"; fault = OutputNotCertified }) (unless_in (sub output around.entry.output) (codes "OutputPath") OutputNotCertified h)
-  broken_listed kind (is_no_next_input {output = output} {expected = expected} {field = field} {next = next} leaves compared h) =
-      left_in leaves (record { field = field; fault = NextInput })
-      (Contains-append_right (breach_unless_sub (codes "OutputPath") OutputNotCertified output (Some around.entry.output)) (breach_unless_sub field NextInput output (around.inputs next)) (record { field = field; fault = NextInput }) (sub_in field NextInput output (around.inputs next) expected compared h))
-  broken_listed kind (is_no_scope_output {output = output} {expected = expected} {field = field} leaves e h) =
-      left_in leaves (record { field = field; fault = ScopeOutput })
-      (Contains-append_right (breach_unless_sub (codes "OutputPath") OutputNotCertified output (Some around.entry.output)) (breach_unless_sub field ScopeOutput output around.end) (record { field = field; fault = ScopeOutput }) (sub_in field ScopeOutput output around.end expected e h))
-  broken_listed kind (is_no_branch_input {expected = expected} starts compared h) = started_in expected starts compared h
-  broken_listed kind (is_no_catch_input {catcher = catcher} {s = s} {expected = expected} among e compared h) =
-      in_catchers kind (record { field = codes "Catch"; fault = CatchInput })
-      (catcher_in settings.catchers catcher (record { field = codes "Catch"; fault = CatchInput }) among
-      (subst (λ r. Contains (caught_breaches around.inputs catcher.next r) (record { field = codes "Catch"; fault = CatchInput })) (sym e) (sub_in (codes "Catch") CatchInput s (around.inputs catcher.next) expected compared h)))
+      own : (to : Target) → Contains (going_breaches around.inputs around.entry.output around.end to output) (shown_breach (codes "OutputPath") OutputNotCertified t)
+      own (ToState field next) = Contains-append_left (breach_unless_sub (codes "OutputPath") OutputNotCertified output (Some around.entry.output)) (breach_unless_sub field NextInput output (around.inputs next)) (shown_breach (codes "OutputPath") OutputNotCertified t) (shown_in (codes "OutputPath") OutputNotCertified output around.entry.output t h)
+      own (ToEnd field) = Contains-append_left (breach_unless_sub (codes "OutputPath") OutputNotCertified output (Some around.entry.output)) (breach_unless_sub field ScopeOutput output around.end) (shown_breach (codes "OutputPath") OutputNotCertified t) (shown_in (codes "OutputPath") OutputNotCertified output around.entry.output t h)
+  told_listed kind (tells_next {output = output} {expected = expected} {field = field} {next = next} {t = t} leaves compared h) =
+      left_in leaves (shown_breach field NextInput t)
+      (Contains-append_right (breach_unless_sub (codes "OutputPath") OutputNotCertified output (Some around.entry.output)) (breach_unless_sub field NextInput output (around.inputs next)) (shown_breach field NextInput t) (sub_in field NextInput output (around.inputs next) expected t compared h))
+  told_listed kind (tells_end {output = output} {expected = expected} {field = field} {t = t} leaves e h) =
+      left_in leaves (shown_breach field ScopeOutput t)
+      (Contains-append_right (breach_unless_sub (codes "OutputPath") OutputNotCertified output (Some around.entry.output)) (breach_unless_sub field ScopeOutput output around.end) (shown_breach field ScopeOutput t) (sub_in field ScopeOutput output around.end expected t e h))
+  told_listed kind (tells_child {expected = expected} {t = t} starts compared h) = started_in expected t starts compared h
+  told_listed kind (tells_catch {catcher = catcher} {s = s} {expected = expected} {t = t} among e compared h) =
+      in_catchers kind (shown_breach (codes "Catch") CatchInput t)
+      (catcher_in settings.catchers catcher (shown_breach (codes "Catch") CatchInput t) among
+      (subst (λ r. Contains (caught_breaches around.inputs catcher.next r) (shown_breach (codes "Catch") CatchInput t)) (sym e) (sub_in (codes "Catch") CatchInput s (around.inputs catcher.next) expected t compared h)))

@@ -12,27 +12,34 @@ use Rattle.asl_model.specs.Machine.{Catcher, Settings, Delay, Seconds, SecondsPa
 use Rattle.asl_model.specs.Flow.{effective_input, at_output_path, output_of, chosen, delay_in, branch_inputs, item_input, item_inputs, map_items, work_of, first_move}
 use Rattle.asl_model.specs.Run.{error_output, error_placed}
 use Rattle.asl_model.specs.Shape.{Shape, Never, ArrayShape, Arrays, WithoutArrays, ArraysOf, Shapes, NoShapes, AndShape, Has, has, elements_have, each_element, no_simple, inhabited}
-use Rattle.asl_model.specs.ShapeOrder.{sub, join, joined_with_each}
-use Rattle.asl_model.specs.ShapeFlow.{look, put, literal, arrays_alone, is_integer_shape, is_string_shape, template_shape, rule_shape, is_settled, Flow, template_flow, output_flow, result_leaves}
+use Rattle.asl_model.specs.ShapeOrder.{join, joined_with_each}
+use Rattle.asl_model.specs.Examples.{outside}
+use Rattle.asl_model.specs.ShapeFlow.{DoubtfulPath, look, found, put, literal, arrays_alone, is_integer_shape, is_string_shape, template_shape, rule_shape, is_settled, Flow, template_flow, output_flow, result_leaves}
 use Rattle.asl_model.specs.Certificate.{Declared, StateShapes, Certificate, certified, certified_input, certified_output, input_among, output_among, branches_in, is_map, branch_shape, branch_end, item_end, or_never, takes_of, gives_of, EachHas, OutputFits, WorkFits, CaughtFits, CatchersFit, HasEntry, IsClosedAt}
-use Rattle.asl_model.specs.Finding.{FindingFault, Breach, Surroundings, surrounded_by, where_certified, NoDefault, BranchInput, NextInput, ScopeOutput, OutputNotCertified, PayloadNotTaken, CatchInput, breach_unless_sub, breaches_then, input_of_entry, input_to_compare, effective_flow, next_breaches, end_breaches, output_breaches, kind_breaches, delay_breaches, child_breaches, branch_breaches, as_first_elements, element_shape, item_flow, at_each_place, map_result, elements_of, array_parts, with_elements, with_items, chosen_breaches, rule_breaches, rules_breaches, default_breaches, error_output_shape, error_placed_shape, caught_breaches, catcher_breaches, result_breaches, map_breaches, work_breaches, settled_breaches, flow_breaches, state_breaches, scope_findings}
+use Rattle.asl_model.specs.Finding.{FindingFault, Breach, Surroundings, surrounded_by, where_certified, NoDefault, BranchInput, NextInput, ScopeOutput, OutputNotCertified, PayloadNotTaken, CatchInput, breach_shown, breach_unless_sub, breaches_then, input_of_entry, input_to_compare, effective_flow, next_breaches, end_breaches, output_breaches, kind_breaches, delay_breaches, child_breaches, branch_breaches, as_first_elements, element_shape, item_flow, at_each_place, map_result, elements_of, array_parts, with_elements, with_items, chosen_breaches, rule_breaches, rules_breaches, default_breaches, error_output_shape, error_placed_shape, caught_breaches, catcher_breaches, result_breaches, map_breaches, work_breaches, settled_breaches, flow_breaches, state_breaches, scope_findings}
 use Rattle.asl_model.proofs.FindingScopes.{append-none, none-unless, flow-none, has-entry, state-certified}
 use Rattle.asl_model.proofs.Listed.{none_in, first_or_later}
 use Rattle.asl_model.proofs.SettledRules.{AllDecided, SomeTrue, settled-true}
 use Rattle.asl_model.proofs.ShapeInhabited.{has-inhabited}
 use Rattle.asl_model.proofs.ShapeInside.{sub-inside}
 use Rattle.asl_model.proofs.ShapeJoin.{join_above, join_each-above, all_inside-more, elements_above}
-use Rattle.asl_model.proofs.ShapeLook.{alone-array}
+use Rattle.asl_model.proofs.ShapeLook.{alone-array, found-looked}
 use Rattle.asl_model.proofs.ShapeNarrow.{only-has}
+use Rattle.asl_model.proofs.ShapeOutside.{outside-exactly}
 use Rattle.asl_model.proofs.ShapePut.{put-gives}
-use Rattle.asl_model.proofs.ShapeTemplate.{look-gives, literal-has_itself, template-gives}
+use Rattle.asl_model.proofs.ShapeTemplate.{look-gives, found-gives, literal-has_itself, template-gives}
 use Rattle.asl_model.proofs.ShapeRule.{rule-decided}
 use Rattle.asl_model.proofs.ShapeLeave.{Gives, IsTold, leaves-told, output-told, effective-told, template-told, template-parts, leaves-gives, output-gives, effective-gives}
 
 -- Comparisons
 
-sub-none : (field : List ℕ) (fault : FindingFault) (s t : Shape) → breach_unless_sub field fault s (Some t) ≡ [] → (v : Tree) → Has s v → Has t v
-sub-none field fault s t e v m = sub-inside s t (none-unless (sub s t) field fault e) v m
+none-shown : (o : Option Tree) (field : List ℕ) (fault : FindingFault) → breach_shown field fault o ≡ [] → o ≡ None
+none-shown None field fault e = refl
+none-shown (Some t) field fault e = absurd (cc)
+
+-- where the comparison isn't broken, what flows has the shape that is certified
+pub sub-none : (field : List ℕ) (fault : FindingFault) (s t : Shape) → breach_unless_sub field fault s (Some t) ≡ [] → (v : Tree) → Has s v → Has t v
+sub-none field fault s t e v m = sub-inside s t ((outside-exactly s t).0 (none-shown (outside s t) field fault e)) v m
 
 then-none : (go_on : Shape → List Breach) (flow : Flow) → IsTold flow → breaches_then go_on flow ≡ [] → (s : Shape) × (flow ≡ Ok s) × (go_on s ≡ [])
 then-none go_on (Ok s) told e = (s, refl, e)
@@ -53,21 +60,21 @@ pub text-there : (field : List ℕ) (s : Shape) (w : Tree) → IsTrue (is_string
 text-there field s (Text t) h m = (Text t, refl)
 text-there field s w h m = absurd (false≢true (only-has (record no_simple { text = true }) s w h m))
 
-kind-none : (field : List ℕ) (test : Shape → Bool) (result : Result Shape ℕ) → kind_breaches field test result ≡ [] → (t : Shape) × (result ≡ Ok t) × IsTrue (test t)
+kind-none : (field : List ℕ) (test : Shape → Bool) (result : Result Shape DoubtfulPath) → kind_breaches field test result ≡ [] → (t : Shape) × (result ≡ Ok t) × IsTrue (test t)
 kind-none field test (Ok t) e = (t, refl, none-unless (test t) field Rattle.asl_model.specs.Finding.WrongKind e)
-kind-none field test (Err at) e = absurd (cc)
+kind-none field test (Err doubtful) e = absurd (cc)
 
 delay-fits : (delay : Delay) (s : Shape) (u : Tree) → delay_breaches delay s ≡ [] → Has s u → (t : Tree) × (delay_in delay u ≡ Ok t)
 delay-fits (Seconds k) s u e m = (u, refl)
 delay-fits (SecondsPath path) s u e m =
-    let kind = kind-none (codes "SecondsPath") is_integer_shape (look path s) e in
-    let given = look-gives path s kind.0 u kind.1 m in
+    let kind = kind-none (codes "SecondsPath") is_integer_shape (found path s) e in
+    let given = found-gives path s kind.0 u kind.1 m in
     let number = number-there (codes "SecondsPath") kind.0 given.0 kind.2 given.2 in
     (number.0, rw (given.1) (number.1))
 delay-fits (Timestamp t) s u e m = (u, refl)
 delay-fits (TimestampPath path) s u e m =
-    let kind = kind-none (codes "TimestampPath") is_string_shape (look path s) e in
-    let given = look-gives path s kind.0 u kind.1 m in
+    let kind = kind-none (codes "TimestampPath") is_string_shape (found path s) e in
+    let given = found-gives path s kind.0 u kind.1 m in
     let text = text-there (codes "TimestampPath") kind.0 given.0 kind.2 given.2 in
     (text.0, rw (given.1) (text.1))
 
@@ -97,8 +104,8 @@ parts-none : (go_on : Shapes × Shape → List Breach) (o : Option (Shapes × Sh
 parts-none go_on None e = absurd (cc)
 parts-none go_on (Some parts) e = (parts, refl, e)
 
-items-parts : (go_on : Shapes × Shape → List Breach) (result : Result Shape ℕ) → with_items go_on result ≡ [] → (first : Shapes) × (rest : Shape) × (named : Shape) × (result ≡ Ok named) × (array_parts named ≡ Some (first, rest)) × (go_on (first, rest) ≡ [])
-items-parts go_on (Err at) e = absurd (cc)
+items-parts : (go_on : Shapes × Shape → List Breach) (result : Result Shape DoubtfulPath) → with_items go_on result ≡ [] → (first : Shapes) × (rest : Shape) × (named : Shape) × (result ≡ Ok named) × (array_parts named ≡ Some (first, rest)) × (go_on (first, rest) ≡ [])
+items-parts go_on (Err doubtful) e = absurd (cc)
 items-parts go_on (Ok named) e = let parts = parts-none go_on (array_parts named) e in (parts.0.0, parts.0.1, named, refl, parts.1, parts.2)
 
 -- arrays of which elements are known
@@ -235,9 +242,9 @@ module _ (declared : Declared) (certificate : Certificate) (inputs : List ℕ �
           parts : (rule_breaches around settings (Choice all fallback) first.next (rule_shape first.test s) ≡ []) × (rules_breaches around settings (Choice all fallback) rules s ≡ [])
           parts = append-none (rule_breaches around settings (Choice all fallback) first.next (rule_shape first.test s)) (rules_breaches around settings (Choice all fallback) rules s) e
 
-          own : (shape : Option Shape) → rule_shape first.test s ≡ shape → rule_breaches around settings (Choice all fallback) first.next shape ≡ [] → (value : Bool) × (truth first.test u ≡ Some value)
-          own None is e' = absurd (cc)
-          own (Some r) is e' =
+          own : (shape : Result Shape DoubtfulPath) → rule_shape first.test s ≡ shape → rule_breaches around settings (Choice all fallback) first.next shape ≡ [] → (value : Bool) × (truth first.test u ≡ Some value)
+          own (Err doubtful) is e' = absurd (cc)
+          own (Ok r) is e' =
               let known = rule-decided first.test s r u is m in
               (known.0, known.1)
 
@@ -269,15 +276,15 @@ module _ (declared : Declared) (certificate : Certificate) (inputs : List ℕ �
                   absurd (cc)
               which (inr c) = inr (other, c, true_of_it)
 
-          by-truth : (r : Shape) (b : Bool) → truth rule.test u ≡ Some b → (IsTrue b → Has r u) → rule_breaches around settings (Choice all fallback) rule.next (Some r) ≡ [] → (IsTrue (is_some default) ⊎ SomeTrue rules u → Later rules) → Later (rule ∷ rules)
+          by-truth : (r : Shape) (b : Bool) → truth rule.test u ≡ Some b → (IsTrue b → Has r u) → rule_breaches around settings (Choice all fallback) rule.next (Ok r) ≡ [] → (IsTrue (is_some default) ⊎ SomeTrue rules u → Later rules) → Later (rule ∷ rules)
           by-truth r true is holds e' below = (rule.next, rw is refl, one-chosen (codes "Choices") rule.next r v u e' h (holds refl))
           by-truth r false is holds e' below =
               let next = below (later-true is some) in
               (next.0, rw is (next.1), next.2)
 
-          go : (shape : Option Shape) → rule_shape rule.test s ≡ shape → rule_breaches around settings (Choice all fallback) rule.next shape ≡ [] → (IsTrue (is_some default) ⊎ SomeTrue rules u → Later rules) → Later (rule ∷ rules)
-          go None is e' below = absurd (cc)
-          go (Some r) is e' below =
+          go : (shape : Result Shape DoubtfulPath) → rule_shape rule.test s ≡ shape → rule_breaches around settings (Choice all fallback) rule.next shape ≡ [] → (IsTrue (is_some default) ⊎ SomeTrue rules u → Later rules) → Later (rule ∷ rules)
+          go (Err doubtful) is e' below = absurd (cc)
+          go (Ok r) is e' below =
               let truth_known = rule-decided rule.test s r u is m in
               by-truth r truth_known.0 truth_known.1 truth_known.2 e' below
 
@@ -313,9 +320,9 @@ module _ (declared : Declared) (certificate : Certificate) (inputs : List ℕ �
             let of_branches : count (branch_inputs branches u) ≡ how_many branches = inputs-count branches u in
             omega arith
     work-fits (Map items selector processor) settings s v u long item e f eff m h =
-        let parts = items-parts (λ elements. breaches_then (child_breaches inputs (codes "ItemProcessor") processor) (item_flow selector s (element_shape elements.0 elements.1)) ++ map_breaches around settings (Map items selector processor) entry.item elements) (look items s) e in
+        let parts = items-parts (λ elements. breaches_then (child_breaches inputs (codes "ItemProcessor") processor) (item_flow selector s (element_shape elements.0 elements.1)) ++ map_breaches around settings (Map items selector processor) entry.item elements) (found items s) e in
         let both = append-none (breaches_then (child_breaches inputs (codes "ItemProcessor") processor) (item_flow selector s (element_shape parts.0 parts.1))) (map_breaches around settings (Map items selector processor) entry.item (parts.0, parts.1)) parts.5 in
-        let list = items-there items s parts.2 parts.0 parts.1 u parts.3 parts.4 m in
+        let list = items-there items s parts.2 parts.0 parts.1 u (found-looked items s parts.2 parts.3) parts.4 m in
         let flow = then-none (child_breaches inputs (codes "ItemProcessor") processor) (item_flow selector s (element_shape parts.0 parts.1)) (item-told selector s (element_shape parts.0 parts.1)) both.0 in
         let given = inputs-give selector s (element_shape parts.0 parts.1) flow.0 u 0 list.0 flow.1 m (items-have parts.0 parts.1 list.0 list.2) in
         rw (eff, list.1, given.1) (each-fits flow.0 (certified_input certificate (start_of processor)) given.0 (λ w held. fit (start_of processor) (codes "ItemProcessor") BranchInput flow.0 flow.2 w held) given.3, λ outputs same each. outputs-fit entry.item refl outputs parts.0 parts.1 list.0 given.0 list.2 given.2 same (subst (λ (o : Option StateShapes). EachHas (λ i. or_never (item_end o)) outputs) at each) both.1)

@@ -5,6 +5,7 @@ pub mod CallReading
 pub mod CallWriting
 pub mod ClosedScopes
 pub mod DefinitionFields
+pub mod DoubtsShown
 pub mod EdgesBreached
 pub mod ExamplesAnswers
 pub mod ExamplesCalls
@@ -27,12 +28,15 @@ pub mod ExamplesTemplateSpellings
 pub mod ExamplesTemplates
 pub mod ExamplesTexts
 pub mod ExamplesWritten
+pub mod FindingBroken
 pub mod FindingClosed
+pub mod FindingExamples
 pub mod FindingFlows
 pub mod FindingListed
 pub mod FindingNames
 pub mod FindingRules
 pub mod FindingScopes
+pub mod FindingShown
 pub mod FindingStates
 pub mod FindingTold
 pub mod FreshName
@@ -46,6 +50,9 @@ pub mod NumberedRows
 pub mod NumberedScopes
 pub mod NumberedStates
 pub mod Numbering
+pub mod OrderedFlows
+pub mod OrderedStates
+pub mod OrderedTemplates
 pub mod OutlinedRules
 pub mod Outlines
 pub mod PathPrinting
@@ -60,6 +67,7 @@ pub mod ReadingRules
 pub mod ReadingSteps
 pub mod ReadingTemplates
 pub mod RecordsBack
+pub mod RuleDoubts
 pub mod RuleGrammar
 pub mod RuleOperators
 pub mod RunApart

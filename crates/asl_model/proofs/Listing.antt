@@ -147,7 +147,7 @@ there_later s a b g h = subst (λ l. IsThere l s) (sym g.whole) (there_more s a 
 pub places_later : (first : Shapes) (a b : List Shape) → Goes a b → PlacesAreThere a first → PlacesAreThere b first
 places_later first a b g h = subst (λ l. PlacesAreThere l first) (sym g.whole) (places_more first a g.more h)
 
-arrays_later : (arrays : Arrays) (a b : List Shape) → Goes a b → ArraysAreThere a arrays → ArraysAreThere b arrays
+pub arrays_later : (arrays : Arrays) (a b : List Shape) → Goes a b → ArraysAreThere a arrays → ArraysAreThere b arrays
 arrays_later arrays a b g h = subst (λ l. ArraysAreThere l arrays) (sym g.whole) (arrays_more arrays a g.more h)
 
 mutual
@@ -161,7 +161,7 @@ mutual
       let l = goes_last_if_listed two (OfKinds simple arrays objects) o.0.behind (arrays_later arrays one two o.0 a.1, o.1) p in
       (goes_then listed two _ (goes_then listed one two a.0 o.0) l.0, l.1)
 
-  walked_arrays : (listed : List Shape) (arrays : Arrays) → AreBehind [] listed → AreProperArrays arrays → Goes listed (list_after_arrays listed arrays) × ArraysAreThere (list_after_arrays listed arrays) arrays
+  pub walked_arrays : (listed : List Shape) (arrays : Arrays) → AreBehind [] listed → AreProperArrays arrays → Goes listed (list_after_arrays listed arrays) × ArraysAreThere (list_after_arrays listed arrays) arrays
   walked_arrays listed WithoutArrays h p = (goes_none listed h, tt)
   walked_arrays listed (ArraysOf first rest) h p =
       let one = list_after_places listed first in
@@ -170,7 +170,7 @@ mutual
       let r = walked one rest f.0.behind p.1 in
       (goes_then listed one two f.0 r.0, (places_later first one two r.0 f.1, r.1))
 
-  walked_objects : (listed : List Shape) (objects : Objects) → AreBehind [] listed → AreProperObjects objects → Goes listed (list_after_objects listed objects) × ObjectsAreThere (list_after_objects listed objects) objects
+  pub walked_objects : (listed : List Shape) (objects : Objects) → AreBehind [] listed → AreProperObjects objects → Goes listed (list_after_objects listed objects) × ObjectsAreThere (list_after_objects listed objects) objects
   walked_objects listed WithoutObjects h p = (goes_none listed h, tt)
   walked_objects listed (ObjectsOf fields extra) h p = walked_fields listed fields h p
 

@@ -5,7 +5,7 @@ use Rattle.asl_model.specs.Path.{Segment}
 use Rattle.asl_model.specs.Template.{Template}
 use Rattle.asl_model.specs.Machine.{Settings, Scope, State, StateOf, Kind, Pass, Task, Choice, Wait, Succeed, Fail, Parallel, Map, Scopes, NoScopes, AndScope, kind_of, settings_of, how_many, is_task}
 use Rattle.asl_model.specs.Shape.{Shape, Shapes, inhabited}
-use Rattle.asl_model.specs.ShapeFlow.{look}
+use Rattle.asl_model.specs.ShapeFlow.{found}
 use Rattle.asl_model.specs.Certificate.{TaskShapes, Declared, StateShapes}
 use Rattle.asl_model.specs.Finding.{Surroundings, surrounded_by, where_certified, Breach, NotCertified, TaskUndeclared, breach_unless, has_form, is_certified, entry_breaches, element_shape, item_flow, with_items, child_breaches, branch_breaches, map_breaches, work_breaches, settled_breaches, catcher_breaches, effective_flow, breaches_then, flow_breaches}
 use Rattle.asl_model.specs.Numbering.{outline, kind_outline, scope_outline, scopes_outline}
@@ -67,7 +67,7 @@ module _ (around : Surroundings) (settings : Settings) where
   work-outlined (Fail error cause) s = refl
   work-outlined (Parallel branches) s = branches-outlined around.inputs branches s
   work-outlined (Map items selector processor) s =
-      ap (λ go_on. with_items go_on (look items s)) (fun_ext (λ (elements : Shapes × Shape). ap (λ rest. breaches_then (child_breaches around.inputs (codes "ItemProcessor") processor) (item_flow selector s (element_shape elements.0 elements.1)) ++ rest) (map-outlined items selector processor around.entry.item elements)))
+      ap (λ go_on. with_items go_on (found items s)) (fun_ext (λ (elements : Shapes × Shape). ap (λ rest. breaches_then (child_breaches around.inputs (codes "ItemProcessor") processor) (item_flow selector s (element_shape elements.0 elements.1)) ++ rest) (map-outlined items selector processor around.entry.item elements)))
 
   settled-outlined : (kind : Kind) → settled_breaches around settings (kind_outline kind) ≡ settled_breaches around settings kind
   settled-outlined (Pass None) = refl

@@ -8,11 +8,11 @@ use Rattle.asl_model.specs.Faults.{Fault}
 use Rattle.asl_model.specs.Machine.{Settings, Kind}
 use Rattle.asl_model.specs.Flow.{at_path, by_template, effective_input, result_placed, at_output_path, output_of}
 use Rattle.asl_model.specs.Shape.{Shape, Never, Has, inhabited}
-use Rattle.asl_model.specs.ShapeFlow.{look, put, Doubt, template_shape, Flow, flow_then, template_flow, through_template, path_flow, empty_object, through_path, placing_flow, through_placing, output_flow, result_flow, result_leaves, Leaving, WithResult, WithInput, leaving, leave_by, leave, unless_doubts, doubts, filled_shape}
+use Rattle.asl_model.specs.ShapeFlow.{DoubtfulPath, found, put, Doubt, template_shape, Flow, flow_then, template_flow, through_template, path_flow, empty_object, through_path, placing_flow, through_placing, output_flow, result_flow, result_leaves, Leaving, WithResult, WithInput, leaving, leave_by, leave, unless_doubts, doubts, filled_shape}
 use Rattle.asl_model.specs.Finding.{effective_flow}
 use Rattle.asl_model.proofs.ShapeInhabited.{has-inhabited}
 use Rattle.asl_model.proofs.ShapePut.{put-gives}
-use Rattle.asl_model.proofs.ShapeTemplate.{look-gives, template-gives}
+use Rattle.asl_model.proofs.ShapeTemplate.{found-gives, template-gives}
 
 -- there is a tree of the shape, and no fault
 abbrev pub Gives : Shape → Result Tree Fault → Type 0
@@ -29,9 +29,9 @@ then-told go_on (Ok s) each h = each s
 then-told go_on (Err []) each h = absurd h
 then-told go_on (Err (fault ∷ further)) each h = tt
 
-path-told : (field : List ℕ) (r : Result Shape ℕ) → IsTold (path_flow field r)
+path-told : (field : List ℕ) (r : Result Shape DoubtfulPath) → IsTold (path_flow field r)
 path-told field (Ok s) = tt
-path-told field (Err at) = tt
+path-told field (Err doubtful) = tt
 
 placing-told : (field : List ℕ) (r : Result Shape ℕ) → IsTold (placing_flow field r)
 placing-told field (Ok s) = tt
@@ -39,7 +39,7 @@ placing-told field (Err at) = tt
 
 through_path-told : (field : List ℕ) (path : Option (List Segment)) (s : Shape) → IsTold (through_path field path s)
 through_path-told field None s = tt
-through_path-told field (Some path) s = path-told field (look path s)
+through_path-told field (Some path) s = path-told field (found path s)
 
 through_placing-told : (field : List ℕ) (path : Option (List Segment)) (raw result : Shape) → IsTold (through_placing field path raw result)
 through_placing-told field None raw result = tt
@@ -82,11 +82,11 @@ then-parts : (go_on : Shape → Flow) (flow : Flow) (r : Shape) → flow_then go
 then-parts go_on (Ok s) r e = (s, refl, e)
 then-parts go_on (Err faults) r e = absurd (cc)
 
-path-parts : (field : List ℕ) (result : Result Shape ℕ) (r : Shape) → path_flow field result ≡ Ok r → result ≡ Ok r
+path-parts : (field : List ℕ) (result : Result Shape DoubtfulPath) (r : Shape) → path_flow field result ≡ Ok r → result ≡ Ok r
 path-parts field (Ok s) r e =
     let is : s ≡ r = cc in
     ap Ok is
-path-parts field (Err at) r e = absurd (cc)
+path-parts field (Err doubtful) r e = absurd (cc)
 
 placing-parts : (field : List ℕ) (result : Result Shape ℕ) (r : Shape) → placing_flow field result ≡ Ok r → result ≡ Ok r
 placing-parts field (Ok s) r e =
@@ -106,7 +106,7 @@ path-gives field None s r v e h =
     let is : empty_object ≡ r = cc in
     (Object NoFields, refl, subst (λ (z : Shape). Has z (Object NoFields)) is refl)
 path-gives field (Some path) s r v e h =
-    let given = look-gives path s r v (path-parts field (look path s) r e) h in
+    let given = found-gives path s r v (path-parts field (found path s) r e) h in
     (given.0, rw (given.1) refl, given.2)
 
 by_template-gives : (field : List ℕ) (template : Option Template) (s r : Shape) (v : Tree) → through_template field template s ≡ Ok r → Has s v → Gives r (by_template field template v)

@@ -1,12 +1,13 @@
--- Where `look` answers a shape, the path names in every tree of the first shape a tree of that one.
-use Rattle.std.proofs.Common.{◌≡◌, ℕ, zero, suc, List, [], ◌∷◌, Bool, true, false, ◌||◌, Option, Some, None, Result, Ok, Err, refl, arith}
+-- Where `look` answers a shape, the path names in every tree of the first shape a tree of that one; and where the path
+-- isn't doubtful, `look` answers.
+use Rattle.std.proofs.Common.{◌≡◌, ℕ, zero, suc, List, [], ◌∷◌, Bool, true, false, ◌||◌, Option, Some, None, Result, Ok, Err, refl, ap, arith}
 use Rattle.std.specs.Prelude.{IsTrue}
 use Rattle.std.proofs.lemmas.Bool.{and_parts, false≢true}
 use Rattle.asl_model.specs.Tree.{Tree, Array, Object, Trees, NoTrees, AndTree, Fields, field_named, element}
 use Rattle.asl_model.specs.Path.{Segment, Name, Index, Names, names_itself, names_in_field, names_in_element}
 use Rattle.asl_model.specs.Shape.{Shape, Any, OfKinds, Arrays, WithoutArrays, ArraysOf, Objects, WithoutObjects, ObjectsOf, Shapes, NoShapes, AndShape, FieldShapes, Has, has, elements_have, fields_have, there_and, all_mentioned}
 use Rattle.asl_model.specs.ShapeOrder.{mention_of}
-use Rattle.asl_model.specs.ShapeFlow.{look, look_at, through, one_further, part_at, place_at, place_in, field_in, arrays_alone, objects_alone, if_needed}
+use Rattle.asl_model.specs.ShapeFlow.{look, or_doubtful, found, look_at, through, one_further, part_at, place_at, place_in, field_in, arrays_alone, objects_alone, if_needed}
 use Rattle.asl_model.proofs.ShapeInhabited.{has-inhabited, arrays_have-inhabited, objects_have-inhabited}
 use Rattle.asl_model.proofs.ShapeInside.{mention_holds}
 
@@ -88,3 +89,13 @@ look_at-names (segment ∷ path) s t e v h = go (part_at segment s) refl e (look
 
 pub look-names : (path : List Segment) (s t : Shape) → look path s ≡ Ok t → (v : Tree) → Has s v → (w : Tree) × Names path v w × Has t w
 look-names path s t e v h = look_at-names path s t (rw (has-inhabited s v h) at e) v h
+
+undoubted : (path : List Segment) (s t : Shape) (r : Result Shape ℕ) → or_doubtful path s r ≡ Ok t → r ≡ Ok t
+undoubted path s t (Ok part) e =
+    let is : part ≡ t = cc in
+    ap Ok is
+undoubted path s t (Err at) e = absurd (cc)
+
+-- what is found at a path is what `look` answers
+pub found-looked : (path : List Segment) (s t : Shape) → found path s ≡ Ok t → look path s ≡ Ok t
+found-looked path s t e = undoubted path s t (look path s) e

@@ -79,7 +79,7 @@ field-inhabited n (AndFieldShape m needed s shapes) part e live = go needed (byt
         absurd (cc)
     go needed' false apart e' here below = below (rw apart at e')
 
-part-inhabited : (segment : Segment) (s part : Shape) → part_at segment s ≡ Some part → IsTrue (inhabited s) → IsTrue (inhabited part)
+pub part-inhabited : (segment : Segment) (s part : Shape) → part_at segment s ≡ Some part → IsTrue (inhabited s) → IsTrue (inhabited part)
 part-inhabited (Name n) s part e live = go (objects_alone s) refl e
   where
     go : (objects : Objects) → objects_alone s ≡ objects → field_in n objects ≡ Some part → IsTrue (inhabited part)
@@ -93,14 +93,14 @@ part-inhabited (Index i) s part e live = go (arrays_alone s) refl e
 
 -- A tree is placed in the example where the segment names something in every tree
 
-field-placed : (n : List ℕ) (t : Tree) (fs : Fields) → placed (Name n ∷ []) t (Object fs) ≡ Some (Object (set_field n t fs))
+pub field-placed : (n : List ℕ) (t : Tree) (fs : Fields) → placed (Name n ∷ []) t (Object fs) ≡ Some (Object (set_field n t fs))
 field-placed n t fs = go (field_named n fs) refl
   where
     go : (there : Option Tree) → field_named n fs ≡ there → placed (Name n ∷ []) t (Object fs) ≡ Some (Object (set_field n t fs))
     go None e = rw e refl
     go (Some u) e = rw e refl
 
-element-placed : (i : ℕ) (t u : Tree) (ts : Trees) → element i ts ≡ Some u → placed (Index i ∷ []) t (Array ts) ≡ Some (Array (set_element i t ts))
+pub element-placed : (i : ℕ) (t u : Tree) (ts : Trees) → element i ts ≡ Some u → placed (Index i ∷ []) t (Array ts) ≡ Some (Array (set_element i t ts))
 element-placed i t u ts e = rw e refl
 
 part-placed : (segment : Segment) (s part : Shape) (t : Tree) → part_at segment s ≡ Some part → IsTrue (inhabited s) → IsTrue (is_some (placed (segment ∷ []) t (example s)))
@@ -206,6 +206,24 @@ if_needed-mention (Some (true, s)) part e =
     rw is refl
 if_needed-mention (Some (false, s)) part e = absurd (cc)
 
+-- what a segment names in every tree of a shape has its example in that of the shape
+pub example-part : (segment : Segment) (s part : Shape) → part_at segment s ≡ Some part → IsOrdered s → IsTrue (inhabited s) → child segment (example s) ≡ Some (example part)
+example-part (Name n) s part e ordered live = go (objects_alone s) refl e
+  where
+    go : (objects : Objects) → objects_alone s ≡ objects → field_in n objects ≡ Some part → child (Name n) (example s) ≡ Some (example part)
+    go WithoutObjects alone e' = absurd (cc)
+    go (ObjectsOf shapes extra) alone e' =
+        let mention : mention_of n shapes ≡ Some (true, part) = if_needed-mention (mention_of n shapes) part e' in
+        let there : field_named n (needed_examples shapes) ≡ Some (example part) = rw mention at (example-field n shapes (rw alone at (alone_objects-ordered s ordered))) in
+        rw ((example-objects s shapes extra alone live).1) there
+example-part (Index i) s part e ordered live = go (arrays_alone s) refl e
+  where
+    go : (arrays : Arrays) → arrays_alone s ≡ arrays → place_in i arrays ≡ Some part → child (Index i) (example s) ≡ Some (example part)
+    go WithoutArrays alone e' = absurd (cc)
+    go (ArraysOf first rest) alone e' =
+        let there : element i (examples first) ≡ Some (example part) = rw e' at (example-element i first) in
+        rw ((example-arrays s first rest alone live).1) there
+
 -- of the arrays that alone a shape has, and of the objects
 of-arrays : (s : Shape) (first : Shapes) (rest : Shape) (ts : Trees) → arrays_alone s ≡ ArraysOf first rest → IsTrue (elements_have first (has rest) ts) → Has s (Array ts)
 of-arrays Any first rest ts alone h = refl
@@ -309,7 +327,7 @@ refused-names segment path s ordered live at = go (inhabited (not_gone_into segm
 
 -- Along a path
 
-part-ordered : (segment : Segment) (s part : Shape) → part_at segment s ≡ Some part → IsOrdered s → IsOrdered part
+pub part-ordered : (segment : Segment) (s part : Shape) → part_at segment s ≡ Some part → IsOrdered s → IsOrdered part
 part-ordered (Name n) s part e ordered = go (objects_alone s) refl e
   where
     go : (objects : Objects) → objects_alone s ≡ objects → field_in n objects ≡ Some part → IsOrdered part

@@ -8,11 +8,11 @@ use Rattle.asl_model.specs.Path.{Segment, Name, Index, named_by}
 use Rattle.asl_model.specs.Test.{ValueKind, NullKind, NumericKind, StringKind, BooleanKind, is_of_kind, same_truth}
 use Rattle.asl_model.specs.Shape.{Simple, Shape, Any, OfKinds, Never, ArrayShape, ObjectShape, Arrays, WithoutArrays, ArraysOf, Objects, WithoutObjects, ObjectsOf, Shapes, NoShapes, AndShape, FieldShapes, Has, has, elements_have, fields_have, all_mentioned, no_simple, some_array, some_object, inhabited}
 use Rattle.asl_model.specs.ShapeOrder.{mention_of, set_mention}
-use Rattle.asl_model.specs.ShapeFlow.{look, look_at, through, if_needed, part_at, place_at, place_in, field_in, arrays_alone, objects_alone, put, put_under, put_in_arrays, put_in_objects, put_in_place, put_mentioned, object_with, set_place, is_only, is_boolean_shape, of_kind, not_of_kind, by_kind, narrowed_at}
+use Rattle.asl_model.specs.ShapeFlow.{look, look_at, DoubtfulPath, found, through, if_needed, part_at, place_at, place_in, field_in, arrays_alone, objects_alone, put, put_under, put_in_arrays, put_in_objects, put_in_place, put_mentioned, object_with, set_place, is_only, is_boolean_shape, of_kind, not_of_kind, by_kind, narrowed_at}
 use Rattle.asl_model.proofs.ShapeInhabited.{has-inhabited}
 use Rattle.asl_model.proofs.ShapeInside.{mention_holds, all_mentioned-from, there-mentioned}
 use Rattle.asl_model.proofs.ShapeFields.{have-set, mentions-set}
-use Rattle.asl_model.proofs.ShapeLook.{place-element, needed-there, alone-array, alone-object, further-Ok}
+use Rattle.asl_model.proofs.ShapeLook.{place-element, needed-there, alone-array, alone-object, further-Ok, found-looked}
 
 -- Kinds
 
@@ -135,14 +135,15 @@ narrows (segment ∷ path) w s part e = go (inhabited s && inhabited w) refl (un
     go false none inner = (Never, refl, λ v u h named m. absurd (false≢true (sym none ∙ and_from (inhabited s) (inhabited w) (has-inhabited s v h) (has-inhabited w u m))))
 
 -- what a test of a kind narrows to, where it narrows: the path is found, and each tree of which the test is true has it
-pub kind-narrows : (path : List Segment) (kind : ValueKind) (expected : Bool) (s r : Shape) → narrowed_at path (by_kind kind expected) s (look path s) ≡ Some r → (v : Tree) → Has s v
-    → (part : Shape) × (look path s ≡ Ok part) × ((u : Tree) → named_by path v ≡ Some u → Has part u → IsTrue (same_truth expected (is_of_kind kind u)) → Has r v)
-kind-narrows path kind expected s r e v h = go (look path s) refl e
+pub kind-narrows : (path : List Segment) (kind : ValueKind) (expected : Bool) (s r : Shape) → narrowed_at path (by_kind kind expected) s (found path s) ≡ Ok r → (v : Tree) → Has s v
+    → (part : Shape) × (found path s ≡ Ok part) × ((u : Tree) → named_by path v ≡ Some u → Has part u → IsTrue (same_truth expected (is_of_kind kind u)) → Has r v)
+kind-narrows path kind expected s r e v h = go (found path s) refl e
   where
-    go : (found : Result Shape ℕ) → look path s ≡ found → narrowed_at path (by_kind kind expected) s found ≡ Some r → (part : Shape) × (found ≡ Ok part) × ((u : Tree) → named_by path v ≡ Some u → Has part u → IsTrue (same_truth expected (is_of_kind kind u)) → Has r v)
-    go (Err k) at e' = absurd (cc)
+    go : (result : Result Shape DoubtfulPath) → found path s ≡ result → narrowed_at path (by_kind kind expected) s result ≡ Ok r → (part : Shape) × (result ≡ Ok part) × ((u : Tree) → named_by path v ≡ Some u → Has part u → IsTrue (same_truth expected (is_of_kind kind u)) → Has r v)
+    go (Err doubtful) at e' = absurd (cc)
     go (Ok part) at e' =
-        let inner = narrows path (by_kind kind expected part) s part (rw (has-inhabited s v h) at at) in
-        let whole : Some inner.0 ≡ Some r = rw (inner.1) at e' in
+        let looked : look path s ≡ Ok part = found-looked path s part at in
+        let inner = narrows path (by_kind kind expected part) s part (rw (has-inhabited s v h) at looked) in
+        let whole : Ok inner.0 ≡ Ok r = rw (inner.1) at e' in
         let is : inner.0 ≡ r = cc in
         (part, refl, λ u named m yes_true. rw is at (inner.2 v u h named (kind-stays kind expected part u m yes_true)))

@@ -135,7 +135,7 @@ module _ (joined : Shape → Shape → Shape) (keeping : KeepsOrder joined) wher
   common-ordered (AndShape s first) NoShapes ordered more = tt
   common-ordered (AndShape s first) (AndShape other others) ordered more = (keeping.keeps s other ordered.0 more.0, common-ordered first others ordered.1 more.1)
 
-  each-ordered : (s : Shape) (others : Shapes) → IsOrdered s → AreOrderedShapes others → IsOrdered (joined_with_each joined s others)
+  pub each-ordered : (s : Shape) (others : Shapes) → IsOrdered s → AreOrderedShapes others → IsOrdered (joined_with_each joined s others)
   each-ordered s NoShapes one more = one
   each-ordered s (AndShape other others) one more = each-ordered (joined s other) others (keeping.keeps s other one more.0) more.1
 
@@ -189,7 +189,7 @@ join-ordered a b ordered more = within-ordered (max (depth a) (depth b)) a b ord
 -- Puts
 
 -- the names of the shape, where there is one, stand in order
-abbrev Ordered : Result Shape ℕ → Type 0
+abbrev pub Ordered : {E : Type 0} → Result Shape E → Type 0
 Ordered r = IfOk r IsOrdered
 
 around-ordered : (n : List ℕ) (r : Result Shape ℕ) → Ordered r → Ordered (around n r)
@@ -206,7 +206,7 @@ results-ordered (Ok s) (Ok t) one other = join-ordered s t one other
 results-ordered (Ok s) (Err at) one other = tt
 results-ordered (Err at) q one other = tt
 
-set_place-ordered : (i : ℕ) (w : Shape) (first : Shapes) → IsOrdered w → AreOrderedShapes first → AreOrderedShapes (set_place i w first)
+pub set_place-ordered : (i : ℕ) (w : Shape) (first : Shapes) → IsOrdered w → AreOrderedShapes first → AreOrderedShapes (set_place i w first)
 set_place-ordered i w NoShapes one ordered = tt
 set_place-ordered zero w (AndShape s others) one ordered = (one, ordered.1)
 set_place-ordered (suc i) w (AndShape s others) one ordered = (ordered.0, set_place-ordered i w others one ordered.1)
@@ -255,7 +255,7 @@ module _ (go_on : Shape → Result Shape ℕ) (goes : (s : Shape) → IsOrdered 
   under-ordered (Name n) path w s one ordered = in_objects-ordered n path w (objects_alone s) one (alone_objects-ordered s ordered)
   under-ordered (Index i) path w s one ordered = in_arrays-ordered i (arrays_alone s) (alone_arrays-ordered s ordered)
 
-put-so : (path : List Segment) (w s : Shape) → IsOrdered w → IsOrdered s → Ordered (put path w s)
+pub put-so : (path : List Segment) (w s : Shape) → IsOrdered w → IsOrdered s → Ordered (put path w s)
 put-so [] w s one ordered = one_of-ordered (inhabited s && inhabited w) w Never one (tt, tt)
 put-so (segment ∷ path) w s one ordered = go (inhabited s && inhabited w) (under-ordered (put path w) (λ part. put-so path w part one) segment path w s one ordered)
   where

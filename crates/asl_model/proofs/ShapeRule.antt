@@ -8,13 +8,13 @@ use Rattle.asl_model.specs.Path.{Segment, Name, Index, child, named_by}
 use Rattle.asl_model.specs.Test.{Test, And, Or, Not, Compare, StringMatches, IsOfKind, IsPresent, Tests, NoTests, AndTest, Operand, Constant, AtPath, truth, all_true, some_true, and_truth, or_truth, same_truth, operand_value, compares, matches, as_text, is_of_kind}
 use Rattle.asl_model.specs.Shape.{Shape, Any, OfKinds, ArraysOf, ObjectsOf, ArrayShape, Shapes, FieldShapes, Has, has, fields_have, all_mentioned}
 use Rattle.asl_model.specs.ShapeOrder.{mention_of, set_mention}
-use Rattle.asl_model.specs.ShapeFlow.{look, place_at, narrow_mention, narrow_place, narrow_under, where_present, if_found, both_found, operand_shape, unless_none, where_inhabited, narrowed_by, true_of, each_true_of, each_found, rule_shape}
+use Rattle.asl_model.specs.ShapeFlow.{DoubtfulPath, found, place_at, narrow_mention, narrow_place, narrow_under, where_present, where_found, operand_shape, where_inhabited, narrowed_by, true_of, each_true_of, each_found, rule_shape}
 use Rattle.asl_model.proofs.ShapeInhabited.{has-inhabited}
 use Rattle.asl_model.proofs.ShapeInside.{mention_holds, closed_absent}
 use Rattle.asl_model.proofs.ShapeFields.{have-set}
 use Rattle.asl_model.proofs.ShapeLook.{place-element}
 use Rattle.asl_model.proofs.ShapeNarrow.{set_place-has, all_mentioned-set, kind-narrows}
-use Rattle.asl_model.proofs.ShapeTemplate.{look-gives}
+use Rattle.asl_model.proofs.ShapeTemplate.{found-gives}
 
 -- Presence
 
@@ -69,42 +69,29 @@ present-narrowed (segment ∷ path) s v here h = go (child segment v) refl here 
 abbrev pub Decided : Shape → Tree → Option Bool → Type 0
 Decided r v value = (b : Bool) × (value ≡ Some b) × (IsTrue b → Has r v)
 
-found-whole : (result : Result Shape ℕ) (s r : Shape) → if_found result s ≡ Some r → (part : Shape) × (result ≡ Ok part) × (s ≡ r)
-found-whole (Ok part) s r e =
-    let is : s ≡ r = cc in
-    (part, refl, is)
-found-whole (Err at) s r e = absurd (cc)
+found-parts : (first second : Result Shape DoubtfulPath) (r : Shape) → where_found first second ≡ Ok r → (a : Shape) × (first ≡ Ok a) × (second ≡ Ok r)
+found-parts (Ok a) second r e = (a, refl, e)
+found-parts (Err doubtful) second r e = absurd (cc)
 
-both-whole : (first second : Result Shape ℕ) (s r : Shape) → both_found first second s ≡ Some r → (a : Shape) × (b : Shape) × (first ≡ Ok a) × (second ≡ Ok b) × (s ≡ r)
-both-whole (Ok a) (Ok b) s r e =
-    let is : s ≡ r = cc in
-    (a, b, refl, refl, is)
-both-whole (Ok a) (Err at) s r e = absurd (cc)
-both-whole (Err at) second s r e = absurd (cc)
-
-unless-parts : (first second : Option Shape) (r : Shape) → unless_none first second ≡ Some r → (a : Shape) × (first ≡ Some a) × (second ≡ Some r)
-unless-parts None second r e = absurd (cc)
-unless-parts (Some a) second r e = (a, refl, e)
-
-narrowed-parts : (go_on : Shape → Option Shape) (first : Option Shape) (r : Shape) → narrowed_by go_on first ≡ Some r → (a : Shape) × (first ≡ Some a) × (go_on a ≡ Some r)
-narrowed-parts go_on None r e = absurd (cc)
-narrowed-parts go_on (Some a) r e = (a, refl, e)
+narrowed-parts : (go_on : Shape → Result Shape DoubtfulPath) (first : Result Shape DoubtfulPath) (r : Shape) → narrowed_by go_on first ≡ Ok r → (a : Shape) × (first ≡ Ok a) × (go_on a ≡ Ok r)
+narrowed-parts go_on (Ok a) r e = (a, refl, e)
+narrowed-parts go_on (Err doubtful) r e = absurd (cc)
 
 -- a shape that a tree has is gone on with
-inhabited-goes-on : (go_on : Shape → Option Shape) (s r : Shape) (v : Tree) → where_inhabited go_on s ≡ Some r → Has s v → go_on s ≡ Some r
+inhabited-goes-on : (go_on : Shape → Result Shape DoubtfulPath) (s r : Shape) (v : Tree) → where_inhabited go_on s ≡ Ok r → Has s v → go_on s ≡ Ok r
 inhabited-goes-on go_on s r v e h = rw (has-inhabited s v h) at e
 
 operand-there : (operand : Operand) (s t : Shape) (v : Tree) → operand_shape operand s ≡ Ok t → Has s v → (u : Tree) × (operand_value operand v ≡ Some u)
 operand-there (Constant t) s r v e h = (t, refl)
 operand-there (AtPath path) s r v e h =
-    let given = look-gives path s r v e h in
+    let given = found-gives path s r v e h in
     (given.0, given.1)
 
 -- a tree that has the whole shape has the answer, which is the same
 whole-has : (s r : Shape) (v : Tree) → s ≡ r → Has s v → Has r v
 whole-has s r v is h = subst (λ (z : Shape). Has z v) is h
 
-present-decided : (path : List Segment) (expected : Bool) (s r : Shape) (v : Tree) → (if expected then Some (where_present path s) else Some s) ≡ Some r → Has s v → Decided r v (Some (same_truth expected (is_some (named_by path v))))
+present-decided : (path : List Segment) (expected : Bool) (s r : Shape) (v : Tree) → true_of (IsPresent path expected) s ≡ Ok r → Has s v → Decided r v (Some (same_truth expected (is_some (named_by path v))))
 present-decided path true s r v e h =
     let is : where_present path s ≡ r = cc in
     (is_some (named_by path v), refl, λ here. whole-has (where_present path s) r v is (present-narrowed path s v here h))
@@ -123,34 +110,37 @@ or-decided first further true b e f = (true, rw e refl)
 or-decided first further false b e f = (b, rw (e, f) refl)
 
 mutual
-  decided : (test : Test) (s r : Shape) (v : Tree) → true_of test s ≡ Some r → Has s v → Decided r v (truth test v)
+  decided : (test : Test) (s r : Shape) (v : Tree) → true_of test s ≡ Ok r → Has s v → Decided r v (truth test v)
   decided (And tests) s r v e h = all-decided tests s r v e h
   decided (Or tests) s r v e h =
-      let parts = unless-parts (each_found tests s) (Some s) r e in
+      let parts = found-parts (each_found tests s) (Ok s) r e in
       let some = some-decided tests s parts.0 v parts.1 h in
       let is : s ≡ r = cc (parts.2) in
       (some.0, some.1, λ yes_true. whole-has s r v is h)
   decided (Not test) s r v e h =
-      let parts = unless-parts (true_of test s) (Some s) r e in
+      let parts = found-parts (true_of test s) (Ok s) r e in
       let one = decided test s parts.0 v parts.1 h in
       let is : s ≡ r = cc (parts.2) in
       (not one.0, rw (one.1) refl, λ yes_true. whole-has s r v is h)
   decided (Compare path comparison operand) s r v e h =
-      let parts = both-whole (look path s) (operand_shape operand s) s r e in
-      let first = look-gives path s parts.0 v parts.2 h in
-      let second = operand-there operand s parts.1 v parts.3 h in
-      (compares comparison first.0 second.0, rw (first.1, second.1) refl, λ yes_true. whole-has s r v parts.4 h)
+      let parts = found-parts (found path s) (where_found (operand_shape operand s) (Ok s)) r e in
+      let further = found-parts (operand_shape operand s) (Ok s) r parts.2 in
+      let first = found-gives path s parts.0 v parts.1 h in
+      let second = operand-there operand s further.0 v further.1 h in
+      let is : s ≡ r = cc (further.2) in
+      (compares comparison first.0 second.0, rw (first.1, second.1) refl, λ yes_true. whole-has s r v is h)
   decided (StringMatches path pattern) s r v e h =
-      let parts = found-whole (look path s) s r e in
-      let first = look-gives path s parts.0 v parts.1 h in
-      (matches pattern (as_text first.0), rw (first.1) refl, λ yes_true. whole-has s r v parts.2 h)
+      let parts = found-parts (found path s) (Ok s) r e in
+      let first = found-gives path s parts.0 v parts.1 h in
+      let is : s ≡ r = cc (parts.2) in
+      (matches pattern (as_text first.0), rw (first.1) refl, λ yes_true. whole-has s r v is h)
   decided (IsOfKind path kind expected) s r v e h =
       let narrowed = kind-narrows path kind expected s r e v h in
-      let named = look-gives path s narrowed.0 v narrowed.1 h in
+      let named = found-gives path s narrowed.0 v narrowed.1 h in
       (same_truth expected (is_of_kind kind named.0), rw (named.1) refl, λ yes_true. narrowed.2 named.0 named.1 named.2 yes_true)
   decided (IsPresent path expected) s r v e h = present-decided path expected s r v e h
 
-  all-decided : (tests : Tests) (s r : Shape) (v : Tree) → each_true_of tests s ≡ Some r → Has s v → Decided r v (all_true tests v)
+  all-decided : (tests : Tests) (s r : Shape) (v : Tree) → each_true_of tests s ≡ Ok r → Has s v → Decided r v (all_true tests v)
   all-decided NoTests s r v e h =
       let is : s ≡ r = cc in
       (true, refl, λ yes_true. whole-has s r v is h)
@@ -159,13 +149,13 @@ mutual
       let first = decided test s parts.0 v (inhabited-goes-on (true_of test) s parts.0 v parts.1 h) h in
       and-decided r v (truth test v) (all_true others v) first.0 first.1 (λ yes_true. all-decided others parts.0 r v parts.2 (first.2 yes_true))
 
-  some-decided : (tests : Tests) (s r : Shape) (v : Tree) → each_found tests s ≡ Some r → Has s v → (b : Bool) × (some_true tests v ≡ Some b)
+  some-decided : (tests : Tests) (s r : Shape) (v : Tree) → each_found tests s ≡ Ok r → Has s v → (b : Bool) × (some_true tests v ≡ Some b)
   some-decided NoTests s r v e h = (false, refl)
   some-decided (AndTest test others) s r v e h =
-      let parts = unless-parts (true_of test s) (each_found others s) r e in
+      let parts = found-parts (true_of test s) (each_found others s) r e in
       let first = decided test s parts.0 v parts.1 h in
       let further = some-decided others s r v parts.2 h in
       or-decided (truth test v) (some_true others v) first.0 further.0 first.1 further.1
 
-pub rule-decided : (test : Test) (s r : Shape) (v : Tree) → rule_shape test s ≡ Some r → Has s v → Decided r v (truth test v)
+pub rule-decided : (test : Test) (s r : Shape) (v : Tree) → rule_shape test s ≡ Ok r → Has s v → Decided r v (truth test v)
 rule-decided test s r v e h = decided test s r v (inhabited-goes-on (true_of test) s r v e h) h

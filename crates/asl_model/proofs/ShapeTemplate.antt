@@ -10,30 +10,33 @@ use Rattle.asl_model.specs.Intrinsic.{Reference, InInput, ItemIndex, InItem, Fun
 use Rattle.asl_model.specs.Template.{Template, Literal, FromPath, FromCall, ArrayTemplate, ObjectTemplate, Templates, NoTemplates, AndTemplate, FieldTemplates, NoFieldTemplates, AndFieldTemplate, Failure, below, unless_value, failures, element_failures, field_failures, filled, elements_filled, fields_filled, template_value}
 use Rattle.asl_model.specs.Faults.{DataFlowError, ParameterPathFailure, IntrinsicFailure}
 use Rattle.asl_model.specs.Shape.{Shape, Any, OfKinds, Never, NullShape, BooleanShape, IntegerShape, StringShape, Arrays, WithoutArrays, ArraysOf, ArrayShape, Shapes, NoShapes, AndShape, Has, has, has_arrays, each_element, elements_have, fields_have, all_mentioned, inhabited}
-use Rattle.asl_model.specs.ShapeFlow.{arrays_alone, ItemHas, look, literal, literals, literal_fields, Doubt, or_missing, reference_shape, unless_doubtful, is_formattable, all_formattable, is_array_shape, how_many_shapes, and_argument, array_length_of, fits_holes, format_of, value_shape, call_shape, argument_shape, argument_shapes, doubts_at, or_may_fail, or_none, doubts, element_doubts, field_doubts, filled_shape, filled_elements, filled_fields, unless_doubts, template_shape}
-use Rattle.asl_model.proofs.PlacingExactly.{found}
+use Rattle.asl_model.specs.ShapeFlow.{arrays_alone, ItemHas, look, DoubtfulPath, found, literal, literals, literal_fields, Doubt, or_missing, reference_shape, unless_doubtful, is_formattable, all_formattable, is_array_shape, how_many_shapes, and_argument, array_length_of, fits_holes, format_of, value_shape, call_shape, argument_shape, argument_shapes, doubts_at, or_may_fail, or_none, doubts, element_doubts, field_doubts, filled_shape, filled_elements, filled_fields, unless_doubts, template_shape}
+use Rattle.asl_model.proofs.PlacingExactly.{found as names-found}
 use Rattle.asl_model.proofs.FindingScopes.{append-none}
 use Rattle.asl_model.proofs.ShapeInhabited.{has-inhabited, arrays_have-inhabited, objects_have-inhabited, no_tree}
 use Rattle.asl_model.proofs.ShapeFields.{have-set_front, set_front-mentioned}
-use Rattle.asl_model.proofs.ShapeLook.{look-names, alone-array}
+use Rattle.asl_model.proofs.ShapeLook.{look-names, found-looked, alone-array}
 use Rattle.asl_model.proofs.ShapePut.{GivesOne}
 
--- a path that is found names a tree of its shape
+-- a path that is found names a tree of its shape, as `look` answers it and as it isn't doubtful
 pub look-gives : (path : List Segment) (s t : Shape) (v : Tree) → look path s ≡ Ok t → Has s v → GivesOne t (named_by path v)
 look-gives path s t v e h =
     let names = look-names path s t e v h in
-    (names.0, found names.1, names.2)
+    (names.0, names-found names.1, names.2)
+
+pub found-gives : (path : List Segment) (s t : Shape) (v : Tree) → found path s ≡ Ok t → Has s v → GivesOne t (named_by path v)
+found-gives path s t v e h = look-gives path s t v (found-looked path s t e) h
 
 -- References
 
-missing-none : (r : Result Shape ℕ) (t : Shape) → or_missing r ≡ Ok t → r ≡ Ok t
+missing-none : (r : Result Shape DoubtfulPath) (t : Shape) → or_missing r ≡ Ok t → r ≡ Ok t
 missing-none (Ok s) t e =
     let is : s ≡ t = cc in
     ap Ok is
-missing-none (Err at) t e = absurd (cc)
+missing-none (Err doubtful) t e = absurd (cc)
 
 reference-gives : (reference : Reference) (input : Shape) (item : Option Shape) (r : Shape) (v : Tree) (i : Option Item) → reference_shape reference input item ≡ Ok r → Has input v → ItemHas item i → GivesOne r (referred reference v i)
-reference-gives (InInput path) input item r v i e h m = look-gives path input r v (missing-none (look path input) r e) h
+reference-gives (InInput path) input item r v i e h m = found-gives path input r v (missing-none (found path input) r e) h
 reference-gives ItemIndex input None r v i e h m = absurd (cc)
 reference-gives ItemIndex input (Some s) r v None e h m = absurd m
 reference-gives ItemIndex input (Some s) r v (Some it) e h m =
@@ -41,7 +44,7 @@ reference-gives ItemIndex input (Some s) r v (Some it) e h m =
     (Integer it.number, refl, subst (λ (z : Shape). Has z (Integer it.number)) is refl)
 reference-gives (InItem path) input None r v i e h m = absurd (cc)
 reference-gives (InItem path) input (Some s) r v None e h m = absurd m
-reference-gives (InItem path) input (Some s) r v (Some it) e h m = look-gives path s r it.value (missing-none (look path s) r e) m
+reference-gives (InItem path) input (Some s) r v (Some it) e h m = found-gives path s r it.value (missing-none (found path s) r e) m
 
 -- Calls
 

@@ -1,27 +1,29 @@
 -- The widest certificate has no fault of its own: each of the machine's states has an entry, and whatever flows is
 -- compared with Any.
-use Rattle.std.proofs.Common.{◌≡◌, refl, sym, ap, ◌∙◌, subst, ℕ, zero, suc, ◌<◌, List, [], ◌∷◌, ◌++◌, map, replicate, Contains, Bool, true, false, IsTrue, IsFalse, if◌then◌else◌, bytes_eq, slice_get, Option, Some, None, is_some, option_to_list, ◌⊎◌, inl, inr, arith}
+use Rattle.std.proofs.Common.{◌≡◌, refl, sym, ap, ◌∙◌, subst, ℕ, zero, suc, ◌<◌, List, [], ◌∷◌, ◌++◌, map, replicate, Contains, Bool, true, false, IsTrue, if◌then◌else◌, bytes_eq, slice_get, Option, Some, None, is_some, option_to_list, ◌⊎◌, inl, inr, arith}
 use Rattle.std.proofs.lemmas.Bool.{true≢false}
 use Rattle.std.proofs.lemmas.List.{length-replicate}
 use Rattle.std.proofs.lemmas.List.Elements.{Contains-append_left, Contains-append_right}
 use Rattle.std.proofs.lemmas.Slice.Eq.{bytes_eq-Decides}
 use Rattle.asl_model.specs.Machine.{Catcher, Settings, Scope, States, NoStates, AndState, State, StateOf, Kind, Pass, Task, Choice, Wait, Succeed, Fail, Parallel, Map, Scopes, settings_of, kind_of, start_of, states_of, state_among, state_named, scope_at, how_many}
+use Rattle.asl_model.specs.Tree.{Tree}
 use Rattle.asl_model.specs.Shape.{Shape, Any}
-use Rattle.asl_model.specs.ShapeOrder.{sub}
+use Rattle.asl_model.specs.Examples.{outside}
 use Rattle.asl_model.specs.ShapeSpelling.{are_distinct}
 use Rattle.asl_model.specs.Certificate.{Declared, StateShapes, Certificate, HasEntry, under, certified, branch_shape, branch_end, item_end, branches_in, is_map}
 use Rattle.asl_model.specs.Finding.{FindingFault, Finding, Surroundings, Stands}
-use Rattle.asl_model.specs.FindingRules.{IsAmong, state_is_first, state_is_later, IsBranch, branch_is_first, branch_is_later, HasScope, has_itself, has_branch, has_processor, HasState, IsSurrounded, IsCompared, compared_with_entry, compared_with_never, Target, ToState, ToEnd, next_target, Makes, makes_literal, makes_what_it_takes, makes_answer, lets_through, lets_default, lets_wait, lets_succeed, makes_outputs, makes_items, Starts, starts_branch, starts_item, BreaksFlow, path_may_be_missing, template_may_be_missing, rule_may_be_missing, may_be_of_wrong_kind, may_not_fit, may_fail, has_no_default, payload_is_not_taken, output_is_not_certified, is_no_next_input, is_no_scope_output, is_no_branch_input, is_no_catch_input, IsBroken, is_not_certified, is_not_a_state, is_undeclared, is_unknown, is_no_start_input, is_broken_in_flow}
+use Rattle.asl_model.specs.FindingRules.{IsAmong, state_is_first, state_is_later, IsBranch, branch_is_first, branch_is_later, HasScope, has_itself, has_branch, has_processor, HasState, IsSurrounded, IsCompared, compared_with_entry, compared_with_never, Target, ToState, ToEnd, next_target, Makes, makes_literal, makes_what_it_takes, makes_answer, lets_through, lets_default, lets_wait, lets_succeed, makes_outputs, makes_items, Starts, starts_branch, starts_item}
 use Rattle.asl_model.specs.Test.{Rule}
 use Rattle.asl_model.specs.Inference.{is_of_machine, widest_entry, IsWidest}
 use Rattle.asl_model.specs.Numbering.{Standing, standing, kind_outline, outline, table_of, IsScopeOf, own_scope, scope_of_child, HasNamed, targets_of, targets_by, IsWellNamed}
-use Rattle.asl_model.proofs.FindingRules.{broken_exactly}
+use Rattle.asl_model.proofs.FindingRules.{told_exactly}
+use Rattle.asl_model.proofs.FindingShown.{TellsFlow, tells_path, tells_template, tells_rule, tells_kind, tells_misfit, tells_failure, tells_no_default, tells_payload, tells_output, tells_next, tells_end, tells_child, tells_catch, IsTold, told_uncertified, told_no_state, told_undeclared, told_unknown, told_start, told_flow}
 use Rattle.asl_model.proofs.Listed.{none_in, first_in, first_or_later, map_in}
 use Rattle.asl_model.proofs.NumberedScopes.{StandsAs, all_stand}
 use Rattle.asl_model.proofs.NumberedStates.{StandsAt, stands_at, number_found}
 use Rattle.asl_model.proofs.Numbering.{names_of_standing}
 use Rattle.asl_model.proofs.OutlinedRules.{how-many-outlined}
-use Rattle.asl_model.proofs.RunOptions.{some_inj, some_there}
+use Rattle.asl_model.proofs.RunOptions.{some_inj, none_some, some_there}
 use Rattle.asl_model.proofs.StandingStates.{state_stands, HasNumber, state_numbered, IsNamed, is_named}
 
 -- ---- names in scopes
@@ -83,9 +85,9 @@ entry_there (first ∷ entries) entry c = go (bytes_eq first.0 entry.0) refl (fi
     go false f (inl e) further = absurd (true≢false (sym ((bytes_eq-Decides first.0 entry.0).1 (ap (λ x. x.0) e)) ∙ f))
     go false f (inr d) further = further d
 
--- no comparison with Any fails
-not_outside : {A : Type 0} (a s : Shape) → s ≡ Any → IsFalse (sub a s) → A
-not_outside a s e h = absurd (true≢false (sym (ap (sub a) e) ∙ h))
+-- nothing is outside Any
+not_outside : {A : Type 0} (a s : Shape) {t : Tree} → s ≡ Any → outside a s ≡ Some t → A
+not_outside a s e h = none_some (sym (ap (outside a) e) ∙ h)
 
 -- ---- where an output goes
 
@@ -211,33 +213,33 @@ module _ (machine : Scope) (declared : Declared) (certificate : Certificate) (we
   -- ---- findings
 
   -- a rule on what flows
-  of_flow : {around : Surroundings} {settings : Settings} {kind : Kind} {field : List ℕ} {fault : FindingFault} → IsSurrounded machine declared certificate settings kind around → BreaksFlow around settings kind field fault → IsTrue (is_of_machine fault)
-  of_flow is (path_may_be_missing looks f) = refl
-  of_flow is (template_may_be_missing evaluates some doubt) = refl
-  of_flow is (rule_may_be_missing kinds eff among f) = refl
-  of_flow is (may_be_of_wrong_kind eff wants f h) = refl
-  of_flow is (may_not_fit puts f) = refl
-  of_flow is (may_fail evaluates some doubt) = refl
-  of_flow is (has_no_default kinds eff f) = refl
-  of_flow is (payload_is_not_taken kinds eff h) = refl
-  of_flow {around} is (output_is_not_certified {output = output} leaves h) = not_outside output around.entry.output (ap (λ (x : StateShapes). x.output) (some_inj (sym is.entry ∙ entry_is is.state))) h
-  of_flow {around} {settings = settings} is (is_no_next_input {output = output} {expected = expected} {next = next} leaves f h) = not_outside output expected (compared_any (target_there next is.state (target_told around settings next leaves.makes refl)) ((is.inputs next expected).0 f)) h
-  of_flow is (is_no_scope_output {output = output} {expected = expected} leaves f h) = not_outside output expected (end_any expected is.state.has_scope f) h
-  of_flow is (is_no_branch_input {child = child} {s = s} {expected = expected} starts f h) = not_outside s expected (compared_any (started_there is.state starts) ((is.inputs (start_of child) expected).0 f)) h
-  of_flow {around} {settings = settings} {kind = kind} is (is_no_catch_input {catcher = catcher} {s = s} {expected = expected} among f g h) = not_outside s expected (compared_any (target_there catcher.next is.state (caught_told around settings kind catcher among)) ((is.inputs catcher.next expected).0 g)) h
+  of_flow : {around : Surroundings} {settings : Settings} {kind : Kind} {field : List ℕ} {fault : FindingFault} {example : Option Tree} → IsSurrounded machine declared certificate settings kind around → TellsFlow around settings kind field fault example → IsTrue (is_of_machine fault)
+  of_flow is (tells_path looks f) = refl
+  of_flow is (tells_template evaluates some doubt) = refl
+  of_flow is (tells_rule kinds eff among f) = refl
+  of_flow is (tells_kind eff wants f h) = refl
+  of_flow is (tells_misfit puts f) = refl
+  of_flow is (tells_failure evaluates some doubt) = refl
+  of_flow is (tells_no_default kinds eff f) = refl
+  of_flow is (tells_payload kinds eff h) = refl
+  of_flow {around} is (tells_output {output = output} leaves h) = not_outside output around.entry.output (ap (λ (x : StateShapes). x.output) (some_inj (sym is.entry ∙ entry_is is.state))) h
+  of_flow {around} {settings = settings} is (tells_next {output = output} {expected = expected} {next = next} leaves f h) = not_outside output expected (compared_any (target_there next is.state (target_told around settings next leaves.makes refl)) ((is.inputs next expected).0 f)) h
+  of_flow is (tells_end {output = output} {expected = expected} leaves f h) = not_outside output expected (end_any expected is.state.has_scope f) h
+  of_flow is (tells_child {child = child} {s = s} {expected = expected} starts f h) = not_outside s expected (compared_any (started_there is.state starts) ((is.inputs (start_of child) expected).0 f)) h
+  of_flow {around} {settings = settings} {kind = kind} is (tells_catch {catcher = catcher} {s = s} {expected = expected} among f g h) = not_outside s expected (compared_any (target_there catcher.next is.state (caught_told around settings kind catcher among)) ((is.inputs catcher.next expected).0 g)) h
 
   -- any rule
-  of_machine : {f : Finding} → IsBroken machine declared certificate f → IsTrue (is_of_machine f.fault)
-  of_machine (is_not_certified state none) = absurd (none (has_entry state))
-  of_machine (is_not_a_state {entry = entry} among none) =
+  of_machine : {f : Finding} → IsTold machine declared certificate f → IsTrue (is_of_machine f.fault)
+  of_machine (told_uncertified state none) = absurd (none (has_entry state))
+  of_machine (told_no_state {entry = entry} among none) =
       let w = wide.no_other_entry entry.0 (entry_there certificate.states entry among) in
       let row : IsNamed machine certificate w.0 entry.0 = is_named machine certificate w.0 entry.0 w.1 in
       absurd (none (settings_of row.shown) (kind_of row.shown) row.end row.stands)
-  of_machine (is_undeclared state none) = refl
-  of_machine (is_unknown among none) = refl
-  of_machine (is_no_start_input {expected = expected} compared h) = not_outside declared.input expected (compared_any (leads_there (start_of machine) has_itself well.leads.start) compared) h
-  of_machine (is_broken_in_flow is live breaks) = of_flow is breaks
+  of_machine (told_undeclared state none) = refl
+  of_machine (told_unknown among none) = refl
+  of_machine (told_start {expected = expected} compared h) = not_outside declared.input expected (compared_any (leads_there (start_of machine) has_itself well.leads.start) compared) h
+  of_machine (told_flow is live breaks) = of_flow is breaks
 
 -- each finding that stands
 pub widest_findings : (machine : Scope) (declared : Declared) (certificate : Certificate) → IsWellNamed machine → IsWidest (table_of machine) certificate → (finding : Finding) → Stands machine declared certificate finding → IsTrue (is_of_machine finding.fault)
-widest_findings machine declared certificate well wide finding stands = of_machine machine declared certificate well wide ((broken_exactly machine declared certificate finding).1 stands)
+widest_findings machine declared certificate well wide finding stands = of_machine machine declared certificate well wide ((told_exactly machine declared certificate finding).1 stands)

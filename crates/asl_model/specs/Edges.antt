@@ -10,10 +10,11 @@ use Rattle.asl_model.specs.Machine.{Catcher, Settings, Delay, Seconds, SecondsPa
 use Rattle.asl_model.specs.Machine.{TimestampPath, Scope, Kind, Pass, Task, Choice, Wait, Succeed}
 use Rattle.asl_model.specs.Machine.{Fail, Parallel, Map, Scopes, NoScopes, AndScope, start_of}
 use Rattle.asl_model.specs.Shape.{Shape, Never, Shapes, ArrayShape, inhabited}
-use Rattle.asl_model.specs.ShapeFlow.{is_integer_shape, is_string_shape, look, literal, rule_shape, is_settled, leave}
-use Rattle.asl_model.specs.ShapeFlow.{Flow}
+use Rattle.asl_model.specs.ShapeFlow.{is_integer_shape, is_string_shape, found, literal, rule_shape, is_settled, leave}
+use Rattle.asl_model.specs.ShapeFlow.{Flow, DoubtfulPath}
 use Rattle.asl_model.specs.Certificate.{StateShapes, takes_of}
-use Rattle.asl_model.specs.Finding.{Surroundings, Breach, FindingFault, PathMayBeMissing, WrongKind, ResultMayNotFit}
+use Rattle.asl_model.specs.Finding.{Surroundings, Breach, FindingFault, WrongKind, ResultMayNotFit}
+use Rattle.asl_model.specs.Finding.{plain_breach, missing_breach}
 use Rattle.asl_model.specs.Finding.{NoDefault, PayloadNotTaken, OutputNotCertified, NextInput, ScopeOutput, BranchInput}
 use Rattle.asl_model.specs.Finding.{CatchInput, breach_of, breach_unless_sub, effective_flow, item_flow, element_shape}
 use Rattle.asl_model.specs.Finding.{map_result, as_first_elements, array_parts, error_placed_shape}
@@ -48,7 +49,11 @@ flows_to destination field fault s =
 
 -- that rule is broken
 abbrev pub breaks : FieldName → FindingFault → List Walked
-breaks field fault = Breaks (record { field = field; fault = fault }) ∷ []
+breaks field fault = Breaks (plain_breach field fault) ∷ []
+
+-- a path of the field is doubtful
+abbrev pub breaks_missing : FieldName → DoubtfulPath → List Walked
+breaks_missing field doubtful = Breaks (missing_breach field doubtful) ∷ []
 
 -- that rule is broken, unless the test holds
 abbrev pub breaks_unless : Bool → FieldName → FindingFault → List Walked
@@ -81,16 +86,16 @@ abbrev pub walk_result : Settings → Kind → Shape → Shape → List Walked
 walk_result settings kind input result = walk_then (onward settings.next) (leave settings kind input result)
 
 -- what a path names is of the kind that its field wants
-abbrev pub walk_named : FieldName → (Shape → Bool) → Result Shape ℕ → List Walked
+abbrev pub walk_named : FieldName → (Shape → Bool) → Result Shape DoubtfulPath → List Walked
 walk_named field test (Ok s) = breaks_unless (test s) field WrongKind
-walk_named field test (Err at) = breaks field PathMayBeMissing
+walk_named field test (Err doubtful) = breaks_missing field doubtful
 
 -- `SecondsPath` and `TimestampPath`
 abbrev pub walk_delay : Delay → Shape → List Walked
 walk_delay (Seconds n) s = []
-walk_delay (SecondsPath path) s = walk_named (codes "SecondsPath") is_integer_shape (look path s)
+walk_delay (SecondsPath path) s = walk_named (codes "SecondsPath") is_integer_shape (found path s)
 walk_delay (Timestamp t) s = []
-walk_delay (TimestampPath path) s = walk_named (codes "TimestampPath") is_string_shape (look path s)
+walk_delay (TimestampPath path) s = walk_named (codes "TimestampPath") is_string_shape (found path s)
 
 -- a child's input flows into that of its start state
 abbrev pub to_child : FieldName → Scope → Shape → List Walked
@@ -120,18 +125,18 @@ with_elements_walked go_on None = breaks (codes "ItemsPath") WrongKind
 with_elements_walked go_on (Some elements) = go_on elements
 
 -- goes on with the shapes of the elements, or tells that the path may name nothing
-abbrev pub walk_items : (Shapes × Shape → List Walked) → Result Shape ℕ → List Walked
+abbrev pub walk_items : (Shapes × Shape → List Walked) → Result Shape DoubtfulPath → List Walked
 walk_items go_on (Ok s) = with_elements_walked go_on (array_parts s)
-walk_items go_on (Err at) = breaks (codes "ItemsPath") PathMayBeMissing
+walk_items go_on (Err doubtful) = breaks_missing (codes "ItemsPath") doubtful
 
 -- the output for an effective input, on its way to the state that the field names
 abbrev pub walk_chosen : Settings → Kind → Shape → FieldName → StateName → Shape → List Walked
 walk_chosen settings kind input field next s = walk_then (to_next field next) (leave settings kind input s)
 
 -- a rule's paths, and the output for what it lets through
-abbrev pub walk_rule : Settings → Kind → Shape → StateName → Option Shape → List Walked
-walk_rule settings kind input next None = breaks (codes "Choices") PathMayBeMissing
-walk_rule settings kind input next (Some s) = walk_chosen settings kind input (codes "Choices") next s
+abbrev pub walk_rule : Settings → Kind → Shape → StateName → Result Shape DoubtfulPath → List Walked
+walk_rule settings kind input next (Ok s) = walk_chosen settings kind input (codes "Choices") next s
+walk_rule settings kind input next (Err doubtful) = breaks_missing (codes "Choices") doubtful
 
 -- each rule is taken on the whole effective input
 abbrev pub walk_rules : Settings → Kind → Shape → List Rule → Shape → List Walked
@@ -168,7 +173,7 @@ walk_work settings Succeed entry s = walk_then (to_end (codes "Type")) (leave se
 walk_work settings (Fail error cause) entry s = []
 walk_work settings (Parallel branches) entry s = to_branches branches s
 walk_work settings (Map items selector processor) entry s =
-    walk_items (walk_elements settings (Map items selector processor) entry selector processor s) (look items s)
+    walk_items (walk_elements settings (Map items selector processor) entry selector processor s) (found items s)
 
 -- what needs no effective input, by the state's type: a result that is a literal, given by the task, or the list of
 -- what stands at the branches' ends

@@ -3,6 +3,7 @@
 use Rattle.std.specs.Prelude.{ℕ, suc, ◌==◌, List, [], ◌∷◌, ◌++◌, length, map, Bool, true, false, ◌&&◌, ◌||◌, not}
 use Rattle.std.specs.Prelude.{Option, Some, None, Result, Ok, Err, Contains, is_some, is_none, codes, if◌then◌else◌}
 use Rattle.asl_model.specs.Names.{StateName, FieldName}
+use Rattle.asl_model.specs.Tree.{Tree}
 use Rattle.asl_model.specs.Path.{Segment}
 use Rattle.asl_model.specs.Template.{Template}
 use Rattle.asl_model.specs.Test.{Rule}
@@ -12,10 +13,12 @@ use Rattle.asl_model.specs.Machine.{Task, Choice, Wait, Succeed, Fail, Parallel,
 use Rattle.asl_model.specs.Machine.{AndScope, start_of, is_task, names_state, names_task}
 use Rattle.asl_model.specs.Shape.{Shape, Never, StringShape, ArrayShape, ObjectShape, Arrays, WithoutArrays, ArraysOf}
 use Rattle.asl_model.specs.Shape.{Shapes, NoShapes, AndShape, NoFieldShapes, AndFieldShape, inhabited}
-use Rattle.asl_model.specs.ShapeOrder.{sub, join, joined_with_each}
-use Rattle.asl_model.specs.ShapeFlow.{look, put, literal, arrays_alone, is_integer_shape, is_string_shape}
+use Rattle.asl_model.specs.ShapeOrder.{join, joined_with_each}
+use Rattle.asl_model.specs.Examples.{outside}
+use Rattle.asl_model.specs.ShapeFlow.{found, put, literal, arrays_alone, is_integer_shape, is_string_shape}
 use Rattle.asl_model.specs.ShapeFlow.{template_shape, rule_shape, is_settled, leave, Flow, FlowFault, MissingAt}
-use Rattle.asl_model.specs.ShapeFlow.{FailsAt, MisfitAt, flow_then, through_path, through_template, template_flow}
+use Rattle.asl_model.specs.ShapeFlow.{DoubtfulPath, FailsAt, MisfitAt, flow_then, through_path, through_template, template_flow}
+use Rattle.asl_model.specs.Missing.{counterexample}
 use Rattle.asl_model.specs.Certificate.{TaskShapes, Declared, StateShapes, Certificate, under, certified}
 use Rattle.asl_model.specs.Certificate.{branches_in, is_map, branch_end, item_end, takes_of, gives_of}
 
@@ -52,36 +55,73 @@ pub data FindingFault : Type 0 where
   -- what a catcher hands on isn't inside the next state's input
   CatchInput : FindingFault
 
--- a broken rule of a state: the state's field, and the fault
+-- a tree shows a rule with that fault to be broken: one that flows and lacks the shape compared with, or in which a path
+-- names nothing
+abbrev pub has_example : FindingFault → Bool
+has_example NotCertified = false
+has_example NotAState = false
+has_example TaskUndeclared = false
+has_example TaskUnknown = false
+has_example StartInput = true
+has_example PathMayBeMissing = true
+has_example WrongKind = false
+has_example ResultMayNotFit = false
+has_example IntrinsicMayFail = false
+has_example NoDefault = false
+has_example PayloadNotTaken = true
+has_example OutputNotCertified = true
+has_example NextInput = true
+has_example ScopeOutput = true
+has_example BranchInput = true
+has_example CatchInput = true
+
+-- a broken rule of a state: the state's field, the fault, and for a comparison or a path a tree that shows it
 pub record Breach : Type 0 where
   pub field : FieldName
   pub fault : FindingFault
+  pub example : Option Tree
 
 -- a broken rule, with the name of its state (or of the entry that names none)
 pub record Finding : Type 0 where
   pub state : StateName
   pub field : FieldName
   pub fault : FindingFault
+  pub example : Option Tree
 
 -- the breaches as findings of the state of that name
 abbrev pub found_at : StateName → List Breach → List Finding
-found_at n breaches = map (λ (b : Breach). record { state = n; field = b.field; fault = b.fault }) breaches
+found_at n breaches =
+    map (λ (b : Breach). record { state = n; field = b.field; fault = b.fault; example = b.example }) breaches
+
+-- the breach, which no tree shows
+abbrev pub plain_breach : FieldName → FindingFault → Breach
+plain_breach field fault = record { field = field; fault = fault; example = None }
 
 -- the breach, unless the test holds
 abbrev pub breach_unless : Bool → FieldName → FindingFault → List Breach
 breach_unless true field fault = []
-breach_unless false field fault = record { field = field; fault = fault } ∷ []
+breach_unless false field fault = plain_breach field fault ∷ []
 
--- a comparison of what flows with what is certified, passed over where nothing is
+-- the breach that a tree shows, if there is one
+abbrev pub breach_shown : FieldName → FindingFault → Option Tree → List Breach
+breach_shown field fault None = []
+breach_shown field fault (Some t) = record { field = field; fault = fault; example = Some t } ∷ []
+
+-- A comparison of what flows with what is certified, passed over where nothing is: a tree outside shows the breach.
 abbrev pub breach_unless_sub : FieldName → FindingFault → Shape → Option Shape → List Breach
 breach_unless_sub field fault s None = []
-breach_unless_sub field fault s (Some expected) = breach_unless (sub s expected) field fault
+breach_unless_sub field fault s (Some expected) = breach_shown field fault (outside s expected)
+
+-- a path of the field is doubtful: a tree in which it names nothing shows the breach
+abbrev pub missing_breach : FieldName → DoubtfulPath → Breach
+missing_breach field doubtful =
+    record { field = field; fault = PathMayBeMissing; example = counterexample doubtful }
 
 -- what may stop a flow, as a broken rule
 abbrev pub breach_of : FlowFault → Breach
-breach_of (MissingAt field) = record { field = field; fault = PathMayBeMissing }
-breach_of (FailsAt field) = record { field = field; fault = IntrinsicMayFail }
-breach_of (MisfitAt field) = record { field = field; fault = ResultMayNotFit }
+breach_of (MissingAt field doubtful) = missing_breach field doubtful
+breach_of (FailsAt field) = plain_breach field IntrinsicMayFail
+breach_of (MisfitAt field) = plain_breach field ResultMayNotFit
 
 -- goes on with the shape, or tells what may stop it
 abbrev pub breaches_then : (Shape → List Breach) → Flow → List Breach
@@ -158,16 +198,16 @@ output_breaches inputs certified_output end (Some next) output =
     next_breaches inputs certified_output (codes "Next") next output
 
 -- what a path names is of the kind that its field wants
-abbrev pub kind_breaches : FieldName → (Shape → Bool) → Result Shape ℕ → List Breach
+abbrev pub kind_breaches : FieldName → (Shape → Bool) → Result Shape DoubtfulPath → List Breach
 kind_breaches field test (Ok s) = breach_unless (test s) field WrongKind
-kind_breaches field test (Err at) = breach_unless false field PathMayBeMissing
+kind_breaches field test (Err doubtful) = missing_breach field doubtful ∷ []
 
 -- `SecondsPath` and `TimestampPath`
 abbrev pub delay_breaches : Delay → Shape → List Breach
 delay_breaches (Seconds n) s = []
-delay_breaches (SecondsPath path) s = kind_breaches (codes "SecondsPath") is_integer_shape (look path s)
+delay_breaches (SecondsPath path) s = kind_breaches (codes "SecondsPath") is_integer_shape (found path s)
 delay_breaches (Timestamp t) s = []
-delay_breaches (TimestampPath path) s = kind_breaches (codes "TimestampPath") is_string_shape (look path s)
+delay_breaches (TimestampPath path) s = kind_breaches (codes "TimestampPath") is_string_shape (found path s)
 
 -- a child's input, compared with that of its start state
 abbrev pub child_breaches : (StateName → Option Shape) → FieldName → Scope → Shape → List Breach
@@ -221,9 +261,9 @@ with_elements go_on None = breach_unless false (codes "ItemsPath") WrongKind
 with_elements go_on (Some elements) = go_on elements
 
 -- goes on with the shapes of the elements, or tells that the path may name nothing
-abbrev pub with_items : (Shapes × Shape → List Breach) → Result Shape ℕ → List Breach
+abbrev pub with_items : (Shapes × Shape → List Breach) → Result Shape DoubtfulPath → List Breach
 with_items go_on (Ok s) = with_elements go_on (array_parts s)
-with_items go_on (Err at) = breach_unless false (codes "ItemsPath") PathMayBeMissing
+with_items go_on (Err doubtful) = missing_breach (codes "ItemsPath") doubtful ∷ []
 
 -- Choices
 
@@ -234,9 +274,9 @@ chosen_breaches around settings kind field next s =
     (leave settings kind around.entry.input s)
 
 -- a rule's paths, and the output for what it lets through
-abbrev pub rule_breaches : Surroundings → Settings → Kind → StateName → Option Shape → List Breach
-rule_breaches around settings kind next None = breach_unless false (codes "Choices") PathMayBeMissing
-rule_breaches around settings kind next (Some s) = chosen_breaches around settings kind (codes "Choices") next s
+abbrev pub rule_breaches : Surroundings → Settings → Kind → StateName → Result Shape DoubtfulPath → List Breach
+rule_breaches around settings kind next (Ok s) = chosen_breaches around settings kind (codes "Choices") next s
+rule_breaches around settings kind next (Err doubtful) = missing_breach (codes "Choices") doubtful ∷ []
 
 -- each rule is taken on the whole effective input
 abbrev pub rules_breaches : Surroundings → Settings → Kind → List Rule → Shape → List Breach
@@ -310,7 +350,7 @@ work_breaches around settings (Parallel branches) s = branch_breaches around.inp
 work_breaches around settings (Map items selector processor) s =
     with_items (λ elements. breaches_then (child_breaches around.inputs (codes "ItemProcessor") processor)
     (item_flow selector s (element_shape elements.0 elements.1))
-    ++ map_breaches around settings (Map items selector processor) around.entry.item elements) (look items s)
+    ++ map_breaches around settings (Map items selector processor) around.entry.item elements) (found items s)
 
 -- the rules that need no effective input, by the state's type: on a result that is a literal, declared of the task or
 -- certified of the branches

@@ -1,24 +1,27 @@
--- The rules of a certificate, one by one, and what breaks each: a finding stands where the rule with its fault is
--- broken at its state and field, whatever other findings stand. The rules are the profile's own; the shapes are those
--- of ShapeFlow and ShapeOrder. The list of all findings that a checker computes is in Finding, and holds exactly these.
+-- The rules of a certificate, one by one, and what breaks each, whatever other rules are broken: a comparison and a
+-- path are broken by a tree that shows it. The rules are the profile's own; the shapes are those of ShapeFlow. The list
+-- of all findings that a checker computes is in Finding: each of them is broken here, and what is broken here is listed
+-- there, with some tree.
 use Rattle.std.specs.Prelude.{◌≡◌, ℕ, zero, suc, List, Bool, IsTrue, IsFalse, Option}
 use Rattle.std.specs.Prelude.{Some, None, Ok, Err, Contains, codes, ◌↔◌}
 use Rattle.asl_model.specs.Names.{StateName, FieldName, Bytes}
 use Rattle.asl_model.specs.Path.{Segment}
 use Rattle.asl_model.specs.Tree.{Tree}
-use Rattle.asl_model.specs.Intrinsic.{Reference, Call}
+use Rattle.asl_model.specs.Intrinsic.{Reference, InInput, ItemIndex, InItem, Call}
 use Rattle.asl_model.specs.Template.{Template, FromPath, FromCall, ArrayTemplate, ObjectTemplate}
 use Rattle.asl_model.specs.Template.{Templates, AndTemplate, FieldTemplates, AndFieldTemplate}
-use Rattle.asl_model.specs.Test.{Rule}
+use Rattle.asl_model.specs.Test.{Test, And, Or, Not, Compare, StringMatches, IsOfKind, Tests, AndTest, Comparison}
+use Rattle.asl_model.specs.Test.{Operand, AtPath, PatternPart, ValueKind, Rule}
 use Rattle.asl_model.specs.Machine.{Catcher, Settings, Delay, SecondsPath, TimestampPath, Scope, States}
 use Rattle.asl_model.specs.Machine.{AndState, State, StateOf, Kind, Pass, Task, Choice, Wait, Succeed}
 use Rattle.asl_model.specs.Machine.{Parallel, Map, Scopes, AndScope, start_of, states_of}
 use Rattle.asl_model.specs.Shape.{Shape, Never, ArrayShape, Shapes, inhabited}
-use Rattle.asl_model.specs.ShapeOrder.{sub}
+use Rattle.asl_model.specs.Examples.{IsOutside}
 use Rattle.asl_model.specs.ShapeFlow.{is_integer_shape, is_string_shape}
-use Rattle.asl_model.specs.ShapeFlow.{look, put, literal, reference_shape, call_shape, Doubt, MayFail}
-use Rattle.asl_model.specs.ShapeFlow.{MayBeMissing, is_array_shape, rule_shape, is_settled, through_path}
+use Rattle.asl_model.specs.ShapeFlow.{look, put, literal, call_shape}
+use Rattle.asl_model.specs.ShapeFlow.{is_array_shape, rule_shape, is_settled, through_path}
 use Rattle.asl_model.specs.ShapeFlow.{through_template, through_placing, WithResult, WithInput, leaving, leave}
+use Rattle.asl_model.specs.Missing.{IsMissing}
 use Rattle.asl_model.specs.Certificate.{TaskShapes, Declared, StateShapes, Certificate, HasEntry, under}
 use Rattle.asl_model.specs.Certificate.{certified, branch_end, item_end, takes_of, gives_of}
 use Rattle.asl_model.specs.Finding.{FindingFault, NotCertified, NotAState, TaskUndeclared, TaskUnknown, StartInput}
@@ -108,7 +111,7 @@ pub data Makes (around : Surroundings) (settings : Settings) : Kind → Shape �
   makes_answer : {resource : Bytes}
       → Makes around settings (Task resource) (gives_of around.declared around.name) (next_target settings.next)
   lets_through : {rules : List Rule} {default : Option StateName} {rule : Rule} {s u : Shape}
-      → IsEffective around settings s → Contains rules rule → rule_shape rule.test s ≡ Some u
+      → IsEffective around settings s → Contains rules rule → rule_shape rule.test s ≡ Ok u
       → Makes around settings (Choice rules default) u (ToState (codes "Choices") rule.next)
   lets_default : {rules : List Rule} {next : StateName} {s : Shape} → IsEffective around settings s
       → Makes around settings (Choice rules (Some next)) s (ToState (codes "Default") next)
@@ -183,30 +186,59 @@ pub data Evaluates (around : Surroundings) (settings : Settings) : Kind → Fiel
       → Evaluates around settings kind (codes "ResultSelector") template made None
 
 mutual
-  -- a template may have no value on trees of that shape with an item of the other: at some place a path may name
-  -- nothing, or a call may fail
-  pub data HasDoubt (input : Shape) (item : Option Shape) : Template → Doubt → Type 0 where
-    path_is_doubtful : {reference : Reference} {doubt : Doubt} → reference_shape reference input item ≡ Err doubt
-        → HasDoubt input item (FromPath reference) doubt
-    call_is_doubtful : {call : Call} → call_shape call input item ≡ None → HasDoubt input item (FromCall call) MayFail
-    doubt_in_array : {elements : Templates} {doubt : Doubt} → HaveDoubt input item elements doubt
-        → HasDoubt input item (ArrayTemplate elements) doubt
-    doubt_in_object : {fields : FieldTemplates} {doubt : Doubt} → HasFieldDoubt input item fields doubt
-        → HasDoubt input item (ObjectTemplate fields) doubt
+  -- a part of a template: itself, or one inside its elements or fields
+  pub data IsPart (part : Template) : Template → Type 0 where
+    is_whole : IsPart part part
+    is_in_array : {elements : Templates} → IsAmongElements part elements → IsPart part (ArrayTemplate elements)
+    is_in_object : {fields : FieldTemplates} → IsAmongFields part fields → IsPart part (ObjectTemplate fields)
 
-  -- so for one of the elements
-  pub data HaveDoubt (input : Shape) (item : Option Shape) : Templates → Doubt → Type 0 where
-    doubt_in_element : {template : Template} {others : Templates} {doubt : Doubt} → HasDoubt input item template doubt
-        → HaveDoubt input item (AndTemplate template others) doubt
-    doubt_in_later : {template : Template} {others : Templates} {doubt : Doubt} → HaveDoubt input item others doubt
-        → HaveDoubt input item (AndTemplate template others) doubt
+  -- so of one of the elements
+  pub data IsAmongElements (part : Template) : Templates → Type 0 where
+    is_in_element : {template : Template} {others : Templates} → IsPart part template
+        → IsAmongElements part (AndTemplate template others)
+    is_in_later : {template : Template} {others : Templates} → IsAmongElements part others
+        → IsAmongElements part (AndTemplate template others)
 
-  -- so for one of the fields
-  pub data HasFieldDoubt (input : Shape) (item : Option Shape) : FieldTemplates → Doubt → Type 0 where
-    doubt_in_field : {m : FieldName} {template : Template} {others : FieldTemplates} {doubt : Doubt}
-        → HasDoubt input item template doubt → HasFieldDoubt input item (AndFieldTemplate m template others) doubt
-    doubt_in_later_field : {m : FieldName} {template : Template} {others : FieldTemplates} {doubt : Doubt}
-        → HasFieldDoubt input item others doubt → HasFieldDoubt input item (AndFieldTemplate m template others) doubt
+  -- so of one of the fields
+  pub data IsAmongFields (part : Template) : FieldTemplates → Type 0 where
+    is_in_field : {m : FieldName} {template : Template} {others : FieldTemplates} → IsPart part template
+        → IsAmongFields part (AndFieldTemplate m template others)
+    is_in_later_field : {m : FieldName} {template : Template} {others : FieldTemplates} → IsAmongFields part others
+        → IsAmongFields part (AndFieldTemplate m template others)
+
+-- the reference goes by that path into trees of that shape: those of the template's input, or of the item
+pub data GoesInto (input : Shape) (item : Option Shape) : Reference → List Segment → Shape → Type 0 where
+  goes_into_input : {path : List Segment} → GoesInto input item (InInput path) path input
+  goes_into_item : {path : List Segment} {s : Shape} → item ≡ Some s → GoesInto input item (InItem path) path s
+
+-- the part of a template may fail on trees of that shape with an item of the other: a call, or a reference to an item
+-- where there is none
+pub data IsUnsure (input : Shape) (item : Option Shape) : Template → Type 0 where
+  call_is_unsure : {call : Call} → call_shape call input item ≡ None → IsUnsure input item (FromCall call)
+  item_is_unsure : {path : List Segment} → item ≡ None → IsUnsure input item (FromPath (InItem path))
+  index_is_unsure : item ≡ None → IsUnsure input item (FromPath ItemIndex)
+
+-- A test, evaluated on trees of that shape, looks that path up in trees of the other: those of the first, but in the
+-- later tests of an `And` those that the tests before let through.
+pub data LooksUpIn : Test → Shape → List Segment → Shape → Type 0 where
+  in_comparison : {path : List Segment} {comparison : Comparison} {operand : Operand} {s : Shape}
+      → LooksUpIn (Compare path comparison operand) s path s
+  in_operand : {path other : List Segment} {comparison : Comparison} {s : Shape}
+      → LooksUpIn (Compare path comparison (AtPath other)) s other s
+  in_string_matches : {path : List Segment} {pattern : List PatternPart} {s : Shape}
+      → LooksUpIn (StringMatches path pattern) s path s
+  in_kind_test : {path : List Segment} {kind : ValueKind} {expected : Bool} {s : Shape}
+      → LooksUpIn (IsOfKind path kind expected) s path s
+  in_not : {test : Test} {s u : Shape} {path : List Segment} → LooksUpIn test s path u → LooksUpIn (Not test) s path u
+  in_first_of_or : {test : Test} {others : Tests} {s u : Shape} {path : List Segment} → LooksUpIn test s path u
+      → LooksUpIn (Or (AndTest test others)) s path u
+  in_later_of_or : {test : Test} {others : Tests} {s u : Shape} {path : List Segment} → LooksUpIn (Or others) s path u
+      → LooksUpIn (Or (AndTest test others)) s path u
+  in_first_of_and : {test : Test} {others : Tests} {s u : Shape} {path : List Segment} → LooksUpIn test s path u
+      → LooksUpIn (And (AndTest test others)) s path u
+  in_later_of_and : {test : Test} {others : Tests} {s narrowed u : Shape} {path : List Segment}
+      → rule_shape test s ≡ Ok narrowed → IsTrue (inhabited narrowed) → LooksUpIn (And others) narrowed path u
+      → LooksUpIn (And (AndTest test others)) s path u
 
 -- a tree of that shape is placed in the raw input, at the path in that field: a result, or a catcher's error output
 pub data Puts (around : Surroundings) (settings : Settings) (kind : Kind) : FieldName → List Segment → Shape →
@@ -229,65 +261,68 @@ pub data Starts (around : Surroundings) (settings : Settings) : Kind → FieldNa
 
 -- ---- the rules on what flows
 
--- A rule is broken in a state whose entry has an input with trees: the field, and the fault.
+-- A rule is broken in a state whose entry has an input with trees: the field, the fault, and the tree that shows it,
+-- where one does.
 pub data BreaksFlow (around : Surroundings) (settings : Settings) (kind : Kind) : FieldName → FindingFault →
-    Type 0 where
-  -- a path may name nothing: in a field, in a template, in a rule of a Choice
-  path_may_be_missing : {field : FieldName} {path : List Segment} {s : Shape} {at : ℕ}
-      → LooksUp around settings kind field path s → look path s ≡ Err at
-      → BreaksFlow around settings kind field PathMayBeMissing
+    Option Tree → Type 0 where
+  -- a path names nothing in a tree that it is looked up in: in a field, in a template, in a rule of a Choice
+  path_may_be_missing : {field : FieldName} {path : List Segment} {s : Shape} {t : Tree}
+      → LooksUp around settings kind field path s → IsMissing path s t
+      → BreaksFlow around settings kind field PathMayBeMissing (Some t)
   template_may_be_missing : {field : FieldName} {template : Template} {input : Shape} {item : Option Shape}
+      {reference : Reference} {path : List Segment} {s : Shape} {t : Tree}
       → Evaluates around settings kind field template input item → IsTrue (inhabited input)
-      → HasDoubt input item template MayBeMissing
-      → BreaksFlow around settings kind field PathMayBeMissing
-  rule_may_be_missing : {rules : List Rule} {default : Option StateName} {rule : Rule} {s : Shape}
+      → IsPart (FromPath reference) template → GoesInto input item reference path s → IsMissing path s t
+      → BreaksFlow around settings kind field PathMayBeMissing (Some t)
+  rule_may_be_missing : {rules : List Rule} {default : Option StateName} {rule : Rule} {s u : Shape}
+      {path : List Segment} {t : Tree}
       → kind ≡ Choice rules default → IsEffective around settings s → Contains rules rule
-      → rule_shape rule.test s ≡ None
-      → BreaksFlow around settings kind (codes "Choices") PathMayBeMissing
+      → LooksUpIn rule.test s path u → IsMissing path u t
+      → BreaksFlow around settings kind (codes "Choices") PathMayBeMissing (Some t)
   -- what a path names isn't of the kind that its field wants
   may_be_of_wrong_kind : {field : FieldName} {path : List Segment} {test : Shape → Bool} {s t : Shape}
       → IsEffective around settings s → Wants kind field path test → look path s ≡ Ok t → IsFalse (test t)
-      → BreaksFlow around settings kind field WrongKind
+      → BreaksFlow around settings kind field WrongKind None
   -- what is placed may not fit
   may_not_fit : {field : FieldName} {path : List Segment} {s : Shape} {at : ℕ}
       → Puts around settings kind field path s → put path s around.entry.input ≡ Err at
-      → BreaksFlow around settings kind field ResultMayNotFit
+      → BreaksFlow around settings kind field ResultMayNotFit None
   -- a call in a template may fail
-  may_fail : {field : FieldName} {template : Template} {input : Shape} {item : Option Shape}
+  may_fail : {field : FieldName} {template part : Template} {input : Shape} {item : Option Shape}
       → Evaluates around settings kind field template input item → IsTrue (inhabited input)
-      → HasDoubt input item template MayFail
-      → BreaksFlow around settings kind field IntrinsicMayFail
+      → IsPart part template → IsUnsure input item part
+      → BreaksFlow around settings kind field IntrinsicMayFail None
   -- a Choice has no `Default`, and no two of its rules stand for one
   has_no_default : {rules : List Rule} {s : Shape} → kind ≡ Choice rules None → IsEffective around settings s
       → IsFalse (is_settled rules s)
-      → BreaksFlow around settings kind (codes "Default") NoDefault
+      → BreaksFlow around settings kind (codes "Default") NoDefault None
   -- the payload isn't inside what the task takes
-  payload_is_not_taken : {resource : Bytes} {s : Shape} → kind ≡ Task resource → IsEffective around settings s
-      → IsFalse (sub s (takes_of around.declared around.name))
-      → BreaksFlow around settings kind (codes "Parameters") PayloadNotTaken
+  payload_is_not_taken : {resource : Bytes} {s : Shape} {t : Tree} → kind ≡ Task resource
+      → IsEffective around settings s → IsOutside s (takes_of around.declared around.name) t
+      → BreaksFlow around settings kind (codes "Parameters") PayloadNotTaken (Some t)
   -- the output isn't inside the state's own
-  output_is_not_certified : {output : Shape} {target : Target} → Leaves around settings kind output target
-      → IsFalse (sub output around.entry.output)
-      → BreaksFlow around settings kind (codes "OutputPath") OutputNotCertified
+  output_is_not_certified : {output : Shape} {target : Target} {t : Tree}
+      → Leaves around settings kind output target → IsOutside output around.entry.output t
+      → BreaksFlow around settings kind (codes "OutputPath") OutputNotCertified (Some t)
   -- the output isn't inside the next state's input
-  is_no_next_input : {output expected : Shape} {field : FieldName} {next : StateName}
+  is_no_next_input : {output expected : Shape} {field : FieldName} {next : StateName} {t : Tree}
       → Leaves around settings kind output (ToState field next) → around.inputs next ≡ Some expected
-      → IsFalse (sub output expected)
-      → BreaksFlow around settings kind field NextInput
+      → IsOutside output expected t
+      → BreaksFlow around settings kind field NextInput (Some t)
   -- the output isn't inside what is certified of the scope's end
-  is_no_scope_output : {output expected : Shape} {field : FieldName}
-      → Leaves around settings kind output (ToEnd field) → around.end ≡ Some expected → IsFalse (sub output expected)
-      → BreaksFlow around settings kind field ScopeOutput
+  is_no_scope_output : {output expected : Shape} {field : FieldName} {t : Tree}
+      → Leaves around settings kind output (ToEnd field) → around.end ≡ Some expected → IsOutside output expected t
+      → BreaksFlow around settings kind field ScopeOutput (Some t)
   -- a child's input isn't inside its start state's
-  is_no_branch_input : {field : FieldName} {child : Scope} {s expected : Shape}
+  is_no_branch_input : {field : FieldName} {child : Scope} {s expected : Shape} {t : Tree}
       → Starts around settings kind field child s → around.inputs (start_of child) ≡ Some expected
-      → IsFalse (sub s expected)
-      → BreaksFlow around settings kind field BranchInput
+      → IsOutside s expected t
+      → BreaksFlow around settings kind field BranchInput (Some t)
   -- what a catcher hands on isn't inside the next state's input
-  is_no_catch_input : {catcher : Catcher} {s expected : Shape} → Contains settings.catchers catcher
+  is_no_catch_input : {catcher : Catcher} {s expected : Shape} {t : Tree} → Contains settings.catchers catcher
       → error_placed_shape catcher.result_path around.entry.input ≡ Ok s → around.inputs catcher.next ≡ Some expected
-      → IsFalse (sub s expected)
-      → BreaksFlow around settings kind (codes "Catch") CatchInput
+      → IsOutside s expected t
+      → BreaksFlow around settings kind (codes "Catch") CatchInput (Some t)
 
 -- ---- all rules
 
@@ -297,29 +332,30 @@ pub data IsBroken (machine : Scope) (declared : Declared) (certificate : Certifi
   -- a state has no entry of the right form
   is_not_certified : {n : StateName} {settings : Settings} {kind : Kind} {end : Option Shape}
       → HasState machine certificate n settings kind end → (HasEntry certificate n kind → ⊥)
-      → IsBroken machine declared certificate (record { state = n; field = codes "states"; fault = NotCertified })
+      → IsBroken machine declared certificate (record { state = n; field = codes "states"; fault = NotCertified; example = None })
   -- an entry names no state
   is_not_a_state : {entry : StateName × StateShapes} → Contains certificate.states entry
       → ((settings : Settings) (kind : Kind) (end : Option Shape)
       → HasState machine certificate entry.0 settings kind end → ⊥)
-      → IsBroken machine declared certificate (record { state = entry.0; field = codes "states"; fault = NotAState })
+      → IsBroken machine declared certificate (record { state = entry.0; field = codes "states"; fault = NotAState; example = None })
   -- a Task isn't declared
   is_undeclared : {n : StateName} {resource : Bytes} {settings : Settings} {end : Option Shape}
       → HasState machine certificate n settings (Task resource) end → under n declared.tasks ≡ None
-      → IsBroken machine declared certificate (record { state = n; field = codes "Resource"; fault = TaskUndeclared })
+      → IsBroken machine declared certificate (record { state = n; field = codes "Resource"; fault = TaskUndeclared; example = None })
   -- a declared task names no Task state
   is_unknown : {task : StateName × TaskShapes} → Contains declared.tasks task
       → ((settings : Settings) (resource : Bytes) (end : Option Shape)
       → HasState machine certificate task.0 settings (Task resource) end → ⊥)
-      → IsBroken machine declared certificate (record { state = task.0; field = codes "tasks"; fault = TaskUnknown })
+      → IsBroken machine declared certificate (record { state = task.0; field = codes "tasks"; fault = TaskUnknown; example = None })
   -- the declared input isn't inside the start state's
-  is_no_start_input : {expected : Shape} → IsCompared machine certificate (start_of machine) expected
-      → IsFalse (sub declared.input expected)
+  is_no_start_input : {expected : Shape} {t : Tree} → IsCompared machine certificate (start_of machine) expected
+      → IsOutside declared.input expected t
       → IsBroken machine declared certificate
-      (record { state = start_of machine; field = codes "StartAt"; fault = StartInput })
+      (record { state = start_of machine; field = codes "StartAt"; fault = StartInput; example = Some t })
   -- a rule on what flows is broken in a state whose entry has an input with trees
   is_broken_in_flow : {around : Surroundings} {settings : Settings} {kind : Kind} {field : FieldName}
-      {fault : FindingFault}
+      {fault : FindingFault} {example : Option Tree}
       → IsSurrounded machine declared certificate settings kind around → IsTrue (inhabited around.entry.input)
-      → BreaksFlow around settings kind field fault
-      → IsBroken machine declared certificate (record { state = around.name; field = field; fault = fault })
+      → BreaksFlow around settings kind field fault example
+      → IsBroken machine declared certificate
+      (record { state = around.name; field = field; fault = fault; example = example })

@@ -57,7 +57,8 @@ pub record IsWidest (table : Table) (certificate : Certificate) : Type 0 where
 
 -- a broken rule of the state of that name, as a finding
 abbrev pub finding_of : StateName → Breach → Finding
-finding_of n breach = record { state = n; field = breach.field; fault = breach.fault }
+finding_of n breach =
+    record { state = n; field = breach.field; fault = breach.fault; example = breach.example }
 
 -- the rule is broken in a state of that name with that entry, whatever is certified of the states that follow, of its
 -- children's start states and of its scope's end

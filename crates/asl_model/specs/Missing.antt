@@ -5,7 +5,7 @@ use Rattle.asl_model.specs.Path.{Segment, Name, Index, named_by}
 use Rattle.asl_model.specs.Placing.{placed}
 use Rattle.asl_model.specs.Shape.{Shape, Any, OfKinds, WithoutArrays, WithoutObjects, Has, inhabited}
 use Rattle.asl_model.specs.Examples.{example}
-use Rattle.asl_model.specs.ShapeFlow.{part_at}
+use Rattle.asl_model.specs.ShapeFlow.{part_at, DoubtfulPath}
 
 -- the shape without the kind of trees that the segment goes into
 abbrev pub not_gone_into : Segment → Shape → Shape
@@ -33,6 +33,10 @@ missing_at (segment ∷ path) s = missing_behind (missing_at path) segment s (pa
 -- the same, None where the shape has no tree
 abbrev pub missing : List Segment → Shape → Option Tree
 missing path s = if inhabited s then missing_at path s else None
+
+-- the tree that shows a path to be doubtful
+abbrev pub counterexample : DoubtfulPath → Option Tree
+counterexample doubtful = missing doubtful.path doubtful.shape
 
 -- the tree has the shape, and the path names nothing in it
 pub record IsMissing (path : List Segment) (s : Shape) (t : Tree) : Type 0 where

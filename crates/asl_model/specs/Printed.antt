@@ -1,7 +1,8 @@
 -- What the program prints, with what status it ends, and which lines it reads (the profile's own formats).
 use Rattle.std.specs.Prelude.{ℕ, List, [], ◌∷◌, ◌++◌, length, ◌==◌, nat_lt, Bool, if◌then◌else◌, codes, decimal}
+use Rattle.std.specs.Prelude.{Option, Some, None}
 use Rattle.asl_model.specs.Names.{StateName, FieldName, Bytes}
-use Rattle.asl_model.specs.Tree.{Text}
+use Rattle.asl_model.specs.Tree.{Tree, Text}
 use Rattle.asl_model.specs.Json.{compact_text}
 use Rattle.asl_model.specs.Finding as finding
 use Rattle.asl_model.specs.Finding.{Finding, FindingFault}
@@ -42,11 +43,17 @@ finding_name finding.ScopeOutput = codes "ScopeOutput"
 finding_name finding.BranchInput = codes "BranchInput"
 finding_name finding.CatchInput = codes "CatchInput"
 
--- `no STATE FIELD FAULT`, the state's name as a JSON text
+-- a space and the example as a JSON text; nothing where there is none
+abbrev pub example_text : Option Tree → Bytes
+example_text None = []
+example_text (Some t) = codes " " ++ compact_text t
+
+-- `no STATE FIELD FAULT EXAMPLE`, the state's name and the example as JSON texts
 abbrev pub finding_line : Finding → Bytes
 finding_line f =
     codes "no "
-    ++ (quoted_name f.state ++ (codes " " ++ (f.field ++ (codes " " ++ (finding_name f.fault ++ line_break)))))
+    ++ (quoted_name f.state ++ (codes " " ++ (f.field ++ (codes " " ++ (finding_name f.fault
+    ++ (example_text f.example ++ line_break))))))
 
 -- a line for each finding
 abbrev pub finding_lines : List Finding → Bytes

@@ -85,6 +85,21 @@ look_at (segment ∷ path) s = through (look_at path) (part_at segment s)
 abbrev pub look : List Segment → Shape → Result Shape ℕ
 look path s = if inhabited s then look_at path s else Ok Never
 
+-- a path that may name nothing in trees of a shape, and the number of the first segment where that may be so
+pub record DoubtfulPath : Type 0 where
+  pub path : List Segment
+  pub segment : ℕ
+  pub shape : Shape
+
+-- what stands at the path in the shape; a refused segment makes the path a doubtful one
+abbrev pub or_doubtful : List Segment → Shape → Result Shape ℕ → Result Shape DoubtfulPath
+or_doubtful path s (Ok part) = Ok part
+or_doubtful path s (Err at) = Err (record { path = path; segment = at; shape = s })
+
+-- the shape of what a path names in every tree of a shape, unless the path is doubtful
+abbrev pub found : List Segment → Shape → Result Shape DoubtfulPath
+found path s = or_doubtful path s (look path s)
+
 -- Placing
 
 -- the shape of an object with one field, or the refusal
@@ -196,18 +211,18 @@ abbrev mutual
 
 -- why a template may have no value: a path may name nothing, or a call may fail
 pub data Doubt : Type 0 where
-  MayBeMissing : Doubt
+  MayBeMissing : DoubtfulPath → Doubt
   MayFail : Doubt
 
--- where a path's segment may name nothing, there is that doubt
-abbrev pub or_missing : Result Shape ℕ → Result Shape Doubt
+-- where a path is doubtful, there is that doubt
+abbrev pub or_missing : Result Shape DoubtfulPath → Result Shape Doubt
 or_missing (Ok s) = Ok s
-or_missing (Err at) = Err MayBeMissing
+or_missing (Err doubtful) = Err (MayBeMissing doubtful)
 
 -- the shape of the item's part that a path names; without an item that may fail
 abbrev pub item_part : List Segment → Option Shape → Result Shape Doubt
 item_part path None = Err MayFail
-item_part path (Some item) = or_missing (look path item)
+item_part path (Some item) = or_missing (found path item)
 
 -- the shape of the item's number
 abbrev pub index_part : Option Shape → Result Shape Doubt
@@ -216,7 +231,7 @@ index_part (Some item) = Ok IntegerShape
 
 -- the shape of what a reference names in the template's input and the item
 abbrev pub reference_shape : Reference → Shape → Option Shape → Result Shape Doubt
-reference_shape (InInput path) input item = or_missing (look path input)
+reference_shape (InInput path) input item = or_missing (found path input)
 reference_shape ItemIndex input item = index_part item
 reference_shape (InItem path) input item = item_part path item
 
@@ -452,69 +467,55 @@ not_of_kind kind (OfKinds simple arrays objects) = OfKinds (dropped kind simple)
 abbrev pub by_kind : ValueKind → Bool → Shape → Shape
 by_kind kind expected s = if expected then of_kind kind s else not_of_kind kind s
 
--- the shape that a placing gives, if it gives one
-abbrev pub if_placed : Result Shape ℕ → Option Shape
-if_placed (Ok s) = Some s
-if_placed (Err at) = None
+-- the shape with what the path names in it narrowed: Never where no tree is left there
+abbrev pub narrowed_at : List Segment → (Shape → Shape) → Shape → Result Shape DoubtfulPath → Result Shape DoubtfulPath
+narrowed_at path narrow s (Ok part) = or_doubtful path s (put path (narrow part) s)
+narrowed_at path narrow s (Err doubtful) = Err doubtful
 
--- the shape with what the path names in it narrowed: Never where no tree is left there; None: the path may name nothing
-abbrev pub narrowed_at : List Segment → (Shape → Shape) → Shape → Result Shape ℕ → Option Shape
-narrowed_at path narrow s (Ok part) = if_placed (put path (narrow part) s)
-narrowed_at path narrow s (Err at) = None
-
--- the shape as it is, unless a path may name nothing
-abbrev pub if_found : Result Shape ℕ → Shape → Option Shape
-if_found (Ok part) s = Some s
-if_found (Err at) s = None
-
--- the shape as it is, where both are found
-abbrev pub both_found : Result Shape ℕ → Result Shape ℕ → Shape → Option Shape
-both_found (Ok part) second s = if_found second s
-both_found (Err at) second s = None
+-- the second answer, where a shape is found first; else the path that is doubtful there
+abbrev pub where_found : Result Shape DoubtfulPath → Result Shape DoubtfulPath → Result Shape DoubtfulPath
+where_found (Ok part) answer = answer
+where_found (Err doubtful) answer = Err doubtful
 
 -- the shape of what a comparison's second value is
-abbrev pub operand_shape : Operand → Shape → Result Shape ℕ
+abbrev pub operand_shape : Operand → Shape → Result Shape DoubtfulPath
 operand_shape (Constant t) s = Ok (literal t)
-operand_shape (AtPath path) s = look path s
-
--- the shape, or none where a part's is none
-abbrev pub unless_none : Option Shape → Option Shape → Option Shape
-unless_none None s = None
-unless_none (Some part) s = s
+operand_shape (AtPath path) s = found path s
 
 -- goes on with a shape that has a tree, and with one that has none to Never
-abbrev pub where_inhabited : (Shape → Option Shape) → Shape → Option Shape
-where_inhabited go_on s = if inhabited s then go_on s else Some Never
+abbrev pub where_inhabited : (Shape → Result Shape DoubtfulPath) → Shape → Result Shape DoubtfulPath
+where_inhabited go_on s = if inhabited s then go_on s else Ok Never
 
--- goes on with the shape, where there is one
-abbrev pub narrowed_by : (Shape → Option Shape) → Option Shape → Option Shape
-narrowed_by go_on None = None
-narrowed_by go_on (Some s) = go_on s
+-- goes on with the shape, unless a path is doubtful
+abbrev pub narrowed_by : (Shape → Result Shape DoubtfulPath) → Result Shape DoubtfulPath → Result Shape DoubtfulPath
+narrowed_by go_on (Ok s) = go_on s
+narrowed_by go_on (Err doubtful) = Err doubtful
 
 abbrev mutual
-  -- the shape of the trees of a shape for which a test is true; None: a path of it may name nothing
-  pub true_of : Test → Shape → Option Shape
+  -- the shape of the trees of a shape for which a test is true, or the first of its paths that is doubtful
+  pub true_of : Test → Shape → Result Shape DoubtfulPath
   true_of (And tests) s = each_true_of tests s
-  true_of (Or tests) s = unless_none (each_found tests s) (Some s)
-  true_of (Not test) s = unless_none (true_of test s) (Some s)
-  true_of (Compare path comparison operand) s = both_found (look path s) (operand_shape operand s) s
-  true_of (StringMatches path pattern) s = if_found (look path s) s
-  true_of (IsOfKind path kind expected) s = narrowed_at path (by_kind kind expected) s (look path s)
-  true_of (IsPresent path expected) s = if expected then Some (where_present path s) else Some s
+  true_of (Or tests) s = where_found (each_found tests s) (Ok s)
+  true_of (Not test) s = where_found (true_of test s) (Ok s)
+  true_of (Compare path comparison operand) s =
+      where_found (found path s) (where_found (operand_shape operand s) (Ok s))
+  true_of (StringMatches path pattern) s = where_found (found path s) (Ok s)
+  true_of (IsOfKind path kind expected) s = narrowed_at path (by_kind kind expected) s (found path s)
+  true_of (IsPresent path expected) s = Ok (if expected then where_present path s else s)
 
   -- the narrowed shape goes from each test to the next, where it has a tree; else the tests that follow give Never
-  pub each_true_of : Tests → Shape → Option Shape
-  each_true_of NoTests s = Some s
+  pub each_true_of : Tests → Shape → Result Shape DoubtfulPath
+  each_true_of NoTests s = Ok s
   each_true_of (AndTest test others) s =
       narrowed_by (each_true_of others) (where_inhabited (true_of test) s)
 
-  -- the shape as it is, where no path of any of the tests may name nothing
-  pub each_found : Tests → Shape → Option Shape
-  each_found NoTests s = Some s
-  each_found (AndTest test others) s = unless_none (true_of test s) (each_found others s)
+  -- the shape as it is, where no path of any of the tests is doubtful
+  pub each_found : Tests → Shape → Result Shape DoubtfulPath
+  each_found NoTests s = Ok s
+  each_found (AndTest test others) s = where_found (true_of test s) (each_found others s)
 
--- the shape of the trees of a shape for which a rule is true; None: a path of it may name nothing
-abbrev pub rule_shape : Test → Shape → Option Shape
+-- the shape of the trees of a shape for which a rule is true, or the first of its paths that is doubtful
+abbrev pub rule_shape : Test → Shape → Result Shape DoubtfulPath
 rule_shape test s = where_inhabited (true_of test) s
 
 -- Rules that stand for a `Default`
@@ -603,7 +604,7 @@ is_settled rules s = some_asked_both_ways (asked rules s)
 
 -- why a state's output may not come about, each with the field of the state
 pub data FlowFault : Type 0 where
-  MissingAt : FieldName → FlowFault
+  MissingAt : FieldName → DoubtfulPath → FlowFault
   FailsAt : FieldName → FlowFault
   MisfitAt : FieldName → FlowFault
 
@@ -618,7 +619,7 @@ flow_then go_on (Err faults) = Err faults
 
 -- a template's doubt as a fault at its field
 abbrev pub doubt_fault : FieldName → Doubt → FlowFault
-doubt_fault field MayBeMissing = MissingAt field
+doubt_fault field (MayBeMissing doubtful) = MissingAt field doubtful
 doubt_fault field MayFail = FailsAt field
 
 -- all of a template's doubts as faults at its field
@@ -636,9 +637,9 @@ through_template field None s = Ok s
 through_template field (Some template) s = template_flow field (template_shape template s None)
 
 -- what the path names, or a fault at its field
-abbrev pub path_flow : FieldName → Result Shape ℕ → Flow
+abbrev pub path_flow : FieldName → Result Shape DoubtfulPath → Flow
 path_flow field (Ok s) = Ok s
-path_flow field (Err at) = Err (MissingAt field ∷ [])
+path_flow field (Err doubtful) = Err (MissingAt field doubtful ∷ [])
 
 -- the empty object, which `InputPath: null` and `OutputPath: null` give
 abbrev pub empty_object : Shape
@@ -647,7 +648,7 @@ empty_object = ObjectShape NoFieldShapes false
 -- `InputPath` and `OutputPath`: what the path names, and for null the empty object
 abbrev pub through_path : FieldName → Option (List Segment) → Shape → Flow
 through_path field None s = Ok (if inhabited s then empty_object else Never)
-through_path field (Some path) s = path_flow field (look path s)
+through_path field (Some path) s = path_flow field (found path s)
 
 -- what is placed, or a fault at its field
 abbrev pub placing_flow : FieldName → Result Shape ℕ → Flow

@@ -6,6 +6,7 @@ use Rattle.asl_model.specs.Tree.{comes_before}
 use Rattle.asl_model.specs.Machine.{Scope}
 use Rattle.asl_model.specs.Certificate.{Declared, Certificate}
 use Rattle.asl_model.specs.Finding.{Finding, findings, Stands}
+use Rattle.asl_model.specs.FindingRules.{IsBroken}
 
 -- yes, or the findings
 pub data Verdict : Type 0 where
@@ -26,13 +27,14 @@ AreInNameOrder (f ∷ fs) = IsTrue (before_next f.state fs) × AreInNameOrder fs
 abbrev pub TellsOf : List Finding → StateName → Type 0
 TellsOf told n = (f : Finding) × Contains told f × (f.state ≡ n)
 
--- the findings that are told: at least one, in the order of their names; each stands; each name with a broken rule has
--- one
+-- the findings that are told: at least one, in the order of their names; each stands, and its rule is broken, which its
+-- example shows where it has one; each name with a broken rule has one
 pub record IsTelling (machine : Scope) (declared : Declared) (certificate : Certificate) (told : List Finding) : Type 0
   where
     pub some : told ≢ []
     pub in_order : AreInNameOrder told
     pub standing : (f : Finding) → Contains told f → Stands machine declared certificate f
+    pub broken : (f : Finding) → Contains told f → IsBroken machine declared certificate f
     pub complete : (f : Finding) → Stands machine declared certificate f → TellsOf told f.state
 
 -- the verdict is right: yes where no rule is broken, no with such findings

@@ -1,7 +1,7 @@
 //! Laws about shapes: each is the contract of a public function with an empty body.
 
-ghost use Rattle.std.specs.Prelude.{◌≡◌, ◌↔◌, ℕ, Bool, IsTrue, List, [], None, Ok, Option, Some, is_ok};
-ghost use Rattle.std.specs.Prelude.{not};
+ghost use Rattle.std.specs.Prelude.{◌≡◌, ◌↔◌, ℕ, Bool, IsTrue, List, [], None, Ok, Option, Some, is_ok, is_some};
+ghost use Rattle.std.specs.Prelude.{IfSome, not};
 ghost use Rattle.asl_model.specs.Tree.{Tree, IsProper};
 ghost use Rattle.asl_model.specs.Path.{Segment, Names};
 ghost use Rattle.asl_model.specs.Placing.{Places};
@@ -18,8 +18,9 @@ ghost use Rattle.asl_model.specs.ShapeFlow.{look, put, ItemHas, template_shape, 
 ghost use Rattle.asl_model.specs.ShapeFlow.{leave, leaving, WithInput, WithResult};
 ghost use Rattle.asl_model.specs.Missing.{missing, IsMissing};
 ghost use Rattle.asl_model.specs.Certificate.{Certificate, Declared, StateShapes, IsClosed, gives_of};
+ghost use Rattle.asl_model.specs.RecordShapes.{HoldsForCertificate, HoldsForDeclared};
 ghost use Rattle.asl_model.specs.Edges.{breaches_along, destination_shapes, walk};
-ghost use Rattle.asl_model.specs.Finding.{Finding, Surroundings, findings, flow_breaches, Stands};
+ghost use Rattle.asl_model.specs.Finding.{Finding, has_example, Surroundings, findings, flow_breaches, Stands};
 ghost use Rattle.asl_model.specs.FindingRules.{IsBroken};
 
 /// The test of membership in a shape is true exactly where the tree is valid against it.
@@ -84,11 +85,16 @@ pub fn put_means_placed()
         → (u : Tree) × Places path x v u × Has r u }
 {}
 
-/// Joins and puts keep names in order.
+/// Joins and puts keep names in order, and so do templates, rules and a state's way out.
 pub fn names_stay_in_order()
     ensures join { (a b : Shape) → IsOrdered a → IsOrdered b → IsOrdered (join a b) }
     ensures put { (path : List Segment) (w s r : Shape) → IsOrdered w → IsOrdered s → put path w s ≡ Ok r
         → IsOrdered r }
+    ensures template { (template : Template) (input : Shape) (item : Option Shape) (r : Shape) → IsOrdered input
+        → IfSome item IsOrdered → template_shape template input item ≡ Ok r → IsOrdered r }
+    ensures rule { (test : Test) (s r : Shape) → IsOrdered s → rule_shape test s ≡ Ok r → IsOrdered r }
+    ensures output { (settings : Settings) (kind : Kind) (raw work r : Shape) → IsOrdered raw → IsOrdered work
+        → leave settings kind raw work ≡ Ok r → IsOrdered r }
 {}
 
 /// Where a template has a shape, it has a value of that shape for every tree of the input's shape and every item of
@@ -101,7 +107,7 @@ pub fn template_shape_means_a_value()
 
 /// Where a rule has a shape, its test is true or false of every tree, and each tree of which it is true has that shape.
 pub fn rule_shape_means_decided()
-    ensures decided { (test : Test) (s r : Shape) → rule_shape test s ≡ Some r → (v : Tree) → Has s v
+    ensures decided { (test : Test) (s r : Shape) → rule_shape test s ≡ Ok r → (v : Tree) → Has s v
         → (b : Bool) × (truth test v ≡ Some b) × (IsTrue b → Has r v) }
 {}
 
@@ -123,10 +129,18 @@ pub fn no_broken_rule_means_closed()
         → findings machine declared certificate ≡ [] → IsClosed declared certificate machine }
 {}
 
-/// The list of findings has a finding exactly where the rule with its fault is broken at its state and field.
+/// Each rule in the list of findings is broken, which its example shows where it has one: names stand in order in what is
+/// declared and certified. Each rule that is broken is in the list, with some example. A rule has one exactly where its
+/// fault is one that a tree shows.
 pub fn findings_are_exactly_the_broken_rules()
-    ensures exactly { (machine : Scope) (declared : Declared) (certificate : Certificate) (finding : Finding)
-        → IsBroken machine declared certificate finding ↔ Stands machine declared certificate finding }
+    ensures broken { (machine : Scope) (declared : Declared) (certificate : Certificate) (finding : Finding)
+        → HoldsForDeclared IsOrdered declared → HoldsForCertificate IsOrdered certificate
+        → Stands machine declared certificate finding → IsBroken machine declared certificate finding }
+    ensures listed { (machine : Scope) (declared : Declared) (certificate : Certificate) (finding : Finding)
+        → IsBroken machine declared certificate finding
+        → (example : Option Tree) × Stands machine declared certificate (record finding { example = example }) }
+    ensures shown { (machine : Scope) (declared : Declared) (certificate : Certificate) (finding : Finding)
+        → Stands machine declared certificate finding → is_some finding.example ≡ has_example finding.fault }
 {}
 
 /// The rules that are broken along the walk through a state are those that a checker may tell of what flows through it.
