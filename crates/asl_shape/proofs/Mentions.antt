@@ -25,10 +25,10 @@ named name = is_at (λ (k : String Global). slice_cmp nat_cmp name (string_bytes
 abbrev AllAbove : List ℕ → List Mention → Type 0
 AllAbove n ms = AllByRecursion (λ (k : String Global). slice_cmp nat_cmp n (string_bytes k) ≡ Less) (keys_of ms)
 
-not_equal : (n m : List ℕ) → is_eq (slice_cmp nat_cmp n m) ≡ false → bytes_eq m n ≡ false
+pub not_equal : (n m : List ℕ) → is_eq (slice_cmp nat_cmp n m) ≡ false → bytes_eq m n ≡ false
 not_equal n m apart = same_name n m ∙ apart
 
-equal_names : (n m : List ℕ) → slice_cmp nat_cmp n m ≡ Equal → n ≡ m
+pub equal_names : (n m : List ℕ) → slice_cmp nat_cmp n m ≡ Equal → n ≡ m
 equal_names n m e = (bytes_eq-Decides n m).0 (sym (is_eq-slice_cmp n m) ∙ ap is_eq e)
 
 above-without : (n : List ℕ) (ms : List Mention) → AllAbove n ms → without_mention n (fields_view ms) ≡ fields_view ms

@@ -1,4 +1,5 @@
 pub mod Adding
+pub mod Changes
 pub mod Kinds
 pub mod Known
 pub mod Level

@@ -3,24 +3,30 @@ ghost use Rattle.asl_model.specs.Shape as shape;
 ghost use Rattle.asl_model.specs.ShapeOrder as model;
 ghost use Rattle.asl_shape.specs.Kinds.{arrays_view, kinds_view, objects_view, simple_of};
 ghost use Rattle.asl_shape.specs.View.{view, shapes_view, fields_view};
-ghost use Rattle.std.specs.Prelude.{◌≡◌, ◌&&◌, ◌||◌, IsTrue, not};
+ghost use Rattle.std.specs.Prelude.{◌≡◌, ◌↔◌, ◌&&◌, ◌||◌, IsTrue, not};
 
 use crate::inhabiting::{all_inhabited, is_inhabited, needed_inhabited};
 use crate::kinds::{Arrays, Kinds, Objects, take_apart};
+use crate::properness::names_in_order;
 use crate::shape::{Field, Shape};
-use asl_model::shape_laws::sub_means_inside;
+use asl_model::shape_laws::{sub_is_exactly_inside, sub_means_inside};
 use std::collections::BTreeMap;
 
-/// Whether every tree of the first shape is seen to have the second: the second is `Any`, or takes all trees of each of
-/// the six kinds where the first is `Any`; or else, kind by kind, the first takes none of that kind or is inside the
-/// second part by part. Where it answers true, each tree of the first shape has the second; it may answer false although
-/// that is so.
+/// Whether every tree of the first shape has the second: the second is `Any`, or takes all trees of each of the six
+/// kinds where the first is `Any`; or else, kind by kind, the first takes none of that kind or is inside the second part
+/// by part. It answers false exactly where some tree of the first shape lacks the second ([`crate::outside`] makes one).
+/// It takes no memory.
 pub fn sub(inner: &Shape, outer: &Shape) -> bool
     ensures as_defined { result ≡ model.sub (view inner.now) (view outer.now) }
-    ensures inside { IsTrue result → shape.Inside (view inner.now) (view outer.now) }
+    ensures exactly { IsTrue result ↔ shape.Inside (view inner.now) (view outer.now) }
 {
     sub_means_inside();
-    is_sub(inner, outer)
+    sub_is_exactly_inside();
+    if is_sub(inner, outer) {
+        return true;
+    }
+    names_in_order(inner);
+    false
 }
 
 #[cycle(sub)]

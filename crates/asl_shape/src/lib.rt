@@ -3,10 +3,11 @@
 //! A [`Shape`] says which trees are meant (a subset of JSON Schema 2020-12). [`read`] makes one of the tree that spells
 //! it, [`read_value`] of the JSON value that this tree is, [`read_level`] tells one [`Level`] of such a value;
 //! [`read_v1`] and [`read_value_v1`] refuse lists of types. [`has`] tests a tree, [`inhabited`] whether there is one at
-//! all, [`sub`] whether one shape is inside another, [`same`] whether they are equal. [`copy`] makes an equal shape,
-//! [`join`] one that two are inside, [`write`] the tree that spells it. [`write_kinds`] writes one level of a shape,
-//! where the trees of its parts are given. [`take_apart`] tells what a shape takes of each kind of tree, [`of_kinds`]
-//! makes a shape of that, and [`proper`] tests whether the shapes of several kinds in one are as they should be.
+//! all, [`sub`] whether one shape is inside another, [`same`] whether they are equal. [`example`] makes a tree of a
+//! shape, [`outside`] a tree of one shape that lacks another. [`copy`] makes an equal shape, [`join`] one that two are
+//! inside, [`write`] the tree that spells it. [`write_kinds`] writes one level of a shape, where the trees of its parts
+//! are given. [`take_apart`] tells what a shape takes of each kind of tree, [`of_kinds`] makes a shape of that, and
+//! [`proper`] tests whether the shapes of several kinds in one are as they should be.
 #![tactic(auto)]
 
 ghost use Rattle.std.specs.Prelude.{◌≡◌};
@@ -14,6 +15,7 @@ ghost use Rattle.std.specs.Prelude.{◌≡◌};
 mod comparing;
 mod copying;
 mod equality;
+mod examples;
 mod inhabiting;
 mod joining;
 mod kinds;
@@ -28,6 +30,7 @@ use asl_tree::OutOfMemory;
 pub use comparing::sub;
 pub use copying::copy;
 pub use equality::same;
+pub use examples::{example, outside};
 pub use inhabiting::inhabited;
 pub use joining::join;
 pub use kinds::{

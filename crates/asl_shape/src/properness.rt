@@ -34,6 +34,14 @@ fn is_well_formed(shape: &Shape) -> bool
     }
 }
 
+// Goes over the shape, so that it is known that its names are UTF-8 and stand in order.
+pub(crate) fn names_in_order(shape: &Shape)
+    ensures proper { model.IsProperShape (view shape.now) }
+    ensures ordered { model.IsOrdered (view shape.now) }
+{
+    let _ = is_well_formed(shape);
+}
+
 // Whether there are two parts or more, each of one kind, these in order, and each part is proper.
 #[cycle(proper)]
 fn parts_proper(parts: &[Shape]) -> bool
