@@ -7,11 +7,13 @@ use Rattle.std.proofs.lemmas.Bool.{cases_lt}
 use Rattle.std.proofs.lemmas.List.{append-nil, length-append}
 use Rattle.std.specs.BTreeMap.{is_at}
 use Rattle.std.specs.Map.{lookup}
-use Rattle.std.specs.Prelude.{IfOk}
+use Rattle.std.specs.Prelude.{IfOk, IsTrue, ◌↔◌}
 use Rattle.std.specs.String.{string_cmp}
 use Rattle.indexmap.specs.IndexMap.{insert_entry}
+use Rattle.asl_model.specs.Examples.{count_mentions}
 use Rattle.asl_model.specs.Shape as model
 use Rattle.asl_model.specs.Shape.{inhabited, some_simple, some_array, some_object, all_inhabited, needed_inhabited, mentions}
+use Rattle.asl_model.proofs.ShapeExample.{proper-ordered}
 use Rattle.asl_model.specs.ShapeOrder.{sub, simple_sub, arrays_sub, objects_sub, elements_sub, fields_sub, each_shape, others_never_there, mention_of, mention_fits, takes_all}
 use Rattle.asl_tree.specs.declared.OutOfMemory.{OutOfMemory}
 use Rattle.asl_shape.proofs.Lookups.{same_name, picked}
@@ -23,7 +25,7 @@ use Rattle.asl_numbered.specs.declared.node.NodeField.{NodeField}
 use Rattle.asl_numbered.specs.declared.pair.Pair.{Pair}
 use Rattle.asl_numbered.specs.declared.comparing.Task.{Task}
 use Rattle.asl_numbered.specs.declared.comparing.Task.TheVariants.{Compare, Conclude}
-use Rattle.asl_numbered.specs.Comparison.{inside, IsWithin, IsRight, AreRight, all_inside, AreEachStanding, AreEachOutside, AreOutside, count_mentions, count_shapes, array_parts, object_parts, count_parts, widest, cost, work, width, RestsOn, AreComparisons, PartsRestOn, place_tasks, AreGoing, with_field_task, field_tasks, mention_fits_in, mentions_fit_in, objects_fit_in}
+use Rattle.asl_numbered.specs.Comparison.{inside, IsWithin, IsRight, AreRight, all_inside, AreEachStanding, AreEachOutside, AreOutside, count_shapes, array_parts, object_parts, count_parts, widest, cost, work, width, RestsOn, AreComparisons, PartsRestOn, place_tasks, AreGoing, with_field_task, field_tasks, mention_fits_in, mentions_fit_in, objects_fit_in}
 use Rattle.asl_numbered.specs.Expansion.{shape_at, shapes_at, fields_at, expansions, numbers_in, AreBelow, Keeps}
 use Rattle.asl_numbered.specs.TakenApart.{simple_of, arrays_over, objects_over, kinds_over, AreArraysAt, AreObjectsAt, AreArraysIfAny, AreObjectsIfAny}
 use Rattle.asl_numbered.proofs.Expansions.{as_many, below-wider, keeps_longer, kept_shape}
@@ -376,13 +378,14 @@ pub rests_on_any : (table : List model.Shape) (p : Pair) (tasks : List Task) →
 rests_on_any table p tasks e = rests_known table p true tasks (ap (sub (shape_at table p.first)) (sym e))
 
 -- Any is inside those that take all
+pub any_sub : (s : model.Shape) → sub model.Any s ≡ takes_all s
+any_sub model.Any = refl
+any_sub (model.OfKinds simple arrays objects) = refl
+
+-- so its answer is there at once
 pub rests_of_any : (table : List model.Shape) (p : Pair) (answer : Bool) (tasks : List Task) → model.Any ≡ shape_at table p.first → answer ≡ takes_all (shape_at table p.second) → RestsOn table p answer tasks tasks
 rests_of_any table p answer tasks e is =
-    rests_known table p answer tasks (ap (λ s. sub s (shape_at table p.second)) (sym e) ∙ any-sub (shape_at table p.second) ∙ sym is)
-  where
-    any-sub : (s : model.Shape) → sub model.Any s ≡ takes_all s
-    any-sub model.Any = refl
-    any-sub (model.OfKinds simple arrays objects) = refl
+    rests_known table p answer tasks (ap (λ s. sub s (shape_at table p.second)) (sym e) ∙ any_sub (shape_at table p.second) ∙ sym is)
 
 -- the simple kinds of the first aren't all there
 pub rests_on_simple : (table : List model.Shape) (p : Pair) (inner outer : NodeKinds) (answer : Bool) (tasks : List Task) → kinds_over table inner ≡ shape_at table p.first → kinds_over table outer ≡ shape_at table p.second → answer ≡ simple_sub (simple_of inner) (simple_of outer) → answer ≡ false → RestsOn table p false tasks tasks
@@ -486,3 +489,8 @@ next_task tasks i d t h is =
 
 pub both_within : (ns : List Node) (a b m n : ℕ) → a < m → m ≡ length ns → b < n → n ≡ length ns → IsWithin (expansions ns) (record { first = a; second = b })
 both_within ns a b m n h e i f = record { first = omega (arith, h, e, as_many ns); second = omega (arith, i, f, as_many ns) }
+
+-- the comparison tells of a proper shape exactly whether it is inside another
+pub told_exactly : (a b : model.Shape) (answer : Bool) → answer ≡ sub a b → model.IsProperShape a → ((a b : model.Shape) → IsTrue (sub a b) → model.Inside a b) → ((a b : model.Shape) → model.IsOrdered a → model.Inside a b → IsTrue (sub a b)) → IsTrue answer ↔ model.Inside a b
+told_exactly a b answer is proper inside complete =
+    (λ h. inside a b (subst IsTrue is h), λ h. subst IsTrue (sym is) (complete a b (proper-ordered a proper) h))

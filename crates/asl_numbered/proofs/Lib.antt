@@ -1,5 +1,6 @@
 pub mod Appending
 pub mod Ascending
+pub mod Built
 pub mod Comparisons
 pub mod Expansions
 pub mod Growing
@@ -14,6 +15,8 @@ pub mod ProperShapes
 pub mod Readings
 pub mod Remembered
 pub mod Sameness
+pub mod Seeking
 pub mod SpelledOut
+pub mod Stepping
 pub mod Tables
 pub mod Taking

@@ -180,7 +180,7 @@ pub taken_next : (s t : Iter ℕ) (r : Option (Bor ℕ)) (own n : Bor ℕ) → i
 taken_next s t None own n steps is = rw (is, steps.1, nil_from_length (iter_rest s) steps.0) no_part
 taken_next s t (Some x) own n steps is = rw (is, steps) next_part
 
-part-below : (bound : ℕ) (behind next : List ℕ) (own n : ℕ) → IsNextPart behind next own n → own < bound → AreBelow bound behind → (n < bound) × AreBelow bound next
+pub part-below : (bound : ℕ) (behind next : List ℕ) (own n : ℕ) → IsNextPart behind next own n → own < bound → AreBelow bound behind → (n < bound) × AreBelow bound next
 part-below bound behind next own n next_part h below = below
 part-below bound behind next own n no_part h below = (h, tt)
 

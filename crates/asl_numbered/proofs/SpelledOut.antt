@@ -10,7 +10,7 @@ use Rattle.asl_model.specs.References.{reference_among, meant_by, Held, OneShape
 use Rattle.asl_model.specs.ShapeSpelling.{ShapeFault, Keyword, BadType, annotations, keywords_of, types_in, type_faults, simple_named, keyword_faults, faults_if, faults_first, typed_faults, foreign_faults, is_among, element_count, shape_of, shape_faults, element_shapes, element_faults, field_shapes, field_faults, with_all_needed}
 use Rattle.asl_model.specs.Shape.{Shape, OfKinds, Arrays, ArraysOf, Objects, ObjectsOf, Shapes, AndShape, FieldShapes, AndFieldShape}
 use Rattle.asl_model.specs.Tree.{Tree, Null, Boolean, Integer, Text, Array, Object, Trees, NoTrees, AndTree, Fields, NoFields, AndField, field_named, count}
-use Rattle.asl_shape.specs.Level.{Level, Whole, OfTypes, ListLevel, ObjectLevel, level_of, level_faults, typed_level, kinds_level, only_if, array_level, object_level, array_level_faults, object_level_faults, elements_in, fields_in, list_faults, object_faults, SpelledOver, arrays_over, objects_over, shape_over, list_inner_faults, object_inner_faults, inner_faults, rest_shape, rest_faults}
+use Rattle.asl_shape.specs.Level.{Level, Whole, OfTypes, ListLevel, ObjectLevel, level_of, level_faults, typed_level, only_if, array_level, object_level, array_level_faults, object_level_faults, elements_in, fields_in, list_faults, object_faults, SpelledOver, arrays_over, objects_over, shape_over, list_inner_faults, object_inner_faults, inner_faults, rest_shape, rest_faults}
 use Rattle.asl_shape.specs.Refusal.{SpellsAs}
 use Rattle.asl_shape.specs.Types.{keywords_for}
 use Rattle.asl_numbered.specs.References.{HasFault, HasWrongNumber, StandsIn, is_itself, stands_inside, list_inside, object_inside, inside, each_of, values_of, referred, SpellsWith, by_reference, by_level, SpellsOver, with_none_inside, with_kinds, SpellsArrays, without_arrays, with_elements, SpellsObjects, without_objects, with_properties, SpellEach, no_element, and_element, SpellsRest, no_rest, some_rest as rest_spelled, SpellFields, no_field, and_field}

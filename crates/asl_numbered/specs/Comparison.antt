@@ -6,6 +6,7 @@ use Rattle.std.specs.BTreeMap.{is_at}
 use Rattle.std.specs.List.{AllByRecursion}
 use Rattle.std.specs.Map.{lookup}
 use Rattle.std.specs.String.{string_cmp}
+use Rattle.asl_model.specs.Examples.{count_mentions}
 use Rattle.asl_model.specs.Shape as model
 use Rattle.asl_model.specs.ShapeOrder.{sub, takes_all, others_never_there}
 use Rattle.asl_numbered.specs.declared.node.NodeField.{NodeField}
@@ -61,11 +62,6 @@ pub record AreOutside (table : List model.Shape) (tasks : List Task) : Type 0 wh
   pub each : AreEachOutside table tasks
 
 -- ---- how much is left to do
-
--- how many mentions there are
-abbrev pub count_mentions : model.FieldShapes → ℕ
-count_mentions model.NoFieldShapes = 0
-count_mentions (model.AndFieldShape n needed s shapes) = suc (count_mentions shapes)
 
 -- how many shapes there are
 abbrev pub count_shapes : model.Shapes → ℕ

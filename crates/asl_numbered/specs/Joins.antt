@@ -18,13 +18,12 @@ use Rattle.asl_numbered.specs.declared.joining.JoinedKinds.{JoinedKinds}
 use Rattle.asl_numbered.specs.declared.joining.Part.{Part}
 use Rattle.asl_numbered.specs.declared.joining.Part.TheVariants.{Number, Level}
 use Rattle.asl_numbered.specs.declared.node.Node.{Node}
-use Rattle.asl_numbered.specs.declared.node.Node.TheVariants as nodes
 use Rattle.asl_numbered.specs.declared.node.NodeField.{NodeField}
 use Rattle.asl_numbered.specs.declared.pair.Pair.{Pair}
 use Rattle.asl_numbered.specs.declared.joining.JoinTask.{JoinTask}
 use Rattle.asl_numbered.specs.declared.joining.JoinTask.TheVariants.{Join, Nothing, With, Finish}
 use Rattle.asl_numbered.specs.Comparison.{IsWithin}
-use Rattle.asl_numbered.specs.Expansion.{shape_at, shapes_at, fields_at, shape_over, expansions, numbers_in, parts, AreBelow, RefersBelow}
+use Rattle.asl_numbered.specs.Expansion.{shape_at, shapes_at, fields_at, shape_over, numbers_in, parts, AreBelow, RefersBelow}
 
 -- the join of the shapes of a pair
 abbrev pub joint : List Shape → Pair → Shape

@@ -1,7 +1,9 @@
 pub mod Comparison
+pub mod Examples
 pub mod Expansion
 pub mod Joins
 pub mod Kinds
+pub mod Outside
 pub mod Reading
 pub mod References
 pub mod Refusal

@@ -14,7 +14,7 @@ ghost use Rattle.asl_numbered.specs.declared.joining.Part.TheVariants.{Level};
 ghost use Rattle.asl_numbered.specs.Comparison.{IsWithin};
 ghost use Rattle.asl_numbered.specs.Expansion.{expansions, shape_at, AreBelow, Keeps};
 ghost use Rattle.asl_numbered.specs.Joins.{joint, kept, Shows, AreJoins, AreInhabited, IsTaskWithin, IsFed, Moves, AreArraysWithin, AreObjectsWithin, AreKindsWithin, AreKindsOf, AreMadeOf, IsPartWithin, IsPutPart, AreJoined, IsArrayJoin, IsObjectJoin, AreJoinedFields, AreWithOthers, IsListOf, array_joins, step_of, found_in, place_joinings, joinings_with, list_joinings, array_joinings, object_joinings, field_joinings};
-ghost use Rattle.asl_numbered.specs.TakenApart.{arrays_over, objects_over, taken_apart};
+ghost use Rattle.asl_numbered.specs.TakenApart.{arrays_over, objects_over, taken_apart, AreKindsAt};
 ghost use Rattle.std.specs.Prelude.{◌≡◌, ◌<◌, ◌++◌, List, None, Some, IfSome, IfOk, drop, false, length};
 
 use crate::kinds::{KindNumbers, NodeArrays, NodeKinds, NodeObjects, put_kinds, take_apart};
@@ -206,12 +206,13 @@ fn kinds_of_both<'t>(table: &'t Table, pair: Pair) -> Option<(NodeKinds<'t>, Nod
     Some((first, second))
 }
 
-// What the shape takes of each kind, without lists or objects where there are none such; none where it is `Any`.
-fn kept_kinds(table: &Table, number: usize) -> Option<NodeKinds<'_>>
+/// What the shape takes of each kind, without lists or objects where there are none such; none where it is `Any`.
+pub(crate) fn kept_kinds(table: &Table, number: usize) -> Option<NodeKinds<'_>>
     requires within { number < length (expansions table.now) }
     ensures kept { taken_apart (expansions table.now) result
         ≡ kept (shape_at (expansions table.now) number) }
     ensures within { IfSome result (AreKindsWithin (expansions table.now)) }
+    ensures below { IfSome result (AreKindsAt (expansions table.now) number) }
 {
     let kinds = take_apart(table, number)?;
     Some(NodeKinds {
@@ -227,6 +228,7 @@ fn kept_arrays<'t>(table: &Table, arrays: Option<NodeArrays<'t>>) -> Option<Node
     ensures kept { arrays_over (expansions table.now) result
         ≡ order.kept_arrays (arrays_over (expansions table.now) arrays.entry) }
     ensures within { AreArraysWithin (expansions table.now) result }
+    ensures same { IfSome result (λ lists. arrays.entry ≡ Some lists) }
 {
     match arrays {
         Some(lists) if table.is_inhabited(lists.number) => Some(lists),
@@ -240,6 +242,7 @@ fn kept_objects<'t>(table: &Table, objects: Option<NodeObjects<'t>>) -> Option<N
     ensures kept { objects_over (expansions table.now) result
         ≡ order.kept_objects (objects_over (expansions table.now) objects.entry) }
     ensures within { AreObjectsWithin (expansions table.now) result }
+    ensures same { IfSome result (λ mentions. objects.entry ≡ Some mentions) }
 {
     match objects {
         Some(mentions) if table.is_inhabited(mentions.number) => Some(mentions),

@@ -4,23 +4,28 @@
 //! again; [`Shapes::node`] tells one level of it, a [`Node`], and [`Shapes::add_node`] the number of the shape with that
 //! level. [`Shapes::take_apart`] tells what a shape takes of each kind of tree, its [`NodeKinds`], and
 //! [`Shapes::add_kinds`] the number of the shape of some [`KindNumbers`]. [`Shapes::inhabited`] tells whether some tree has
-//! the shape, [`Shapes::sub`] whether one shape is inside another, and [`Shapes::join`] gives the number of a shape that two
-//! shapes are inside. [`Shapes::read_with`] reads a shape from the tree that spells it, [`Shapes::read_value_with`] from the
-//! JSON value that this tree is; there `{"shape": n}` may stand for shapes of the table.
+//! the shape, and [`Shapes::example`] makes one. [`Shapes::sub`] tells whether one shape is inside another, and
+//! [`Shapes::outside`] makes a tree of the first that lacks the second. [`Shapes::join`] gives the number of a shape that
+//! two shapes are inside. [`Shapes::read_with`] reads a shape from the tree that spells it, [`Shapes::read_value_with`]
+//! from the JSON value that this tree is; there `{"shape": n}` may stand for shapes of the table.
 #![tactic(auto)]
 
 ghost use Rattle.std.specs.Prelude.{◌≡◌};
 
 mod adding;
 mod comparing;
+mod examples;
 mod expanding;
+mod finding;
 mod joining;
 mod kinds;
 mod node;
+mod outside;
 mod pair;
 mod reading;
 mod shapes;
 mod table;
+mod weights;
 
 use asl_shape::ShapeRefusal;
 use asl_tree::OutOfMemory;

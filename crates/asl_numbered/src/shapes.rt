@@ -1,6 +1,8 @@
 // Shapes under numbers.
 ghost use Rattle.std.specs.Prelude.{◌≡◌, ◌<◌, ◌↔◌, ℕ, List, [], length, IsTrue, IsSome, IfSome, IfOk, IfErr, Some, None, true, false, slice_get};
-ghost use Rattle.std.specs.Option.{option_copied};
+ghost use Rattle.std.specs.Option.{option_copied, option_map};
+ghost use Rattle.asl_model.specs.Examples as examples;
+ghost use Rattle.asl_model.specs.Examples.{IsOutside};
 ghost use Rattle.asl_model.specs.Shape as model;
 ghost use Rattle.asl_model.specs.ShapeOrder as order;
 ghost use Rattle.asl_model.specs.ShapeSpelling.{SpellsShape, SpellsShapeV1};
@@ -19,14 +21,20 @@ ghost use Rattle.asl_numbered.specs.TakenApart.{taken_apart, kinds_at, AreKindsA
 use crate::NumberedRefusal;
 use crate::adding::add;
 use crate::comparing::{Compared, compare};
+use crate::examples::example;
 use crate::expanding::expand;
+use crate::finding::Sought;
 use crate::joining::{Joined, join};
 use crate::kinds::{KindNumbers, NodeKinds, put_kinds, take_apart};
 use crate::node::Node;
+use crate::outside::outside;
 use crate::pair::Pair;
 use crate::reading::read;
 use crate::table::Table;
-use asl_model::shape_laws::{join_is_above_both, sub_means_inside};
+use asl_model::shape_laws::{
+    examples_have_their_shapes, join_is_above_both, sub_is_exactly_inside, sub_means_inside,
+    uninhabited_means_no_tree,
+};
 use asl_shape::Shape;
 use asl_tree::{OutOfMemory, Tree};
 use indexmap::IndexMap;
@@ -195,23 +203,25 @@ impl Shapes {
         }
     }
 
-    /// Whether every tree of the first number's shape is seen to have the second's, as `sub` of `asl_shape` tells it;
-    /// `None` where one of the numbers isn't below the length. The answer is remembered, as those for the shapes' parts
-    /// are that were looked at on the way, so that none is found out twice. Refuses only where an allocation was refused.
+    /// Whether every tree of the first number's shape has the second's; `None` where one of the numbers isn't below the
+    /// length. The answer is remembered, as those for the shapes' parts are that were looked at on the way, so that none is
+    /// found out twice. Refuses only where an allocation was refused.
     pub fn sub(&mut self, inner: usize, outer: usize) -> Result<Option<bool>, OutOfMemory>
-        ensures exactly { IfOk result
+        ensures there { IfOk result
             (λ r. IsSome r ↔ (inner < length self.old) × (outer < length self.old)) }
         ensures as_defined { IfOk result
             (λ r. IfSome r (λ b. b
             ≡ order.sub (shape_at (expansions self.old) inner)
             (shape_at (expansions self.old) outer))) }
-        ensures inside { IfOk result
+        ensures exactly { IfOk result
             (λ r. IfSome r (λ b. IsTrue b
-            → model.Inside (shape_at (expansions self.old) inner)
+            ↔ model.Inside (shape_at (expansions self.old) inner)
             (shape_at (expansions self.old) outer))) }
         ensures unchanged { self.new ≡ self.old }
     {
         sub_means_inside();
+        sub_is_exactly_inside();
+        self.table.are_proper();
         if inner < self.table.len() && outer < self.table.len() {
             let pair = Pair {
                 first: inner,
@@ -219,6 +229,76 @@ impl Shapes {
             };
             let answer = compare(&self.table, &mut self.compared, self.alloc, pair)?;
             Ok(Some(answer))
+        } else {
+            Ok(None)
+        }
+    }
+
+    /// A tree of the shape of that number: of the first of its kinds of which there is a tree, in byte order of the names
+    /// of their types, with the fewest elements and fields. `None` where no tree has the shape, and where there is no such
+    /// number.
+    ///
+    /// The shapes share their parts, and a tree doesn't, so that a few shapes may have a tree of any size: room for a large
+    /// one is asked for as a whole before it is made. Refuses only where an allocation was refused.
+    pub fn example(&self, alloc: Global, number: usize) -> Result<Option<Tree>, OutOfMemory>
+        ensures exactly { IfOk result
+            (λ r. IsSome r ↔ IsTrue (model.inhabited (shape_at (expansions self.now) number))) }
+        ensures as_defined { IfOk result
+            (λ r. IfSome r (λ t. tree_view t
+            ≡ examples.example (shape_at (expansions self.now) number))) }
+        ensures has { IfOk result
+            (λ r. IfSome r (λ t. model.Has (shape_at (expansions self.now) number) (tree_view t))) }
+        ensures none { IfOk result
+            (λ r. r ≡ None
+            → (t : json.Tree) → model.Has (shape_at (expansions self.now) number) t → ⊥) }
+    {
+        examples_have_their_shapes();
+        uninhabited_means_no_tree();
+        self.table.are_proper();
+        if self.table.is_inhabited(number) {
+            Ok(Some(example(&self.table, alloc, number)?))
+        } else {
+            Ok(None)
+        }
+    }
+
+    /// A tree of the first number's shape that lacks the second's: an example of the first, changed at one place where that
+    /// itself has the second. `None` where every tree of the first has the second, and where one of the numbers isn't below
+    /// the length.
+    ///
+    /// The comparisons on the way are remembered as those of [`Shapes::sub`], so that none is found out twice. Room for a
+    /// large tree is asked for as in [`Shapes::example`]. Refuses only where an allocation was refused.
+    pub fn outside(
+        &mut self,
+        alloc: Global,
+        inner: usize,
+        outer: usize,
+    ) -> Result<Option<Tree>, OutOfMemory>
+        ensures within { IfOk result
+            (λ r. IsSome r → (inner < length self.old) × (outer < length self.old)) }
+        ensures as_defined { IfOk result
+            (λ r. inner < length self.old → outer < length self.old
+            → option_map tree_view r
+            ≡ examples.outside (shape_at (expansions self.old) inner)
+            (shape_at (expansions self.old) outer)) }
+        ensures outside { IfOk result
+            (λ r. IfSome r (λ t. IsOutside (shape_at (expansions self.old) inner)
+            (shape_at (expansions self.old) outer) (tree_view t))) }
+        ensures none { IfOk result
+            (λ r. inner < length self.old → outer < length self.old → r ≡ None
+            → model.Inside (shape_at (expansions self.old) inner)
+            (shape_at (expansions self.old) outer)) }
+        ensures unchanged { self.new ≡ self.old }
+    {
+        sub_means_inside();
+        sub_is_exactly_inside();
+        self.table.are_proper();
+        if inner < self.table.len() && outer < self.table.len() {
+            let sought = Sought {
+                first: Some(inner),
+                second: outer,
+            };
+            outside(&self.table, &mut self.compared, alloc, sought)
         } else {
             Ok(None)
         }

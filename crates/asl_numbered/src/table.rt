@@ -10,6 +10,7 @@ ghost use Rattle.asl_numbered.specs.Kinds.{AscendFrom, IsOfKind, IsProperNode, f
 ghost use Rattle.asl_numbered.specs.Table.{AreFactsOf, AreFieldsInOrder, IsOrdered};
 
 use crate::node::{Node, NodeField};
+use crate::weights::node_weight;
 use asl_tree::OutOfMemory;
 use indexmap::IndexMap;
 use std::alloc::Global;
@@ -31,6 +32,8 @@ pub(crate) struct Facts {
     pub(crate) full: bool,
     /// Whether it, or one inside it, is of several kinds.
     pub(crate) several: bool,
+    /// How much room its example takes, if it has one: an estimate.
+    pub(crate) weight: usize,
 }
 
 impl Model for Table {
@@ -135,6 +138,14 @@ impl Table {
         ensures { result ≡ model.has_several (shape_at (expansions self.now) number) }
     {
         self.has_several(number).unwrap_or(false)
+    }
+
+    /// How much room the example of the shape of that number takes, if it has one: an estimate.
+    pub(crate) fn weight(&self, number: usize) -> usize {
+        match self.nodes.get_index(number) {
+            Some(entry) => entry.1.weight,
+            None => 0,
+        }
     }
 
     /// Whether every tree has the shape of that number.
@@ -299,6 +310,7 @@ fn node_facts(table: &Table, node: &Node) -> Facts
         inhabited: node_inhabited(table, node),
         full: is_node_full(table, node),
         several: node_has_several(table, node),
+        weight: node_weight(table, node),
     }
 }
 
