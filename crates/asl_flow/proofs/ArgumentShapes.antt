@@ -1,17 +1,17 @@
 -- The numbers of the shapes of a call's arguments, in order.
-use Rattle.std.proofs.Common.{◌≡◌, ◌<◌, ◌≤◌, ℕ, zero, suc, List, [], ◌∷◌, ◌++◌, length, get_or, take, map, Option, Some, None, Result, Ok, Err, Vec, Global, refl, sym, ap, ◌∙◌, subst, arith}
+use Rattle.std.proofs.Common.{◌≡◌, ◌<◌, ◌≤◌, ℕ, zero, suc, List, [], ◌∷◌, ◌++◌, length, get_or, take, map, Option, Some, None, Vec, Global, refl, sym, ap, ◌∙◌, rules, arith}
 use Rattle.std.proofs.lemmas.List.{map-append, take_all}
-use Rattle.std.specs.Prelude.{IfErr, IfSome}
 use Rattle.asl_intrinsic.specs.View.{argument_view, arguments_view}
-use Rattle.asl_intrinsic.specs.declared.call.Arg.{Arg}
+use Rattle.asl_intrinsic.specs.declared.call.Arg.{Arg, the_lemmas}
+use Rattle.asl_intrinsic.specs.declared.call.Arg as code
+use Rattle.asl_model.specs.Intrinsic.{InInput, ItemIndex, InItem}
 use Rattle.asl_model.specs.Shape as model
-use Rattle.asl_model.specs.ShapeFlow.{Doubt as Why, argument_shape, argument_shapes, and_argument}
+use Rattle.asl_model.specs.ShapeFlow.{argument_shape, argument_shapes, and_argument, reference_shape, unless_doubtful}
 use Rattle.asl_numbered.specs.declared.node.Node.{Node}
 use Rattle.asl_numbered.specs.Expansion.{expansions, shape_at, shapes_at, AreBelow, Keeps}
 use Rattle.asl_numbered.proofs.Expansions.{as_many, below-append, below-wider, keeps_longer}
-use Rattle.asl_flow.specs.CallAnswer.{Answers, AnswersAll}
-use Rattle.asl_flow.specs.Sources.{doubt_view}
-use Rattle.asl_flow.specs.declared.references.Doubt.{Doubt}
+use Rattle.asl_path.specs.declared.RefPath.{RefPath}
+use Rattle.asl_flow.specs.CallAnswer.{AnswersAll}
 use Rattle.asl_flow.proofs.Numbered.{still_shown}
 
 -- the shapes of numbers, each of which there is
@@ -56,11 +56,10 @@ module _ (input : model.Shape) (item : Option model.Shape) where
       rw (first, shapes-given table arguments ns (cc)) refl
 
   -- the arguments gone through, to the end
-  pub arguments_end : (nodes : List Node) (arguments : List Arg) (i : ℕ) (v : Vec ℕ Global) → length arguments ≤ i → AreShapesOf nodes (take i arguments) v.items → AnswersAll nodes (Ok v) (argument_shapes (arguments_view arguments) input item)
+  pub arguments_end : (nodes : List Node) (arguments : List Arg) (i : ℕ) (v : Vec ℕ Global) → length arguments ≤ i → AreShapesOf nodes (take i arguments) v.items → AnswersAll nodes (argument_shapes (arguments_view arguments) input item) (Some v)
   arguments_end nodes arguments i v end are = record {
+    same = shapes-given (expansions nodes) arguments v.items (ap each_shape (sym (take_all i arguments end)) ∙ are.same);
     within = are.within;
-    give = shapes-given (expansions nodes) arguments v.items (ap each_shape (sym (take_all i arguments end)) ∙ are.same);
-    fail = tt;
   }
 
   no-rest : (s : Option model.Shape) (others : Option model.Shapes) → others ≡ None → and_argument s others ≡ None
@@ -72,17 +71,20 @@ module _ (input : model.Shape) (item : Option model.Shape) where
   none-at (a ∷ arguments) zero d h e = rw e refl
   none-at (a ∷ arguments) (suc i) d h e = no-rest _ _ (none-at arguments i d (omega arith) e)
 
-  told-on : {P Q : Type 0} (o : Option Why) → (P → Q) → IfSome o (λ e. P) → IfSome o (λ e. Q)
-  told-on None f h = tt
-  told-on (Some e) f h = f h
-
   -- where one argument may fail, the arguments have no shapes
-  pub arguments_refused : (nodes : List Node) (given : Result (Vec ℕ Global) Doubt) (doubt : Doubt) (one : Result ℕ Doubt) (arguments : List Arg) (i : ℕ) (a : Arg) → given ≡ Err doubt → one ≡ Err doubt → i < length arguments → a ≡ get_or arguments i a → Answers nodes one (argument_shape (argument_view a) input item)
-      → AnswersAll nodes given (argument_shapes (arguments_view arguments) input item)
-  arguments_refused nodes given doubt one arguments i a is was within at h =
-      let told : IfSome (doubt_view doubt) (λ e. argument_shape (argument_view a) input item ≡ None) = subst (λ r. IfErr r (λ d. IfSome (doubt_view d) (λ e. argument_shape (argument_view a) input item ≡ None))) was h.fails in
-      rw is (record {
-        within = tt;
-        give = tt;
-        fail = told-on (doubt_view doubt) (λ none. none-at arguments i a within (ap (λ x. argument_shape (argument_view x) input item) (sym at) ∙ none)) told;
-      })
+  pub arguments_fail : (nodes : List Node) (arguments : List Arg) (i : ℕ) (a : Arg) → i < length arguments → a ≡ get_or arguments i a → argument_shape (argument_view a) input item ≡ None → AnswersAll nodes (argument_shapes (arguments_view arguments) input item) None
+  arguments_fail nodes arguments i a within at none = record {
+    same = none-at arguments i a within (ap (λ x. argument_shape (argument_view x) input item) (sym at) ∙ none);
+    within = tt;
+  }
+
+  -- ---- arguments that are paths
+
+  pub path_argument : (a : Arg) (path : RefPath) → a ≡ code.Path path → argument_shape (argument_view a) input item ≡ unless_doubtful (reference_shape (InInput path) input item)
+  path_argument a path is = ap (λ x. argument_shape (argument_view x) input item) is ∙ search (rules, the_lemmas)
+
+  pub index_argument : (a : Arg) → a ≡ code.ItemIndex → argument_shape (argument_view a) input item ≡ unless_doubtful (reference_shape ItemIndex input item)
+  index_argument a is = ap (λ x. argument_shape (argument_view x) input item) is ∙ search (rules, the_lemmas)
+
+  pub item_argument : (a : Arg) (path : RefPath) → a ≡ code.ItemValue path → argument_shape (argument_view a) input item ≡ unless_doubtful (reference_shape (InItem path) input item)
+  item_argument a path is = ap (λ x. argument_shape (argument_view x) input item) is ∙ search (rules, the_lemmas)

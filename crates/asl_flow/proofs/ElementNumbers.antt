@@ -7,7 +7,6 @@ use Rattle.asl_model.specs.Shape.{Shape, Never, AndShape, inhabited}
 use Rattle.asl_model.specs.ShapeOrder.{join, joined_with_each}
 use Rattle.asl_numbered.specs.declared.node.Node.TheVariants.{List as Elements}
 use Rattle.asl_numbered.specs.Expansion.{shape_at, shapes_at, shape_over, AreBelow, RefersBelow}
-use Rattle.asl_flow.specs.Elements.{AreElementsBelow}
 
 -- ---- the join of all
 

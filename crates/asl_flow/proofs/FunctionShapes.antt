@@ -1,5 +1,5 @@
 -- The shapes of the functions' values, for the numbers of the shapes of their arguments.
-use Rattle.std.proofs.Common.{◌≡◌, ℕ, suc, List, [], ◌∷◌, length, get_or, true, false, ◌||◌, not, nat_eq, Option, Some, None, option_map, Ok, refl, sym, ap, ◌∙◌, arith}
+use Rattle.std.proofs.Common.{◌≡◌, ℕ, suc, List, [], ◌∷◌, length, get_or, true, false, ◌||◌, not, nat_eq, Option, Some, None, option_map, refl, sym, ap, ◌∙◌, arith}
 use Rattle.asl_model.specs.Intrinsic.{Pieces}
 use Rattle.asl_model.specs.Shape as model
 use Rattle.asl_model.specs.ShapeFlow as flow
@@ -9,8 +9,8 @@ use Rattle.asl_flow.specs.CallAnswer.{Answers}
 use Rattle.asl_flow.specs.Numbers.{Shows}
 
 -- what shows a shape answers where that is the one
-pub answered : (nodes : List Node) (s : model.Shape) (n : ℕ) (shape : Option model.Shape) → shape ≡ Some s → Shows nodes s n → Answers nodes (Ok n) shape
-answered nodes s n shape is shows = record { within = shows.within; gives = is ∙ ap Some (sym shows.same); fails = tt }
+pub answered : (nodes : List Node) (s : model.Shape) (n : ℕ) (shape : Option model.Shape) → shape ≡ Some s → Shows nodes s n → Answers nodes shape (Some n)
+answered nodes s n shape is shows = record { same = is ∙ ap Some (sym shows.same); within = shows.within }
 
 -- how many shapes there are
 counted : (table : List model.Shape) (ns : List ℕ) → flow.how_many_shapes (shapes_at table ns) ≡ length ns

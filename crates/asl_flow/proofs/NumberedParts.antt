@@ -1,5 +1,5 @@
 -- What one segment, and then the segments behind it, lead to in a shape of a table, by number.
-use Rattle.std.proofs.Common.{◌≡◌, ℕ, zero, suc, ◌<◌, ◌≤◌, List, [], ◌∷◌, Option, Some, None, Result, Ok, Err, option_map, is_some, is_ok, IfOk, IsErrAnd, MatchResult, Bor, String, Global, string_bytes, IfSome, length, get_or, drop, drop-cons, refl, ap, sym, ◌∙◌, arith}
+use Rattle.std.proofs.Common.{◌≡◌, ℕ, zero, suc, ◌<◌, ◌≤◌, List, [], ◌∷◌, Option, Some, None, Result, Err, option_map, is_some, Bor, String, Global, string_bytes, IfSome, length, get_or, drop, drop-cons, refl, ap, sym, ◌∙◌, arith}
 use borrow.Author.Tests.{ltb-true, ltb-false}
 use lib.Dec.{ltb}
 use Rattle.std.specs.BTreeMap.{BTreeMap, get_by}
@@ -10,12 +10,9 @@ use Rattle.asl_model.specs.ShapeFlow.{part_at, place_at, look_at}
 use Rattle.asl_model.specs.ShapeOrder.{mention_of}
 use Rattle.asl_flow.specs.Counting.{counted_on}
 use Rattle.asl_flow.specs.Putting.{mentioned}
-use Rattle.asl_flow.specs.declared.looking.LookRefusal.{LookRefusal}
-use Rattle.asl_flow.proofs.Numbered.{own_number}
 use Rattle.asl_flow.proofs.ShapeParts.{counted_one}
-use Rattle.asl_numbered.specs.declared.node.Node.{Node}
 use Rattle.asl_numbered.specs.declared.node.NodeField.{NodeField}
-use Rattle.asl_numbered.specs.Expansion.{expansions, shape_at, shapes_at, fields_at, numbers_in, AreBelow, AreDistinct, IsNumberOf}
+use Rattle.asl_numbered.specs.Expansion.{shape_at, shapes_at, fields_at, numbers_in, AreBelow}
 use Rattle.asl_numbered.proofs.Comparisons.{mention_of_number, found-below}
 use Rattle.asl_path.specs.View.{segment_view, segments_view}
 use Rattle.asl_path.specs.declared.Segment as code
@@ -76,10 +73,3 @@ pub looks_nowhere : (table : List model.Shape) (whole : Result model.Shape ℕ) 
 looks_nowhere table whole n items i s r so_far within is step found =
     let here : part_at (segment_view (get_or items i s)) (shape_at table n) ≡ None = ap (λ x. part_at (segment_view x) (shape_at table n)) (sym is) ∙ sym step ∙ ap (option_map (shape_at table)) found in
     so_far ∙ rw (drop-cons items i s within, here) (ap Err (omega arith))
-
--- the number that is found is that of its shape, whatever a refusal is told as
-pub found_number : (nodes : List Node) (r : Result ℕ ℕ) (answer : Result ℕ LookRefusal) (told : ℕ → LookRefusal → Type 0) → MatchResult r (λ n. answer ≡ Ok n) (λ at. IsErrAnd answer (told at)) → is_ok answer ≡ is_ok r → AreDistinct (expansions nodes) → IfOk r (λ n. n < length nodes)
-    → IfOk answer (λ n. IsNumberOf (expansions nodes) (shape_at (expansions nodes) n) n)
-found_number nodes (Ok n) answer told same as_well distinct within = rw same (own_number nodes n distinct within)
-found_number nodes (Err at) (Ok n) told same as_well distinct within = absurd (cc)
-found_number nodes (Err at) (Err refusal) told same as_well distinct within = tt

@@ -1,12 +1,17 @@
 -- What a shape on its way through a state comes to.
-use Rattle.std.specs.Prelude.{◌≡◌, ◌<◌, ℕ, List, length, slice_get, Option, Some, None, Result, Ok, Err, IfOk, IfErr}
+use Rattle.std.specs.Prelude.{◌≡◌, ℕ, List, length, slice_get, Option, Some, None, Result, Ok, Err, Vec}
+use Rattle.std.specs.declared.alloc.Global.{Global}
 use Rattle.asl_model.specs.ShapeFlow as model
+use Rattle.asl_tree.specs.View.{view}
+use Rattle.asl_flow.specs.Counterexamples.{IsShownBy}
+use Rattle.asl_flow.specs.Doubts.{flow_view, IsFlowIn}
+use Rattle.asl_flow.specs.declared.doubts.Doubt.{Doubt}
 use Rattle.asl_flow.specs.declared.leaving.FlowFault.{FlowFault}
 use Rattle.asl_flow.specs.declared.leaving.FlowFault.TheVariants.{MayBeMissing, MayFail, MayNotFit, OutOfMemory}
 use Rattle.asl_flow.specs.declared.leaving.Leaving.{Leaving}
 use Rattle.asl_flow.specs.declared.leaving.Leaving.TheVariants.{WithResult, WithInput, Nothing}
 use Rattle.asl_numbered.specs.declared.node.Node.{Node}
-use Rattle.asl_numbered.specs.Expansion.{expansions, shape_at}
+use Rattle.asl_numbered.specs.Expansion.{expansions}
 
 -- what leaves a state
 abbrev pub leaving_of : Leaving → model.Leaving
@@ -14,25 +19,20 @@ leaving_of WithResult = model.WithResult
 leaving_of WithInput = model.WithInput
 leaving_of Nothing = model.Nothing
 
--- the fault; none is out of memory
-abbrev pub fault_view : FlowFault → Option model.FlowFault
-fault_view (MayBeMissing field) = Some (model.MissingAt field.now)
-fault_view (MayFail field) = Some (model.FailsAt field.now)
-fault_view (MayNotFit field) = Some (model.MisfitAt field.now)
-fault_view OutOfMemory = None
+-- the answer is what the way comes to, or the doubts that stop it, and speaks of shapes of the table
+pub record FlowsTo (nodes : List Node) (flow : model.Flow) (answer : Result ℕ (Vec Doubt Global)) : Type 0 where
+  pub same : flow ≡ flow_view (expansions nodes) answer
+  pub within : IsFlowIn (length nodes) answer
 
--- that fault is the first of those that stop the shape; out of memory stops every one
-abbrev pub stops : Option model.FlowFault → model.Flow → Type 0
-stops None flow = Unit {0}
-stops (Some fault) (Ok s) = ⊥
-stops (Some fault) (Err faults) = slice_get faults 0 ≡ Some fault
+-- the first of the faults that stop a shape; None: it comes through
+abbrev pub first_fault : model.Flow → Option model.FlowFault
+first_fault (Ok s) = None
+first_fault (Err faults) = slice_get faults 0
 
--- the shape is stopped by that fault
+-- the shape is stopped, and the first fault is the one that is told; out of memory says nothing
 abbrev pub IsStopped : model.Flow → FlowFault → Type 0
-IsStopped flow fault = stops (fault_view fault) flow
-
--- the answer is a number of the shape that the way comes to, or the first fault that stops it
-pub record FlowsTo (nodes : List Node) (flow : model.Flow) (answer : Result ℕ FlowFault) : Type 0 where
-  pub within : IfOk answer (λ n. n < length nodes)
-  pub shape : IfOk answer (λ n. flow ≡ Ok (shape_at (expansions nodes) n))
-  pub stopped : IfErr answer (IsStopped flow)
+IsStopped flow (MayBeMissing field t) =
+    (d : model.DoubtfulPath) × (first_fault flow ≡ Some (model.MissingAt field.now d)) × IsShownBy d (view t)
+IsStopped flow (MayFail field) = first_fault flow ≡ Some (model.FailsAt field.now)
+IsStopped flow (MayNotFit field) = first_fault flow ≡ Some (model.MisfitAt field.now)
+IsStopped flow OutOfMemory = Unit {0}

@@ -1,6 +1,8 @@
 pub mod CallAnswer
 pub mod Changing
+pub mod Counterexamples
 pub mod Counting
+pub mod Doubts
 pub mod Elements
 pub mod Items
 pub mod Kinds

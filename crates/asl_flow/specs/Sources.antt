@@ -1,9 +1,10 @@
 -- What the paths of a template go into, by number, and what is said of the parts that they name.
-use Rattle.std.specs.Prelude.{◌≡◌, ◌<◌, ℕ, List, length, Option, Some, None, option_map, Result, Ok, Err, IfOk, IfErr, IfSome}
+use Rattle.std.specs.Prelude.{◌≡◌, ◌<◌, ℕ, List, length, Option, option_map, Result, Ok, Err, IfOk, IfErr, IfSome}
+use Rattle.asl_model.specs.Names.{FieldName}
 use Rattle.asl_model.specs.Shape.{Shape}
 use Rattle.asl_model.specs.ShapeFlow as flow
-use Rattle.asl_flow.specs.declared.references.Doubt.{Doubt}
-use Rattle.asl_flow.specs.declared.references.Doubt.TheVariants.{MayBeMissing, MayFail, OutOfMemory}
+use Rattle.asl_flow.specs.Doubts.{cause_at, IsCauseBelow}
+use Rattle.asl_flow.specs.declared.doubts.Cause.{Cause}
 use Rattle.asl_flow.specs.declared.references.Sources.{Sources}
 use Rattle.asl_numbered.specs.declared.node.Node.{Node}
 use Rattle.asl_numbered.specs.Expansion.{expansions, shape_at}
@@ -21,14 +22,18 @@ pub record IsWithin (bound : ℕ) (sources : Sources) : Type 0 where
   pub input : sources.input < bound
   pub item : IfSome sources.item (λ n. n < bound)
 
--- why there may be no value; out of memory says nothing
-abbrev pub doubt_view : Doubt → Option flow.Doubt
-doubt_view MayBeMissing = Some flow.MayBeMissing
-doubt_view MayFail = Some flow.MayFail
-doubt_view OutOfMemory = None
+-- a part's shape, or its doubt as a fault at that field
+abbrev pub at_field : FieldName → Result Shape flow.Doubt → Result Shape flow.FlowFault
+at_field field (Ok s) = Ok s
+at_field field (Err doubt) = Err (flow.doubt_fault field doubt)
 
--- an answer is a number of the part's shape, and a doubt is why there may be none
-pub record IsPart (nodes : List Node) (r : Result ℕ Doubt) (part : Result Shape flow.Doubt) : Type 0 where
-  pub within : IfOk r (λ n. n < length nodes)
-  pub found : IfOk r (λ n. part ≡ Ok (shape_at (expansions nodes) n))
-  pub doubted : IfErr r (λ d. IfSome (doubt_view d) (λ e. part ≡ Err e))
+-- the same of a part by number, with the cause of its doubt
+abbrev pub part_view : List Shape → FieldName → Result ℕ Cause → Result Shape flow.FlowFault
+part_view table field (Ok n) = Ok (shape_at table n)
+part_view table field (Err cause) = Err (cause_at table field cause)
+
+-- the answer is that part, at any field, and speaks of shapes of the table
+pub record IsPart (nodes : List Node) (part : Result Shape flow.Doubt) (answer : Result ℕ Cause) : Type 0 where
+  pub same : (field : FieldName) → at_field field part ≡ part_view (expansions nodes) field answer
+  pub within : IfOk answer (λ n. n < length nodes)
+  pub below : IfErr answer (IsCauseBelow (length nodes))

@@ -1,35 +1,55 @@
--- What a refusal tells of the doubts of a template.
-use Rattle.std.specs.Prelude.{◌≡◌, ℕ, List, [], Option, Some, None, Result, Ok, Err, IfOk, IfErr, IfSome, string_bytes}
-use Rattle.std.specs.Prelude.{slice_get}
+-- What is put down and told of the doubts of a template.
+use Rattle.std.specs.Prelude.{◌≡◌, ℕ, List, ◌++◌, length, map, Option, Some, None, Result, Ok, Err, Vec}
+use Rattle.std.specs.Prelude.{slice_get, string_bytes}
+use Rattle.std.specs.declared.alloc.Global.{Global}
+use Rattle.asl_model.specs.Names.{FieldName}
 use Rattle.asl_model.specs.Shape.{Shape}
 use Rattle.asl_model.specs.ShapeFlow as model
-use Rattle.asl_flow.specs.Sources.{doubt_view}
-use Rattle.asl_flow.specs.declared.references.Doubt.{Doubt}
+use Rattle.asl_tree.specs.View.{view}
+use Rattle.asl_flow.specs.Counterexamples.{IsShownBy}
+use Rattle.asl_flow.specs.Doubts.{fault_of, AreDoubtsBelow}
+use Rattle.asl_flow.specs.declared.doubts.Doubt.{Doubt}
 use Rattle.asl_flow.specs.declared.templates.TemplateShapeRefusal.{TemplateShapeRefusal}
 use Rattle.asl_flow.specs.declared.templates.TemplateShapeRefusal.TheVariants.{MayBeMissing, MayFail, OutOfMemory}
+use Rattle.asl_numbered.specs.declared.node.Node.{Node}
+use Rattle.asl_numbered.specs.Expansion.{expansions, shape_at}
 
--- there is no shape, and the first doubt is that one, at that field
-abbrev pub IsDoubted : Result Shape (List (List ℕ × model.Doubt)) → List ℕ → model.Doubt → Type 0
-IsDoubted (Ok s) field doubt = ⊥
-IsDoubted (Err found) field doubt = slice_get found 0 ≡ Some (field, doubt)
+-- a doubt with its name, as a fault at that field
+abbrev pub told_at : FieldName → FieldName × model.Doubt → FieldName × model.FlowFault
+told_at field told = (told.0, model.doubt_fault field told.1)
 
--- the doubt that is told, with its field; out of memory tells none
-abbrev pub doubt_told : TemplateShapeRefusal → Option (List ℕ × model.Doubt)
-doubt_told (MayBeMissing field) = Some (string_bytes field, model.MayBeMissing)
-doubt_told (MayFail field) = Some (string_bytes field, model.MayFail)
-doubt_told OutOfMemory = None
+-- the same of a doubt that was put down
+abbrev pub named_fault : List Shape → Doubt → FieldName × model.FlowFault
+named_fault table d = (d.name.now, fault_of table d)
 
--- an answer is given where there is no doubt, and a refusal tells the first of them
-pub record Tells {A : Type 0} (r : Result A TemplateShapeRefusal) (found : List (List ℕ × model.Doubt)) : Type 0 where
-  pub none : IfOk r (λ a. found ≡ [])
-  pub first : IfErr r (λ e. IfSome (doubt_told e) (λ doubt. slice_get found 0 ≡ Some doubt))
+-- the doubts are those, in order, all at that field
+abbrev pub AreDoubts : List Shape → FieldName → List (FieldName × model.Doubt) → List Doubt → Type 0
+AreDoubts table field told doubts = map (told_at field) told ≡ map (named_fault table) doubts
 
--- why a part has no number
-abbrev pub doubt_in : Result ℕ Doubt → Option model.Doubt
-doubt_in (Ok n) = None
-doubt_in (Err doubt) = doubt_view doubt
+-- those doubts were put down behind the others, and speak of shapes of the table
+pub record ArePutDown (nodes : List Node) (field : FieldName) (told : List (FieldName × model.Doubt))
+    (old new : List Doubt) : Type 0 where
+  pub added : List Doubt
+  pub whole : new ≡ old ++ added
+  pub same : AreDoubts (expansions nodes) field told added
+  pub below : AreDoubtsBelow (length nodes) added
 
--- an answer is the part's number, and a refusal tells the part's doubt, at that field
-pub record IsToldAt (field : List ℕ) (part : Result ℕ Doubt) (r : Result ℕ TemplateShapeRefusal) : Type 0 where
-  pub same : IfOk r (λ n. part ≡ Ok n)
-  pub told : IfErr r (λ e. IfSome (doubt_told e) (λ d. (d.0 ≡ field) × (doubt_in part ≡ Some d.1)))
+-- the answer is that shape, or those doubts
+abbrev pub IsFilled : List Shape → FieldName → Result Shape (List (FieldName × model.Doubt))
+    → Result ℕ (Vec Doubt Global) → Type 0
+IsFilled table field (Ok s) (Ok n) = s ≡ shape_at table n
+IsFilled table field (Ok s) (Err doubts) = ⊥
+IsFilled table field (Err told) (Ok n) = ⊥
+IsFilled table field (Err told) (Err doubts) = AreDoubts table field told doubts.items
+
+-- the first of a template's doubts; None: it has a shape
+abbrev pub first_doubt : Result Shape (List (FieldName × model.Doubt)) → Option (FieldName × model.Doubt)
+first_doubt (Ok s) = None
+first_doubt (Err told) = slice_get told 0
+
+-- there is no shape, and the first doubt is the one that is told; out of memory says nothing
+abbrev pub IsDoubted : Result Shape (List (FieldName × model.Doubt)) → TemplateShapeRefusal → Type 0
+IsDoubted answer (MayBeMissing name t) =
+    (d : model.DoubtfulPath) × (first_doubt answer ≡ Some (string_bytes name, model.MayBeMissing d)) × IsShownBy d (view t)
+IsDoubted answer (MayFail name) = first_doubt answer ≡ Some (string_bytes name, model.MayFail)
+IsDoubted answer OutOfMemory = Unit {0}

@@ -1,5 +1,5 @@
 //! The shapes of calls' values, by number.
-ghost use Rattle.std.specs.Prelude.{◌≡◌, ◌<◌, ◌||◌, Some, option_map, length, not};
+ghost use Rattle.std.specs.Prelude.{◌≡◌, ◌<◌, ◌||◌, IfOk, Some, option_map, length, not};
 ghost use Rattle.asl_flow.specs.CallAnswer.{Answers, AnswersAll};
 ghost use Rattle.asl_flow.specs.Sources.{input_of, item_of, IsWithin};
 ghost use Rattle.asl_intrinsic.specs.View.{argument_view, arguments_view};
@@ -12,64 +12,70 @@ ghost use Rattle.asl_numbered.specs.Expansion.{expansions, shape_at, shapes_at, 
 use crate::composing::closed_list;
 use crate::kinds::{arrays_alone, kinds_of, some_array_or_object};
 use crate::numbers::{is_inhabited, put_node};
-use crate::references::{Doubt, Sources};
+use crate::references::Sources;
 use asl_intrinsic::{Arg, Call};
 use asl_numbered::{Node, Shapes};
+use asl_tree::OutOfMemory;
 use std::alloc::Global;
 
-/// The number of the shape of the call's value (States Language, "Appendix B: List of Intrinsic Functions").
+/// The number of the shape of the call's value (States Language, "Appendix B: List of Intrinsic Functions"); `None` where
+/// the call may fail.
 #[cycle(call)]
 pub(crate) fn call_shape(
     alloc: Global,
     shapes: &mut Shapes,
     call: &Call,
     sources: Sources,
-) -> Result<usize, Doubt>
+) -> Result<Option<usize>, OutOfMemory>
     requires within { IsWithin (length shapes.old) sources }
-    ensures answers { Answers shapes.new result
+    ensures answers { IfOk result
+        (Answers shapes.new
         (flow.call_shape (calls.view call.now) (input_of (expansions shapes.old) sources)
-        (item_of (expansions shapes.old) sources)) }
+        (item_of (expansions shapes.old) sources))) }
     ensures keeps { Keeps (expansions shapes.old) (expansions shapes.new) }
 {
     match call {
-        Call::Array(arguments) => {
-            let numbers = argument_shapes(alloc, shapes, arguments, sources)?;
-            array_shape(shapes, numbers)
-        }
-        Call::ArrayLength(arguments) => {
-            let numbers = argument_shapes(alloc, shapes, arguments, sources)?;
-            array_length_shape(shapes, &numbers)
-        }
-        Call::Format(arguments) => {
-            let numbers = argument_shapes(alloc, shapes, arguments, sources)?;
-            format_shape(shapes, arguments, &numbers)
-        }
+        Call::Array(arguments) => match argument_shapes(alloc, shapes, arguments, sources)? {
+            Some(numbers) => array_shape(shapes, numbers),
+            None => Ok(None),
+        },
+        Call::ArrayLength(arguments) => match argument_shapes(alloc, shapes, arguments, sources)? {
+            Some(numbers) => array_length_shape(shapes, &numbers),
+            None => Ok(None),
+        },
+        Call::Format(arguments) => match argument_shapes(alloc, shapes, arguments, sources)? {
+            Some(numbers) => format_shape(shapes, arguments, &numbers),
+            None => Ok(None),
+        },
     }
 }
 
-/// The numbers of the shapes of the arguments' values, in order.
+/// The numbers of the shapes of the arguments' values, in order; `None` where one of them may fail.
 #[cycle(call)]
 fn argument_shapes(
     alloc: Global,
     shapes: &mut Shapes,
     arguments: &[Arg],
     sources: Sources,
-) -> Result<Vec<usize>, Doubt>
+) -> Result<Option<Vec<usize>>, OutOfMemory>
     requires within { IsWithin (length shapes.old) sources }
-    ensures answers { AnswersAll shapes.new result
+    ensures answers { IfOk result
+        (AnswersAll shapes.new
         (flow.argument_shapes (arguments_view arguments.now)
-        (input_of (expansions shapes.old) sources) (item_of (expansions shapes.old) sources)) }
+        (input_of (expansions shapes.old) sources) (item_of (expansions shapes.old) sources))) }
     ensures keeps { Keeps (expansions shapes.old) (expansions shapes.new) }
 {
     let mut numbers = Vec::with_capacity(alloc, arguments.len())?;
     for argument in arguments {
-        let number = argument_shape(alloc, shapes, argument, sources)?;
+        let Some(number) = argument_shape(alloc, shapes, argument, sources)? else {
+            return Ok(None);
+        };
         numbers.push(number)?;
     }
-    Ok(numbers)
+    Ok(Some(numbers))
 }
 
-/// The number of the shape of the argument's value.
+/// The number of the shape of the argument's value; `None` where it may fail.
 #[tactic(auto, using(asl_numbered::proofs::Expansions::simple_refers, crate::proofs::FunctionShapes::answered))]
 #[cycle(call)]
 fn argument_shape(
@@ -77,51 +83,57 @@ fn argument_shape(
     shapes: &mut Shapes,
     argument: &Arg,
     sources: Sources,
-) -> Result<usize, Doubt>
+) -> Result<Option<usize>, OutOfMemory>
     requires within { IsWithin (length shapes.old) sources }
-    ensures answers { Answers shapes.new result
+    ensures answers { IfOk result
+        (Answers shapes.new
         (flow.argument_shape (argument_view argument.now)
-        (input_of (expansions shapes.old) sources) (item_of (expansions shapes.old) sources)) }
+        (input_of (expansions shapes.old) sources) (item_of (expansions shapes.old) sources))) }
     ensures keeps { Keeps (expansions shapes.old) (expansions shapes.new) }
 {
     match argument {
-        Arg::Null => Ok(put_node(shapes, Node::Null)?),
-        Arg::Bool(_) => Ok(put_node(shapes, Node::Bool)?),
-        Arg::Int(_) => Ok(put_node(shapes, Node::Int)?),
-        Arg::Text(_) => Ok(put_node(shapes, Node::Text)?),
-        Arg::Path(path) => sources.in_input(shapes, path),
-        Arg::ItemIndex => sources.item_index(shapes),
-        Arg::ItemValue(path) => sources.in_item(shapes, path),
+        Arg::Null => Ok(Some(put_node(shapes, Node::Null)?)),
+        Arg::Bool(_) => Ok(Some(put_node(shapes, Node::Bool)?)),
+        Arg::Int(_) => Ok(Some(put_node(shapes, Node::Int)?)),
+        Arg::Text(_) => Ok(Some(put_node(shapes, Node::Text)?)),
+        Arg::Path(path) => Ok(sources.in_input(shapes, path)?.ok()),
+        Arg::ItemIndex => Ok(sources.item_index(shapes)?.ok()),
+        Arg::ItemValue(path) => Ok(sources.in_item(shapes, path)?.ok()),
         Arg::Call(call) => call_shape(alloc, shapes, call, sources),
     }
 }
 
 /// `States.Array`: the list of the arguments.
 #[tactic(auto, using(crate::proofs::FunctionShapes::answered))]
-fn array_shape(shapes: &mut Shapes, arguments: Vec<usize>) -> Result<usize, Doubt>
+fn array_shape(shapes: &mut Shapes, arguments: Vec<usize>) -> Result<Option<usize>, OutOfMemory>
     requires arguments { AreBelow (length shapes.old) arguments.items }
-    ensures answers { Answers shapes.new result
-        (flow.array_of (Some (shapes_at (expansions shapes.old) arguments.items))) }
+    ensures answers { IfOk result
+        (Answers shapes.new
+        (flow.array_of (Some (shapes_at (expansions shapes.old) arguments.items)))) }
     ensures keeps { Keeps (expansions shapes.old) (expansions shapes.new) }
 {
-    Ok(closed_list(shapes, arguments)?)
+    Ok(Some(closed_list(shapes, arguments)?))
 }
 
 /// `States.ArrayLength`: the length of one argument, which is a list or never comes.
 #[tactic(auto, using(asl_numbered::proofs::Expansions::simple_refers, asl_numbered::proofs::Expansions::keeps_same))]
-fn array_length_shape(shapes: &mut Shapes, arguments: &[usize]) -> Result<usize, Doubt>
+fn array_length_shape(
+    shapes: &mut Shapes,
+    arguments: &[usize],
+) -> Result<Option<usize>, OutOfMemory>
     requires arguments { AreBelow (length shapes.old) arguments.now }
-    ensures answers { Answers shapes.new result
-        (flow.array_length_of (Some (shapes_at (expansions shapes.old) arguments.now))) }
+    ensures answers { IfOk result
+        (Answers shapes.new
+        (flow.array_length_of (Some (shapes_at (expansions shapes.old) arguments.now)))) }
     ensures keeps { Keeps (expansions shapes.old) (expansions shapes.new) }
 {
     let [argument] = arguments else {
-        return Err(Doubt::MayFail);
+        return Ok(None);
     };
     if is_list_or_never(shapes, *argument) {
-        Ok(put_node(shapes, Node::Int)?)
+        Ok(Some(put_node(shapes, Node::Int)?))
     } else {
-        Err(Doubt::MayFail)
+        Ok(None)
     }
 }
 
@@ -137,20 +149,25 @@ fn is_list_or_never(shapes: &Shapes, number: usize) -> bool
 
 /// `States.Format`: a text and what fills its holes.
 #[tactic(auto, using(asl_numbered::proofs::Expansions::simple_refers, asl_numbered::proofs::Expansions::keeps_same, crate::proofs::FunctionShapes::answered))]
-fn format_shape(shapes: &mut Shapes, arguments: &[Arg], numbers: &[usize]) -> Result<usize, Doubt>
+fn format_shape(
+    shapes: &mut Shapes,
+    arguments: &[Arg],
+    numbers: &[usize],
+) -> Result<Option<usize>, OutOfMemory>
     requires numbers { AreBelow (length shapes.old) numbers.now }
-    ensures answers { Answers shapes.new result
+    ensures answers { IfOk result
+        (Answers shapes.new
         (flow.format_of (literal_pieces (arguments_view arguments.now))
-        (Some (shapes_at (expansions shapes.old) numbers.now))) }
+        (Some (shapes_at (expansions shapes.old) numbers.now)))) }
     ensures keeps { Keeps (expansions shapes.old) (expansions shapes.new) }
 {
     let [first, others @ ..] = numbers else {
-        return Err(Doubt::MayFail);
+        return Ok(None);
     };
     if fits_holes(shapes, arguments, *first, others) && all_formattable(shapes, others) {
-        Ok(put_node(shapes, Node::Text)?)
+        Ok(Some(put_node(shapes, Node::Text)?))
     } else {
-        Err(Doubt::MayFail)
+        Ok(None)
     }
 }
 

@@ -1,9 +1,9 @@
 //! Narrowing the shape of a number to the trees in which what a path names is of a kind, or isn't.
 
-ghost use Rattle.std.specs.Prelude.{◌≡◌, ◌<◌, List, [], true, Ok, IfErr, IfOk, IsOk, length};
+ghost use Rattle.std.specs.Prelude.{◌≡◌, ◌<◌, List, [], true, Ok, IfOk, IsOk, length};
 ghost use Rattle.asl_choice.specs.View.{kind_view};
+ghost use Rattle.asl_flow.specs.Doubts.{found_view, IsFoundIn};
 ghost use Rattle.asl_flow.specs.Kinds.{AreKindsIn, kind_if};
-ghost use Rattle.asl_flow.specs.Narrowed.{ShowsNarrowed, IsRefused};
 ghost use Rattle.asl_flow.specs.Numbers.{Shows};
 ghost use Rattle.asl_model.specs.Shape as shape;
 ghost use Rattle.asl_model.specs.ShapeFlow as model;
@@ -13,11 +13,11 @@ ghost use Rattle.asl_numbered.specs.Kinds.{HasProperParts};
 ghost use Rattle.asl_numbered.specs.TakenApart.{kinds_at, kinds_over};
 ghost use Rattle.asl_numbered.specs.declared.node.Node.{Node as Level};
 
+use crate::doubts::Found;
 use crate::kinds::kinds_of;
 use crate::numbers::{is_inhabited, put_never, put_node};
-use crate::parts::find_part;
+use crate::parts::look_up;
 use crate::putting::{PutRefusal, put_at};
-use crate::rules::RuleShapeRefusal;
 use asl_choice::ValueKind;
 use asl_numbered::{KindNumbers, Node, NodeKinds, Shapes};
 use asl_path::RefPath;
@@ -25,34 +25,33 @@ use asl_tree::OutOfMemory;
 use std::alloc::Global;
 
 /// The number of the shape of the trees in which what the path names is of the kind, or, where that isn't wanted, is of
-/// another. The path must name something in every tree.
-pub(crate) fn narrow_to_kind(
+/// another. The path must name something in every tree; else it is told as a doubtful one.
+pub(crate) fn narrow_to_kind<'p>(
     alloc: Global,
     shapes: &mut Shapes,
     number: usize,
-    path: &RefPath,
+    path: &'p RefPath,
     kind: ValueKind,
     wanted: bool,
-) -> Result<usize, RuleShapeRefusal>
+) -> Result<Found<'p>, OutOfMemory>
     requires number { number < length shapes.old }
-    ensures narrowed { IfOk result
-        (ShowsNarrowed shapes.new
-        (model.true_of (IsOfKind path.now (kind_view kind) wanted)
-        (shape_at (expansions shapes.old) number))) }
-    ensures refused { IfErr result
-        (IsRefused
-        (model.true_of (IsOfKind path.now (kind_view kind) wanted)
-        (shape_at (expansions shapes.old) number))) }
+    ensures as_defined { IfOk result
+        (λ answer. model.true_of (IsOfKind path.now (kind_view kind) wanted)
+        (shape_at (expansions shapes.old) number)
+        ≡ found_view (expansions shapes.new) answer) }
+    ensures within { IfOk result (IsFoundIn (length shapes.new)) }
     ensures keeps { Keeps (expansions shapes.old) (expansions shapes.new) }
 {
     if !is_inhabited(shapes, number) {
-        return Ok(put_never(shapes)?);
+        return Ok(Ok(put_never(shapes)?));
     }
-    let Ok(part) = find_part(shapes, number, path) else {
-        return Err(RuleShapeRefusal::MayBeMissing);
-    };
-    let narrowed = keep_by_kind(shapes, part, kind, wanted)?;
-    Ok(put_where_found(alloc, shapes, number, path, narrowed)?)
+    match look_up(shapes, number, path) {
+        Ok(part) => {
+            let narrowed = keep_by_kind(shapes, part, kind, wanted)?;
+            Ok(Ok(put_where_found(alloc, shapes, number, path, narrowed)?))
+        }
+        Err(doubtful) => Ok(Err(doubtful)),
+    }
 }
 
 /// The number of the shape with the other one placed at a path that is found.
@@ -172,7 +171,7 @@ fn drop_kind(shapes: &mut Shapes, number: usize, kind: ValueKind) -> Result<usiz
 }
 
 /// The same kinds, by their numbers.
-fn numbers_of(kinds: &NodeKinds<'_>) -> KindNumbers
+pub(crate) fn numbers_of(kinds: &NodeKinds<'_>) -> KindNumbers
     ensures { (nodes : List Level) → AreKindsIn nodes kinds.now
         → kinds_at (expansions nodes) result ≡ kinds_over (expansions nodes) kinds.now }
 {

@@ -1,37 +1,34 @@
 // The shape of a state's output.
 
-ghost use Rattle.std.specs.Prelude.{◌≡◌, ◌<◌, Ok, IfOk, IfErr, length, option_map, codes};
+ghost use Rattle.std.specs.Prelude.{◌≡◌, ◌<◌, ◌∷◌, [], Err, Ok, IfOk, IfErr, length, codes};
 ghost use Rattle.asl_model.specs.Flow.{at_output_path, output_of};
 ghost use Rattle.asl_model.specs.Shape.{Has};
 ghost use Rattle.asl_model.specs.ShapeFlow as model;
 ghost use Rattle.asl_model.specs.Tree as trees;
 ghost use Rattle.asl_states.specs.Machine.{settings_view, kind_view};
-ghost use Rattle.asl_flow.specs.Leaving.{FlowsTo, IsStopped, fault_view, leaving_of};
-ghost use Rattle.asl_flow.specs.Numbers.{Shows};
-ghost use Rattle.asl_flow.specs.TemplateAnswer.{doubt_told};
+ghost use Rattle.asl_flow.specs.Doubts.{fault_of, flow_view, IsCauseIn, IsFlowIn};
+ghost use Rattle.asl_flow.specs.Leaving.{FlowsTo, IsStopped, leaving_of};
 ghost use Rattle.asl_numbered.specs.Expansion.{expansions, shape_at, IsNumberOf, Keeps};
 ghost use Rattle.asl_shape.specs.View.{view};
-ghost use Rattle.asl_template.specs.View as templates;
 
-use crate::numbers::{are_inhabited, expand, is_inhabited, put_never, put_node};
-use crate::parts::find_part;
+use crate::counterexamples::counterexample_at;
+use crate::doubts::{Cause, Doubt, Flow, stopped};
+use crate::numbers::{are_inhabited, expand, is_inhabited, put_never};
 use crate::putting::{PutRefusal, put_at};
-use crate::templates::{TemplateShapeRefusal, template_shape_at};
+use crate::steps::{through_path, through_template};
 use asl_model::shape_laws::leave_means_an_output;
-use asl_numbered::{Node, Shapes};
+use asl_numbered::Shapes;
 use asl_path::RefPath;
 use asl_shape::Shape;
 use asl_states::{Kind, Settings, State};
-use asl_template::Template;
-use asl_tree::OutOfMemory;
+use asl_tree::{OutOfMemory, Tree};
 use std::alloc::Global;
-use std::collections::BTreeMap;
 
 /// Why a state's output may not come about. The field is `ResultSelector`, `ResultPath` or `OutputPath`.
-#[derive(Clone, Copy, Debug, Drop)]
+#[derive(Debug, Drop)]
 pub enum FlowFault {
-    /// A path of that field may name nothing.
-    MayBeMissing(&'static str),
+    /// A path of that field may name nothing; the tree is one of the shape that the path goes into, in which it does so.
+    MayBeMissing(&'static str, Tree),
     /// A call in that field may fail.
     MayFail(&'static str),
     /// What that field places may not fit.
@@ -55,13 +52,26 @@ impl From<OutOfMemory> for FlowFault {
 ///
 /// The work is the result, which goes through `ResultSelector`, `ResultPath` and `OutputPath`, or for Choice, Wait and
 /// Succeed the effective input, which goes through `OutputPath` alone. `Never` where no tree has one of the two shapes,
-/// and for a Fail, which nothing leaves. Of several faults the first is told, with its field; `OutOfMemory` comes only where
-/// an allocation was refused.
+/// and for a Fail, which nothing leaves. Of several faults the first is told, with its field, and that of a path with a tree
+/// that shows it; `OutOfMemory` comes only where an allocation was refused, of that tree too.
 pub fn leave(alloc: Global, state: &State, raw: &Shape, work: &Shape) -> Result<Shape, FlowFault>
-    ensures as_defined { IfOk result (λ s. model.leave (settings_view state.now.settings) (kind_view state.now.kind) (view raw.now) (view work.now) ≡ Ok (view s)) }
-    ensures result_leaves { IfOk result (λ s. model.leaving (kind_view state.now.kind) ≡ model.WithResult → (v x : trees.Tree) → Has (view raw.now) v → Has (view work.now) x → (u : trees.Tree) × (output_of (settings_view state.now.settings) v x ≡ Ok u) × Has (view s) u) }
-    ensures input_leaves { IfOk result (λ s. model.leaving (kind_view state.now.kind) ≡ model.WithInput → (v x : trees.Tree) → Has (view raw.now) v → Has (view work.now) x → (u : trees.Tree) × (at_output_path (settings_view state.now.settings) x ≡ Ok u) × Has (view s) u) }
-    ensures refused { IfErr result (IsStopped (model.leave (settings_view state.now.settings) (kind_view state.now.kind) (view raw.now) (view work.now))) }
+    ensures as_defined { IfOk result
+        (λ s. model.leave (settings_view state.now.settings) (kind_view state.now.kind)
+        (view raw.now) (view work.now) ≡ Ok (view s)) }
+    ensures result_leaves { IfOk result
+        (λ s. model.leaving (kind_view state.now.kind) ≡ model.WithResult
+        → (v x : trees.Tree) → Has (view raw.now) v → Has (view work.now) x
+        → (u : trees.Tree) × (output_of (settings_view state.now.settings) v x ≡ Ok u)
+        × Has (view s) u) }
+    ensures input_leaves { IfOk result
+        (λ s. model.leaving (kind_view state.now.kind) ≡ model.WithInput
+        → (v x : trees.Tree) → Has (view raw.now) v → Has (view work.now) x
+        → (u : trees.Tree) × (at_output_path (settings_view state.now.settings) x ≡ Ok u)
+        × Has (view s) u) }
+    ensures refused { IfErr result
+        (IsStopped
+        (model.leave (settings_view state.now.settings) (kind_view state.now.kind)
+        (view raw.now) (view work.now))) }
 {
     leave_means_an_output();
     let mut shapes = Shapes::new(alloc);
@@ -94,24 +104,73 @@ pub fn leave_at(
         (shape_at (expansions shapes.old) raw) (shape_at (expansions shapes.old) work))) }
     ensures keeps { Keeps (expansions shapes.old) (expansions shapes.new) }
 {
-    let answer = output_by_kind(alloc, shapes, state, raw, work);
-    shapes.are_distinct();
-    answer
+    match output_at(alloc, shapes, state, raw, work)? {
+        Ok(number) => Ok(number),
+        Err(doubts) => Err(fault_told(alloc, shapes, doubts[0])?),
+    }
 }
 
-/// The number of the shape of a state's output.
-fn output_by_kind(
+/// The number of the shape of a state's output, as [`leave_at`] tells it, or all doubts of the first of the fields
+/// `ResultSelector`, `ResultPath` and `OutputPath` that has some, in order. Refuses only where an allocation was refused, and
+/// may leave further shapes in the table.
+pub fn output_at<'p>(
     alloc: Global,
     shapes: &mut Shapes,
-    state: &State,
+    state: &'p State,
     raw: usize,
     work: usize,
-) -> Result<usize, FlowFault>
+) -> Result<Flow<'p>, OutOfMemory>
     requires raw { raw < length shapes.old }
     requires work { work < length shapes.old }
-    ensures flows { FlowsTo shapes.new
+    ensures as_defined { IfOk result
+        (λ flow. model.leave (settings_view state.now.settings) (kind_view state.now.kind)
+        (shape_at (expansions shapes.old) raw) (shape_at (expansions shapes.old) work)
+        ≡ flow_view (expansions shapes.new) flow) }
+    ensures within { IfOk result (IsFlowIn (length shapes.new)) }
+    ensures number { IfOk result
+        (λ flow. IfOk flow
+        (λ n. IsNumberOf (expansions shapes.new) (shape_at (expansions shapes.new) n) n)) }
+    ensures keeps { Keeps (expansions shapes.old) (expansions shapes.new) }
+{
+    let flow = output_by_kind(alloc, shapes, state, raw, work)?;
+    shapes.are_distinct();
+    Ok(flow)
+}
+
+/// The fault that tells a doubt.
+fn fault_told(
+    alloc: Global,
+    shapes: &mut Shapes,
+    doubt: Doubt<'_>,
+) -> Result<FlowFault, OutOfMemory>
+    requires cause { IsCauseIn shapes.old doubt.cause }
+    ensures told { IfOk result (IsStopped (Err (fault_of (expansions shapes.old) doubt.entry ∷ []))) }
+    ensures keeps { Keeps (expansions shapes.old) (expansions shapes.new) }
+{
+    match doubt.cause {
+        Cause::MayBeMissing(doubtful) => {
+            let tree = counterexample_at(alloc, shapes, doubtful)?;
+            Ok(FlowFault::MayBeMissing(doubt.field, tree))
+        }
+        Cause::MayFail => Ok(FlowFault::MayFail(doubt.field)),
+        Cause::MayNotFit => Ok(FlowFault::MayNotFit(doubt.field)),
+    }
+}
+
+/// What a state's type lets leave.
+fn output_by_kind<'p>(
+    alloc: Global,
+    shapes: &mut Shapes,
+    state: &'p State,
+    raw: usize,
+    work: usize,
+) -> Result<Flow<'p>, OutOfMemory>
+    requires raw { raw < length shapes.old }
+    requires work { work < length shapes.old }
+    ensures flows { IfOk result
+        (FlowsTo shapes.new
         (model.leave (settings_view state.now.settings) (kind_view state.now.kind)
-        (shape_at (expansions shapes.old) raw) (shape_at (expansions shapes.old) work)) result }
+        (shape_at (expansions shapes.old) raw) (shape_at (expansions shapes.old) work))) }
     ensures keeps { Keeps (expansions shapes.old) (expansions shapes.new) }
 {
     match what_leaves(&state.kind) {
@@ -119,7 +178,7 @@ fn output_by_kind(
         Leaving::WithInput if is_inhabited(shapes, raw) => {
             at_output(alloc, shapes, &state.settings, work)
         }
-        Leaving::WithInput | Leaving::Nothing => Ok(put_never(shapes)?),
+        Leaving::WithInput | Leaving::Nothing => Ok(Ok(put_never(shapes)?)),
     }
 }
 
@@ -154,123 +213,77 @@ fn what_leaves(kind: &Kind) -> Leaving
     }
 }
 
-/// The number of the shape of the output of a state with a result: `ResultSelector`, `ResultPath`, `OutputPath`.
-fn result_output(
+/// What `ResultSelector`, `ResultPath` and `OutputPath` make of a result.
+fn result_output<'p>(
     alloc: Global,
     shapes: &mut Shapes,
-    settings: &Settings,
+    settings: &'p Settings,
     raw: usize,
     work: usize,
-) -> Result<usize, FlowFault>
+) -> Result<Flow<'p>, OutOfMemory>
     requires raw { raw < length shapes.old }
     requires work { work < length shapes.old }
-    ensures flows { FlowsTo shapes.new
-        (model.result_leaves (settings_view settings.now)
-        (shape_at (expansions shapes.old) raw) (shape_at (expansions shapes.old) work)) result }
+    ensures flows { IfOk result
+        (FlowsTo shapes.new
+        (model.result_leaves (settings_view settings.now) (shape_at (expansions shapes.old) raw)
+        (shape_at (expansions shapes.old) work))) }
     ensures keeps { Keeps (expansions shapes.old) (expansions shapes.new) }
 {
     if !are_inhabited(shapes, raw, work) {
-        return Ok(put_never(shapes)?);
+        return Ok(Ok(put_never(shapes)?));
     }
-    let selected = selected(alloc, shapes, &settings.result_selector, work)?;
-    let placed = placed(alloc, shapes, &settings.result_path, raw, selected)?;
+    let selector = &settings.result_selector;
+    let selected = match through_template(alloc, shapes, "ResultSelector", selector, work)? {
+        Ok(selected) => selected,
+        Err(doubts) => return Ok(Err(doubts)),
+    };
+    let placed = match placed(alloc, shapes, &settings.result_path, raw, selected)? {
+        Ok(placed) => placed,
+        Err(doubts) => return Ok(Err(doubts)),
+    };
     at_output(alloc, shapes, settings, placed)
 }
 
-/// What `ResultSelector` makes of a result.
-fn selected(
-    alloc: Global,
-    shapes: &mut Shapes,
-    selector: &Option<Template>,
-    work: usize,
-) -> Result<usize, FlowFault>
-    requires work { work < length shapes.old }
-    ensures flows { FlowsTo shapes.new
-        (model.through_template (codes "ResultSelector")
-        (option_map templates.view selector.now) (shape_at (expansions shapes.old) work)) result }
-    ensures keeps { Keeps (expansions shapes.old) (expansions shapes.new) }
-{
-    match selector {
-        None => Ok(work),
-        Some(template) => match template_shape_at(alloc, shapes, template, work, None) {
-            Ok(number) => Ok(number),
-            Err(refusal) => Err(selecting_fault(refusal)),
-        },
-    }
-}
-
-/// The fault of a template in `ResultSelector`.
-fn selecting_fault(refusal: TemplateShapeRefusal) -> FlowFault
-    ensures { fault_view result ≡ option_map (λ d. model.doubt_fault (codes "ResultSelector") d.1) (doubt_told refusal) }
-{
-    let fault = match &refusal {
-        TemplateShapeRefusal::MayBeMissing(_) => FlowFault::MayBeMissing("ResultSelector"),
-        TemplateShapeRefusal::MayFail(_) => FlowFault::MayFail("ResultSelector"),
-        TemplateShapeRefusal::OutOfMemory => FlowFault::OutOfMemory,
-    };
-    drop(refusal);
-    fault
-}
-
 /// What `ResultPath` makes of a raw input in which a result is placed.
-fn placed(
+fn placed<'p>(
     alloc: Global,
     shapes: &mut Shapes,
-    path: &Option<RefPath>,
+    path: &'p Option<RefPath>,
     raw: usize,
     work: usize,
-) -> Result<usize, FlowFault>
+) -> Result<Flow<'p>, OutOfMemory>
     requires raw { raw < length shapes.old }
     requires work { work < length shapes.old }
-    ensures flows { FlowsTo shapes.new
+    ensures flows { IfOk result
+        (FlowsTo shapes.new
         (model.through_placing (codes "ResultPath") path.now
-        (shape_at (expansions shapes.old) raw) (shape_at (expansions shapes.old) work)) result }
+        (shape_at (expansions shapes.old) raw) (shape_at (expansions shapes.old) work))) }
     ensures keeps { Keeps (expansions shapes.old) (expansions shapes.new) }
 {
     match path {
-        None if is_inhabited(shapes, work) => Ok(raw),
-        None => Ok(put_never(shapes)?),
+        None if is_inhabited(shapes, work) => Ok(Ok(raw)),
+        None => Ok(Ok(put_never(shapes)?)),
         Some(path) => match put_at(alloc, shapes, raw, path, work) {
-            Ok(number) => Ok(number),
-            Err(PutRefusal::MayNotFit(_)) => Err(FlowFault::MayNotFit("ResultPath")),
-            Err(PutRefusal::OutOfMemory) => Err(FlowFault::OutOfMemory),
+            Ok(number) => Ok(Ok(number)),
+            Err(PutRefusal::MayNotFit(_)) => stopped(alloc, "ResultPath", Cause::MayNotFit),
+            Err(PutRefusal::OutOfMemory) => Err(OutOfMemory),
         },
     }
 }
 
 /// What `OutputPath` leaves of a shape.
-fn at_output(
+fn at_output<'p>(
     alloc: Global,
     shapes: &mut Shapes,
-    settings: &Settings,
+    settings: &'p Settings,
     number: usize,
-) -> Result<usize, FlowFault>
+) -> Result<Flow<'p>, OutOfMemory>
     requires number { number < length shapes.old }
-    ensures flows { FlowsTo shapes.new
-        (model.output_flow (settings_view settings.now) (shape_at (expansions shapes.old) number))
-        result }
+    ensures flows { IfOk result
+        (FlowsTo shapes.new
+        (model.output_flow (settings_view settings.now)
+        (shape_at (expansions shapes.old) number))) }
     ensures keeps { Keeps (expansions shapes.old) (expansions shapes.new) }
 {
-    if !is_inhabited(shapes, number) {
-        return Ok(put_never(shapes)?);
-    }
-    match &settings.output_path {
-        None => Ok(put_empty_object(alloc, shapes)?),
-        Some(path) => match find_part(shapes, number, path) {
-            Ok(part) => Ok(part),
-            Err(_) => Err(FlowFault::MayBeMissing("OutputPath")),
-        },
-    }
-}
-
-/// The number of the shape of the object without a field.
-fn put_empty_object(alloc: Global, shapes: &mut Shapes) -> Result<usize, OutOfMemory>
-    ensures shown { IfOk result (Shows shapes.new model.empty_object) }
-    ensures keeps { Keeps (expansions shapes.old) (expansions shapes.new) }
-{
-    let object = Node::Object {
-        fields: BTreeMap::new(alloc),
-        extra: false,
-    };
-    put_node(shapes, object)
+    through_path(alloc, shapes, "OutputPath", &settings.output_path, number)
 }

@@ -1,10 +1,11 @@
 // What a path leads to in the trees of a shape.
 
-ghost use Rattle.std.specs.Prelude.{◌≡◌, ◌<◌, ◌↔◌, ℕ, Some, Ok, Err, IfOk, length, option_map, string_bytes};
+ghost use Rattle.std.specs.Prelude.{◌≡◌, ◌<◌, ◌↔◌, ℕ, false, Some, Ok, Err, IfOk, IfErr, length, option_map, string_bytes};
 ghost use Rattle.asl_model.specs.Path.{Name, Index, Names};
-ghost use Rattle.asl_model.specs.Shape.{Has};
-ghost use Rattle.asl_model.specs.ShapeFlow.{part_at, look_at as part_by_path, look as looked, if_needed as needed_shape};
+ghost use Rattle.asl_model.specs.Shape.{Has, inhabited};
+ghost use Rattle.asl_model.specs.ShapeFlow.{found as found_in, part_at, look_at as part_by_path, look as looked, if_needed as needed_shape};
 ghost use Rattle.asl_model.specs.Tree.{Tree};
+ghost use Rattle.asl_flow.specs.Doubts.{found_view, IsFoundIn};
 ghost use Rattle.asl_flow.specs.declared.looking.LookRefusal.TheVariants.{MayBeMissing};
 ghost use Rattle.asl_flow.specs.Looking.{lent};
 ghost use Rattle.asl_numbered.specs.Expansion.{expansions, shape_at, IsNumberOf, Keeps};
@@ -12,8 +13,9 @@ ghost use Rattle.asl_path.specs.View.{segment_view};
 ghost use Rattle.asl_shape.specs.View.{view};
 
 use crate::alone::{arrays_alone, objects_alone};
+use crate::doubts::Found;
 use crate::numbers::{is_inhabited, put_never};
-use crate::parts::find_part;
+use crate::parts::look_up;
 use asl_model::shape_laws::look_means_named;
 use asl_numbered::Shapes;
 use asl_path::{RefPath, Segment};
@@ -73,13 +75,39 @@ pub fn look_at(shapes: &mut Shapes, number: usize, path: &RefPath) -> Result<usi
         ↔ (looked path.now (shape_at (expansions shapes.old) number) ≡ Err at) }
     ensures keeps { Keeps (expansions shapes.old) (expansions shapes.new) }
 {
-    shapes.are_distinct();
-    if !is_inhabited(shapes, number) {
-        let never = put_never(shapes)?;
-        shapes.are_distinct();
-        return Ok(never);
+    match find_at(shapes, number, path)? {
+        Ok(part) => Ok(part),
+        Err(doubtful) => Err(LookRefusal::MayBeMissing(doubtful.segment)),
     }
-    find_part(shapes, number, path).map_err(LookRefusal::MayBeMissing)
+}
+
+/// The number of the shape of what `path` names in every tree of the shape of a number, `Never`'s where no tree has that;
+/// or the path as a doubtful one, with the first segment, counted from 0, that may name nothing. Refuses only where no
+/// tree has the shape, and the table had no room for `Never`.
+pub fn find_at<'p>(
+    shapes: &mut Shapes,
+    number: usize,
+    path: &'p RefPath,
+) -> Result<Found<'p>, OutOfMemory>
+    requires number { number < length shapes.old }
+    ensures as_defined { IfOk result
+        (λ answer. found_in path.now (shape_at (expansions shapes.old) number)
+        ≡ found_view (expansions shapes.new) answer) }
+    ensures within { IfOk result (IsFoundIn (length shapes.new)) }
+    ensures refused { IfErr result
+        (λ _. inhabited (shape_at (expansions shapes.old) number) ≡ false) }
+    ensures number { IfOk result
+        (λ answer. IfOk answer
+        (λ n. IsNumberOf (expansions shapes.new) (shape_at (expansions shapes.new) n) n)) }
+    ensures keeps { Keeps (expansions shapes.old) (expansions shapes.new) }
+{
+    shapes.are_distinct();
+    if is_inhabited(shapes, number) {
+        return Ok(look_up(shapes, number, path));
+    }
+    let never = put_never(shapes)?;
+    shapes.are_distinct();
+    Ok(Ok(never))
 }
 
 /// Lends the shape of what `path` names in every tree of an inhabited `shape`, or tells the number of the segment that

@@ -3,16 +3,36 @@
 ghost use Rattle.std.specs.Prelude.{◌≡◌, ◌<◌, ℕ, List, Some, IfOk, IfSome, length, option_map, string_bytes};
 ghost use Rattle.asl_model.specs.Path.{Name, Index};
 ghost use Rattle.asl_model.specs.Shape as model;
-ghost use Rattle.asl_model.specs.ShapeFlow.{look_at, part_at, place_at, if_needed as needed_shape};
+ghost use Rattle.asl_model.specs.ShapeFlow.{look_at, or_doubtful, part_at, place_at, if_needed as needed_shape};
 ghost use Rattle.asl_model.specs.ShapeOrder.{mention_of};
+ghost use Rattle.asl_flow.specs.Doubts.{found_view, IsFoundIn};
 ghost use Rattle.asl_flow.specs.Numbers.{shown};
 ghost use Rattle.asl_numbered.specs.Expansion.{expansions, shape_at, shapes_at, fields_at, numbers_in, AreBelow};
 ghost use Rattle.asl_path.specs.View.{segment_view};
 
+use crate::doubts::{DoubtfulPath, Found};
 use crate::kinds::{arrays_alone, objects_alone};
 use asl_numbered::{NodeField, Shapes};
 use asl_path::{RefPath, Segment};
 use std::collections::BTreeMap;
+
+/// The number of the shape of what `path` names in every tree of a shape that some tree has, or the path as a doubtful one.
+pub(crate) fn look_up<'p>(shapes: &Shapes, number: usize, path: &'p RefPath) -> Found<'p>
+    requires number { number < length shapes.now }
+    ensures as_defined { or_doubtful path.now (shape_at (expansions shapes.now) number)
+        (look_at path.now (shape_at (expansions shapes.now) number))
+        ≡ found_view (expansions shapes.now) result }
+    ensures within { IsFoundIn (length shapes.now) result }
+{
+    match find_part(shapes, number, path) {
+        Ok(part) => Ok(part),
+        Err(segment) => Err(DoubtfulPath {
+            path,
+            segment,
+            shape: number,
+        }),
+    }
+}
 
 /// The number of the shape of what `path` names in every tree of a shape that some tree has, or that of the segment that
 /// may name nothing, counted from 0 (States Language, "Reference Paths").
@@ -30,7 +50,7 @@ pub(crate) fn find_part(shapes: &Shapes, number: usize, path: &RefPath) -> Resul
 }
 
 /// The number of the shape of what one segment names in every tree of a shape that some tree has.
-fn part_of(shapes: &Shapes, number: usize, segment: &Segment) -> Option<usize>
+pub(crate) fn part_of(shapes: &Shapes, number: usize, segment: &Segment) -> Option<usize>
     requires number { number < length shapes.now }
     ensures part { option_map (shape_at (expansions shapes.now)) result
         ≡ part_at (segment_view segment.now) (shape_at (expansions shapes.now) number) }

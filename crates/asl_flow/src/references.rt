@@ -3,58 +3,20 @@ ghost use Rattle.std.specs.Prelude.{◌≡◌, ◌<◌, IfOk, IfSome, length, op
 ghost use Rattle.asl_flow.specs.Items.{item_view};
 ghost use Rattle.asl_flow.specs.Sources.{input_of, item_of, IsWithin, IsPart};
 ghost use Rattle.asl_model.specs.Intrinsic.{InInput, ItemIndex, InItem};
-ghost use Rattle.asl_model.specs.ShapeFlow.{look, or_missing, reference_shape};
+ghost use Rattle.asl_model.specs.ShapeFlow.{found, or_missing, reference_shape};
 ghost use Rattle.asl_numbered.specs.Expansion.{expansions, shape_at, Keeps};
 ghost use Rattle.asl_shape.specs.View.{view};
 
-use crate::looking::{LookRefusal, look_at};
+use crate::doubts::Cause;
+use crate::looking::find_at;
 use crate::numbers::put_node;
 use asl_numbered::{Node, Shapes};
 use asl_path::RefPath;
 use asl_shape::Shape;
 use asl_tree::OutOfMemory;
-use std::alloc::{AllocError, AllocFailed};
 
-/// Why a template may have no value for a tree of its input's shape.
-#[derive(Drop)]
-pub(crate) enum Doubt {
-    /// A path may name nothing.
-    MayBeMissing,
-    /// There is no item, or a function may not be given as many arguments, or values of the kinds, that it takes.
-    MayFail,
-    /// An allocation was refused.
-    OutOfMemory,
-}
-
-impl From<AllocError> for Doubt {
-    ghost use Rattle.asl_flow.specs.declared.references.Doubt.{Doubt};
-
-    ghost from_gives = { λ _ doubt. doubt ≡ Doubt.OutOfMemory };
-
-    fn from(_error: AllocError) -> Doubt {
-        Doubt::OutOfMemory
-    }
-}
-
-impl<T: Drop> From<AllocFailed<T>> for Doubt {
-    ghost use Rattle.asl_flow.specs.declared.references.Doubt.{Doubt};
-
-    ghost from_gives = { λ _ doubt. doubt ≡ Doubt.OutOfMemory };
-
-    fn from(_error: AllocFailed<T>) -> Doubt {
-        Doubt::OutOfMemory
-    }
-}
-
-impl From<OutOfMemory> for Doubt {
-    ghost use Rattle.asl_flow.specs.declared.references.Doubt.{Doubt};
-
-    ghost from_gives = { λ _ doubt. doubt ≡ Doubt.OutOfMemory };
-
-    fn from(_error: OutOfMemory) -> Doubt {
-        Doubt::OutOfMemory
-    }
-}
+/// The number of the shape of what a path or a call gives, or why there may be no value.
+pub(crate) type Part<'p> = Result<usize, Cause<'p>>;
 
 /// What paths go into.
 #[derive(Clone, Copy)]
@@ -82,11 +44,16 @@ impl Sources {
     }
 
     /// The number of the shape of what a path names in the input.
-    pub(crate) fn in_input(self, shapes: &mut Shapes, path: &RefPath) -> Result<usize, Doubt>
+    pub(crate) fn in_input<'p>(
+        self,
+        shapes: &mut Shapes,
+        path: &'p RefPath,
+    ) -> Result<Part<'p>, OutOfMemory>
         requires within { IsWithin (length shapes.old) self }
-        ensures part { IsPart shapes.new result
+        ensures part { IfOk result
+            (IsPart shapes.new
             (reference_shape (InInput path.now) (input_of (expansions shapes.old) self)
-            (item_of (expansions shapes.old) self)) }
+            (item_of (expansions shapes.old) self))) }
         ensures keeps { Keeps (expansions shapes.old) (expansions shapes.new) }
     {
         named_part(shapes, self.input, path)
@@ -94,29 +61,35 @@ impl Sources {
 
     /// The number of the shape of the item's number.
     #[tactic(auto, using(asl_numbered::proofs::Expansions::simple_refers, asl_numbered::proofs::Expansions::keeps_same))]
-    pub(crate) fn item_index(self, shapes: &mut Shapes) -> Result<usize, Doubt>
-        ensures part { IsPart shapes.new result
+    pub(crate) fn item_index<'p>(self, shapes: &mut Shapes) -> Result<Part<'p>, OutOfMemory>
+        ensures part { IfOk result
+            (IsPart shapes.new
             (reference_shape ItemIndex (input_of (expansions shapes.old) self)
-            (item_of (expansions shapes.old) self)) }
+            (item_of (expansions shapes.old) self))) }
         ensures keeps { Keeps (expansions shapes.old) (expansions shapes.new) }
     {
         match self.item {
-            Some(_) => Ok(put_node(shapes, Node::Int)?),
-            None => Err(Doubt::MayFail),
+            Some(_) => Ok(Ok(put_node(shapes, Node::Int)?)),
+            None => Ok(Err(Cause::MayFail)),
         }
     }
 
     /// The number of the shape of what a path names in the item.
     #[tactic(auto, using(asl_numbered::proofs::Expansions::keeps_same))]
-    pub(crate) fn in_item(self, shapes: &mut Shapes, path: &RefPath) -> Result<usize, Doubt>
+    pub(crate) fn in_item<'p>(
+        self,
+        shapes: &mut Shapes,
+        path: &'p RefPath,
+    ) -> Result<Part<'p>, OutOfMemory>
         requires within { IsWithin (length shapes.old) self }
-        ensures part { IsPart shapes.new result
+        ensures part { IfOk result
+            (IsPart shapes.new
             (reference_shape (InItem path.now) (input_of (expansions shapes.old) self)
-            (item_of (expansions shapes.old) self)) }
+            (item_of (expansions shapes.old) self))) }
         ensures keeps { Keeps (expansions shapes.old) (expansions shapes.new) }
     {
         let Some(item) = self.item else {
-            return Err(Doubt::MayFail);
+            return Ok(Err(Cause::MayFail));
         };
         named_part(shapes, item, path)
     }
@@ -136,15 +109,19 @@ fn add_item(shapes: &mut Shapes, item: Option<&Shape>) -> Result<Option<usize>, 
 }
 
 /// The number of the shape of what a path names in the trees of a shape.
-fn named_part(shapes: &mut Shapes, number: usize, path: &RefPath) -> Result<usize, Doubt>
+fn named_part<'p>(
+    shapes: &mut Shapes,
+    number: usize,
+    path: &'p RefPath,
+) -> Result<Part<'p>, OutOfMemory>
     requires number { number < length shapes.old }
-    ensures part { IsPart shapes.new result
-        (or_missing (look path.now (shape_at (expansions shapes.old) number))) }
+    ensures part { IfOk result
+        (IsPart shapes.new
+        (or_missing (found path.now (shape_at (expansions shapes.old) number)))) }
     ensures keeps { Keeps (expansions shapes.old) (expansions shapes.new) }
 {
-    match look_at(shapes, number, path) {
-        Ok(part) => Ok(part),
-        Err(LookRefusal::MayBeMissing(_)) => Err(Doubt::MayBeMissing),
-        Err(LookRefusal::OutOfMemory) => Err(Doubt::OutOfMemory),
+    match find_at(shapes, number, path)? {
+        Ok(part) => Ok(Ok(part)),
+        Err(doubtful) => Ok(Err(Cause::MayBeMissing(doubtful))),
     }
 }

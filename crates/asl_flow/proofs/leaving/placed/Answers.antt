@@ -1,12 +1,22 @@
-use Rattle.std.proofs.Common.{ap, codes}
+use Rattle.std.proofs.Common.{Err, ap, codes, length}
 use Rattle.asl_model.specs.ShapeFlow as model
+use Rattle.asl_numbered.specs.Expansion.{expansions, shape_at}
+use Rattle.asl_flow.specs.declared.doubts.Cause.TheVariants.{MayNotFit}
+use Rattle.asl_flow.proofs.Leavings.{flow_there, stops_where}
 use Rattle.asl_flow.proofs.Numbered.{number_within}
 use Rattle.asl_flow.proofs.leaving.placed.Goals as goal
 
 pub returns-in-Ok-clause-flows : goal.returns-in-Ok-clause-flows
 returns-in-Ok-clause-flows c =
-    rw c.in-Some.is record {
-      within = number_within c.put_at.new.shapes _ c.in-Ok.number c.in-Ok.ensures.number;
-      shape = ap (model.placing_flow (codes "ResultPath")) c.in-Ok.ensures.as_defined;
-      stopped = tt;
-    }
+    let nodes = c.put_at.new.shapes in
+    rw c.in-Some.is (flow_there nodes _ c.in-Ok.number (ap (model.placing_flow (codes "ResultPath")) c.in-Ok.ensures.as_defined) (number_within nodes _ c.in-Ok.number c.in-Ok.ensures.number))
+
+pub returns-in-Err-MayNotFit-clause-flows : goal.returns-in-Err-MayNotFit-clause-flows
+returns-in-Err-MayNotFit-clause-flows c =
+    let table = expansions c.args.shapes.now in
+    let nodes = c.put_at.new.shapes in
+    let field = codes "ResultPath" in
+    let misfit = c.in-Err-MayNotFit in
+    let put = model.put c.in-Some.path (shape_at table c.args.work) (shape_at table c.args.raw) in
+    let is = misfit.ensures.may_not_fit misfit.field-0-0 (ap Err misfit.field-0-is) in
+    rw c.in-Some.is (stops_where nodes (model.placing_flow field put) field MayNotFit c.stopped.result (ap (model.placing_flow field) is) c.stopped.ensures.doubt (c.stopped.ensures.within (length nodes) tt))

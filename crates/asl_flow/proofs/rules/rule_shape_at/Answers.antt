@@ -1,12 +1,13 @@
+use Rattle.std.proofs.Common.{ap, ◌∙◌}
 use Rattle.asl_choice.specs.View as tests
 use Rattle.asl_numbered.specs.Expansion.{expansions, shape_at}
-use Rattle.asl_flow.proofs.Numbered.{own_number}
+use Rattle.asl_flow.specs.Doubts.{doubtful_view, found_view}
+use Rattle.asl_flow.proofs.DoubtfulPaths.{rule_refused, told_refused}
 use Rattle.asl_flow.proofs.rules.rule_shape_at.Goals as goal
 
-pub returns-clause-number : goal.returns-clause-number
-returns-clause-number c =
-    own_number c.narrow_inhabited.new.shapes c.in_ok-narrowed.narrowed c.are_distinct.ensures.distinct c.in_ok-narrowed.ensures.narrowed.within
-
-pub returns-clause-decided : goal.returns-clause-decided
-returns-clause-decided c =
-    c.rule_shape_means_decided.ensures.decided (tests.view c.args.test.now) (shape_at (expansions c.args.shapes.now) c.args.number) (shape_at (expansions c.narrow_inhabited.new.shapes) c.in_ok-narrowed.narrowed) c.in_ok-narrowed.ensures.narrowed.same
+pub counterexample_at-requires-clause-refused : goal.counterexample_at-requires-clause-refused
+counterexample_at-requires-clause-refused c =
+    let s = shape_at (expansions c.args.shapes.now) c.args.number in
+    let table = expansions c.let_through_at.new.shapes in
+    let told = c.in_ok-narrowed.ensures.as_defined ∙ ap (found_view table) c.in-Err.is in
+    told_refused _ (doubtful_view table c.in-Err.doubtful) (rule_refused (tests.view c.args.test.now) s) told

@@ -1,11 +1,12 @@
-use Rattle.std.proofs.Common.{◌≡◌, List, ◌++◌, length, take, drop}
+use Rattle.std.proofs.Common.{◌≡◌, List, ◌++◌, length, take}
 use Rattle.asl_model.specs.ShapeFlow.{element_doubts, field_doubts}
 use Rattle.asl_numbered.specs.Expansion.{expansions, AreNumbersOf, AreFieldsOf, Keeps}
 use Rattle.asl_template.proofs.Values.{Entry}
 use Rattle.asl_template.specs.View.{elements_view, entries_view}
 use Rattle.asl_flow.specs.Sources.{input_of, item_of, IsWithin}
+use Rattle.asl_flow.specs.TemplateAnswer.{ArePutDown}
 use Rattle.asl_flow.proofs.Composed.{shapes_by}
-use Rattle.asl_flow.proofs.Doubts.{of_value}
+use Rattle.asl_flow.proofs.Filled.{of_value}
 use Rattle.asl_flow.proofs.Needed.{needed_by}
 use Rattle.asl_flow.proofs.templates.+template.Given as goal
 
@@ -17,7 +18,7 @@ invariant-element_shapes-loop-element l =
       keeps : Keeps (expansions l.initial.shapes) (expansions l.shapes);
       within : IsWithin (length l.shapes) l.sources;
       shown : AreNumbersOf (expansions l.shapes) (shapes_by (of_value input item) (take l.element-index l.elements)) l.numbers.items;
-      passed : element_doubts (elements_view l.elements) l.field input item ≡ element_doubts (elements_view (drop l.element-index l.elements)) l.field input item;
+      put : ArePutDown l.shapes l.place.field.now (element_doubts (elements_view (take l.element-index l.elements)) l.place.name.now input item) l.initial.doubts.items l.doubts.items;
     }
 
 abbrev pub invariant-field_shapes-loop-name : goal.invariant-field_shapes-loop-name
@@ -30,5 +31,5 @@ invariant-field_shapes-loop-name l =
       keeps : Keeps (expansions l.initial.shapes) (expansions l.shapes);
       within : IsWithin (length l.shapes) l.sources;
       shown : AreFieldsOf (expansions l.shapes) (needed_by (of_value input item) done) l.mentions.entries;
-      passed : field_doubts (entries_view l.fields.entries) input item ≡ field_doubts (entries_view l.name-iterator) input item;
+      put : ArePutDown l.shapes l.field (field_doubts (entries_view done) input item) l.initial.doubts.items l.doubts.items;
     }

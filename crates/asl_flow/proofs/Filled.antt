@@ -1,0 +1,173 @@
+-- What templates are filled to: the numbers of the shapes of the values of elements and fields that are gone through, with
+-- all their doubts.
+use Rattle.std.proofs.Common.{◌≡◌, ℕ, ◌<◌, ◌≤◌, List, [], ◌∷◌, ◌++◌, length, map, take, Option, Result, Ok, Err, Vec, String, Global, true, false, string_bytes, string_cmp, refl, sym, ap, subst, ◌∙◌, append_assoc, rules, arith}
+use Rattle.std.proofs.lemmas.List.{append-nil, take_all}
+use Rattle.std.specs.Prelude.{IfOk}
+use Rattle.std.specs.BTreeMap.{BTreeMap}
+use Rattle.std.specs.List.Sorted.{IsStrictlySortedBy}
+use Rattle.std.specs.Map.{keys_of}
+use Rattle.std.specs.Prelude.{IfOk}
+use Rattle.asl_model.specs.Shape as model
+use Rattle.asl_model.specs.ShapeFlow as flow
+use Rattle.asl_model.specs.ShapeFlow.{doubts, element_doubts, field_doubts, filled_shape, filled_elements, filled_fields, template_shape, template_flow, unless_doubts}
+use Rattle.asl_model.specs.ShapeOrder.{set_mention}
+use Rattle.asl_model.specs.Template as template
+use Rattle.asl_numbered.specs.declared.node.NodeField.{NodeField}
+use Rattle.asl_numbered.specs.declared.node.Node.{Node}
+use Rattle.asl_numbered.specs.Expansion.{expansions, AreNumbersOf, AreFieldsOf, Keeps}
+use Rattle.asl_template.proofs.Values.{Entry}
+use Rattle.asl_template.specs.View.{view, elements_view, entries_view}
+use Rattle.asl_template.specs.declared.template.Template.{Template, the_lemmas}
+use Rattle.asl_template.specs.declared.template.Template as code
+use Rattle.asl_flow.specs.Doubts.{fault_of, AreDoubtsBelow, IsFlowIn}
+use Rattle.asl_flow.specs.Leaving.{FlowsTo}
+use Rattle.asl_flow.specs.Numbers.{Shows}
+use Rattle.asl_flow.specs.TemplateAnswer.{told_at, named_fault, ArePutDown, IsFilled}
+use Rattle.asl_flow.specs.declared.doubts.Doubt.{Doubt}
+use Rattle.asl_flow.proofs.Composed.{shapes_by}
+use Rattle.asl_flow.proofs.PutDoubts.{Told, put_behind}
+use Rattle.asl_flow.proofs.Needed.{needed_by, set_in_order}
+
+-- no doubt is added for none
+none_added : (nodes : List Node) (added : List Doubt) → [] ≡ map (named_fault (expansions nodes)) added → added ≡ []
+none_added nodes [] e = refl
+none_added nodes (d ∷ added) e = absurd (cc)
+
+module _ (input : model.Shape) (item : Option model.Shape) where
+  -- the shape of a template's value
+  abbrev pub of_value : Template → model.Shape
+  of_value t = filled_shape (view t) input item
+
+  -- ---- elements
+
+  elements-more : (name : List ℕ) (ts : List Template) (t : Template) → element_doubts (elements_view (ts ++ t ∷ [])) name input item ≡ element_doubts (elements_view ts) name input item ++ doubts (view t) name input item
+  elements-more name [] t = append-nil (doubts (view t) name input item)
+  elements-more name (first ∷ ts) t = ap (λ told. doubts (view first) name input item ++ told) (elements-more name ts t) ∙ sym (append_assoc (doubts (view first) name input item) (element_doubts (elements_view ts) name input item) (doubts (view t) name input item))
+
+  -- the doubts of one more element, in a table that has grown
+  pub element_put : (old new : List Node) (keeps : Keeps (expansions old) (expansions new)) (field name : List ℕ) (before after : List Template) (t : Template) (xs ys zs : List Doubt) → after ≡ before ++ t ∷ [] → ArePutDown old field (element_doubts (elements_view before) name input item) xs ys → ArePutDown new field (doubts (view t) name input item) ys zs
+      → ArePutDown new field (element_doubts (elements_view after) name input item) xs zs
+  element_put old new keeps field name before after t xs ys zs more h k =
+      let both = put_behind old new keeps field (element_doubts (elements_view before) name input item) (doubts (view t) name input item) xs ys zs h k in
+      rw (more, elements-more name before t) both
+
+  -- those of all, once they are gone through
+  pub elements_put : (nodes : List Node) (field name : List ℕ) (ts : List Template) (i : ℕ) (xs ys : List Doubt) → length ts ≤ i → ArePutDown nodes field (element_doubts (elements_view (take i ts)) name input item) xs ys → ArePutDown nodes field (element_doubts (elements_view ts) name input item) xs ys
+  elements_put nodes field name ts i xs ys end h = subst (λ us. ArePutDown nodes field (element_doubts (elements_view us) name input item) xs ys) (take_all i ts end) h
+
+  elements_shown : (ts : List Template) → shapes_by of_value ts ≡ filled_elements (elements_view ts) input item
+  elements_shown [] = refl
+  elements_shown (t ∷ ts) = ap (model.AndShape (of_value t)) (elements_shown ts)
+
+  -- the numbers of the elements' values, once all are gone through
+  pub elements_end : (table : List model.Shape) (ts : List Template) (i : ℕ) (ns : List ℕ) → length ts ≤ i → AreNumbersOf table (shapes_by of_value (take i ts)) ns → AreNumbersOf table (filled_elements (elements_view ts) input item) ns
+  elements_end table ts i ns end are = subst (λ ss. AreNumbersOf table ss ns) (ap (shapes_by of_value) (take_all i ts end) ∙ elements_shown ts) are
+
+  -- ---- fields
+
+  fields-more : (es : List Entry) (e : Entry) → field_doubts (entries_view (es ++ e ∷ [])) input item ≡ field_doubts (entries_view es) input item ++ doubts (view e.1) (string_bytes e.0) input item
+  fields-more [] e = append-nil (doubts (view e.1) (string_bytes e.0) input item)
+  fields-more (first ∷ es) e = ap (λ told. doubts (view first.1) (string_bytes first.0) input item ++ told) (fields-more es e) ∙ sym (append_assoc (doubts (view first.1) (string_bytes first.0) input item) (field_doubts (entries_view es) input item) (doubts (view e.1) (string_bytes e.0) input item))
+
+  -- the doubts of one more field, under its name
+  pub field_put : (old new : List Node) (keeps : Keeps (expansions old) (expansions new)) (field name : List ℕ) (done : List Entry) (e : Entry) (xs ys zs : List Doubt) → name ≡ string_bytes e.0 → ArePutDown old field (field_doubts (entries_view done) input item) xs ys → ArePutDown new field (doubts (view e.1) name input item) ys zs
+      → ArePutDown new field (field_doubts (entries_view (done ++ e ∷ [])) input item) xs zs
+  field_put old new keeps field name done e xs ys zs named h k =
+      let own = subst (λ n. ArePutDown new field (doubts (view e.1) n input item) ys zs) named k in
+      let both = put_behind old new keeps field (field_doubts (entries_view done) input item) (doubts (view e.1) (string_bytes e.0) input item) xs ys zs h own in
+      rw (fields-more done e) both
+
+  -- those of all, once they are gone through
+  pub fields_put : (nodes : List Node) (field : List ℕ) (all done left : List Entry) (xs ys : List Doubt) → all ≡ done ++ left → left ≡ [] → ArePutDown nodes field (field_doubts (entries_view done) input item) xs ys → ArePutDown nodes field (field_doubts (entries_view all) input item) xs ys
+  fields_put nodes field all done left xs ys split none h =
+      let whole : all ≡ done = split ∙ ap (λ es. done ++ es) none ∙ append-nil done in
+      subst (λ es. ArePutDown nodes field (field_doubts (entries_view es) input item) xs ys) (sym whole) h
+
+  -- the shapes of the fields' values, where the names are in order
+  fields_shown : (es : List Entry) → IsStrictlySortedBy string_cmp (keys_of es) → filled_fields (entries_view es) input item ≡ needed_by of_value es
+  unfolding IsStrictlySortedBy
+  fields_shown [] h = refl
+  fields_shown (e ∷ es) h = ap (set_mention (string_bytes e.0) true (of_value e.1)) (fields_shown es h.1) ∙ set_in_order of_value e.0 (of_value e.1) es h.0
+
+  -- the numbers of the fields' values, once all are gone through
+  pub fields_end : (table : List model.Shape) (all done left : List Entry) (fs : List (String Global × NodeField)) → all ≡ done ++ left → left ≡ [] → IsStrictlySortedBy string_cmp (keys_of all) → AreFieldsOf table (needed_by of_value done) fs → AreFieldsOf table (filled_fields (entries_view all) input item) fs
+  fields_end table all done left fs split none sorted are =
+      let whole : all ≡ done = split ∙ ap (λ es. done ++ es) none ∙ append-nil done in
+      subst (λ ms. AreFieldsOf table ms fs) (ap (needed_by of_value) (sym whole) ∙ sym (fields_shown all sorted)) are
+
+  -- ---- the whole template, of an input that some tree has
+
+  module _ (nodes : List Node) (t : template.Template) (field : List ℕ) (v : Vec Doubt Global) (live : true ≡ model.inhabited input) (put : ArePutDown nodes field (doubts t [] input item) [] v.items) where
+    -- without a doubt it has its shape
+    pub without_doubt : (n : ℕ) → v.items ≡ [] → Shows nodes (filled_shape t input item) n → IsFilled (expansions nodes) field (template_shape t input item) (Ok n)
+    without_doubt n none shows = rw (← live) (go (doubts t [] input item) put)
+      where
+        go : (told : Told) → ArePutDown nodes field told [] v.items → IsFilled (expansions nodes) field (unless_doubts told (filled_shape t input item)) (Ok n)
+        go [] h = sym shows.same
+        go (first ∷ told) h =
+            let added : h.added ≡ [] = sym h.whole ∙ none in
+            let same : told_at field first ∷ map (told_at field) told ≡ [] = rw added at h.same in
+            absurd (cc)
+
+    -- and else its doubts
+    pub with_doubts : 0 < length v.items → IsFilled (expansions nodes) field (template_shape t input item) (Err v)
+    with_doubts some = rw (← live) (go (doubts t [] input item) put)
+      where
+        go : (told : Told) → ArePutDown nodes field told [] v.items → IsFilled (expansions nodes) field (unless_doubts told (filled_shape t input item)) (Err v)
+        go [] h = absurd (omega (arith, some, ap length (h.whole ∙ none_added nodes h.added h.same)))
+        go (first ∷ told) h = rw h.whole h.same
+
+    -- which speak of shapes of the table
+    pub doubts_within : 0 < length v.items → IsFlowIn (length nodes) (Err v)
+    doubts_within some = record { within = tt; some = some; below = subst (AreDoubtsBelow (length nodes)) (sym put.whole) put.below }
+
+-- where no tree has the input's shape, the template's is Never
+pub never_filled : (nodes : List Node) (t : template.Template) (input : model.Shape) (item : Option model.Shape) (field : List ℕ) (n : ℕ) → false ≡ model.inhabited input → Shows nodes model.Never n → IsFilled (expansions nodes) field (template_shape t input item) (Ok n)
+never_filled nodes t input item field n none shows = rw (← none) (sym shows.same)
+
+-- ---- what a template comes to, as a flow
+
+module _ (nodes : List Node) (field : List ℕ) where
+  faults-told : (told : Told) (ds : List Doubt) → map (told_at field) told ≡ map (named_fault (expansions nodes)) ds → flow.faults_of field told ≡ map (fault_of (expansions nodes)) ds
+  faults-told [] [] same = refl
+  faults-told [] (d ∷ ds) same = absurd (cc)
+  faults-told (first ∷ told) [] same = absurd (cc)
+  faults-told (first ∷ told) (d ∷ ds) same =
+      let own : told_at field first ≡ named_fault (expansions nodes) d = cc in
+      let behind : map (told_at field) told ≡ map (named_fault (expansions nodes)) ds = cc in
+      let fault : flow.doubt_fault field first.1 ≡ fault_of (expansions nodes) d = ap (λ (x : List ℕ × flow.FlowFault). x.1) own in
+      rw (fault, faults-told told ds behind) refl
+
+  -- its shape goes on, and its doubts stop it
+  pub filled_flows : (answer : Result model.Shape Told) (given : Result ℕ (Vec Doubt Global)) → IsFilled (expansions nodes) field answer given → IsFlowIn (length nodes) given → FlowsTo nodes (template_flow field answer) given
+  filled_flows (Ok s) (Ok n) is within = record { same = ap Ok is; within = within }
+  filled_flows (Ok s) (Err v) is within = absurd is
+  filled_flows (Err told) (Ok n) is within = absurd is
+  filled_flows (Err told) (Err v) is within = record { same = ap Err (faults-told told v.items is); within = within }
+
+  -- so where memory suffices
+  pub filled_where : {E : Type 0} (answer : Result model.Shape Told) (r : Result (Result ℕ (Vec Doubt Global)) E) → IfOk r (IsFilled (expansions nodes) field answer) → IfOk r (IsFlowIn (length nodes)) → IfOk r (FlowsTo nodes (template_flow field answer))
+  filled_where answer (Ok given) is within = filled_flows answer given is within
+  filled_where answer (Err e) is within = tt
+
+  -- so where memory suffices
+  pub flows_where_filled : {E : Type 0} (answer : Result model.Shape Told) (given : Result (Result ℕ (Vec Doubt Global)) E) → IfOk given (IsFilled (expansions nodes) field answer) → IfOk given (IsFlowIn (length nodes)) → IfOk given (FlowsTo nodes (template_flow field answer))
+  flows_where_filled answer (Ok one) is within = filled_flows answer one is within
+  flows_where_filled answer (Err e) is within = tt
+
+-- ---- lists and objects
+
+module _ (input : model.Shape) (item : Option model.Shape) where
+  template_list : (ts : Vec Template Global) → view (code.List ts) ≡ template.ArrayTemplate (elements_view ts.items)
+  template_list ts = search (rules, the_lemmas)
+
+  template_object : (m : BTreeMap (String Global) Template) → view (code.Object m) ≡ template.ObjectTemplate (entries_view m.entries)
+  template_object m = search (rules, the_lemmas)
+
+  -- the doubts of a list
+  pub list_doubts : (t : Template) (ts : Vec Template Global) (name : List ℕ) → t ≡ code.List ts → doubts (view t) name input item ≡ element_doubts (elements_view ts.items) name input item
+  list_doubts t ts name is = ap (λ p. doubts p name input item) (ap view is ∙ template_list ts)
+
+  -- and those of an object
+  pub object_doubts : (t : Template) (m : BTreeMap (String Global) Template) (name : List ℕ) → t ≡ code.Object m → doubts (view t) name input item ≡ field_doubts (entries_view m.entries) input item
+  object_doubts t m name is = ap (λ p. doubts p name input item) (ap view is ∙ template_object m)

@@ -1,0 +1,73 @@
+-- Paths that are found in shapes of a table, or are doubtful there.
+use Rattle.std.proofs.Common.{◌≡◌, ◌<◌, ℕ, List, length, true, false, Result, Ok, Err, IfOk, refl, sym, ap}
+use Rattle.asl_model.specs.Path.{Segment}
+use Rattle.asl_model.specs.Shape.{Shape, Never, inhabited}
+use Rattle.asl_model.specs.ShapeFlow as model
+use Rattle.asl_model.specs.ShapeFlow.{look, look_at, or_doubtful, found, where_found}
+use Rattle.asl_numbered.specs.declared.node.Node.{Node}
+use Rattle.asl_numbered.specs.Expansion.{expansions, shape_at, AreDistinct, IsNumberOf, Keeps}
+use Rattle.asl_flow.specs.Doubts.{found_view, IsFoundIn}
+use Rattle.asl_flow.specs.declared.doubts.DoubtfulPath.{DoubtfulPath}
+use Rattle.asl_flow.proofs.Numbered.{own_number, still_within, still_shown}
+
+abbrev pub Answer : Type 0
+Answer = Result Shape model.DoubtfulPath
+
+-- of a shape that some tree has the whole path is looked up
+pub found_there : (path : List Segment) (s : Shape) (answer : Answer) → true ≡ inhabited s → or_doubtful path s (look_at path s) ≡ answer → found path s ≡ answer
+found_there path s answer live is = rw (← live) is
+
+-- of another it is Never
+pub found_never : (path : List Segment) (s : Shape) → false ≡ inhabited s → found path s ≡ Ok Never
+found_never path s none = rw (← none) refl
+
+-- the number that is found is that of its shape
+pub found_own : (nodes : List Node) (r : Result ℕ DoubtfulPath) → AreDistinct (expansions nodes) → IsFoundIn (length nodes) r → IfOk r (λ n. IsNumberOf (expansions nodes) (shape_at (expansions nodes) n) n)
+found_own nodes (Ok n) distinct within = own_number nodes n distinct within.within
+found_own nodes (Err d) distinct within = tt
+
+-- what is found is what the look-up answers
+pub found_looked : (path : List Segment) (s t : Shape) → found path s ≡ Ok t → look path s ≡ Ok t
+found_looked path s t is = go (look path s) is
+  where
+    go : (r : Result Shape ℕ) → or_doubtful path s r ≡ Ok t → r ≡ Ok t
+    go (Ok part) e = cc
+    go (Err at) e = absurd (cc)
+
+-- and what is doubtful is what it refuses
+pub doubtful_looked : (path : List Segment) (s : Shape) (d : model.DoubtfulPath) → found path s ≡ Err d → look path s ≡ Err d.segment
+doubtful_looked path s d is = go (look path s) is
+  where
+    segment : Answer → ℕ
+    segment (Ok part) = 0
+    segment (Err other) = other.segment
+
+    go : (r : Result Shape ℕ) → or_doubtful path s r ≡ Err d → r ≡ Err d.segment
+    go (Ok part) e = absurd (cc)
+    go (Err at) e = ap Err (ap segment e)
+
+-- nothing is refused in a shape that no tree has
+pub never_refused : (path : List Segment) (s : Shape) (at : ℕ) → inhabited s ≡ false → look path s ≡ Err at → ⊥
+never_refused path s at none is =
+    let never : Ok Never ≡ Err at = rw none at is in
+    absurd (cc)
+
+-- ---- what follows where a path is found
+
+-- what comes after the answer that the shape is found comes after what was found
+pub then_on : (first : Answer) (s t : Shape) (next : Answer) → where_found first (Ok s) ≡ Ok t → where_found first next ≡ next
+then_on (Ok part) s t next is = refl
+then_on (Err d) s t next is = absurd (cc)
+
+-- ---- a shape that stays as it is, in a table that has grown
+
+module _ (old new : List Node) (n : ℕ) (keeps : Keeps (expansions old) (expansions new)) (within : n < length old) where
+  pub kept_found : Ok (shape_at (expansions old) n) ≡ found_view (expansions new) (Ok n)
+  kept_found = ap Ok (sym (still_shown old new n keeps within))
+
+  -- where another answer only lets it through
+  pub then_kept : (first : Answer) (r : Result ℕ DoubtfulPath) (m : ℕ) → first ≡ found_view (expansions new) r → r ≡ Ok m → where_found first (Ok (shape_at (expansions old) n)) ≡ found_view (expansions new) (Ok n)
+  then_kept first r m told is = rw (told, is) kept_found
+
+  pub kept_within : IsFoundIn (length new) (Ok n)
+  kept_within = record { within = still_within old new n keeps within; below = tt }
