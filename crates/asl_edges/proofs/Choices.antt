@@ -1,40 +1,47 @@
--- The walk over a rule of a Choice, and over `Default`.
-use Rattle.std.proofs.Common.{◌≡◌, ◌<◌, ℕ, List, length, map, codes, Bool, Option, Some, None, Result, Err, refl, ap}
-use Rattle.asl_choice.specs.View.{view as test_view}
+-- The steps of a rule of a Choice, of `Default` and of a catcher.
+use Rattle.std.proofs.Common.{◌≡◌, ◌<◌, ℕ, List, length, map, codes, Bool, Option, Some, None, Result, Ok, Err, refl, sym, ap, ◌∙◌}
 use Rattle.asl_states.specs.Machine.{choice_rule_view, target_name}
+use Rattle.asl_states.specs.declared.states.Catcher.{Catcher}
 use Rattle.asl_states.specs.declared.states.ChoiceRule.{ChoiceRule}
 use Rattle.asl_states.specs.declared.target.Target.{Target}
-use Rattle.asl_model.specs.Edges.{breaks_unless, walk_chosen}
-use Rattle.asl_model.specs.Finding.{NoDefault, PathMayBeMissing}
+use Rattle.asl_model.specs.Edges.{breaks, breaks_unless, walk_chosen, walk_rule}
+use Rattle.asl_model.specs.Finding.{NoDefault, ResultMayNotFit, error_output_shape, error_placed_shape}
+use Rattle.asl_model.specs.Path.{Segment}
 use Rattle.asl_model.specs.Shape.{Shape}
-use Rattle.asl_model.specs.ShapeFlow.{rule_shape, is_settled}
+use Rattle.asl_model.specs.ShapeFlow.{put, is_settled}
 use Rattle.asl_numbered.specs.declared.node.Node.{Node}
 use Rattle.asl_numbered.specs.Expansion.{expansions, shape_at, Keeps}
-use Rattle.asl_edges.specs.Steps.{settings_of, kind_of, chosen_steps, default_steps, rule_steps}
-use Rattle.asl_edges.specs.View.{stopped_view}
-use Rattle.asl_edges.specs.Walks.{Walks}
-use Rattle.asl_edges.specs.declared.faults.Stopped.{Stopped}
-use Rattle.asl_edges.specs.declared.found.Edge.{Edge}
+use Rattle.asl_edges.specs.Steps.{settings_of, kind_of, input_of, catcher_steps, chosen_steps, default_steps}
+use Rattle.asl_edges.specs.Walks.{caught_step}
 use Rattle.asl_edges.specs.declared.walking.Walk.{Walk}
 use Rattle.asl_edges.proofs.Kept.{shown}
-use Rattle.asl_edges.proofs.WalkSteps.{walks_broken, walks_later, walks_same}
 
--- a rule lets a shape through
-pub rule_walked : (a b : List Node) (c : List Shape) (e0 e1 : List Edge) (walk : Walk) (rule : ChoiceRule) (n m : ℕ) (r : Result (Unit {0}) Stopped) → Keeps (expansions a) (expansions b) → walk.entry.input < length a → rule_shape (test_view rule.test) (shape_at (expansions a) n) ≡ Some (shape_at (expansions b) m)
-    → Walks (expansions b) c e0 e1 (chosen_steps (expansions b) walk (codes "Choices") (target_name rule.next) m) r → Walks (expansions a) c e0 e1 (rule_steps (expansions a) walk rule n) r
-rule_walked a b c e0 e1 walk rule n m r keeps input is w =
-    let way = λ (raw : Shape). walk_chosen (settings_of walk) (kind_of walk) raw (codes "Choices") (target_name rule.next) (shape_at (expansions b) m) in
-    let same : way (shape_at (expansions b) walk.entry.input) ≡ way (shape_at (expansions a) walk.entry.input) = ap way (shown a b walk.entry.input keeps input) in
-    rw is (walks_later (expansions a) (expansions b) c e0 e1 (way (shape_at (expansions a) walk.entry.input)) r keeps (walks_same (expansions b) c e0 e1 (way (shape_at (expansions b) walk.entry.input)) (way (shape_at (expansions a) walk.entry.input)) r same w))
+-- a rule that lets a shape through
+pub let_through : (a b : List Node) (walk : Walk) (rule : ChoiceRule) (n : ℕ) → Keeps (expansions a) (expansions b) → walk.entry.input < length a
+    → chosen_steps (expansions b) walk (codes "Choices") (target_name rule.next) n ≡ walk_rule (settings_of walk) (kind_of walk) (input_of (expansions a) walk) (target_name rule.next) (Ok (shape_at (expansions b) n))
+let_through a b walk rule n keeps input = ap (λ raw. walk_chosen (settings_of walk) (kind_of walk) raw (codes "Choices") (target_name rule.next) (shape_at (expansions b) n)) (shown a b walk.entry.input keeps input)
 
--- a path of it may name nothing
-pub rule_missing : (a b : List Shape) (edges : List Edge) (walk : Walk) (rule : ChoiceRule) (n : ℕ) (s : Stopped) → Keeps a b → rule_shape (test_view rule.test) (shape_at a n) ≡ None → stopped_view s ≡ Some (record { field = codes "Choices"; fault = PathMayBeMissing }) → Walks a b edges edges (rule_steps a walk rule n) (Err s)
-rule_missing a b edges walk rule n s keeps none told = walks_broken a b edges (rule_steps a walk rule n) s (record { field = codes "Choices"; fault = PathMayBeMissing }) keeps told (rw none refl)
+module _ (table : List Shape) (walk : Walk) (rules : List ChoiceRule) (default : Option Target) (n : ℕ) where
+  -- `Default`
+  pub default_chosen : (next : Target) → default ≡ Some next → chosen_steps table walk (codes "Default") (target_name next) n ≡ default_steps table walk rules default n
+  default_chosen next is = rw is refl
 
--- `Default`
-pub default_walked : (a c : List Shape) (e0 e1 : List Edge) (walk : Walk) (rules : List ChoiceRule) (default : Option Target) (next : Target) (n : ℕ) (r : Result (Unit {0}) Stopped) → default ≡ Some next → Walks a c e0 e1 (chosen_steps a walk (codes "Default") (target_name next) n) r → Walks a c e0 e1 (default_steps a walk rules default n) r
-default_walked a c e0 e1 walk rules default next n r is w = rw is w
+  -- the rules that stand for it
+  pub without_default : (settled : Bool) → default ≡ None → settled ≡ is_settled (map choice_rule_view rules) (shape_at table n) → breaks_unless settled (codes "Default") NoDefault ≡ default_steps table walk rules default n
+  without_default settled is same = rw (is, ← same) refl
 
--- the rules that stand for it
-pub without_default : (table : List Shape) (edges : List Edge) (walk : Walk) (rules : List ChoiceRule) (default : Option Target) (n : ℕ) (settled : Bool) (r : Result (Unit {0}) Stopped) → default ≡ None → settled ≡ is_settled (map choice_rule_view rules) (shape_at table n) → Walks table table edges edges (breaks_unless settled (codes "Default") NoDefault) r → Walks table table edges edges (default_steps table walk rules default n) r
-without_default table edges walk rules default n settled r is told w = rw (is, ← told) w
+module _ (table : List Shape) (walk : Walk) (catcher : Catcher) where
+  -- a catcher hands on the input itself
+  pub input_caught : catcher.result_path ≡ None → caught_step (target_name catcher.next) (input_of table walk) ≡ catcher_steps table walk catcher
+  input_caught is = rw is refl
+
+  placed : (path : List Segment) (error : ℕ) (answer : Result Shape ℕ) → catcher.result_path ≡ Some path → shape_at table error ≡ error_output_shape → put path (shape_at table error) (input_of table walk) ≡ answer → error_placed_shape catcher.result_path (input_of table walk) ≡ answer
+  placed path error answer is e fits = ap (λ o. error_placed_shape o (input_of table walk)) is ∙ (sym (ap (λ w. put path w (input_of table walk)) e) ∙ fits)
+
+  -- the error output is placed in it
+  pub placed_caught : (path : List Segment) (error : ℕ) (s : Shape) → catcher.result_path ≡ Some path → shape_at table error ≡ error_output_shape → put path (shape_at table error) (input_of table walk) ≡ Ok s → caught_step (target_name catcher.next) s ≡ catcher_steps table walk catcher
+  placed_caught path error s is e fits = let fitted = placed path error (Ok s) is e fits in rw fitted refl
+
+  -- it may not fit
+  pub misfit_caught : (path : List Segment) (error at : ℕ) → catcher.result_path ≡ Some path → shape_at table error ≡ error_output_shape → put path (shape_at table error) (input_of table walk) ≡ Err at → breaks (codes "Catch") ResultMayNotFit ≡ catcher_steps table walk catcher
+  misfit_caught path error at is e fits = let missed = placed path error (Err at) is e fits in rw missed refl

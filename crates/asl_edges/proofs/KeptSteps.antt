@@ -5,14 +5,14 @@ use Rattle.asl_states.specs.Machine.{catcher_view, choice_rule_view, target_name
 use Rattle.asl_states.specs.declared.states.ChoiceRule.{ChoiceRule}
 use Rattle.asl_states.specs.declared.target.Target.{Target}
 use Rattle.asl_states.specs.declared.states.Catcher.{Catcher}
-use Rattle.asl_model.specs.Edges.{walk_catchers, walk_caught, walk_chosen, walk_default, walk_result, walk_rule, walk_settled, walk_work}
+use Rattle.asl_model.specs.Edges.{walk_catchers, walk_caught, walk_default, walk_result, walk_rule, walk_settled, walk_work}
 use Rattle.asl_model.specs.Finding.{error_placed_shape}
 use Rattle.asl_model.specs.Shape.{Shape}
 use Rattle.asl_model.specs.ShapeFlow.{rule_shape}
 use Rattle.asl_numbered.specs.declared.node.Node.{Node}
-use Rattle.asl_numbered.specs.Expansion.{expansions, shape_at, Keeps}
+use Rattle.asl_numbered.specs.Expansion.{expansions, shape_at, IsNumberOf, Keeps}
 use Rattle.asl_edges.specs.Entry.{entry_view, IsEntryBelow}
-use Rattle.asl_edges.specs.Steps.{settings_of, kind_of, input_of, result_steps, chosen_steps, rules_steps, rule_steps, default_steps, catchers_steps, catcher_steps, settled_steps}
+use Rattle.asl_edges.specs.Steps.{settings_of, kind_of, input_of, result_steps, rules_steps, rule_steps, default_steps, catchers_steps, catcher_steps, settled_steps}
 use Rattle.asl_edges.specs.declared.walking.Walk.{Walk}
 use Rattle.asl_edges.proofs.Kept.{shown, entry_shown}
 
@@ -24,11 +24,6 @@ module _ (a b : List Node) (walk : Walk) (keeps : Keeps (expansions a) (expansio
         ap (λ s. walk_result (settings_of walk) (kind_of walk) s (shape_at (expansions b) n)) (shown a b walk.entry.input keeps input)
         ∙ ap (walk_result (settings_of walk) (kind_of walk) (input_of (expansions a) walk)) (shown a b n keeps number)
 
-    pub chosen_kept : (field next : List ℕ) → chosen_steps (expansions b) walk field next n ≡ chosen_steps (expansions a) walk field next n
-    chosen_kept field next =
-        ap (λ s. walk_chosen (settings_of walk) (kind_of walk) s field next (shape_at (expansions b) n)) (shown a b walk.entry.input keeps input)
-        ∙ ap (walk_chosen (settings_of walk) (kind_of walk) (input_of (expansions a) walk) field next) (shown a b n keeps number)
-
     pub rule_kept : (rule : ChoiceRule) → rule_steps (expansions b) walk rule n ≡ rule_steps (expansions a) walk rule n
     rule_kept rule =
         ap (λ s. walk_rule (settings_of walk) (kind_of walk) s (target_name rule.next) (rule_shape (test_view rule.test) (shape_at (expansions b) n))) (shown a b walk.entry.input keeps input)
@@ -38,6 +33,12 @@ module _ (a b : List Node) (walk : Walk) (keeps : Keeps (expansions a) (expansio
     default_kept rules default =
         ap (λ s. walk_default (settings_of walk) (kind_of walk) s (map choice_rule_view rules) (option_map target_name default) (shape_at (expansions b) n)) (shown a b walk.entry.input keeps input)
         ∙ ap (walk_default (settings_of walk) (kind_of walk) (input_of (expansions a) walk) (map choice_rule_view rules) (option_map target_name default)) (shown a b n keeps number)
+
+  -- on a result that is made
+  pub made_kept : (s : Shape) (n : ℕ) → walk.entry.input < length a → IsNumberOf (expansions b) s n → result_steps (expansions b) walk n ≡ walk_result (settings_of walk) (kind_of walk) (input_of (expansions a) walk) s
+  made_kept s n input number =
+      ap (λ raw. walk_result (settings_of walk) (kind_of walk) raw (shape_at (expansions b) n)) (shown a b walk.entry.input keeps input)
+      ∙ ap (walk_result (settings_of walk) (kind_of walk) (input_of (expansions a) walk)) number.same
 
   -- on the input alone
   pub catcher_kept : (catcher : Catcher) → walk.entry.input < length a → catcher_steps (expansions b) walk catcher ≡ catcher_steps (expansions a) walk catcher

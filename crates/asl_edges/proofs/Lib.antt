@@ -1,12 +1,9 @@
 pub mod Adding
-pub mod CatcherWalks
 pub mod Choices
-pub mod FoundEdges
+pub mod Flows
+pub mod Going
 pub mod ItemWalks
 pub mod Kept
 pub mod KeptSteps
 pub mod KindSteps
-pub mod NamedSteps
-pub mod PushedEdges
-pub mod Settled
-pub mod WalkSteps
+pub mod PushedSteps

@@ -1,11 +1,11 @@
 -- The steps of a Map, on shapes of a table.
-use Rattle.std.specs.Prelude.{List, codes, option_map}
+use Rattle.std.specs.Prelude.{ℕ, List, codes, option_map}
 use Rattle.asl_model.specs.Edges as model
-use Rattle.asl_model.specs.Finding.{element_shape, item_flow}
+use Rattle.asl_model.specs.Finding.{array_parts, element_shape, item_flow}
 use Rattle.asl_model.specs.Machine.{Scope, ScopeOf, NoStates}
 use Rattle.asl_model.specs.Path.{Segment}
 use Rattle.asl_model.specs.Shape.{Shape, Shapes}
-use Rattle.asl_model.specs.ShapeFlow.{look}
+use Rattle.asl_model.specs.ShapeFlow.{found}
 use Rattle.asl_numbered.specs.Expansion.{shape_at}
 use Rattle.asl_template.specs.View as templates
 use Rattle.asl_edges.specs.Entry.{entry_view}
@@ -36,7 +36,12 @@ elements_steps table walk children =
     model.walk_elements (settings_of walk) (kind_of walk) (entry_view table walk.entry)
     (option_map templates.view children.selector.now) (processor_of children) (shape_at table children.effective)
 
+-- for the items of that number
+abbrev pub listed_steps : List Shape → Walk → Children → ℕ → List model.Walked
+listed_steps table walk children items =
+    model.with_elements_walked (elements_steps table walk children) (array_parts (shape_at table items))
+
 -- for what the path names
 abbrev pub items_steps : List Shape → Walk → List Segment → Children → List model.Walked
 items_steps table walk path children =
-    model.walk_items (elements_steps table walk children) (look path (shape_at table children.effective))
+    model.walk_items (elements_steps table walk children) (found path (shape_at table children.effective))

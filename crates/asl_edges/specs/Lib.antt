@@ -1,6 +1,5 @@
 pub mod Entry
 pub mod Items
-pub mod Named
 pub mod Steps
 pub mod View
 pub mod Walks

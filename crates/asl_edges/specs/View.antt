@@ -1,17 +1,22 @@
--- What edges and faults stand for in the definitions.
-use Rattle.std.specs.Prelude.{ℕ, List, map, Option, Some, None}
+-- What steps, edges and faults stand for in the definitions.
+use Rattle.std.specs.Prelude.{◌<◌, ℕ, List, map, Option, Some, None, IfSome}
+use Rattle.std.specs.List.{AllByRecursion}
 use Rattle.asl_model.specs.Edges as model
 use Rattle.asl_model.specs.Finding as finding
+use Rattle.asl_model.specs.Missing.{counterexample}
 use Rattle.asl_model.specs.Shape.{Shape}
+use Rattle.asl_model.specs.Tree.{Tree}
+use Rattle.asl_flow.specs.Doubts.{doubtful_view}
+use Rattle.asl_flow.specs.declared.doubts.DoubtfulPath.{DoubtfulPath}
 use Rattle.asl_numbered.specs.Expansion.{shape_at}
 use Rattle.asl_edges.specs.declared.faults.Broken.{Broken}
 use Rattle.asl_edges.specs.declared.faults.FindingFault.{FindingFault}
 use Rattle.asl_edges.specs.declared.faults.FindingFault.TheVariants as found
-use Rattle.asl_edges.specs.declared.faults.Stopped.{Stopped}
-use Rattle.asl_edges.specs.declared.faults.Stopped.TheVariants as stopped
 use Rattle.asl_edges.specs.declared.found.Destination.{Destination}
 use Rattle.asl_edges.specs.declared.found.Destination.TheVariants as to
 use Rattle.asl_edges.specs.declared.found.Edge.{Edge}
+use Rattle.asl_edges.specs.declared.found.Step.{Step}
+use Rattle.asl_edges.specs.declared.found.Step.TheVariants as step
 
 -- the fault of a finding
 abbrev pub finding_fault_view : FindingFault → finding.FindingFault
@@ -32,14 +37,15 @@ finding_fault_view found.ScopeOutput = finding.ScopeOutput
 finding_fault_view found.BranchInput = finding.BranchInput
 finding_fault_view found.CatchInput = finding.CatchInput
 
--- a broken rule
-abbrev pub broken_view : Broken → finding.Breach
-broken_view b = record { field = b.field.now; fault = finding_fault_view b.fault }
+-- the tree that shows a path, if there is one, to be doubtful
+abbrev pub example_of : List Shape → Option DoubtfulPath → Option Tree
+example_of table None = None
+example_of table (Some path) = counterexample (doubtful_view table path)
 
--- the broken rule that stops a walk, if it isn't memory
-abbrev pub stopped_view : Stopped → Option finding.Breach
-stopped_view (stopped.Broken b) = Some (broken_view b)
-stopped_view stopped.OutOfMemory = None
+-- a broken rule, with the shapes of a table
+abbrev pub broken_view : List Shape → Broken → finding.Breach
+broken_view table b =
+    record { field = b.field.now; fault = finding_fault_view b.fault; example = example_of table b.path }
 
 -- where a shape flows to
 abbrev pub destination_view : Destination → model.Destination
@@ -53,10 +59,24 @@ abbrev pub edge_view : List Shape → Edge → model.Walked
 edge_view table e =
     model.flows_to (destination_view e.destination) e.field.now (finding_fault_view e.fault) (shape_at table e.flowing)
 
--- so for each edge of a list
-abbrev pub steps_of : List Shape → List Edge → List model.Walked
-steps_of table es = map (edge_view table) es
+-- a step
+abbrev pub step_view : List Shape → Step → model.Walked
+step_view table (step.Flows e) = edge_view table e
+step_view table (step.Breaks b) = model.Breaks (broken_view table b)
 
--- the numbers of what flows
-abbrev pub flowing_in : List Edge → List ℕ
-flowing_in es = map (λ e. e.flowing) es
+-- so for each of a list
+abbrev pub steps_of : List Shape → List Step → List model.Walked
+steps_of table steps = map (step_view table) steps
+
+-- the number of the shape that a broken rule's path was looked up in is below that bound
+abbrev pub IsBrokenBelow : ℕ → Broken → Type 0
+IsBrokenBelow bound b = IfSome b.path (λ path. path.shape < bound)
+
+-- so is that of what flows, or of a broken rule
+abbrev pub IsStepBelow : ℕ → Step → Type 0
+IsStepBelow bound (step.Flows e) = e.flowing < bound
+IsStepBelow bound (step.Breaks b) = IsBrokenBelow bound b
+
+-- so for each step
+abbrev pub AreStepsBelow : ℕ → List Step → Type 0
+AreStepsBelow bound steps = AllByRecursion (IsStepBelow bound) steps

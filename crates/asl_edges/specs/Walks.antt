@@ -1,16 +1,15 @@
--- What is added to the edges along a walk.
-use Rattle.std.specs.Prelude.{◌≡◌, ◌<◌, ◌∷◌, ◌++◌, ℕ, List, [], codes, length, Option, Some, None, Result, Ok, Err, slice_get}
-use Rattle.asl_model.specs.Edges.{Walked, Breaks, ToInput, ToOutput, ToTask, flows_to}
-use Rattle.asl_model.specs.Finding.{Breach, CatchInput, OutputNotCertified, PayloadNotTaken}
+-- What is added to the steps along a walk.
+use Rattle.std.specs.Prelude.{◌≡◌, ◌<◌, ◌∷◌, ◌++◌, ℕ, List, [], codes, length, map}
+use Rattle.asl_model.specs.Edges.{Walked, Breaks, ToInput, ToOutput, ToTask, breaks_missing, flows_to}
+use Rattle.asl_model.specs.Finding.{CatchInput, OutputNotCertified, PayloadNotTaken, breach_of}
+use Rattle.asl_model.specs.Names.{FieldName, StateName}
 use Rattle.asl_model.specs.Shape.{Shape}
-use Rattle.asl_numbered.specs.Expansion.{shape_at, AreBelow, Keeps}
-use Rattle.asl_edges.specs.View.{steps_of, flowing_in, stopped_view}
-use Rattle.asl_edges.specs.declared.faults.Stopped.{Stopped}
-use Rattle.asl_edges.specs.declared.found.Edge.{Edge}
-
--- the steps on a shape of which none is left
-abbrev pub none_left : Shape → List Walked
-none_left s = []
+use Rattle.asl_flow.specs.Doubts.{doubtful_view, fault_of, AreDoubtsBelow}
+use Rattle.asl_flow.specs.declared.doubts.Doubt.{Doubt}
+use Rattle.asl_flow.specs.declared.doubts.DoubtfulPath.{DoubtfulPath}
+use Rattle.asl_numbered.specs.Expansion.{shape_at}
+use Rattle.asl_edges.specs.View.{steps_of, AreStepsBelow}
+use Rattle.asl_edges.specs.declared.found.Step.{Step}
 
 -- the step of an output, of a payload, and of what a catcher hands on to that state
 abbrev pub output_step : Shape → List Walked
@@ -19,47 +18,41 @@ output_step s = flows_to ToOutput (codes "OutputPath") OutputNotCertified s ∷ 
 abbrev pub payload_step : Shape → List Walked
 payload_step s = flows_to ToTask (codes "Parameters") PayloadNotTaken s ∷ []
 
-abbrev pub caught_step : List ℕ → Shape → List Walked
+abbrev pub caught_step : StateName → Shape → List Walked
 caught_step next s = flows_to (ToInput next) (codes "Catch") CatchInput s ∷ []
 
--- Edges of the shape of that number are added, whatever the table: they are the first of the steps on that shape, and
--- the further ones are left.
-pub record Pushes (before after : List Edge) (n : ℕ) (steps further : Shape → List Walked) : Type 0 where
-  pub added : List Edge
+-- the steps of doubts: each is a broken rule
+abbrev pub doubted_steps : List Shape → List Doubt → List Walked
+doubted_steps table doubts = map (λ fault. Breaks (breach_of fault)) (map (fault_of table) doubts)
+
+-- Steps on shapes of the table are added.
+pub record Adds (table : List Shape) (before after : List Step) (steps : List Walked) : Type 0 where
+  pub added : List Step
   pub whole : after ≡ before ++ added
-  pub below : (bound : ℕ) → n < bound → AreBelow bound (flowing_in added)
-  pub seen : (table : List Shape) → steps (shape_at table n) ≡ steps_of table added ++ further (shape_at table n)
+  pub below : AreStepsBelow (length table) added
+  pub seen : steps ≡ steps_of table added
 
--- Edges of shapes of the table are added: they are the first of the steps, and the further ones are left.
-pub record Adds (table : List Shape) (before after : List Edge) (steps further : List Walked) : Type 0 where
-  pub added : List Edge
+-- Steps are added whatever the table, on shapes whose numbers are below each bound that fits.
+pub record AddsAnywhere (fits : ℕ → Type 0) (before after : List Step) (steps : List Shape → List Walked) : Type 0 where
+  pub added : List Step
   pub whole : after ≡ before ++ added
-  pub below : AreBelow (length table) (flowing_in added)
-  pub seen : steps ≡ steps_of table added ++ further
+  pub below : (bound : ℕ) → fits bound → AreStepsBelow bound added
+  pub seen : (table : List Shape) → steps table ≡ steps_of table added
 
--- the walk goes on, with the further steps left, and the table has kept its shapes
-pub record GoesOn (old new : List Shape) (before after : List Edge) (steps further : List Walked) : Type 0 where
-  pub keeps : Keeps old new
-  pub adds : Adds new before after steps further
+-- so of the shape of that number
+abbrev pub Pushes : List Step → List Step → ℕ → (Shape → List Walked) → Type 0
+Pushes before after n steps = AddsAnywhere (λ bound. n < bound) before after (λ table. steps (shape_at table n))
 
--- the walk stops at that rule, which is broken at the first of the steps that are left
-pub record StopsAt (table : List Shape) (before after : List Edge) (steps : List Walked) (b : Breach) : Type 0 where
-  pub further : List Walked
-  pub adds : Adds table before after steps further
-  pub told : slice_get further 0 ≡ Some (Breaks b)
+-- of no shape at all
+abbrev pub Tells : List Step → List Step → List Walked → Type 0
+Tells before after steps = AddsAnywhere (λ bound. Unit {0}) before after (λ table. steps)
 
--- the walk stops: at a rule, or where memory is out
-abbrev pub Halts : List Shape → List Edge → List Edge → List Walked → Option Breach → Type 0
-Halts table before after steps None = Unit {0}
-Halts table before after steps (Some b) = StopsAt table before after steps b
+-- of a path of that field that is doubtful
+abbrev pub TellsMissing : List Step → List Step → FieldName → DoubtfulPath → Type 0
+TellsMissing before after field path =
+    AddsAnywhere (λ bound. path.shape < bound) before after (λ table. breaks_missing field (doubtful_view table path))
 
--- the walk goes through all of the steps, or stops
-abbrev pub Goes : List Shape → List Edge → List Edge → List Walked → Result (Unit {0}) Stopped → Type 0
-Goes table before after steps (Ok _) = Adds table before after steps []
-Goes table before after steps (Err s) = Halts table before after steps (stopped_view s)
-
--- what a walk over these steps does to the table and to the edges
-pub record Walks (old new : List Shape) (before after : List Edge) (steps : List Walked)
-    (answer : Result (Unit {0}) Stopped) : Type 0 where
-  pub keeps : Keeps old new
-  pub goes : Goes new before after steps answer
+-- of doubts, in their order
+abbrev pub TellsDoubts : List Step → List Step → List Doubt → Type 0
+TellsDoubts before after doubts =
+    AddsAnywhere (λ bound. AreDoubtsBelow bound doubts) before after (λ table. doubted_steps table doubts)

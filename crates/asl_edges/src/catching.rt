@@ -1,38 +1,40 @@
 // The walk over what catchers hand on.
 
-ghost use Rattle.std.specs.Prelude.{◌≡◌, ◌<◌, length};
+ghost use Rattle.std.specs.Prelude.{◌≡◌, ◌<◌, OnOk, length};
 ghost use Rattle.asl_edges.specs.Steps.{catcher_steps, catchers_steps};
-ghost use Rattle.asl_edges.specs.Walks.{Walks};
+ghost use Rattle.asl_edges.specs.Walks.{Adds};
 ghost use Rattle.asl_model.specs.Finding.{error_output_shape};
-ghost use Rattle.asl_numbered.specs.Expansion.{expansions, shape_at};
+ghost use Rattle.asl_numbered.specs.Expansion.{expansions, shape_at, Keeps};
 
-use crate::faults::{FindingFault, Stopped, broken_at};
-use crate::found::Edge;
-use crate::pushing::push_caught;
+use crate::faults::FindingFault;
+use crate::found::Step;
+use crate::pushing::{push_broken, push_caught};
 use crate::walking::Walk;
 use asl_flow::{PutRefusal, error_output_at, put_at};
 use asl_numbered::Shapes;
 use asl_states::Catcher;
+use asl_tree::OutOfMemory;
 
 impl<'m> Walk<'_, 'm> {
     /// Walks over what each catcher hands on.
     pub(crate) fn walk_catchers(
         &self,
         shapes: &mut Shapes,
-        edges: &mut Vec<Edge<'m>>,
+        steps: &mut Vec<Step<'m>>,
         catchers: &'m [Catcher],
-    ) -> Result<(), Stopped>
+    ) -> Result<(), OutOfMemory>
         requires input { self.now.entry.input < length shapes.old }
-        ensures { Walks (expansions shapes.old) (expansions shapes.new) edges.old.items
-            edges.new.items
-            (catchers_steps (expansions shapes.old) self.now catchers.now) result }
+        ensures adds { OnOk result
+            (Adds (expansions shapes.new) steps.old.items steps.new.items
+            (catchers_steps (expansions shapes.old) self.now catchers.now)) }
+        ensures keeps { Keeps (expansions shapes.old) (expansions shapes.new) }
     {
         if catchers.is_empty() {
             return Ok(());
         }
         let error = error_output_at(self.alloc, shapes)?;
         for catcher in catchers {
-            self.walk_catcher(shapes, edges, error, catcher)?;
+            self.walk_catcher(shapes, steps, error, catcher)?;
         }
         Ok(())
     }
@@ -41,31 +43,26 @@ impl<'m> Walk<'_, 'm> {
     fn walk_catcher(
         &self,
         shapes: &mut Shapes,
-        edges: &mut Vec<Edge<'m>>,
+        steps: &mut Vec<Step<'m>>,
         error: usize,
         catcher: &'m Catcher,
-    ) -> Result<(), Stopped>
+    ) -> Result<(), OutOfMemory>
         requires input { self.now.entry.input < length shapes.old }
         requires error { error < length shapes.old }
         requires error_output { shape_at (expansions shapes.old) error ≡ error_output_shape }
-        ensures { Walks (expansions shapes.old) (expansions shapes.new) edges.old.items
-            edges.new.items
-            (catcher_steps (expansions shapes.old) self.now catcher.now) result }
+        ensures adds { OnOk result
+            (Adds (expansions shapes.new) steps.old.items steps.new.items
+            (catcher_steps (expansions shapes.old) self.now catcher.now)) }
+        ensures keeps { Keeps (expansions shapes.old) (expansions shapes.new) }
     {
         match &catcher.result_path {
-            None => {
-                push_caught(edges, &catcher.next.name, self.entry.input)?;
-                Ok(())
-            }
+            None => push_caught(steps, &catcher.next.name, self.entry.input),
             Some(path) => match put_at(self.alloc, shapes, self.entry.input, path, error) {
-                Ok(placed) => {
-                    push_caught(edges, &catcher.next.name, placed)?;
-                    Ok(())
-                }
+                Ok(placed) => push_caught(steps, &catcher.next.name, placed),
                 Err(PutRefusal::MayNotFit(_)) => {
-                    Err(broken_at("Catch", FindingFault::ResultMayNotFit))
+                    push_broken(steps, "Catch", FindingFault::ResultMayNotFit)
                 }
-                Err(PutRefusal::OutOfMemory) => Err(Stopped::OutOfMemory),
+                Err(PutRefusal::OutOfMemory) => Err(OutOfMemory),
             },
         }
     }

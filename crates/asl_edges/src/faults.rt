@@ -1,12 +1,12 @@
-// What is wrong with a certificate, and what stops a walk.
+// What is wrong with a certificate.
 
-ghost use Rattle.std.specs.Prelude.{◌≡◌, Some, option_map};
-ghost use Rattle.asl_model.specs.Finding.{breach_of};
-ghost use Rattle.asl_flow.specs.Leaving.{fault_view};
-ghost use Rattle.asl_edges.specs.View.{finding_fault_view, stopped_view};
+ghost use Rattle.std.specs.Prelude.{◌≡◌, ◌<◌, ℕ, List};
+ghost use Rattle.asl_model.specs.Finding.{breach_of, missing_breach, plain_breach};
+ghost use Rattle.asl_model.specs.Shape.{Shape};
+ghost use Rattle.asl_flow.specs.Doubts.{doubtful_view, fault_of, IsCauseBelow};
+ghost use Rattle.asl_edges.specs.View.{broken_view, finding_fault_view, IsBrokenBelow};
 
-use asl_flow::FlowFault;
-use asl_tree::OutOfMemory;
+use asl_flow::{Cause, Doubt, DoubtfulPath};
 
 /// What is wrong with a certificate, in the order in which the rules are looked at.
 #[derive(Clone, Copy, Drop)]
@@ -74,46 +74,61 @@ impl FindingFault {
     }
 }
 
-/// A broken rule of a state: the field that it is told at, and what is wrong.
+/// A broken rule of a state.
 #[derive(Clone, Copy, Drop)]
-pub struct Broken {
+pub struct Broken<'m> {
+    /// The field that it is told at.
     pub field: &'static str,
+    /// What is wrong.
     pub fault: FindingFault,
+    /// Of a path in a template the name of the nearest field of an object, without its suffix; elsewhere it is empty.
+    pub name: &'m str,
+    /// Where a path may name nothing, that path, with the number of the shape that it goes into.
+    pub path: Option<DoubtfulPath<'m>>,
 }
 
-/// Why a walk goes no further: a broken rule, or an allocation that was refused.
-#[derive(Clone, Copy, Drop)]
-pub(crate) enum Stopped {
-    Broken(Broken),
-    OutOfMemory,
-}
-
-impl From<OutOfMemory> for Stopped {
-    ghost use Rattle.asl_edges.specs.declared.faults.Stopped.{Stopped};
-
-    ghost from_gives = { λ _ stopped. stopped ≡ Stopped.OutOfMemory };
-
-    fn from(_error: OutOfMemory) -> Stopped {
-        Stopped::OutOfMemory
+/// The broken rule with that field and that fault, which no path tells.
+pub(crate) fn broken_at<'m>(field: &'static str, fault: FindingFault) -> Broken<'m>
+    ensures seen { (table : List Shape) → broken_view table result
+        ≡ plain_breach field.now (finding_fault_view fault) }
+    ensures below { (bound : ℕ) → IsBrokenBelow bound result }
+{
+    Broken {
+        field,
+        fault,
+        name: "",
+        path: None,
     }
 }
 
-/// The broken rule with that field and that fault stops a walk.
-pub(crate) fn broken_at(field: &'static str, fault: FindingFault) -> Stopped
-    ensures { stopped_view result
-        ≡ Some (record { field = field.now; fault = finding_fault_view fault }) }
+/// The broken rule that a doubt of a shape on its way is.
+pub(crate) fn broken_by(doubt: Doubt<'_>) -> Broken<'_>
+    ensures seen { (table : List Shape) → broken_view table result
+        ≡ breach_of (fault_of table doubt.entry) }
+    ensures below { (bound : ℕ) → IsCauseBelow bound doubt.entry.cause
+        → IsBrokenBelow bound result }
 {
-    Stopped::Broken(Broken { field, fault })
+    match doubt.cause {
+        Cause::MayBeMissing(path) => missing_at(doubt.field, doubt.name, path),
+        Cause::MayFail => broken_at(doubt.field, FindingFault::IntrinsicMayFail),
+        Cause::MayNotFit => broken_at(doubt.field, FindingFault::ResultMayNotFit),
+    }
 }
 
-/// What stops a shape on its way through a state stops the walk with its rule.
-pub(crate) fn stopped_by(fault: FlowFault) -> Stopped
-    ensures { stopped_view result ≡ option_map breach_of (fault_view fault) }
+/// The broken rule that a path of that field is which may name nothing, with the name that is told of it.
+pub(crate) fn missing_at<'m>(
+    field: &'static str,
+    name: &'m str,
+    path: DoubtfulPath<'m>,
+) -> Broken<'m>
+    ensures seen { (table : List Shape) → broken_view table result
+        ≡ missing_breach field.now (doubtful_view table path.entry) }
+    ensures below { (bound : ℕ) → path.entry.shape < bound → IsBrokenBelow bound result }
 {
-    match fault {
-        FlowFault::MayBeMissing(field) => broken_at(field, FindingFault::PathMayBeMissing),
-        FlowFault::MayFail(field) => broken_at(field, FindingFault::IntrinsicMayFail),
-        FlowFault::MayNotFit(field) => broken_at(field, FindingFault::ResultMayNotFit),
-        FlowFault::OutOfMemory => Stopped::OutOfMemory,
+    Broken {
+        field,
+        fault: FindingFault::PathMayBeMissing,
+        name,
+        path: Some(path),
     }
 }

@@ -1,12 +1,13 @@
-// The edges of a state.
+// The steps of the walk through a state.
 
-ghost use Rattle.std.specs.Prelude.{◌<◌, IfOk, length};
-ghost use Rattle.asl_edges.specs.Entry.{entry_view, AreEdgesOf, IsEntryBelow};
+ghost use Rattle.std.specs.Prelude.{◌≡◌, ◌<◌, IfOk, length};
+ghost use Rattle.asl_edges.specs.Entry.{entry_view, IsEntryBelow};
+ghost use Rattle.asl_edges.specs.View.{steps_of, AreStepsBelow};
 ghost use Rattle.asl_states.specs.Machine.{kind_view, settings_view};
 ghost use Rattle.asl_model.specs.Edges.{walk};
 ghost use Rattle.asl_numbered.specs.Expansion.{expansions, shape_at, Keeps};
 
-use crate::faults::{Broken, FindingFault, Stopped};
+use crate::faults::{Broken, FindingFault};
 use crate::walking::Walk;
 use asl_numbered::Shapes;
 use asl_states::State;
@@ -32,42 +33,51 @@ pub struct Edge<'m> {
     /// The number of the shape that flows.
     pub flowing: usize,
     pub destination: Destination<'m>,
+    /// The field that the finding is told at.
     pub field: &'static str,
+    /// What is wrong where it isn't inside.
     pub fault: FindingFault,
 }
 
-/// The shapes of a state, by number: those of its raw input and of its output; for a Parallel that of each branch's end,
-/// for a Map that of its processor's end.
+/// The shapes of a state, by number.
 #[derive(Clone, Copy, Drop)]
 pub struct Entry<'e> {
+    /// That of its raw input.
     pub input: usize,
+    /// That of its output.
     pub output: usize,
+    /// For a Parallel that of each branch's end.
     pub branches: &'e [usize],
+    /// For a Map that of its processor's end.
     pub item: Option<usize>,
 }
 
-/// The edges of a state in order, up to a rule that is broken on the way, if there is one.
-#[derive(Drop)]
-pub struct Edges<'m> {
-    pub edges: Vec<Edge<'m>>,
-    pub broken: Option<Broken>,
+/// A step of the walk through a state.
+#[derive(Clone, Copy, Drop)]
+pub enum Step<'m> {
+    /// A shape flows there.
+    Flows(Edge<'m>),
+    /// A rule is broken on the way to an edge.
+    Breaks(Broken<'m>),
 }
 
-/// The edges of a state with these shapes, for the number of what its task gives: none where no tree has its input. Where
-/// several rules are broken on the way to an edge, the first of them is told. Refuses only where an allocation was refused.
+/// The steps of the walk through a state, for the numbers of its shapes and of what its task gives: its edges, and the rules
+/// that are broken on the way to one, all of them in their order; none where no tree has the state's input. Behind a broken
+/// rule the walk goes on with what doesn't need the shape that it keeps back. Refuses only where an allocation was refused.
 pub fn edges_of<'m>(
     alloc: Global,
     shapes: &mut Shapes,
     state: &'m State,
     entry: Entry,
     gives: usize,
-) -> Result<Edges<'m>, OutOfMemory>
+) -> Result<Vec<Step<'m>>, OutOfMemory>
     requires entry { IsEntryBelow (length shapes.old) entry }
     requires gives { gives < length shapes.old }
     ensures walked { IfOk result
-        (AreEdgesOf (expansions shapes.new)
-        (walk (shape_at (expansions shapes.old) gives) (settings_view state.now.settings)
-        (kind_view state.now.kind) (entry_view (expansions shapes.old) entry.entry))) }
+        (λ steps. steps_of (expansions shapes.new) steps.items
+        ≡ walk (shape_at (expansions shapes.old) gives) (settings_view state.now.settings)
+        (kind_view state.now.kind) (entry_view (expansions shapes.old) entry.entry)) }
+    ensures below { IfOk result (λ steps. AreStepsBelow (length shapes.new) steps.items) }
     ensures keeps { Keeps (expansions shapes.old) (expansions shapes.new) }
 {
     let walk = Walk {
@@ -75,16 +85,7 @@ pub fn edges_of<'m>(
         state,
         entry,
     };
-    let mut edges = Vec::new(alloc);
-    match walk.walk(shapes, &mut edges, gives) {
-        Ok(()) => Ok(Edges {
-            edges,
-            broken: None,
-        }),
-        Err(Stopped::Broken(broken)) => Ok(Edges {
-            edges,
-            broken: Some(broken),
-        }),
-        Err(Stopped::OutOfMemory) => Err(OutOfMemory),
-    }
+    let mut steps = Vec::new(alloc);
+    walk.walk(shapes, &mut steps, gives)?;
+    Ok(steps)
 }

@@ -1,21 +1,21 @@
 // The walk over a Map's items, over what its children take, and over what they give.
 
-ghost use Rattle.std.specs.Prelude.{◌<◌, length};
+ghost use Rattle.std.specs.Prelude.{◌<◌, OnOk, length};
 ghost use Rattle.asl_edges.specs.Entry.{IsEntryBelow};
-ghost use Rattle.asl_edges.specs.Items.{elements_steps, item_steps, items_steps, outputs_steps};
-ghost use Rattle.asl_edges.specs.Walks.{Walks};
+ghost use Rattle.asl_edges.specs.Items.{elements_steps, item_steps, items_steps, listed_steps, outputs_steps};
+ghost use Rattle.asl_edges.specs.Walks.{Adds};
 ghost use Rattle.asl_flow.specs.Elements.{elements_view, AreElementsBelow};
-ghost use Rattle.asl_numbered.specs.Expansion.{expansions};
+ghost use Rattle.asl_numbered.specs.Expansion.{expansions, Keeps};
 
-use crate::faults::{FindingFault, Stopped, broken_at, stopped_by};
-use crate::found::Edge;
-use crate::pushing::push_child;
+use crate::faults::FindingFault;
+use crate::found::Step;
+use crate::pushing::{push_broken, push_child, push_doubts, push_missing};
 use crate::walking::Walk;
-use crate::working::named_in;
-use asl_flow::{Elements, element_at, elements_of, item_input_at, outputs_at};
+use asl_flow::{Elements, element_at, elements_of, find_at, item_input_at, outputs_at};
 use asl_numbered::Shapes;
 use asl_path::RefPath;
 use asl_template::Template;
+use asl_tree::OutOfMemory;
 
 /// What a Map makes of its items: `ItemSelector`, the start state of `ItemProcessor`, and the effective input.
 #[derive(Clone, Copy, Drop)]
@@ -30,20 +30,42 @@ impl<'m> Walk<'_, 'm> {
     pub(crate) fn walk_map(
         &self,
         shapes: &mut Shapes,
-        edges: &mut Vec<Edge<'m>>,
-        items_path: &RefPath,
+        steps: &mut Vec<Step<'m>>,
+        items_path: &'m RefPath,
         children: Children<'m>,
-    ) -> Result<(), Stopped>
+    ) -> Result<(), OutOfMemory>
         requires entry { IsEntryBelow (length shapes.old) self.now.entry }
         requires effective { children.effective < length shapes.old }
-        ensures { Walks (expansions shapes.old) (expansions shapes.new) edges.old.items
-            edges.new.items
-            (items_steps (expansions shapes.old) self.now items_path.now children.entry) result }
+        ensures adds { OnOk result
+            (Adds (expansions shapes.new) steps.old.items steps.new.items
+            (items_steps (expansions shapes.old) self.now items_path.now children.entry)) }
+        ensures keeps { Keeps (expansions shapes.old) (expansions shapes.new) }
     {
-        let items = named_in(shapes, children.effective, items_path, "ItemsPath")?;
+        match find_at(shapes, children.effective, items_path)? {
+            Ok(items) => self.walk_items(shapes, steps, children, items),
+            Err(path) => push_missing(steps, "ItemsPath", path),
+        }
+    }
+
+    /// Walks over the elements of what `ItemsPath` names, if it has elements alone.
+    fn walk_items(
+        &self,
+        shapes: &mut Shapes,
+        steps: &mut Vec<Step<'m>>,
+        children: Children<'m>,
+        items: usize,
+    ) -> Result<(), OutOfMemory>
+        requires entry { IsEntryBelow (length shapes.old) self.now.entry }
+        requires effective { children.effective < length shapes.old }
+        requires items { items < length shapes.old }
+        ensures adds { OnOk result
+            (Adds (expansions shapes.new) steps.old.items steps.new.items
+            (listed_steps (expansions shapes.old) self.now children.entry items)) }
+        ensures keeps { Keeps (expansions shapes.old) (expansions shapes.new) }
+    {
         match elements_of(self.alloc, shapes, items)? {
-            Some(elements) => self.walk_elements(shapes, edges, children, &elements),
-            None => Err(broken_at("ItemsPath", FindingFault::WrongKind)),
+            Some(elements) => self.walk_elements(shapes, steps, children, &elements),
+            None => push_broken(steps, "ItemsPath", FindingFault::WrongKind),
         }
     }
 
@@ -51,36 +73,38 @@ impl<'m> Walk<'_, 'm> {
     fn walk_elements(
         &self,
         shapes: &mut Shapes,
-        edges: &mut Vec<Edge<'m>>,
+        steps: &mut Vec<Step<'m>>,
         children: Children<'m>,
         elements: &Elements,
-    ) -> Result<(), Stopped>
+    ) -> Result<(), OutOfMemory>
         requires entry { IsEntryBelow (length shapes.old) self.now.entry }
         requires effective { children.effective < length shapes.old }
         requires elements { AreElementsBelow (length shapes.old) elements.now }
-        ensures { Walks (expansions shapes.old) (expansions shapes.new) edges.old.items
-            edges.new.items
+        ensures adds { OnOk result
+            (Adds (expansions shapes.new) steps.old.items steps.new.items
             (elements_steps (expansions shapes.old) self.now children.entry
-            (elements_view (expansions shapes.old) elements.now)) result }
+            (elements_view (expansions shapes.old) elements.now))) }
+        ensures keeps { Keeps (expansions shapes.old) (expansions shapes.new) }
     {
-        self.walk_item(shapes, edges, children, elements)?;
-        self.walk_outputs(shapes, edges, elements)
+        self.walk_item(shapes, steps, children, elements)?;
+        self.walk_outputs(shapes, steps, elements)
     }
 
     /// Walks over the children's input.
     fn walk_item(
         &self,
         shapes: &mut Shapes,
-        edges: &mut Vec<Edge<'m>>,
+        steps: &mut Vec<Step<'m>>,
         children: Children<'m>,
         elements: &Elements,
-    ) -> Result<(), Stopped>
+    ) -> Result<(), OutOfMemory>
         requires effective { children.effective < length shapes.old }
         requires elements { AreElementsBelow (length shapes.old) elements.now }
-        ensures { Walks (expansions shapes.old) (expansions shapes.new) edges.old.items
-            edges.new.items
+        ensures adds { OnOk result
+            (Adds (expansions shapes.new) steps.old.items steps.new.items
             (item_steps (expansions shapes.old) children.entry
-            (elements_view (expansions shapes.old) elements.now)) result }
+            (elements_view (expansions shapes.old) elements.now))) }
+        ensures keeps { Keeps (expansions shapes.old) (expansions shapes.new) }
     {
         let element = element_at(shapes, elements)?;
         match item_input_at(
@@ -89,12 +113,9 @@ impl<'m> Walk<'_, 'm> {
             children.selector,
             children.effective,
             element,
-        ) {
-            Ok(input) => {
-                push_child(edges, "ItemProcessor", children.processor, input)?;
-                Ok(())
-            }
-            Err(fault) => Err(stopped_by(fault)),
+        )? {
+            Ok(input) => push_child(steps, "ItemProcessor", children.processor, input),
+            Err(doubts) => push_doubts(steps, &doubts),
         }
     }
 
@@ -102,20 +123,21 @@ impl<'m> Walk<'_, 'm> {
     fn walk_outputs(
         &self,
         shapes: &mut Shapes,
-        edges: &mut Vec<Edge<'m>>,
+        steps: &mut Vec<Step<'m>>,
         elements: &Elements,
-    ) -> Result<(), Stopped>
+    ) -> Result<(), OutOfMemory>
         requires entry { IsEntryBelow (length shapes.old) self.now.entry }
         requires elements { AreElementsBelow (length shapes.old) elements.now }
-        ensures { Walks (expansions shapes.old) (expansions shapes.new) edges.old.items
-            edges.new.items
+        ensures adds { OnOk result
+            (Adds (expansions shapes.new) steps.old.items steps.new.items
             (outputs_steps (expansions shapes.old) self.now
-            (elements_view (expansions shapes.old) elements.now)) result }
+            (elements_view (expansions shapes.old) elements.now))) }
+        ensures keeps { Keeps (expansions shapes.old) (expansions shapes.new) }
     {
         match self.entry.item {
             Some(item) => {
                 let outputs = outputs_at(self.alloc, shapes, item, elements)?;
-                self.walk_result(shapes, edges, outputs)
+                self.walk_result(shapes, steps, outputs)
             }
             None => Ok(()),
         }

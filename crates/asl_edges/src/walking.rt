@@ -1,18 +1,18 @@
 // The walk through a state, in the order of its steps.
 
-ghost use Rattle.std.specs.Prelude.{◌≡◌, ◌<◌, length};
+ghost use Rattle.std.specs.Prelude.{◌≡◌, ◌<◌, OnOk, length};
 ghost use Rattle.asl_edges.specs.Entry.{IsEntryBelow};
-ghost use Rattle.asl_edges.specs.Steps.{chosen_steps, end_steps, inner_steps, input_steps, result_steps, steps};
-ghost use Rattle.asl_edges.specs.Walks.{Walks};
+ghost use Rattle.asl_edges.specs.Steps as parts;
+ghost use Rattle.asl_edges.specs.Walks.{Adds};
 ghost use Rattle.asl_model.specs.Shape.{inhabited};
-ghost use Rattle.asl_numbered.specs.Expansion.{expansions, shape_at};
+ghost use Rattle.asl_numbered.specs.Expansion.{expansions, shape_at, Keeps};
 
-use crate::faults::{Stopped, stopped_by};
-use crate::found::{Edge, Entry};
-use crate::pushing::{push_end, push_next, push_onward};
-use asl_flow::{effective_at, leave_at};
+use crate::found::{Entry, Step};
+use crate::pushing::{push_doubts, push_end, push_next, push_onward};
+use asl_flow::{effective_at, output_at};
 use asl_numbered::Shapes;
 use asl_states::State;
+use asl_tree::OutOfMemory;
 use std::alloc::Global;
 
 /// A state that is walked through, with its shapes.
@@ -28,16 +28,18 @@ impl<'m> Walk<'_, 'm> {
     pub(crate) fn walk(
         &self,
         shapes: &mut Shapes,
-        edges: &mut Vec<Edge<'m>>,
+        steps: &mut Vec<Step<'m>>,
         gives: usize,
-    ) -> Result<(), Stopped>
+    ) -> Result<(), OutOfMemory>
         requires entry { IsEntryBelow (length shapes.old) self.now.entry }
         requires gives { gives < length shapes.old }
-        ensures { Walks (expansions shapes.old) (expansions shapes.new) edges.old.items
-            edges.new.items (steps (expansions shapes.old) self.now gives) result }
+        ensures adds { OnOk result
+            (Adds (expansions shapes.new) steps.old.items steps.new.items
+            (parts.steps (expansions shapes.old) self.now gives)) }
+        ensures keeps { Keeps (expansions shapes.old) (expansions shapes.new) }
     {
         if is_inhabited(shapes, self.entry.input) {
-            self.walk_parts(shapes, edges, gives)
+            self.walk_parts(shapes, steps, gives)
         } else {
             Ok(())
         }
@@ -47,28 +49,32 @@ impl<'m> Walk<'_, 'm> {
     fn walk_parts(
         &self,
         shapes: &mut Shapes,
-        edges: &mut Vec<Edge<'m>>,
+        steps: &mut Vec<Step<'m>>,
         gives: usize,
-    ) -> Result<(), Stopped>
+    ) -> Result<(), OutOfMemory>
         requires entry { IsEntryBelow (length shapes.old) self.now.entry }
         requires gives { gives < length shapes.old }
-        ensures { Walks (expansions shapes.old) (expansions shapes.new) edges.old.items
-            edges.new.items (inner_steps (expansions shapes.old) self.now gives) result }
+        ensures adds { OnOk result
+            (Adds (expansions shapes.new) steps.old.items steps.new.items
+            (parts.inner_steps (expansions shapes.old) self.now gives)) }
+        ensures keeps { Keeps (expansions shapes.old) (expansions shapes.new) }
     {
-        self.walk_input(shapes, edges)?;
-        self.walk_settled(shapes, edges, gives)?;
-        self.walk_catchers(shapes, edges, &self.state.settings.catchers)
+        self.walk_input(shapes, steps)?;
+        self.walk_settled(shapes, steps, gives)?;
+        self.walk_catchers(shapes, steps, &self.state.settings.catchers)
     }
 
     /// Walks over the way to the effective input, and over what comes of it.
-    fn walk_input(&self, shapes: &mut Shapes, edges: &mut Vec<Edge<'m>>) -> Result<(), Stopped>
+    fn walk_input(&self, shapes: &mut Shapes, steps: &mut Vec<Step<'m>>) -> Result<(), OutOfMemory>
         requires entry { IsEntryBelow (length shapes.old) self.now.entry }
-        ensures { Walks (expansions shapes.old) (expansions shapes.new) edges.old.items
-            edges.new.items (input_steps (expansions shapes.old) self.now) result }
+        ensures adds { OnOk result
+            (Adds (expansions shapes.new) steps.old.items steps.new.items
+            (parts.input_steps (expansions shapes.old) self.now)) }
+        ensures keeps { Keeps (expansions shapes.old) (expansions shapes.new) }
     {
-        match effective_at(self.alloc, shapes, &self.state.settings, self.entry.input) {
-            Ok(effective) => self.walk_work(shapes, edges, effective),
-            Err(fault) => Err(stopped_by(fault)),
+        match effective_at(self.alloc, shapes, &self.state.settings, self.entry.input)? {
+            Ok(effective) => self.walk_work(shapes, steps, effective),
+            Err(doubts) => push_doubts(steps, &doubts),
         }
     }
 
@@ -76,20 +82,19 @@ impl<'m> Walk<'_, 'm> {
     pub(crate) fn walk_result(
         &self,
         shapes: &mut Shapes,
-        edges: &mut Vec<Edge<'m>>,
+        steps: &mut Vec<Step<'m>>,
         work: usize,
-    ) -> Result<(), Stopped>
+    ) -> Result<(), OutOfMemory>
         requires input { self.now.entry.input < length shapes.old }
         requires work { work < length shapes.old }
-        ensures { Walks (expansions shapes.old) (expansions shapes.new) edges.old.items
-            edges.new.items (result_steps (expansions shapes.old) self.now work) result }
+        ensures adds { OnOk result
+            (Adds (expansions shapes.new) steps.old.items steps.new.items
+            (parts.result_steps (expansions shapes.old) self.now work)) }
+        ensures keeps { Keeps (expansions shapes.old) (expansions shapes.new) }
     {
-        match leave_at(self.alloc, shapes, self.state, self.entry.input, work) {
-            Ok(output) => {
-                push_onward(edges, &self.state.settings.next, output)?;
-                Ok(())
-            }
-            Err(fault) => Err(stopped_by(fault)),
+        match output_at(self.alloc, shapes, self.state, self.entry.input, work)? {
+            Ok(output) => push_onward(steps, &self.state.settings.next, output),
+            Err(doubts) => push_doubts(steps, &doubts),
         }
     }
 
@@ -97,23 +102,21 @@ impl<'m> Walk<'_, 'm> {
     pub(crate) fn walk_chosen(
         &self,
         shapes: &mut Shapes,
-        edges: &mut Vec<Edge<'m>>,
+        steps: &mut Vec<Step<'m>>,
         field: &'static str,
         next: &'m str,
         work: usize,
-    ) -> Result<(), Stopped>
+    ) -> Result<(), OutOfMemory>
         requires input { self.now.entry.input < length shapes.old }
         requires work { work < length shapes.old }
-        ensures { Walks (expansions shapes.old) (expansions shapes.new) edges.old.items
-            edges.new.items
-            (chosen_steps (expansions shapes.old) self.now field.now next.now work) result }
+        ensures adds { OnOk result
+            (Adds (expansions shapes.new) steps.old.items steps.new.items
+            (parts.chosen_steps (expansions shapes.old) self.now field.now next.now work)) }
+        ensures keeps { Keeps (expansions shapes.old) (expansions shapes.new) }
     {
-        match leave_at(self.alloc, shapes, self.state, self.entry.input, work) {
-            Ok(output) => {
-                push_next(edges, field, next, output)?;
-                Ok(())
-            }
-            Err(fault) => Err(stopped_by(fault)),
+        match output_at(self.alloc, shapes, self.state, self.entry.input, work)? {
+            Ok(output) => push_next(steps, field, next, output),
+            Err(doubts) => push_doubts(steps, &doubts),
         }
     }
 
@@ -121,20 +124,19 @@ impl<'m> Walk<'_, 'm> {
     pub(crate) fn walk_end(
         &self,
         shapes: &mut Shapes,
-        edges: &mut Vec<Edge<'m>>,
+        steps: &mut Vec<Step<'m>>,
         work: usize,
-    ) -> Result<(), Stopped>
+    ) -> Result<(), OutOfMemory>
         requires input { self.now.entry.input < length shapes.old }
         requires work { work < length shapes.old }
-        ensures { Walks (expansions shapes.old) (expansions shapes.new) edges.old.items
-            edges.new.items (end_steps (expansions shapes.old) self.now work) result }
+        ensures adds { OnOk result
+            (Adds (expansions shapes.new) steps.old.items steps.new.items
+            (parts.end_steps (expansions shapes.old) self.now work)) }
+        ensures keeps { Keeps (expansions shapes.old) (expansions shapes.new) }
     {
-        match leave_at(self.alloc, shapes, self.state, self.entry.input, work) {
-            Ok(output) => {
-                push_end(edges, "Type", output)?;
-                Ok(())
-            }
-            Err(fault) => Err(stopped_by(fault)),
+        match output_at(self.alloc, shapes, self.state, self.entry.input, work)? {
+            Ok(output) => push_end(steps, "Type", output),
+            Err(doubts) => push_doubts(steps, &doubts),
         }
     }
 }

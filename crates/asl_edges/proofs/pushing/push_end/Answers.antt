@@ -2,7 +2,7 @@ use Rattle.std.proofs.Common.{[], ◌∷◌, refl}
 use Rattle.asl_model.specs.Edges.{ToEnd, flows_to}
 use Rattle.asl_model.specs.Finding.{ScopeOutput}
 use Rattle.asl_edges.specs.Walks.{output_step}
-use Rattle.asl_edges.proofs.PushedEdges.{then_pushed}
+use Rattle.asl_edges.proofs.PushedSteps.{then_pushed}
 use Rattle.asl_edges.proofs.pushing.push_end.Goals as goal
 
 pub returns : goal.returns

@@ -2,7 +2,7 @@ use Rattle.std.proofs.Common.{[], ◌∷◌, refl}
 use Rattle.asl_model.specs.Edges.{ToInput, flows_to}
 use Rattle.asl_model.specs.Finding.{NextInput}
 use Rattle.asl_edges.specs.Walks.{output_step}
-use Rattle.asl_edges.proofs.PushedEdges.{then_pushed}
+use Rattle.asl_edges.proofs.PushedSteps.{then_pushed}
 use Rattle.asl_edges.proofs.pushing.push_next.Goals as goal
 
 pub returns : goal.returns

@@ -1,13 +1,11 @@
-use Rattle.std.proofs.Common.{List, subst, ap, ◌∙◌}
+use Rattle.std.proofs.Common.{ap, ◌∙◌}
 use Rattle.std.proofs.lemmas.List.{drop_all}
-use Rattle.std.proofs.lemmas.Result.{err_from_is_err_and}
-use Rattle.asl_model.specs.Edges.{Walked}
 use Rattle.asl_numbered.specs.Expansion.{expansions}
 use Rattle.asl_edges.specs.Steps.{catchers_steps}
-use Rattle.asl_edges.specs.Walks.{GoesOn}
+use Rattle.asl_edges.proofs.Adding.{adds_same}
+use Rattle.asl_edges.proofs.Going.{goes_on_none, goes_on_then, goes_through}
 use Rattle.asl_edges.proofs.Kept.{among, shown, within}
 use Rattle.asl_edges.proofs.KeptSteps.{catcher_kept, catcher_left}
-use Rattle.asl_edges.proofs.WalkSteps.{goes_on_none, goes_on_then, goes_through, stops_then, walks_same}
 use Rattle.asl_edges.proofs.walking.Walk.walk_catchers.Goals as goal
 
 pub loop-catcher-init : goal.loop-catcher-init
@@ -22,17 +20,6 @@ walk_catcher-requires-clause-error c = c.loop-catcher.invariant.1
 pub walk_catcher-requires-clause-error_output : goal.walk_catcher-requires-clause-error_output
 walk_catcher-requires-clause-error_output c = c.loop-catcher.invariant.2
 
-pub returns-in_err-walk_catcher : goal.returns-in_err-walk_catcher
-returns-in_err-walk_catcher c =
-    let l = c.loop-catcher in
-    let a = c.args.shapes.now in
-    let walk = c.args.self.now in
-    let p = err_from_is_err_and c.from_residual-in_err-walk_catcher.result c.from_residual-in_err-walk_catcher.ensures.1 in
-    let left = catcher_left (expansions a) walk c.args.catchers.now l.catcher-index c.catcher-item.result c.loop-catcher-test.true c.catcher-item.is in
-    let same = catcher_kept a l.shapes walk l.invariant.0.keeps c.catcher-item.result c.requires.input in
-    let going = subst (λ (steps : List Walked). GoesOn (expansions a) (expansions l.shapes) c.args.edges.now.items l.edges.items (catchers_steps (expansions a) walk c.args.catchers.now) steps) left l.invariant.0 in
-    rw (p.1, p.2) (stops_then _ _ _ _ _ _ _ _ _ c.in_err-walk_catcher.field-0.0 going (walks_same _ _ _ _ _ _ _ same c.in_err-walk_catcher.ensures))
-
 pub loop-catcher-preserved : goal.loop-catcher-preserved
 loop-catcher-preserved c =
     let l = c.loop-catcher in
@@ -40,17 +27,14 @@ loop-catcher-preserved c =
     let walk = c.args.self.now in
     let left = catcher_left (expansions a) walk c.args.catchers.now l.catcher-index c.catcher-item.result c.loop-catcher-test.true c.catcher-item.is in
     let same = catcher_kept a l.shapes walk l.invariant.0.keeps c.catcher-item.result c.requires.input in
-    let going = subst (λ (steps : List Walked). GoesOn (expansions a) (expansions l.shapes) c.args.edges.now.items l.edges.items (catchers_steps (expansions a) walk c.args.catchers.now) steps) left l.invariant.0 in
     let keeps = c.in_ok-walk_catcher.ensures.keeps in (
-      goes_on_then _ _ _ _ _ _ _ _ _ _ going (walks_same _ _ _ _ _ _ _ same c.in_ok-walk_catcher.ensures),
+      goes_on_then _ _ _ _ _ _ _ _ _ _ left l.invariant.0 keeps (adds_same _ _ _ _ _ same c.in_ok-walk_catcher.ensures.adds),
       within _ _ _ keeps l.invariant.1,
       shown l.shapes c.walk_catcher.new.shapes c.in_ok-error.error keeps l.invariant.1 ∙ l.invariant.2,
     )
 
-pub returns : goal.returns
-returns c =
+pub returns-clause-adds : goal.returns-clause-adds
+returns-clause-adds c =
     let l = c.loop-catcher in
-    let a = c.args.shapes.now in
-    let walk = c.args.self.now in
-    let none = ap (catchers_steps (expansions a) walk) (drop_all l.catcher-index c.args.catchers.now c.loop-catcher-test.false) in
-    goes_through _ _ _ _ _ _ (subst (λ (steps : List Walked). GoesOn (expansions a) (expansions l.shapes) c.args.edges.now.items l.edges.items (catchers_steps (expansions a) walk c.args.catchers.now) steps) none l.invariant.0)
+    let none = ap (catchers_steps (expansions c.args.shapes.now) c.args.self.now) (drop_all l.catcher-index c.args.catchers.now c.loop-catcher-test.false) in
+    goes_through _ _ _ _ _ _ none l.invariant.0

@@ -1,20 +1,16 @@
-use Rattle.std.proofs.Common.{refl}
-use Rattle.std.proofs.lemmas.Result.{err_from_is_err_and}
-use Rattle.asl_edges.proofs.Choices.{default_walked, without_default}
-use Rattle.asl_edges.proofs.WalkSteps.{walks_out}
-use Rattle.asl_edges.proofs.walking.Walk.walk_default.Goals as goal
+use Rattle.std.proofs.lemmas.Result.{on_ok_weaker}
 use Rattle.asl_numbered.specs.Expansion.{expansions}
-use Rattle.asl_numbered.proofs.Expansions.{keeps_same}
+use Rattle.asl_edges.proofs.Adding.{adds_same, adds_told}
+use Rattle.asl_edges.proofs.Choices.{default_chosen, without_default}
+use Rattle.asl_edges.proofs.walking.Walk.walk_default.Goals as goal
 
-pub returns-in-Some : goal.returns-in-Some
-returns-in-Some c = default_walked _ _ _ _ c.args.self.now c.args.rules.now c.args.default.now c.in-Some.next c.args.effective _ c.in-Some.is (rw c.deref.ensures at c.walk_chosen.ensures)
+pub returns-in-Some-clause-adds : goal.returns-in-Some-clause-adds
+returns-in-Some-clause-adds c =
+    let same = default_chosen (expansions c.args.shapes.now) c.args.self.now c.args.rules.now c.args.default.now c.args.effective c.in-Some.next c.in-Some.is in
+    on_ok_weaker _ (adds_same _ _ _ _ _ same) (rw c.deref.ensures at c.walk_chosen.ensures.adds)
 
-pub returns-in_err-settled-in-None : goal.returns-in_err-settled-in-None
-returns-in_err-settled-in-None c =
-    let p = err_from_is_err_and c.from_residual.result c.from_residual.ensures.1 in
-    rw (p.1, p.2) (walks_out _ _ _ _ _ _ (keeps_same _) refl)
-
-pub returns-in_ok-settled-in-None : goal.returns-in_ok-settled-in-None
-returns-in_ok-settled-in-None c =
-    let table = expansions c.args.shapes.now in
-    without_default table _ c.args.self.now c.args.rules.now c.args.default.now c.args.effective c.in_ok-settled-in-None.settled _ c.in-None.is c.in_ok-settled-in-None.ensures.as_defined (c.stop_unless.ensures table _)
+pub returns-in_ok-settled-in-None-clause-adds : goal.returns-in_ok-settled-in-None-clause-adds
+returns-in_ok-settled-in-None-clause-adds c =
+    let settled = c.in_ok-settled-in-None in
+    let same = without_default (expansions c.args.shapes.now) c.args.self.now c.args.rules.now c.args.default.now c.args.effective settled.settled c.in-None.is settled.ensures.as_defined in
+    on_ok_weaker _ (adds_told _ _ _ _ _ same) c.push_unless.ensures

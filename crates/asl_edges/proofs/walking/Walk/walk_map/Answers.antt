@@ -1,43 +1,31 @@
-use Rattle.std.proofs.Common.{option_map, ap, sym, ◌∙◌}
-use Rattle.std.proofs.lemmas.Result.{err_from_is_err_and}
-use Rattle.asl_flow.specs.Elements.{elements_view}
+use Rattle.std.proofs.Common.{codes, refl}
+use Rattle.std.proofs.lemmas.Result.{on_ok_weaker}
 use Rattle.asl_numbered.specs.Expansion.{expansions}
+use Rattle.asl_model.specs.Edges.{walk_items}
 use Rattle.asl_edges.specs.Items.{elements_steps}
-use Rattle.asl_edges.proofs.ItemWalks.{elements_kept}
-use Rattle.asl_edges.proofs.Kept.{among, entry_within, within}
-use Rattle.asl_edges.proofs.NamedSteps.{items_unnamed, items_walked, items_wrong}
-use Rattle.asl_edges.proofs.WalkSteps.{walks_same}
+use Rattle.asl_edges.proofs.Adding.{adds_same}
+use Rattle.asl_edges.proofs.Flows.{found_missing, found_walked}
+use Rattle.asl_edges.proofs.ItemWalks.{listed_kept}
+use Rattle.asl_edges.proofs.Kept.{entry_within, within}
 use Rattle.asl_edges.proofs.walking.Walk.walk_map.Goals as goal
 
-pub elements_of-requires : goal.elements_of-requires
-elements_of-requires c = record { number = among _ _ c.in_ok-items.ensures.comes.within }
+pub walk_items-requires-clause-entry : goal.walk_items-requires-clause-entry
+walk_items-requires-clause-entry c = entry_within _ _ _ c.in_ok-items.ensures.keeps c.requires.entry
 
-pub walk_elements-requires-clause-entry : goal.walk_elements-requires-clause-entry
-walk_elements-requires-clause-entry c = entry_within _ _ _ c.in_ok-items.ensures.keeps c.requires.entry
+pub walk_items-requires-clause-effective : goal.walk_items-requires-clause-effective
+walk_items-requires-clause-effective c = within _ _ _ c.in_ok-items.ensures.keeps c.requires.effective
 
-pub walk_elements-requires-clause-effective : goal.walk_elements-requires-clause-effective
-walk_elements-requires-clause-effective c = within _ _ _ c.in_ok-items.ensures.keeps c.requires.effective
-
-pub returns-in_err-items : goal.returns-in_err-items
-returns-in_err-items c =
-    let walk = c.args.self.now in
-    let p = err_from_is_err_and c.from_residual.result c.from_residual.ensures.1 in
-    rw (p.1, p.2) (items_unnamed _ _ _ (elements_steps (expansions c.args.shapes.now) walk c.args.children) _ c.in_err-items.field-0.0 c.in_err-items.ensures)
-
-pub returns-in-Some : goal.returns-in-Some
-returns-in-Some c =
-    let walk = c.args.self.now in
+pub returns-in-Ok-clause-adds : goal.returns-in-Ok-clause-adds
+returns-in-Ok-clause-adds c =
     let a = c.args.shapes.now in
-    let b = c.named_in.new.shapes in
-    let elements = elements_view (expansions b) c.in-Some.elements in
-    let some = sym (ap (option_map (elements_view (expansions b))) c.in-Some.is) ∙ c.in_ok-elements.ensures.as_defined in
-    let same = elements_kept a b walk c.args.children elements c.in_ok-items.ensures.keeps c.requires.entry c.requires.effective in
-    items_walked _ _ _ _ _ (elements_steps (expansions a) walk c.args.children) _ c.in_ok-items.items elements _ c.in_ok-items.ensures some (walks_same _ _ _ _ _ _ _ same c.walk_elements.ensures)
-
-pub returns-in-None : goal.returns-in-None
-returns-in-None c =
     let walk = c.args.self.now in
-    let a = c.args.shapes.now in
-    let b = c.named_in.new.shapes in
-    let none = sym (ap (option_map (elements_view (expansions b))) c.in-None.is) ∙ c.in_ok-elements.ensures.as_defined in
-    items_wrong _ _ _ (elements_steps (expansions a) walk c.args.children) _ c.in_ok-items.items _ c.in_ok-items.ensures none c.broken_at.ensures
+    let found = c.in_ok-items in
+    let same = listed_kept a c.find_at.new.shapes walk c.args.children c.in-Ok.items found.ensures.keeps c.requires.entry c.requires.effective in
+    let go_on = walk_items (elements_steps (expansions a) walk c.args.children) in
+    on_ok_weaker _ (λ adds. found_walked _ _ found.field-0 found.ensures.as_defined found.ensures.within _ _ _ go_on c.in-Ok.items c.in-Ok.is (adds_same _ _ _ _ _ same adds)) c.walk_items.ensures.adds
+
+pub returns-in-Err-clause-adds : goal.returns-in-Err-clause-adds
+returns-in-Err-clause-adds c =
+    let found = c.in_ok-items in
+    let go_on = walk_items (elements_steps (expansions c.args.shapes.now) c.args.self.now c.args.children) in
+    on_ok_weaker _ (found_missing _ _ found.field-0 found.ensures.as_defined found.ensures.within _ _ (codes "ItemsPath") go_on c.in-Err.path (λ d. refl) c.in-Err.is) c.push_missing.ensures

@@ -1,13 +1,16 @@
-use Rattle.std.proofs.Common.{option_map, refl}
+use Rattle.std.proofs.Common.{option_map}
 use Rattle.asl_states.specs.Machine.{target_name}
 use Rattle.asl_model.specs.Edges.{onward}
-use Rattle.asl_edges.proofs.WalkSteps.{walks_on, walks_pushed, walks_stopped}
+use Rattle.std.proofs.lemmas.Result.{on_ok_weaker}
+use Rattle.asl_edges.proofs.Flows.{flow_doubted, flow_pushed}
 use Rattle.asl_edges.proofs.walking.Walk.walk_result.Goals as goal
 
-pub returns-in_ok-push_onward-in-Ok : goal.returns-in_ok-push_onward-in-Ok
-returns-in_ok-push_onward-in-Ok c =
-    let next = onward (option_map target_name c.args.self.now.state.now.settings.next) in
-    walks_on _ _ _ _ next _ _ _ c.in-Ok.ensures.as_defined (walks_pushed _ _ _ _ c.in-Ok.output next _ _ c.in-Ok.ensures.keeps c.in-Ok.ensures.number.within refl c.in_ok-push_onward-in-Ok.ensures)
+pub returns-in-Ok-clause-adds : goal.returns-in-Ok-clause-adds
+returns-in-Ok-clause-adds c =
+    let flow = c.in_ok-output in
+    on_ok_weaker _ (flow_pushed _ _ flow.field-0 flow.ensures.as_defined flow.ensures.within _ _ (onward (option_map target_name c.args.self.now.state.now.settings.next)) _ c.in-Ok.is) c.push_onward.ensures
 
-pub returns-in-Err : goal.returns-in-Err
-returns-in-Err c = walks_stopped _ _ _ _ _ c.in-Err.fault _ c.in-Err.ensures.keeps c.in-Err.ensures.refused c.stopped_by.ensures
+pub returns-in-Err-clause-adds : goal.returns-in-Err-clause-adds
+returns-in-Err-clause-adds c =
+    let flow = c.in_ok-output in
+    on_ok_weaker _ (flow_doubted _ _ flow.field-0 flow.ensures.as_defined flow.ensures.within _ _ (onward (option_map target_name c.args.self.now.state.now.settings.next)) c.in-Err.doubts c.in-Err.is) (rw c.deref.ensures.value at c.push_doubts.ensures)

@@ -1,22 +1,31 @@
-use Rattle.std.proofs.Common.{Err, refl, ap}
-use Rattle.asl_edges.proofs.Choices.{rule_missing, rule_walked}
-use Rattle.asl_edges.proofs.Kept.{among, within}
-use Rattle.asl_edges.proofs.WalkSteps.{walks_out}
+use Rattle.std.proofs.Common.{codes, refl}
+use Rattle.std.proofs.lemmas.Result.{on_ok_weaker}
+use Rattle.asl_numbered.specs.Expansion.{expansions}
+use Rattle.asl_states.specs.Machine.{target_name}
+use Rattle.asl_model.specs.Edges.{walk_rule}
+use Rattle.asl_edges.specs.Steps.{settings_of, kind_of, input_of}
+use Rattle.asl_edges.proofs.Adding.{adds_same}
+use Rattle.asl_edges.proofs.Choices.{let_through}
+use Rattle.asl_edges.proofs.Flows.{found_missing, found_walked}
+use Rattle.asl_edges.proofs.Kept.{within}
 use Rattle.asl_edges.proofs.walking.Walk.walk_rule.Goals as goal
 
 pub walk_chosen-requires-clause-input : goal.walk_chosen-requires-clause-input
-walk_chosen-requires-clause-input c = within _ _ _ c.in-Ok.ensures.keeps c.requires.input
+walk_chosen-requires-clause-input c = within _ _ _ c.in_ok-shape.ensures.keeps c.requires.input
 
-pub walk_chosen-requires-clause-work : goal.walk_chosen-requires-clause-work
-walk_chosen-requires-clause-work c = among _ _ c.in-Ok.ensures.number.within
+pub returns-in-Ok-clause-adds : goal.returns-in-Ok-clause-adds
+returns-in-Ok-clause-adds c =
+    let a = c.args.shapes.now in
+    let walk = c.args.self.now in
+    let rule = c.args.rule.now in
+    let found = c.in_ok-shape in
+    let same = let_through a c.let_through_at.new.shapes walk rule c.in-Ok.shape found.ensures.keeps c.requires.input in
+    let go_on = walk_rule (settings_of walk) (kind_of walk) (input_of (expansions a) walk) (target_name rule.next) in
+    on_ok_weaker _ (λ adds. found_walked _ _ found.field-0 found.ensures.as_defined found.ensures.within _ _ _ go_on c.in-Ok.shape c.in-Ok.is (adds_same _ _ _ _ _ same adds)) (rw c.deref.ensures at c.walk_chosen.ensures.adds)
 
-pub returns-in-Ok : goal.returns-in-Ok
-returns-in-Ok c =
-    rule_walked c.args.shapes.now c.rule_shape_at.new.shapes _ _ _ c.args.self.now c.args.rule.now c.args.effective c.in-Ok.shape _ c.in-Ok.ensures.keeps c.requires.input c.in-Ok.ensures.as_defined (rw c.deref.ensures at c.walk_chosen.ensures)
-
-pub returns-in-Err-MayBeMissing : goal.returns-in-Err-MayBeMissing
-returns-in-Err-MayBeMissing c =
-    rule_missing _ _ _ c.args.self.now c.args.rule.now c.args.effective _ c.in-Err-MayBeMissing.ensures.keeps (c.in-Err-MayBeMissing.ensures.may_be_missing (ap Err c.in-Err-MayBeMissing.field-0-is)) c.broken_at.ensures
-
-pub returns-in-Err-OutOfMemory : goal.returns-in-Err-OutOfMemory
-returns-in-Err-OutOfMemory c = walks_out _ _ _ _ _ _ c.in-Err-OutOfMemory.ensures.keeps refl
+pub returns-in-Err-clause-adds : goal.returns-in-Err-clause-adds
+returns-in-Err-clause-adds c =
+    let walk = c.args.self.now in
+    let found = c.in_ok-shape in
+    let go_on = walk_rule (settings_of walk) (kind_of walk) (input_of (expansions c.args.shapes.now) walk) (target_name c.args.rule.now.next) in
+    on_ok_weaker _ (found_missing _ _ found.field-0 found.ensures.as_defined found.ensures.within _ _ (codes "Choices") go_on c.in-Err.path (λ d. refl) c.in-Err.is) c.push_missing.ensures

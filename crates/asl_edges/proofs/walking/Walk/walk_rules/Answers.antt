@@ -1,14 +1,12 @@
-use Rattle.std.proofs.Common.{List, subst, ap}
+use Rattle.std.proofs.Common.{ap}
 use Rattle.std.proofs.lemmas.List.{drop_all}
-use Rattle.std.proofs.lemmas.Result.{err_from_is_err_and}
-use Rattle.asl_model.specs.Edges.{Walked}
 use Rattle.asl_numbered.specs.Expansion.{expansions}
 use Rattle.asl_numbered.proofs.Expansions.{keeps_same}
 use Rattle.asl_edges.specs.Steps.{rules_steps}
-use Rattle.asl_edges.specs.Walks.{GoesOn}
+use Rattle.asl_edges.proofs.Adding.{adds_same}
+use Rattle.asl_edges.proofs.Going.{goes_on_none, goes_on_then, goes_through}
 use Rattle.asl_edges.proofs.Kept.{within}
 use Rattle.asl_edges.proofs.KeptSteps.{rule_kept, rule_left}
-use Rattle.asl_edges.proofs.WalkSteps.{goes_on_none, goes_on_then, goes_through, stops_then, walks_same}
 use Rattle.asl_edges.proofs.walking.Walk.walk_rules.Goals as goal
 
 pub loop-rule-init : goal.loop-rule-init
@@ -20,17 +18,6 @@ walk_rule-requires-clause-input c = within _ _ _ c.loop-rule.invariant.keeps c.r
 pub walk_rule-requires-clause-effective : goal.walk_rule-requires-clause-effective
 walk_rule-requires-clause-effective c = within _ _ _ c.loop-rule.invariant.keeps c.requires.effective
 
-pub returns-in_err-walk_rule : goal.returns-in_err-walk_rule
-returns-in_err-walk_rule c =
-    let l = c.loop-rule in
-    let a = c.args.shapes.now in
-    let walk = c.args.self.now in
-    let p = err_from_is_err_and c.from_residual.result c.from_residual.ensures.1 in
-    let left = rule_left (expansions a) walk c.args.rules.now l.rule-index c.rule-item.result c.args.effective c.loop-rule-test.true c.rule-item.is in
-    let same = rule_kept a l.shapes walk l.invariant.keeps c.args.effective c.requires.input c.requires.effective c.rule-item.result in
-    let going = subst (λ (steps : List Walked). GoesOn (expansions a) (expansions l.shapes) c.args.edges.now.items l.edges.items (rules_steps (expansions a) walk c.args.rules.now c.args.effective) steps) left l.invariant in
-    rw (p.1, p.2) (stops_then _ _ _ _ _ _ _ _ _ c.in_err-walk_rule.field-0.0 going (walks_same _ _ _ _ _ _ _ same c.in_err-walk_rule.ensures))
-
 pub loop-rule-preserved : goal.loop-rule-preserved
 loop-rule-preserved c =
     let l = c.loop-rule in
@@ -38,13 +25,10 @@ loop-rule-preserved c =
     let walk = c.args.self.now in
     let left = rule_left (expansions a) walk c.args.rules.now l.rule-index c.rule-item.result c.args.effective c.loop-rule-test.true c.rule-item.is in
     let same = rule_kept a l.shapes walk l.invariant.keeps c.args.effective c.requires.input c.requires.effective c.rule-item.result in
-    let going = subst (λ (steps : List Walked). GoesOn (expansions a) (expansions l.shapes) c.args.edges.now.items l.edges.items (rules_steps (expansions a) walk c.args.rules.now c.args.effective) steps) left l.invariant in
-    goes_on_then _ _ _ _ _ _ _ _ _ _ going (walks_same _ _ _ _ _ _ _ same c.in_ok-walk_rule.ensures)
+    goes_on_then _ _ _ _ _ _ _ _ _ _ left l.invariant c.in_ok-walk_rule.ensures.keeps (adds_same _ _ _ _ _ same c.in_ok-walk_rule.ensures.adds)
 
-pub returns : goal.returns
-returns c =
+pub returns-clause-adds : goal.returns-clause-adds
+returns-clause-adds c =
     let l = c.loop-rule in
-    let a = c.args.shapes.now in
-    let walk = c.args.self.now in
-    let none = ap (λ rules. rules_steps (expansions a) walk rules c.args.effective) (drop_all l.rule-index c.args.rules.now c.loop-rule-test.false) in
-    goes_through _ _ _ _ _ _ (subst (λ (steps : List Walked). GoesOn (expansions a) (expansions l.shapes) c.args.edges.now.items l.edges.items (rules_steps (expansions a) walk c.args.rules.now c.args.effective) steps) none l.invariant)
+    let none = ap (λ rules. rules_steps (expansions c.args.shapes.now) c.args.self.now rules c.args.effective) (drop_all l.rule-index c.args.rules.now c.loop-rule-test.false) in
+    goes_through _ _ _ _ _ _ none l.invariant
