@@ -1,5 +1,5 @@
 -- What is told of the edges of a state is told of what flows through it.
-use Rattle.std.proofs.Common.{◌≡◌, ◌<◌, ℕ, List, length, map, Option, Some, None, option_map, option_to_list, Result, IfOk, IfSome, Bor, refl, ap, ◌∙◌, subst}
+use Rattle.std.proofs.Common.{◌≡◌, ◌<◌, ℕ, List, length, map, Option, None, option_map, option_to_list, Result, IfOk, IfSome, Bor, refl, ap, ◌∙◌, subst}
 use Rattle.asl_model.specs.Certificate.{Declared, StateShapes, gives_of}
 use Rattle.asl_model.specs.Edges as edges
 use Rattle.asl_model.specs.Edges.{breaches_along, destination_shapes, walk}
@@ -16,10 +16,10 @@ use Rattle.asl_records.specs.Numbered.{AreNumbersBelow, numbers_view}
 use Rattle.asl_records.specs.declared.records.StateNumbers.{StateNumbers}
 use Rattle.asl_records.proofs.Kept.{numbers_within, shown, within}
 use Rattle.asl_edges.specs.Entry.{IsEntryBelow, entry_view}
-use Rattle.asl_edges.specs.View.{broken_view}
-use Rattle.asl_edges.specs.declared.faults.Broken.{Broken}
 use Rattle.asl_edges.specs.declared.found.Entry.{Entry}
 use Rattle.asl_check.specs.Checking.{Told}
+use Rattle.asl_check.specs.Faults.{fault_view}
+use Rattle.asl_check.specs.declared.faults.Fault.{Fault}
 use Rattle.asl_check.specs.Numbers.{IsWithin, certificate_of}
 use Rattle.asl_check.specs.Rules.{end_in, inputs_in}
 use Rattle.asl_check.specs.Standing.{AreStanding, standing_view}
@@ -30,20 +30,22 @@ use Rattle.asl_check.proofs.Grown.{certificate_kept, checker_within}
 
 -- ---- one list for another
 
-pub same_answered : (answer : Result (Option Broken) OutOfMemory) (xs ys : List Breach) → xs ≡ ys → IfOk answer (λ told. Told xs (option_map broken_view told)) → IfOk answer (λ told. Told ys (option_map broken_view told))
-same_answered answer xs ys e t = subst (λ bs. IfOk answer (λ told. Told bs (option_map broken_view told))) e t
+pub same_answered : (table : List Shape) (answer : Result (Option Fault) OutOfMemory) (xs ys : List Breach) → xs ≡ ys → IfOk answer (λ told. Told xs (option_map (fault_view table) told)) → IfOk answer (λ told. Told ys (option_map (fault_view table) told))
+same_answered table answer xs ys e t = subst (λ bs. IfOk answer (λ told. Told bs (option_map (fault_view table) told))) e t
 
--- so where what is told is the list
-pub same_listed : (answer : Result (Option Broken) OutOfMemory) (xs ys : List Breach) → xs ≡ ys → IfOk answer (λ told. option_to_list (option_map broken_view told) ≡ xs) → IfOk answer (λ told. option_to_list (option_map broken_view told) ≡ ys)
-same_listed answer xs ys e t = subst (λ bs. IfOk answer (λ told. option_to_list (option_map broken_view told) ≡ bs)) e t
+-- so where what is told is the list, of a table that has stayed the same
+pub same_listed : (old new : List Node) (answer : Result (Option Fault) OutOfMemory) (xs ys : List Breach) → new ≡ old → xs ≡ ys → IfOk answer (λ told. option_to_list (option_map (fault_view (expansions old)) told) ≡ xs)
+    → IfOk answer (λ told. option_to_list (option_map (fault_view (expansions new)) told) ≡ ys)
+same_listed old new answer xs ys unchanged e t = rw unchanged (subst (λ bs. IfOk answer (λ told. option_to_list (option_map (fault_view (expansions old)) told) ≡ bs)) e t)
 
--- what is told along the walk with what stands there
-pub answered_along : (around : Surroundings) (entry : StateShapes) (settings : Settings) (kind : Kind) (s : edges.DestinationShapes) (given : Shape) (answer : Result (Option Broken) OutOfMemory) → s ≡ destination_shapes around → given ≡ gives_of around.declared around.name → entry ≡ around.entry
+-- what is told along the walk with what stands there, in a table that has stayed the same
+pub answered_along : (around : Surroundings) (entry : StateShapes) (settings : Settings) (kind : Kind) (s : edges.DestinationShapes) (given : Shape) (steps : List edges.Walked) (old new : List Node) (answer : Result (Option Fault) OutOfMemory) → new ≡ old → s ≡ destination_shapes around → given ≡ gives_of around.declared around.name → entry ≡ around.entry
+    → steps ≡ walk given settings kind entry
     → breaches_along (destination_shapes around) (walk (gives_of around.declared around.name) settings kind around.entry) ≡ flow_breaches around settings kind
-    → IfOk answer (λ told. Told (breaches_along s (walk given settings kind entry)) (option_map broken_view told)) → IfOk answer (λ told. Told (flow_breaches around settings kind) (option_map broken_view told))
-answered_along around entry settings kind s given answer standing gives same law told =
-    let walked : breaches_along s (walk given settings kind entry) ≡ breaches_along (destination_shapes around) (walk (gives_of around.declared around.name) settings kind around.entry) = rw (standing, gives, same) refl in
-    same_answered answer _ _ (walked ∙ law) told
+    → IfOk answer (λ told. Told (breaches_along s steps) (option_map (fault_view (expansions old)) told)) → IfOk answer (λ told. Told (flow_breaches around settings kind) (option_map (fault_view (expansions new)) told))
+answered_along around entry settings kind s given steps old new answer unchanged standing gives same is law told =
+    let walked : breaches_along s steps ≡ breaches_along (destination_shapes around) (walk (gives_of around.declared around.name) settings kind around.entry) = rw (is, standing, gives, same) refl in
+    rw unchanged (same_answered (expansions old) answer _ _ (walked ∙ law) told)
 
 -- ---- an entry that is lent to the walk
 

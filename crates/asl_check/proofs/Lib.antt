@@ -1,7 +1,8 @@
 pub mod Below
-pub mod EdgesTold
+pub mod Compared
 pub mod FlowsTold
 pub mod Grown
+pub mod InOrder
 pub mod LookedUp
 pub mod Members
 pub mod Named
@@ -10,6 +11,7 @@ pub mod OneAfterAnother
 pub mod Passes
 pub mod RowsLeft
 pub mod StateRules
+pub mod StepsTold
 pub mod TableEnds
 pub mod TableFindings
 pub mod TableNames

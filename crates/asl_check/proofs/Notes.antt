@@ -1,5 +1,5 @@
 -- Notes of broken rules: what noting one more does to them, and what they tell.
-use Rattle.std.proofs.Common.{◌≡◌, ◌≢◌, ℕ, List, [], ◌∷◌, ◌++◌, Option, Some, None, is_some, option_map, option_to_list, true, false, cond, Ordering, Less, Equal, Greater, String, string_bytes, string_cmp, refl, sym, ap, ◌∙◌, subst, ◌⊎◌, inl, inr, length, append-nil}
+use Rattle.std.proofs.Common.{◌≡◌, ◌≢◌, ℕ, List, [], ◌∷◌, Option, Some, None, is_some, option_map, option_to_list, true, false, cond, Ordering, Less, Equal, Greater, String, string_bytes, string_cmp, refl, sym, ap, subst, ◌⊎◌, inl, inr, length, arith}
 use Rattle.std.specs.List.{Contains}
 use Rattle.std.specs.List.Sorted.{IsStrictlySortedBy}
 use Rattle.std.specs.declared.alloc.Global.{Global}
@@ -10,15 +10,15 @@ use Rattle.std.specs.Cmp.Lexicographic.{slice_cmp}
 use Rattle.std.proofs.lemmas.Map.Lookups.{exact_bytes}
 use Rattle.asl_model.specs.Finding as finding
 use Rattle.asl_model.specs.Finding.{found_at}
-use Rattle.asl_model.specs.Verdict.{Rejected, AreInNameOrder, TellsOf}
-use Rattle.asl_edges.specs.View.{broken_view}
-use Rattle.asl_edges.specs.declared.faults.Broken.{Broken}
-use Rattle.asl_check.proofs.Members.{first, later, no_member, first_or_later, only}
-use Rattle.asl_check.specs.Noting.{AreNoted, IsToldBy, note_view, notes_view}
+use Rattle.asl_model.specs.Verdict.{AreInNameOrder, TellsOf}
+use Rattle.asl_check.proofs.Members.{first, later, first_or_later, only}
+use Rattle.asl_check.proofs.Passes.{named_at}
+use Rattle.asl_check.specs.Noting.{AreNoted, note_view, noted_breach, notes_view}
+use Rattle.asl_check.specs.declared.noting.Noted.{Noted}
 
 -- a name with its broken rule
 abbrev pub Note : Type 0
-Note = String Global × Broken
+Note = String Global × Noted
 
 -- ---- one more note
 
@@ -49,7 +49,7 @@ adds_behind y x xs ys a = record { held = λ f h. hold f (first_or_later y xs f 
     other f (inr h) = further f (a.no_other f h)
 
 -- a name that isn't there yet goes to its place among the others
-inserted : (notes : List Note) (k : String Global) (b : Broken) → lookup (is_at (string_cmp k)) notes ≡ None → AddsOne (note_view (k, b)) (notes_view notes) (notes_view (insert_entry string_cmp notes k b))
+inserted : (notes : List Note) (k : String Global) (b : Noted) → lookup (is_at (string_cmp k)) notes ≡ None → AddsOne (note_view (k, b)) (notes_view notes) (notes_view (insert_entry string_cmp notes k b))
 inserted [] k b h = adds_front (note_view (k, b)) []
 inserted (e ∷ es) k b h = go (string_cmp k e.0) h (inserted es k b)
   where
@@ -68,7 +68,7 @@ noted_by x xs ys a = record { stays = a.held; further = λ f h. turn f (a.no_oth
     turn f (inr h) = inl h
 
 -- what isn't there is none
-none_there : (o : Option Broken) → is_some o ≡ false → o ≡ None
+none_there : (o : Option Noted) → is_some o ≡ false → o ≡ None
 none_there None h = refl
 none_there (Some b) h = absurd (cc)
 
@@ -77,9 +77,9 @@ abbrev IsNew : List ℕ → List Note → Type 0
 IsNew n notes = is_some (lookup (is_at (λ (k : String Global). slice_cmp nat_cmp n (string_bytes k))) notes) ≡ false
 
 -- a rule of a name that has no note is noted
-pub note_new : (notes : List Note) (k : String Global) (n : List ℕ) (b : Broken) → string_bytes k ≡ n → IsNew n notes
-    → AreNoted (found_at n (option_to_list (option_map broken_view (Some b)))) (notes_view notes) (notes_view (insert_entry string_cmp notes k b))
-note_new notes k n b same none = subst (λ m. (IsNew m notes → AreNoted (found_at m (option_to_list (option_map broken_view (Some b)))) (notes_view notes) (notes_view (insert_entry string_cmp notes k b)))) same (λ h. noted_by (note_view (k, b)) (notes_view notes) (notes_view (insert_entry string_cmp notes k b)) (inserted notes k b (none_there _ h))) none
+pub note_new : (notes : List Note) (k : String Global) (n : List ℕ) (b : Noted) → string_bytes k ≡ n → IsNew n notes
+    → AreNoted (found_at n (option_to_list (option_map noted_breach (Some b)))) (notes_view notes) (notes_view (insert_entry string_cmp notes k b))
+note_new notes k n b same none = subst (λ m. (IsNew m notes → AreNoted (found_at m (option_to_list (option_map noted_breach (Some b)))) (notes_view notes) (notes_view (insert_entry string_cmp notes k b)))) same (λ h. noted_by (note_view (k, b)) (notes_view notes) (notes_view (insert_entry string_cmp notes k b)) (inserted notes k b (none_there _ h))) none
 
 -- a note has the name
 abbrev IsNoted : List ℕ → List Note → Type 0
@@ -98,25 +98,25 @@ told_of (e ∷ es) n h = go (slice_cmp nat_cmp n (string_bytes e.0)) refl h (tol
     go Equal is h' below = (note_view e, first (note_view e) (notes_view es), sym (exact_bytes n (string_bytes e.0) is))
     go Greater is h' below = among (below h')
 
--- a rule of a name that has a note needs none
-pub note_old : (notes : List Note) (n : List ℕ) (rule : Option Broken) → IsNoted n notes → AreNoted (found_at n (option_to_list (option_map broken_view rule))) (notes_view notes) (notes_view notes)
-note_old notes n None h = record { stays = λ f g. g; further = λ f g. inl g; each = λ f g. absurd (no_member f g) }
-note_old notes n (Some b) h = record { stays = λ f g. g; further = λ f g. inl g; each = λ f g. subst (TellsOf (notes_view notes)) (ap (λ (x : finding.Finding). x.state) (only (record { state = n; field = b.field.now; fault = (broken_view b).fault }) f g)) (told_of notes n h) }
+-- rules of a name that has a note need none
+pub note_old : (notes : List Note) (n : List ℕ) (breaches : List finding.Breach) → IsNoted n notes → AreNoted (found_at n breaches) (notes_view notes) (notes_view notes)
+note_old notes n breaches h = record { stays = λ f g. g; further = λ f g. inl g; each = λ f g. subst (TellsOf (notes_view notes)) (named_at n breaches f g) (told_of notes n h) }
 
 -- ---- what the notes tell
 
 -- sorted names are in order
-in_order : (notes : List Note) → IsStrictlySortedBy string_cmp (keys_of notes) → AreInNameOrder (notes_view notes)
+pub in_order : (notes : List Note) → IsStrictlySortedBy string_cmp (keys_of notes) → AreInNameOrder (notes_view notes)
 unfolding IsStrictlySortedBy
 in_order [] h = tt
 in_order (e ∷ []) h = (refl, tt)
 in_order (e ∷ (d ∷ notes)) h = ((rw h.0.0 refl), in_order (d ∷ notes) h.1)
 
+-- what has no length has no member
+pub no_note : (notes : List Note) → length notes ≡ 0 → notes_view notes ≡ []
+no_note [] h = refl
+no_note (n ∷ notes) h = absurd (omega (arith, h))
+
 -- what has a length has a member
-some_note : (notes : List Note) → (length notes ≡ 0 → ⊥) → notes_view notes ≢ []
+pub some_note : (notes : List Note) → (length notes ≡ 0 → ⊥) → notes_view notes ≢ []
 some_note [] h e = h refl
 some_note (n ∷ notes) h e = absurd (cc)
-
--- a map's notes are told in the order of their names
-pub notes_told : (notes : List Note) (told : List finding.Finding) → (length notes ≡ 0 → ⊥) → IsStrictlySortedBy string_cmp (keys_of notes) → notes_view notes ≡ told ++ [] → IsToldBy (notes_view notes) (Rejected told)
-notes_told notes told some sorted all = record { holds = (sym (all ∙ append-nil told), some_note notes some, in_order notes sorted) }

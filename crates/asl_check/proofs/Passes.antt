@@ -8,6 +8,7 @@ use Rattle.asl_model.specs.Verdict.{TellsOf}
 use Rattle.asl_check.specs.Checking.{Told, found_by}
 use Rattle.asl_check.specs.Noting.{AreNoted}
 use Rattle.asl_check.proofs.Members.{first, no_member, first_or_later, only, given_of}
+use Rattle.asl_check.proofs.OneAfterAnother.{none_told, told_there}
 
 -- ---- one list after another
 
@@ -45,25 +46,25 @@ same_noted xs ys a b there back p = record { stays = p.stays; further = λ f h. 
 -- ---- one of the rules of a name
 
 -- what is found at a name has that name
-named_at : (n : List ℕ) (breaches : List Breach) (f : Finding) → Contains (found_at n breaches) f → n ≡ f.state
+pub named_at : (n : List ℕ) (breaches : List Breach) (f : Finding) → Contains (found_at n breaches) f → n ≡ f.state
 named_at n [] f h = absurd (no_member f h)
 named_at n (b ∷ breaches) f h = by (first_or_later _ (found_at n breaches) f h) (named_at n breaches f)
   where
-    by : (record { state = n; field = b.field; fault = b.fault } ≡ f) ⊎ Contains (found_at n breaches) f → (Contains (found_at n breaches) f → n ≡ f.state) → n ≡ f.state
+    by : (record { state = n; field = b.field; fault = b.fault; example = b.example } ≡ f) ⊎ Contains (found_at n breaches) f → (Contains (found_at n breaches) f → n ≡ f.state) → n ≡ f.state
     by (inl is) below = ap (λ (g : Finding). g.state) is
     by (inr there) below = below there
 
 -- where the one that is told is noted, all of that name's are
 pub told_noted : (n : List ℕ) (breaches : List Breach) (told : Option Breach) (a b : List Finding) → Told breaches told → AreNoted (found_at n (option_to_list told)) a b → AreNoted (found_at n breaches) a b
-told_noted n breaches None a b t p = subst (λ bs. AreNoted (found_at n bs) a b) (sym t.one) p
+told_noted n breaches None a b t p = subst (λ bs. AreNoted (found_at n bs) a b) (sym (none_told breaches t)) p
 told_noted n breaches (Some breach) a b t p = record { stays = p.stays; further = λ f h. of_all f (p.further f h); each = λ f h. subst (TellsOf b) (named_at n breaches f h) (p.each one (first one [])) }
   where
     one : Finding
-    one = record { state = n; field = breach.field; fault = breach.fault }
+    one = record { state = n; field = breach.field; fault = breach.fault; example = breach.example }
 
     of_all : (f : Finding) → Contains a f ⊎ Contains (found_at n (breach ∷ [])) f → Contains a f ⊎ Contains (found_at n breaches) f
     of_all f (inl h) = inl h
-    of_all f (inr h) = inr (subst (Contains (found_at n breaches)) (only one f h) (given_of (λ (c : Breach). record { state = n; field = c.field; fault = c.fault }) breaches breach t.one))
+    of_all f (inr h) = inr (subst (Contains (found_at n breaches)) (only one f h) (given_of (λ (c : Breach). record { state = n; field = c.field; fault = c.fault; example = c.example }) breaches breach (told_there breaches breach t)))
 
 -- ---- a list member by member
 

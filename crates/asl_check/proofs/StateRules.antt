@@ -1,8 +1,7 @@
 -- What is told of one state's rules, part by part.
-use Rattle.std.proofs.Common.{◌≡◌, List, [], ◌∷◌, ◌++◌, Contains, Bool, true, false, not, ◌||◌, Option, Some, option_to_list, codes, sym, subst}
-use Rattle.asl_model.specs.Finding.{Breach, NotCertified, TaskUndeclared, breach_unless}
+use Rattle.std.proofs.Common.{◌≡◌, List, ◌++◌, Bool, true, false, not, ◌||◌, Option, Some, option_to_list, codes, ap}
+use Rattle.asl_model.specs.Finding.{Breach, NotCertified, TaskUndeclared, breach_unless, plain_breach}
 use Rattle.asl_check.specs.Checking.{Told}
-use Rattle.asl_check.proofs.Members.{first}
 use Rattle.asl_check.proofs.OneAfterAnother.{one_told}
 
 -- ---- the entry
@@ -11,9 +10,9 @@ use Rattle.asl_check.proofs.OneAfterAnother.{one_told}
 abbrev rules_by : Bool → Bool → List Breach
 rules_by certified declared = breach_unless certified (codes "states") NotCertified ++ breach_unless declared (codes "Resource") TaskUndeclared
 
-pub uncertified_told : (certified declared : Bool) (b : Breach) → certified ≡ false → b ≡ record { field = codes "states"; fault = NotCertified } → Told (rules_by certified declared) (Some b)
+pub uncertified_told : (certified declared : Bool) (b : Breach) → certified ≡ false → b ≡ plain_breach (codes "states") NotCertified → Told (rules_by certified declared) (Some b)
 uncertified_told true declared b e is = absurd (cc)
-uncertified_told false declared b e is = record { one = subst (λ c. Contains (record { field = codes "states"; fault = NotCertified } ∷ breach_unless declared (codes "Resource") TaskUndeclared) c) (sym is) (first (record { field = codes "states"; fault = NotCertified }) (breach_unless declared (codes "Resource") TaskUndeclared)) }
+uncertified_told false declared b e is = record { first = ap Some is }
 
 pub certified_told : (certified declared : Bool) (told : Option Breach) → certified ≡ true → option_to_list told ≡ breach_unless declared (codes "Resource") TaskUndeclared → Told (rules_by certified declared) told
 certified_told true declared told e is = one_told (breach_unless declared (codes "Resource") TaskUndeclared) told is

@@ -90,7 +90,7 @@ module _ (machine : Scope) (declared : Declared) (certificate : Certificate) whe
   both-found s =
       let entry = entry_breaches (kind_of s.state) (certified certificate s.name) (under s.name declared.tasks) in
       let flow = where_certified (λ own. flow_breaches (surrounded_by declared (input_to_compare machine certificate) (ends_in machine certificate s.owner) s.name own) (settings_of s.state) (kind_of s.state)) (certified certificate s.name) in
-      map-append (λ (b : Breach). record { state = s.name; field = b.field; fault = b.fault }) entry flow
+      map-append (λ (b : Breach). record { state = s.name; field = b.field; fault = b.fault; example = b.example }) entry flow
       ∙ (ap (λ here. found_at s.name here ++ found_at s.name flow) (sym (entry-outlined s.state (certified certificate s.name) (under s.name declared.tasks)))
       ∙ ap (λ rest. by_entry s ++ found_at s.name rest) (sym (flow-same s)))
 

@@ -1,5 +1,5 @@
--- What the checker's helpers answer: a broken rule out of a part of the list.
-use Rattle.std.specs.Prelude.{◌≡◌, ℕ, List, [], ◌∷◌, ◌++◌, Option, Some, None, Contains, codes, String, string_bytes}
+-- What the checker's helpers answer: the first broken rule out of a part of the list.
+use Rattle.std.specs.Prelude.{◌≡◌, ℕ, List, [], ◌∷◌, ◌++◌, Option, slice_get, codes, String, string_bytes}
 use Rattle.std.specs.declared.alloc.Global.{Global}
 use Rattle.asl_model.specs.Numbering.{Table}
 use Rattle.asl_model.specs.Finding as finding
@@ -7,13 +7,9 @@ use Rattle.asl_states.specs.Machine.{state_view, scope_view}
 use Rattle.asl_check.specs.declared.lookups.Row.{Row}
 use Rattle.asl_check.specs.Rules as rules
 
--- nothing is told where the list is empty, and else one of the list
-abbrev pub TellsOne : List finding.Breach → Option finding.Breach → Type 0
-TellsOne breaches None = breaches ≡ []
-TellsOne breaches (Some b) = Contains breaches b
-
+-- what is told is the first of the list, and nothing where that is empty
 pub record Told (breaches : List finding.Breach) (told : Option finding.Breach) : Type 0 where
-  pub one : TellsOne breaches told
+  pub first : told ≡ slice_get breaches 0
 
 -- a row of a machine
 abbrev pub row_view : Row → rules.Row

@@ -1,4 +1,5 @@
 pub mod Checking
+pub mod Faults
 pub mod Noting
 pub mod Numbers
 pub mod Rules

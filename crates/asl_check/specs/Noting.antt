@@ -1,22 +1,31 @@
 -- What the checker notes: of each name that has a broken rule, one of them.
-use Rattle.std.specs.Prelude.{◌≡◌, ◌≢◌, List, [], map, Contains, String, string_bytes}
+use Rattle.std.specs.Prelude.{List, map, Contains, String, string_bytes, option_map}
 use Rattle.std.specs.declared.alloc.Global.{Global}
 use mathlib.Core.Logic.{◌⊎◌}
 use Rattle.asl_model.specs.Finding as finding
-use Rattle.asl_model.specs.Verdict.{Verdict, Accepted, Rejected, AreInNameOrder, TellsOf}
-pub use Rattle.asl_edges.specs.View.{broken_view}
+use Rattle.asl_model.specs.Verdict.{TellsOf}
+use Rattle.asl_tree.specs.View.{view as tree_view}
 use Rattle.asl_edges.specs.View.{finding_fault_view}
-use Rattle.asl_edges.specs.declared.faults.Broken.{Broken}
+use Rattle.asl_check.specs.declared.noting.Noted.{Noted}
+
+-- a rule that is told
+abbrev pub noted_breach : Noted → finding.Breach
+noted_breach rule = record {
+  field = rule.field.now;
+  fault = finding_fault_view rule.fault;
+  example = option_map tree_view rule.example;
+}
 
 -- a noted rule, as a finding of its name
-abbrev pub note_view : String Global × Broken → finding.Finding
+abbrev pub note_view : String Global × Noted → finding.Finding
 note_view note = record {
   state = string_bytes note.0;
   field = note.1.field.now;
   fault = finding_fault_view note.1.fault;
+  example = option_map tree_view note.1.example;
 }
 
-abbrev pub notes_view : List (String Global × Broken) → List finding.Finding
+abbrev pub notes_view : List (String Global × Noted) → List finding.Finding
 notes_view notes = map note_view notes
 
 -- From the first notes to the second those rules are noted: the first stay, a further one is one of the rules, and each
@@ -25,11 +34,3 @@ pub record AreNoted (rules before after : List finding.Finding) : Type 0 where
   pub stays : (f : finding.Finding) → Contains before f → Contains after f
   pub further : (f : finding.Finding) → Contains after f → Contains before f ⊎ Contains rules f
   pub each : (f : finding.Finding) → Contains rules f → TellsOf after f.state
-
--- the verdict tells the notes: yes where there is none, else no with all of them, in the order of their names
-abbrev pub TellsNotes : List finding.Finding → Verdict → Type 0
-TellsNotes notes Accepted = notes ≡ []
-TellsNotes notes (Rejected told) = (told ≡ notes) × (notes ≢ []) × AreInNameOrder notes
-
-pub record IsToldBy (notes : List finding.Finding) (verdict : Verdict) : Type 0 where
-  pub holds : TellsNotes notes verdict

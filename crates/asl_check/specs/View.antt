@@ -1,7 +1,8 @@
 -- What findings and verdicts stand for in the definitions.
-use Rattle.std.specs.Prelude.{List, map, string_bytes}
+use Rattle.std.specs.Prelude.{List, map, option_map, string_bytes}
 use Rattle.asl_model.specs.Finding as finding
 use Rattle.asl_model.specs.Verdict as verdicts
+use Rattle.asl_tree.specs.View.{view as tree_view}
 pub use Rattle.asl_edges.specs.View.{finding_fault_view}
 use Rattle.asl_check.specs.declared.verdicts.Finding.{Finding}
 use Rattle.asl_check.specs.declared.verdicts.Verdict.{Verdict}
@@ -13,6 +14,7 @@ finding_view f = record {
   state = string_bytes f.state;
   field = string_bytes f.field;
   fault = finding_fault_view f.fault;
+  example = option_map tree_view f.example;
 }
 
 abbrev pub findings_view : List Finding → List finding.Finding

@@ -1,9 +1,10 @@
 // Checking a certificate against a machine and its declared shapes, one list of rules after another.
 
-ghost use Rattle.std.specs.Prelude.{◌≡◌, List, IfOk, OnOk, codes, option_map, option_to_list};
+ghost use Rattle.std.specs.Prelude.{◌≡◌, List, IfOk, IfSome, OnOk, codes, length, option_map, option_to_list};
 ghost use Rattle.std.specs.BTreeMap.{keys};
 ghost use Rattle.asl_model.specs.Finding.{StartInput, breach_unless_sub, findings};
 ghost use Rattle.asl_model.specs.Machine as machines;
+ghost use Rattle.asl_model.specs.RecordShapes.{HoldsForCertificate, HoldsForDeclared};
 ghost use Rattle.asl_model.specs.Shape as model;
 ghost use Rattle.asl_model.specs.Verdict.{IsRight};
 ghost use Rattle.asl_numbered.specs.Expansion.{expansions, Keeps};
@@ -12,16 +13,20 @@ ghost use Rattle.asl_states.specs.Table.{Shows, table_view};
 ghost use Rattle.asl_records.specs.Numbered.{AreWithin, numbered_view};
 ghost use Rattle.asl_records.specs.View.{declared_view, certificate_view};
 ghost use Rattle.asl_check.specs.Checking.{state_rule, task_rule, found_by};
-ghost use Rattle.asl_check.specs.Noting.{AreNoted, broken_view, notes_view};
+ghost use Rattle.asl_check.specs.Faults.{fault_view, IsFaultBelow};
+ghost use Rattle.asl_check.specs.Noting.{AreNoted, notes_view};
 ghost use Rattle.asl_check.specs.Numbers.{IsWithin, certificate_of};
 ghost use Rattle.asl_check.specs.Rules.{entry_rules, flow_rules, found_in_all, found_at_start, inputs_in};
 ghost use Rattle.asl_check.specs.View.{verdict_view};
 
 use crate::comparing::broken_unless_sub;
+use crate::faults::Fault;
 use crate::lookups::row_of;
-use crate::noting::{BrokenRules, breach_unless, note, verdict_on};
+use crate::noting::{BrokenRules, breach_unless, note, note_shown, told};
+use crate::ordered::names_in_order;
 use crate::verdicts::Verdict;
-use asl_edges::{Broken, FindingFault};
+use asl_edges::FindingFault;
+use asl_model::shape_laws::findings_are_exactly_the_broken_rules;
 use asl_numbered::Shapes;
 use asl_records::{Certificate, Declared, NumberedCertificate, StateNumbers, number_certificate};
 use asl_shape::Shape;
@@ -41,7 +46,15 @@ pub(crate) struct Checker<'c> {
     pub(crate) never: usize,
 }
 
-/// Checks the certificate: Yes where no rule is broken, else No with one broken rule of each name that has one.
+/// Checks the certificate: Yes where no rule is broken, else No with one broken rule of each name that has one, and
+/// with an example, a tree that shows it to be broken. Of several broken rules of a state that is told which comes
+/// first in the walk through it, behind those on its entry; no clause says so.
+///
+/// Of a comparison the example is a tree that flows there, by its shape, and lacks the shape that it is compared with;
+/// of a path that may name nothing it is a tree of the shape in which it was looked up where it names nothing. The
+/// faults `StartInput`, `PayloadNotTaken`, `OutputNotCertified`, `NextInput`, `ScopeOutput`, `BranchInput`,
+/// `CatchInput` and `PathMayBeMissing` have one, and no other has. An example is made only where its rule is told.
+/// Refuses only where an allocation was refused: room for a large example is asked for before any of it is made.
 pub fn check(
     alloc: Global,
     machine: &Machine,
@@ -95,9 +108,26 @@ impl Checker<'_> {
             (certificate_of (expansions shapes.old) self.now) (verdict_view verdict)) }
         ensures keeps { Keeps (expansions shapes.old) (expansions shapes.new) }
     {
+        findings_are_exactly_the_broken_rules();
         let mut notes = BTreeMap::new(self.alloc);
         self.note_all(shapes, &mut notes)?;
-        verdict_on(self.alloc, notes)
+        if notes.is_empty() {
+            return Ok(Verdict::Yes);
+        }
+        self.are_in_order(shapes);
+        let findings = told(self.alloc, notes)?;
+        Ok(Verdict::No(findings))
+    }
+
+    /// Names of fields stand in order in the shapes that are declared and certified. Looks at those that are declared,
+    /// and takes no memory.
+    fn are_in_order(&self, shapes: &Shapes)
+        ensures declared { HoldsForDeclared model.IsOrdered (declared_view self.now.declared.now) }
+        ensures certified { HoldsForCertificate model.IsOrdered
+            (certificate_of (expansions shapes.now) self.now) }
+    {
+        shapes.are_proper();
+        names_in_order(self.declared);
     }
 
     /// Notes every name that has a broken rule, with the first one in the order of these lists.
@@ -175,20 +205,22 @@ impl Checker<'_> {
             return Ok(());
         };
         let rule = self.broken_at_start(shapes, start)?;
-        note(self.alloc, notes, start, rule)
+        note_shown(self.alloc, shapes, notes, start, rule)
     }
 
     /// The broken rule where the declared input isn't within the certified input of the state of that name.
-    fn broken_at_start(
+    fn broken_at_start<'m>(
         &self,
         shapes: &mut Shapes,
         start: &str,
-    ) -> Result<Option<Broken>, OutOfMemory>
+    ) -> Result<Option<Fault<'m>>, OutOfMemory>
         requires within { IsWithin shapes.old self.now }
-        ensures told { IfOk result (λ told. option_to_list (option_map broken_view told)
+        ensures told { IfOk result
+            (λ told. option_to_list (option_map (fault_view (expansions shapes.new)) told)
             ≡ breach_unless_sub (codes "StartAt") StartInput (view self.now.declared.now.input)
             (inputs_in (table_view self.now.machine.now)
             (certificate_of (expansions shapes.old) self.now) start.now)) }
+        ensures below { IfOk result (λ told. IfSome told (IsFaultBelow (length shapes.new))) }
         ensures keeps { Keeps (expansions shapes.old) (expansions shapes.new) }
     {
         let input = shapes.add(&self.declared.input)?;
@@ -208,12 +240,8 @@ impl Checker<'_> {
     {
         for number in 0..self.machine.states() {
             if let Some(row) = row_of(self.machine, number) {
-                note(
-                    self.alloc,
-                    notes,
-                    row.name,
-                    self.broken_by_flow(shapes, &row)?,
-                )?;
+                let rule = self.broken_by_flow(shapes, &row)?;
+                note_shown(self.alloc, shapes, notes, row.name, rule)?;
             }
         }
         Ok(())

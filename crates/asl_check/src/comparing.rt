@@ -4,36 +4,48 @@ ghost use Rattle.std.specs.Prelude.{◌≡◌, ◌<◌, length, IfOk, IfSome, op
 ghost use Rattle.asl_model.specs.Finding.{breach_unless_sub};
 ghost use Rattle.asl_model.specs.ShapeOrder as order;
 ghost use Rattle.asl_numbered.specs.Expansion.{expansions, shape_at};
-ghost use Rattle.asl_edges.specs.View.{broken_view, finding_fault_view};
+ghost use Rattle.asl_edges.specs.View.{finding_fault_view};
+ghost use Rattle.asl_check.specs.Faults.{fault_view, IsFaultBelow};
 
-use crate::noting::breach_unless;
-use asl_edges::{Broken, FindingFault};
+use crate::faults::{Fault, Shown};
+use asl_edges::FindingFault;
 use asl_numbered::Shapes;
 use asl_tree::OutOfMemory;
 
-/// The broken rule where the shape of a number isn't inside that of what is expected, if anything is.
-pub(crate) fn broken_unless_sub(
+/// The broken rule where the shape of a number isn't inside that of what is expected, if anything is: a tree outside
+/// shows it.
+pub(crate) fn broken_unless_sub<'m>(
     shapes: &mut Shapes,
     number: usize,
     expected: Option<usize>,
     field: &'static str,
     fault: FindingFault,
-) -> Result<Option<Broken>, OutOfMemory>
+) -> Result<Option<Fault<'m>>, OutOfMemory>
     requires number { number < length shapes.old }
     requires expected { IfSome expected (λ n. n < length shapes.old) }
-    ensures told { IfOk result (λ told. option_to_list (option_map broken_view told)
+    ensures told { IfOk result
+        (λ told. option_to_list (option_map (fault_view (expansions shapes.old)) told)
         ≡ breach_unless_sub field.now (finding_fault_view fault)
         (shape_at (expansions shapes.old) number)
         (option_map (shape_at (expansions shapes.old)) expected)) }
+    ensures below { IfOk result (λ told. IfSome told (IsFaultBelow (length shapes.old))) }
     ensures unchanged { shapes.new ≡ shapes.old }
 {
-    match expected {
-        Some(expected) => {
-            let holds = is_inside(shapes, number, expected)?;
-            Ok(breach_unless(holds, field, fault))
-        }
-        None => Ok(None),
+    let Some(outer) = expected else {
+        return Ok(None);
+    };
+    if is_inside(shapes, number, outer)? {
+        return Ok(None);
     }
+    let shown = Shown::Outside {
+        inner: number,
+        outer,
+    };
+    Ok(Some(Fault {
+        field,
+        fault,
+        shown,
+    }))
 }
 
 /// Whether the first number's shape is inside the second's.

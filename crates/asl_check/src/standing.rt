@@ -1,17 +1,18 @@
 // Comparing what flows out of a state with what stands at the destinations of its edges.
 
 ghost use Rattle.std.specs.Prelude.{◌≡◌, ◌<◌, List, length, IfOk, IfSome, option_map, option_to_list};
-ghost use Rattle.asl_model.specs.Edges.{Walked, breaches_along, breaches_at, stands_at};
-ghost use Rattle.asl_numbered.specs.Expansion.{expansions, shape_at, AreBelow};
+ghost use Rattle.asl_model.specs.Edges.{breaches_along, breaches_at, stands_at};
+ghost use Rattle.asl_numbered.specs.Expansion.{expansions, shape_at};
 ghost use Rattle.asl_numbered.specs.declared.node.Node.{Node};
-ghost use Rattle.asl_edges.specs.Entry.{AreEdgesOf};
-ghost use Rattle.asl_edges.specs.View.{broken_view, destination_view, edge_view, flowing_in, steps_of};
+ghost use Rattle.asl_edges.specs.View.{destination_view, edge_view, step_view, steps_of, AreStepsBelow, IsStepBelow};
 ghost use Rattle.asl_check.specs.Checking.{Told};
+ghost use Rattle.asl_check.specs.Faults.{fault_view, IsFaultBelow};
 ghost use Rattle.asl_check.specs.Standing.{AreStanding, standing_view};
 
 use crate::checker::Checker;
 use crate::comparing::broken_unless_sub;
-use asl_edges::{Broken, Destination, Edge, Edges};
+use crate::faults::{Fault, fault_of};
+use asl_edges::{Destination, Edge, Step};
 use asl_numbered::Shapes;
 use asl_tree::OutOfMemory;
 
@@ -26,59 +27,64 @@ pub(crate) struct Standing<'s, 'c> {
 }
 
 impl Standing<'_, '_> {
-    /// The broken rule of the first edge that doesn't fit, or else the one that is broken behind the edges.
-    pub(crate) fn broken_by(
+    /// The first rule that is broken at one of the steps, in their order: at an edge that doesn't fit, or on the way to
+    /// one.
+    pub(crate) fn broken_by<'m>(
         &self,
         shapes: &mut Shapes,
-        found: &Edges,
-    ) -> Result<Option<Broken>, OutOfMemory>
+        steps: &[Step<'m>],
+    ) -> Result<Option<Fault<'m>>, OutOfMemory>
         requires standing { AreStanding shapes.old self.now }
-        requires below { AreBelow (length shapes.old) (flowing_in found.now.edges.items) }
-        ensures told { (steps : List Walked)
-            → AreEdgesOf (expansions shapes.old) steps found.now
-            → IfOk result (λ told. Told (breaches_along
-            (standing_view (expansions shapes.old) self.now) steps)
-            (option_map broken_view told)) }
-        ensures unchanged { shapes.new ≡ shapes.old }
-    {
-        match self.broken_by_edges(shapes, &found.edges)? {
-            Some(broken) => Ok(Some(broken)),
-            None => Ok(found.broken),
-        }
-    }
-
-    /// The rule that is broken at the first edge that doesn't fit.
-    fn broken_by_edges(
-        &self,
-        shapes: &mut Shapes,
-        edges: &[Edge],
-    ) -> Result<Option<Broken>, OutOfMemory>
-        requires standing { AreStanding shapes.old self.now }
-        requires below { AreBelow (length shapes.old) (flowing_in edges.now) }
+        requires below { AreStepsBelow (length shapes.old) steps.now }
         ensures told { IfOk result (λ told. Told (breaches_along
             (standing_view (expansions shapes.old) self.now)
-            (steps_of (expansions shapes.old) edges.now)) (option_map broken_view told)) }
+            (steps_of (expansions shapes.old) steps.now))
+            (option_map (fault_view (expansions shapes.old)) told)) }
+        ensures below { IfOk result (λ told. IfSome told (IsFaultBelow (length shapes.old))) }
         ensures unchanged { shapes.new ≡ shapes.old }
     {
-        for edge in edges {
-            if let Some(broken) = self.broken_by_edge(shapes, edge)? {
-                return Ok(Some(broken));
+        for step in steps {
+            if let Some(fault) = self.broken_at(shapes, step)? {
+                return Ok(Some(fault));
             }
         }
         Ok(None)
     }
 
-    /// The rule that is broken where what flows at an edge isn't inside what stands there.
-    fn broken_by_edge(
+    /// The rule that is broken at a step: where what flows at an edge doesn't fit, or on the way to one.
+    fn broken_at<'m>(
         &self,
         shapes: &mut Shapes,
-        edge: &Edge,
-    ) -> Result<Option<Broken>, OutOfMemory>
+        step: &Step<'m>,
+    ) -> Result<Option<Fault<'m>>, OutOfMemory>
         requires standing { AreStanding shapes.old self.now }
-        requires flowing { edge.now.flowing < length shapes.old }
-        ensures told { IfOk result (λ told. option_to_list (option_map broken_view told)
+        requires below { IsStepBelow (length shapes.old) step.now }
+        ensures told { IfOk result
+            (λ told. option_to_list (option_map (fault_view (expansions shapes.old)) told)
             ≡ breaches_at (standing_view (expansions shapes.old) self.now)
-            (edge_view (expansions shapes.old) edge.now)) }
+            (step_view (expansions shapes.old) step.now)) }
+        ensures below { IfOk result (λ told. IfSome told (IsFaultBelow (length shapes.old))) }
+        ensures unchanged { shapes.new ≡ shapes.old }
+    {
+        match *step {
+            Step::Flows(edge) => self.broken_at_edge(shapes, edge),
+            Step::Breaks(broken) => Ok(Some(fault_of(broken))),
+        }
+    }
+
+    /// The rule that is broken where what flows at an edge isn't inside what stands there.
+    fn broken_at_edge<'m>(
+        &self,
+        shapes: &mut Shapes,
+        edge: Edge<'m>,
+    ) -> Result<Option<Fault<'m>>, OutOfMemory>
+        requires standing { AreStanding shapes.old self.now }
+        requires flowing { edge.flowing < length shapes.old }
+        ensures told { IfOk result
+            (λ told. option_to_list (option_map (fault_view (expansions shapes.old)) told)
+            ≡ breaches_at (standing_view (expansions shapes.old) self.now)
+            (edge_view (expansions shapes.old) edge.entry)) }
+        ensures below { IfOk result (λ told. IfSome told (IsFaultBelow (length shapes.old))) }
         ensures unchanged { shapes.new ≡ shapes.old }
     {
         let expected = self.number_at(edge.destination);

@@ -4,7 +4,7 @@ use Rattle.std.proofs.lemmas.List.{append-nil, map-append}
 use Rattle.asl_model.specs.Shape.{Shape, Any, OfKinds, Arrays, WithoutArrays, ArraysOf, Objects, WithoutObjects, ObjectsOf, Shapes, NoShapes, AndShape, FieldShapes, NoFieldShapes, AndFieldShape, IsProperShape, AreProperArrays, AreProperObjects}
 use Rattle.asl_model.specs.WrittenNumbered.{same_shape, place_of, with_last, is_listed, with_last_if_listed, list_after, list_after_arrays, list_after_objects, list_after_places, list_after_fields}
 use Rattle.asl_model.proofs.SameShapes.{same_are}
-use Rattle.asl_model.proofs.Listing.{IsThere, PlacesAreThere, FieldsAreThere, ArraysAreThere, ObjectsAreThere, KindsAreThere, PartsAreThere, AreBehind, Goes, there_more, parts_more, places_later, walked, walked_places, walked_fields}
+use Rattle.asl_model.proofs.Listing.{IsThere, PlacesAreThere, FieldsAreThere, ObjectsAreThere, KindsAreThere, PartsAreThere, AreBehind, parts_more, arrays_later, walked_arrays, walked_objects}
 use Rattle.asl_numbered.specs.Expansion.{shape_at, shapes_at, fields_at, numbers_in}
 use Rattle.asl_numbered.specs.TakenApart.{arrays_over, kinds_over, objects_over, taken_apart}
 use Rattle.asl_numbered.specs.declared.kinds.NodeArrays.{NodeArrays}
@@ -147,34 +147,6 @@ work-append (step ∷ front) more = ap (λ n. step_cost step + n) (work-append f
 pub some_cost : (s : Shape) → 0 < walk_cost s
 some_cost Any = omega arith
 some_cost (OfKinds simple arrays objects) = omega arith
-
--- ---- walks through arrays and objects
-
-goes_none : (listed : List Shape) → AreBehind [] listed → Goes listed listed
-goes_none listed h = record { more = []; whole = sym (append-nil listed); behind = h }
-
-goes_then : (a b c : List Shape) → Goes a b → Goes b c → Goes a c
-goes_then a b c g h = record { more = g.more ++ h.more; whole = h.whole ∙ (ap (λ l. l ++ h.more) g.whole ∙ append_assoc a g.more h.more); behind = h.behind }
-
-there_later : (s : Shape) (a b : List Shape) → Goes a b → IsThere a s → IsThere b s
-there_later s a b g h = subst (λ l. IsThere l s) (sym g.whole) (there_more s a g.more h)
-
-arrays_later : (arrays : Arrays) (a b : List Shape) → Goes a b → ArraysAreThere a arrays → ArraysAreThere b arrays
-arrays_later WithoutArrays a b g h = tt
-arrays_later (ArraysOf first rest) a b g h = (places_later first a b g h.0, there_later rest a b g h.1)
-
-walked_arrays : (listed : List Shape) (arrays : Arrays) → AreBehind [] listed → AreProperArrays arrays → Goes listed (list_after_arrays listed arrays) × ArraysAreThere (list_after_arrays listed arrays) arrays
-walked_arrays listed WithoutArrays h p = (goes_none listed h, tt)
-walked_arrays listed (ArraysOf first rest) h p =
-    let one = list_after_places listed first in
-    let two = list_after one rest in
-    let f = walked_places listed first h p.0 in
-    let r = walked one rest f.0.behind p.1 in
-    (goes_then listed one two f.0 r.0, (places_later first one two r.0 f.1, r.1))
-
-walked_objects : (listed : List Shape) (objects : Objects) → AreBehind [] listed → AreProperObjects objects → Goes listed (list_after_objects listed objects) × ObjectsAreThere (list_after_objects listed objects) objects
-walked_objects listed WithoutObjects h p = (goes_none listed h, tt)
-walked_objects listed (ObjectsOf fields extra) h p = walked_fields listed fields h p
 
 -- ---- walks through places and fields
 

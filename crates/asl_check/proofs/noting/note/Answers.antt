@@ -1,4 +1,5 @@
-use Rattle.std.proofs.Common.{sym, ◌∙◌}
+use Rattle.std.proofs.Common.{option_map, option_to_list, sym, ◌∙◌}
+use Rattle.asl_check.specs.Noting.{noted_breach}
 use Rattle.asl_check.proofs.Notes.{note_new, note_old}
 use Rattle.asl_check.proofs.noting.note.Goals as goal
 
@@ -8,4 +9,4 @@ returns-in_ok-insert c =
 
 pub returns-else-not-contains_key : goal.returns-else-not-contains_key
 returns-else-not-contains_key c =
-    note_old c.args.notes.now.entries c.args.name.now c.args.rule (sym c.contains_key.ensures ∙ c.if-not-contains_key.false)
+    note_old c.args.notes.now.entries c.args.name.now (option_to_list (option_map noted_breach c.args.rule)) (sym c.contains_key.ensures ∙ c.if-not-contains_key.false)

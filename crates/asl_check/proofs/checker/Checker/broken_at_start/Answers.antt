@@ -27,6 +27,6 @@ returns-clause-told c =
     let same = certificate_kept a b keeps checker c.requires.within in
     let inputs = λ (certificate : Certificate). inputs_in (table_view checker.machine.now) certificate c.args.start.now in
     let expected = option_map (shape_at (expansions b)) c.input_to_compare-expected.result in
-    same_listed c.broken_unless_sub.result _ _
+    same_listed b c.broken_unless_sub.new.shapes c.broken_unless_sub.result _ _ c.broken_unless_sub.ensures.unchanged
     (ap (λ s. breach_unless_sub (codes "StartAt") StartInput s expected) c.in_ok-input.ensures.number.same ∙ ap (breach_unless_sub (codes "StartAt") StartInput (view checker.declared.now.input)) (seen ∙ ap inputs same))
     c.broken_unless_sub.ensures.told

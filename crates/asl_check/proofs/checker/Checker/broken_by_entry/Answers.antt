@@ -5,7 +5,7 @@ use Rattle.asl_model.specs.Machine.{is_task}
 use Rattle.asl_states.specs.Machine.{kind_view}
 use Rattle.asl_records.specs.View.{declared_view, task_view}
 use Rattle.asl_records.specs.declared.records.TaskShapes.{TaskShapes}
-use Rattle.asl_edges.specs.View.{broken_view}
+use Rattle.asl_check.specs.Noting.{noted_breach}
 use Rattle.asl_check.specs.Numbers.{certificate_of}
 use Rattle.asl_check.proofs.LookedUp.{certified_lent}
 use Rattle.asl_check.proofs.StateRules.{uncertified_told, certified_told, undeclared_passed, task_declared}
@@ -19,7 +19,7 @@ returns-then-not-is_certified c = λ table.
     let n = c.args.row.now.name.now in
     let kind = kind_view c.args.row.now.state.now.kind in
     let same = ap (is_certified kind) (sym (certified_lent table checker n c.get.result c.get.ensures.value)) in
-    uncertified_told (is_certified kind (certified (certificate_of table checker) n)) _ (broken_view c.breach.result) (same ∙ sym (c.is_certified.ensures table) ∙ c.if-not-is_certified.true) c.breach.ensures
+    uncertified_told (is_certified kind (certified (certificate_of table checker) n)) _ (noted_breach c.breach.result) (same ∙ sym (c.is_certified.ensures table) ∙ c.if-not-is_certified.true) c.breach.ensures
 
 pub returns : goal.returns
 returns c = λ table.
@@ -34,4 +34,4 @@ returns c = λ table.
       | then-not-is_task w ↦ undeclared_passed (is_task kind) known holds (sym c.is_task.ensures ∙ w.if-not-is_task.true) (w.declared-is ∙ ap not w.if-not-is_task.true)
       | else-not-is_task w ↦ task_declared (is_task kind) known holds (sym c.is_task.ensures ∙ w.if-not-is_task.false) (w.declared-is ∙ w.is_some-declared.ensures ∙ sym (is_some-map (λ (task : Bor TaskShapes). task_view task.now) w.task.result) ∙ ap is_some w.task.ensures)
     ] in
-    certified_told (is_certified kind (certified (certificate_of table checker) n)) (not (is_task kind) || known) (option_map broken_view c.breach_unless.result) (same ∙ sym (c.is_certified.ensures table) ∙ c.if-not-is_certified.false) (c.breach_unless.ensures ∙ ap (λ h. breach_unless h (codes "Resource") TaskUndeclared) is)
+    certified_told (is_certified kind (certified (certificate_of table checker) n)) (not (is_task kind) || known) (option_map noted_breach c.breach_unless.result) (same ∙ sym (c.is_certified.ensures table) ∙ c.if-not-is_certified.false) (c.breach_unless.ensures ∙ ap (λ h. breach_unless h (codes "Resource") TaskUndeclared) is)

@@ -1,4 +1,4 @@
-use Rattle.std.proofs.Common.{Some, None, sym, ap}
+use Rattle.std.proofs.Common.{Some, None, slice_get, sym, ap}
 use Rattle.asl_model.specs.Finding.{flow_breaches, surrounded_by, where_certified}
 use Rattle.asl_numbered.specs.Expansion.{expansions}
 use Rattle.asl_states.specs.Machine.{kind_view, scope_view, settings_view}
@@ -21,7 +21,7 @@ returns-in-Some-clause-told c =
     let table = expansions c.args.shapes.now in
     let row = c.args.row.now in
     let rules = where_certified (λ own. flow_breaches (surrounded_by (declared_view checker.declared.now) (inputs_in rows (certificate_of table checker)) (end_in rows (certificate_of table checker) (scope_view row.scope.now)) row.name.now own) (settings_view row.state.now.settings) (kind_view row.state.now.kind)) in
-    same_answered c.broken_by_state.result _ _ (ap rules (sym (certified_there table checker row.name.now (Some c.in-Some.entry.now) c.in-Some.ensures.value))) c.broken_by_state.ensures.told
+    same_answered (expansions c.broken_by_state.new.shapes) c.broken_by_state.result _ _ (ap rules (sym (certified_there table checker row.name.now (Some c.in-Some.entry.now) c.in-Some.ensures.value))) c.broken_by_state.ensures.told
 
 pub returns-in-None-clause-told : goal.returns-in-None-clause-told
 returns-in-None-clause-told c =
@@ -30,4 +30,4 @@ returns-in-None-clause-told c =
     let table = expansions c.args.shapes.now in
     let row = c.args.row.now in
     let rules = where_certified (λ own. flow_breaches (surrounded_by (declared_view checker.declared.now) (inputs_in rows (certificate_of table checker)) (end_in rows (certificate_of table checker) (scope_view row.scope.now)) row.name.now own) (settings_view row.state.now.settings) (kind_view row.state.now.kind)) in
-    record { one = ap rules (certified_there table checker row.name.now None c.in-None.ensures.value) }
+    record { first = ap (λ entry. slice_get (rules entry) 0) (sym (certified_there table checker row.name.now None c.in-None.ensures.value)) }

@@ -1,8 +1,8 @@
-use Rattle.std.proofs.Common.{◌≡◌, refl, ◌∙◌}
+use Rattle.std.proofs.Common.{◌≡◌, refl, ap, ◌∙◌}
 use Rattle.asl_model.specs.Edges.{destination_shapes}
 use Rattle.asl_model.specs.Finding.{surrounded_by}
 use Rattle.asl_numbered.specs.Expansion.{expansions}
-use Rattle.asl_numbered.proofs.Expansions.{as_many}
+use Rattle.asl_edges.specs.View.{steps_of}
 use Rattle.asl_states.specs.Machine.{kind_view, scope_view, settings_view}
 use Rattle.asl_states.specs.Table.{table_view}
 use Rattle.asl_records.specs.Numbered.{numbers_view}
@@ -21,9 +21,6 @@ edges_of-requires-clause-entry c = entered_below c.args.entry.now c.deref.result
 pub broken_by-requires-clause-standing : goal.broken_by-requires-clause-standing
 broken_by-requires-clause-standing c =
     standing_within c.args.shapes.now c.number_task.new.shapes c.edges_of.new.shapes c.number_task.ensures.keeps c.edges_of.ensures.keeps _ c.requires.within c.args.entry.now c.requires.entry _ _ c.in_ok-task.task c.in_ok-task.ensures.numbered refl refl c.end_of.ensures.within
-
-pub broken_by-requires-clause-below : goal.broken_by-requires-clause-below
-broken_by-requires-clause-below c = rw as_many at c.in_ok-found.ensures.walked.below
 
 pub returns-clause-told : goal.returns-clause-told
 returns-clause-told c =
@@ -46,4 +43,4 @@ returns-clause-told c =
     let seen : standing_view (expansions d) s ≡ destination_shapes around =
     standing_seen a b d c.number_task.ensures.keeps c.edges_of.ensures.keeps s c.requires.within entry c.requires.entry (scope_view row.scope.now) declared n task c.in_ok-task.ensures.numbered refl refl (c.end_of.ensures.seen d) in
     let same = entered entry c.deref.result c.deref.ensures.value (expansions b) ∙ numbers_shown a b c.number_task.ensures.keeps entry c.requires.entry in
-    answered_along around _ settings kind _ _ c.broken_by.result seen c.in_ok-task.ensures.numbered.gives same (c.walk_breaks_what_flow_breaks.ensures.breaches around settings kind) (c.broken_by.ensures.told _ c.in_ok-found.ensures.walked)
+    answered_along around _ settings kind _ _ _ d c.broken_by.new.shapes c.broken_by.result c.broken_by.ensures.unchanged seen c.in_ok-task.ensures.numbered.gives same (ap (steps_of (expansions d)) c.deref-2.ensures.value ∙ c.in_ok-steps.ensures.walked) (c.walk_breaks_what_flow_breaks.ensures.breaches around settings kind) c.broken_by.ensures.told

@@ -1,7 +1,7 @@
 use Rattle.std.proofs.Common.{◌≡◌, ◌++◌}
 use Rattle.asl_check.specs.Noting.{notes_view}
 use Rattle.asl_check.specs.View.{findings_view}
-use Rattle.asl_check.proofs.noting.verdict_on.Given as goal
+use Rattle.asl_check.proofs.noting.told.Given as goal
 
 -- what is told so far and what the notes left tell is what all notes tell
 abbrev pub invariant-loop-state : goal.invariant-loop-state
