@@ -1,18 +1,23 @@
--- Where edges lead, and what flows along them.
-use Rattle.std.proofs.Common.{◌≡◌, ◌<◌, ◌≤◌, ◌+◌, ◌++◌, ◌∷◌, ℕ, zero, suc, List, [], length, get_or, take, Bool, Some, None, Result, IfOk, refl, ap, ◌∙◌, subst, arith}
+-- Where steps lead, and what flows there.
+use Rattle.std.proofs.Common.{◌≡◌, ◌<◌, ◌≤◌, ◌+◌, ◌++◌, ◌∷◌, ℕ, zero, suc, List, [], length, get_or, take, Bool, Option, Some, None, Result, IfOk, refl, sym, ap, ◌∙◌, subst, arith}
 use Rattle.std.proofs.lemmas.List.{length-map, length-take-le, map-append, take_all, take_more}
-use Rattle.asl_model.specs.Edges.{Walked}
+use Rattle.std.specs.Prelude.{IfSome}
+use Rattle.asl_model.specs.Edges.{Walked, Breaks}
+use Rattle.asl_model.specs.Finding.{Breach}
+use Rattle.asl_model.specs.Missing.{missing}
 use Rattle.asl_model.specs.Numbering.{Table}
 use Rattle.asl_model.specs.Shape.{Shape}
 use Rattle.asl_drafts.specs.Drafts as model
 use Rattle.asl_drafts.specs.Drafts.{step_taken, taken_at}
 use Rattle.asl_drafts.specs.Resting.{FlowRests, Memory, StepRests}
 use Rattle.asl_numbered.specs.declared.node.Node.{Node}
-use Rattle.asl_numbered.specs.Expansion.{expansions, shape_at, AreBelow, Keeps}
-use Rattle.asl_edges.specs.View.{destination_view, edge_view, flowing_in, steps_of}
-use Rattle.asl_edges.specs.declared.faults.FindingFault.TheVariants as fault
-use Rattle.asl_edges.specs.declared.found.Destination.TheVariants as to
+use Rattle.asl_numbered.specs.Expansion.{expansions, shape_at, Keeps}
+use Rattle.asl_flow.specs.declared.doubts.DoubtfulPath.{DoubtfulPath}
+use Rattle.asl_edges.specs.View.{broken_view, destination_view, edge_view, example_of, finding_fault_view, step_view, steps_of, AreStepsBelow, IsBrokenBelow, IsStepBelow}
+use Rattle.asl_edges.specs.declared.faults.Broken.{Broken}
 use Rattle.asl_edges.specs.declared.found.Edge.{Edge}
+use Rattle.asl_edges.specs.declared.found.Step.{Step}
+use Rattle.asl_edges.specs.declared.found.Step.TheVariants as step
 use Rattle.asl_growing.specs.Drafted.{room}
 use Rattle.asl_growing.specs.Entries.{Makes}
 use Rattle.asl_edges.proofs.Kept.{shown}
@@ -34,34 +39,48 @@ module _ (table : Table) (n : ℕ) (shapes : List Shape) (edge : Edge) where
     pub none-taken : (draft : model.Draft) → draft ≡ step_taken table n (edge_view shapes edge) draft
     none-taken draft = ap (λ o. taken_at o (shape_at shapes edge.flowing) draft) leads
 
--- what flows is a number of the table
-pub flowing-below : (bound : ℕ) (edges : List Edge) (i : ℕ) (d : Edge) → i < length edges → AreBelow bound (flowing_in edges) → (get_or edges i d).flowing < bound
-flowing-below bound [] i d within below = absurd (omega (arith, within))
-flowing-below bound (e ∷ edges) zero d within below = below.0
-flowing-below bound (e ∷ edges) (suc i) d within below = flowing-below bound edges i d (omega (arith, within)) below.1
+-- a step speaks of numbers of the table
+pub step-below : (bound : ℕ) (steps : List Step) (i : ℕ) (s : Step) → i < length steps → s ≡ get_or steps i s → AreStepsBelow bound steps → IsStepBelow bound s
+step-below bound [] i s within is below = absurd (omega (arith, within))
+step-below bound (first ∷ steps) zero s within is below = subst (IsStepBelow bound) (sym is) below.0
+step-below bound (first ∷ steps) (suc i) s within is below = step-below bound steps i s (omega (arith, within)) is below.1
 
--- with the same shape in a table that has grown
-pub edge-kept : (a b : List Node) (edge : Edge) → Keeps (expansions a) (expansions b) → edge.flowing < length a → edge_view (expansions b) edge ≡ edge_view (expansions a) edge
+-- they are numbers of a table that has grown
+broken-wider : (bound wider : ℕ) (path : Option DoubtfulPath) → bound ≤ wider → IfSome path (λ p. p.shape < bound) → IfSome path (λ p. p.shape < wider)
+broken-wider bound wider None more below = tt
+broken-wider bound wider (Some path) more below = omega (arith, more, below)
+
+pub step-wider : (bound wider : ℕ) (s : Step) → bound ≤ wider → IsStepBelow bound s → IsStepBelow wider s
+step-wider bound wider (step.Flows edge) more below = omega (arith, more, below)
+step-wider bound wider (step.Breaks broken) more below = broken-wider bound wider broken.path more below
+
+-- with the same shape there
+example-kept : (a b : List Node) (path : Option DoubtfulPath) → Keeps (expansions a) (expansions b) → IfSome path (λ p. p.shape < length a) → example_of (expansions b) path ≡ example_of (expansions a) path
+example-kept a b None keeps below = refl
+example-kept a b (Some path) keeps below = ap (missing path.path.now) (shown a b path.shape keeps below)
+
+broken-kept : (a b : List Node) (broken : Broken) → Keeps (expansions a) (expansions b) → IsBrokenBelow (length a) broken → broken_view (expansions b) broken ≡ broken_view (expansions a) broken
+broken-kept a b broken keeps below = ap (λ example. let breach : Breach = record { field = broken.field.now; fault = finding_fault_view broken.fault; example = example } in breach) (example-kept a b broken.path keeps below)
+
+edge-kept : (a b : List Node) (edge : Edge) → Keeps (expansions a) (expansions b) → edge.flowing < length a → edge_view (expansions b) edge ≡ edge_view (expansions a) edge
 edge-kept a b edge keeps below = rw (shown a b edge.flowing keeps below) refl
 
--- an edge in place of one that isn't there
-abbrev pub no_edge : Edge
-no_edge = record {
-  flowing = 0;
-  destination = to.Input (record { ref_ptr = (0, 0); now = [] });
-  field = record { ref_ptr = (0, 0); now = [] };
-  fault = fault.NotCertified;
-}
+pub step-kept : (a b : List Node) (s : Step) → Keeps (expansions a) (expansions b) → IsStepBelow (length a) s → step_view (expansions b) s ≡ step_view (expansions a) s
+step-kept a b (step.Flows edge) keeps below = edge-kept a b edge keeps below
+step-kept a b (step.Breaks broken) keeps below = ap Breaks (broken-kept a b broken keeps below)
 
 -- the first steps
-abbrev pub first_steps : List Shape → List Edge → ℕ → List Walked
-first_steps shapes edges i = steps_of shapes (take i edges)
+abbrev pub first_steps : List Shape → List Step → ℕ → List Walked
+first_steps shapes steps i = steps_of shapes (take i steps)
 
-pub steps-many : (shapes : List Shape) (edges : List Edge) (i : ℕ) → i ≤ length edges → length (first_steps shapes edges i) ≡ i
-steps-many shapes edges i within = length-map (take i edges) (edge_view shapes) ∙ length-take-le i edges within
+pub steps-many : (shapes : List Shape) (steps : List Step) (i : ℕ) → i ≤ length steps → length (first_steps shapes steps i) ≡ i
+steps-many shapes steps i within = length-map (take i steps) (step_view shapes) ∙ length-take-le i steps within
 
-pub steps-more : (shapes : List Shape) (edges : List Edge) (i : ℕ) (d : Edge) → i < length edges → first_steps shapes edges (i + 1) ≡ first_steps shapes edges i ++ edge_view shapes (get_or edges i d) ∷ []
-steps-more shapes edges i d within = ap (steps_of shapes) (take_more edges i d within) ∙ map-append (edge_view shapes) (take i edges) (get_or edges i d ∷ [])
+pub steps-more : (shapes : List Shape) (steps : List Step) (i : ℕ) (s : Step) → i < length steps → s ≡ get_or steps i s → first_steps shapes steps (i + 1) ≡ first_steps shapes steps i ++ step_view shapes s ∷ []
+steps-more shapes steps i s within is =
+    ap (steps_of shapes) (take_more steps i s within)
+    ∙ (map-append (step_view shapes) (take i steps) (get_or steps i s ∷ [])
+    ∙ ap (λ (x : Step). first_steps shapes steps i ++ step_view shapes x ∷ []) (sym is))
 
-pub steps-all : (shapes : List Shape) (edges : List Edge) (i : ℕ) → length edges ≤ i → first_steps shapes edges i ≡ steps_of shapes edges
-steps-all shapes edges i past = ap (steps_of shapes) (take_all i edges past)
+pub steps-all : (shapes : List Shape) (steps : List Step) (i : ℕ) → length steps ≤ i → first_steps shapes steps i ≡ steps_of shapes steps
+steps-all shapes steps i past = ap (steps_of shapes) (take_all i steps past)

@@ -6,11 +6,12 @@ use crate::certificate::certified_states;
 use crate::entries::{DraftEntry, EntryNumbers, Part, entry_in, new_entries, take_in_entries};
 use crate::growing::Growing;
 use crate::store::Store;
-use asl_edges::Edges;
+use asl_edges::Step;
+use asl_flow::DoubtfulPath;
 use asl_numbered::Node;
 use asl_records::{NumberedCertificate, StateNumbers};
 use asl_states::{Machine, State};
-use asl_tree::OutOfMemory;
+use asl_tree::{OutOfMemory, Tree};
 use std::alloc::Global;
 use std::collections::BTreeMap;
 
@@ -57,14 +58,17 @@ pub struct Draft {
 }
 
 impl Draft {
-    ghost use Rattle.std.specs.Prelude.{◌≡◌, ◌≢◌, ◌<◌, false, length, true, IfOk, IfSome, Some};
+    ghost use Rattle.std.specs.Prelude.{◌≡◌, ◌≢◌, ◌<◌, false, length, option_map, true, IfOk, IfSome, Some};
     ghost use Rattle.asl_model.specs.Edges.{walk};
+    ghost use Rattle.asl_model.specs.Examples as examples;
+    ghost use Rattle.asl_model.specs.Missing as missing;
     ghost use Rattle.asl_model.specs.RecordShapes.{HoldsForCertificate};
     ghost use Rattle.asl_model.specs.Shape.{Never};
-    ghost use Rattle.asl_model.specs.ShapeOrder as order;
     ghost use Rattle.asl_model.specs.ShapeSpelling.{are_distinct};
     ghost use Rattle.asl_drafts.specs.Drafts.{certificate_of, first_draft, taken_at};
-    ghost use Rattle.asl_edges.specs.Entry.{AreEdgesOf};
+    ghost use Rattle.asl_tree.specs.View.{view as tree_view};
+    ghost use Rattle.asl_flow.specs.Doubts.{doubtful_view};
+    ghost use Rattle.asl_edges.specs.View.{steps_of, AreStepsBelow};
     ghost use Rattle.asl_states.specs.Machine.{kind_view, settings_view};
     ghost use Rattle.asl_states.specs.Table.{table_view};
     ghost use Rattle.asl_numbered.specs.Expansion.{expansions, shape_at, Keeps};
@@ -91,19 +95,22 @@ impl Draft {
         })
     }
 
-    /// The edges of the state of that number, for what its task gives.
+    /// The steps of the walk through the state of that number, for what its task gives: its edges, and the rules that are
+    /// broken on the way to one.
     pub fn edges<'m>(
         &mut self,
         number: usize,
         state: &'m State,
         gives: usize,
-    ) -> Result<Edges<'m>, OutOfMemory>
+    ) -> Result<Vec<Step<'m>>, OutOfMemory>
         requires { gives < length self.old.store }
-        ensures edges { IfOk result
-            (AreEdgesOf (expansions self.new.store)
-            (walk (shape_at (expansions self.old.store) gives)
+        ensures walked { IfOk result
+            (λ steps. steps_of (expansions self.new.store) steps.items
+            ≡ walk (shape_at (expansions self.old.store) gives)
             (settings_view state.now.settings) (kind_view state.now.kind)
-            (shapes_of (draft_view self.old) number (kind_view state.now.kind)))) }
+            (shapes_of (draft_view self.old) number (kind_view state.now.kind))) }
+        ensures below { IfOk result
+            (λ steps. AreStepsBelow (length self.new.store) steps.items) }
         ensures same { draft_view self.new ≡ draft_view self.old }
         ensures keeps { Keeps (expansions self.old.store)
             (expansions self.new.store) }
@@ -136,17 +143,34 @@ impl Draft {
         }
     }
 
-    /// Whether the first number's shape is inside the second's.
-    pub fn is_inside(&mut self, inner: usize, outer: usize) -> Result<bool, OutOfMemory>
+    /// A tree of the first number's shape that lacks the second's; `None` where every tree of the first has the second.
+    /// Refuses only where an allocation was refused.
+    pub fn outside(&mut self, inner: usize, outer: usize) -> Result<Option<Tree>, OutOfMemory>
         requires inner { inner < length self.old.store }
         requires outer { outer < length self.old.store }
-        ensures inside { IfOk result
-            (λ b. b ≡ order.sub (shape_at (expansions self.old.store) inner)
+        ensures as_defined { IfOk result
+            (λ tree. option_map tree_view tree
+            ≡ examples.outside (shape_at (expansions self.old.store) inner)
             (shape_at (expansions self.old.store) outer)) }
         ensures same { draft_view self.new ≡ draft_view self.old }
         ensures kept { self.new.store ≡ self.old.store }
     {
-        self.store.is_inside(inner, outer)
+        self.store.outside(inner, outer)
+    }
+
+    /// A tree that shows the path to be doubtful: one of the shape of its number, in which it names nothing. `None` where it
+    /// names something in every tree of that shape. It may leave further shapes in the table. Refuses only where an
+    /// allocation was refused.
+    pub fn counterexample(&mut self, path: DoubtfulPath) -> Result<Option<Tree>, OutOfMemory>
+        requires { path.shape < length self.old.store }
+        ensures as_defined { IfOk result
+            (λ tree. option_map tree_view tree
+            ≡ missing.counterexample (doubtful_view (expansions self.old.store) path.entry)) }
+        ensures same { draft_view self.new ≡ draft_view self.old }
+        ensures keeps { Keeps (expansions self.old.store)
+            (expansions self.new.store) }
+    {
+        self.store.counterexample(path)
     }
 
     /// Takes in what flows into one of the shapes, and says whether this changed it. A shape that isn't there stays so.

@@ -12,7 +12,7 @@ use indexmap::IndexMap;
 use std::alloc::Global;
 use std::collections::BTreeMap;
 
-/// An edge of a state: the state's number, and the edge's place among those of the state.
+/// An edge of a state: the state's number, and the edge's place among the steps of the walk through it.
 #[derive(Clone, Copy, PartialEq, Eq, PartialOrd, Ord)]
 pub struct Origin {
     pub state: usize,

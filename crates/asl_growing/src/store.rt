@@ -1,11 +1,16 @@
 // The table of a draft's shapes, with what is found out about them.
 
-ghost use Rattle.std.specs.Prelude.{◌≡◌, ◌<◌, ◌↔◌, [], length, map, IfOk, IfSome, IsTrue, OnOk};
-ghost use Rattle.asl_model.specs.ShapeOrder as order;
+ghost use Rattle.std.specs.Prelude.{◌≡◌, ◌<◌, ◌↔◌, [], length, map, option_map, IfOk, IfSome, IsTrue, OnOk};
 ghost use Rattle.asl_model.specs.Edges.{walk};
+ghost use Rattle.asl_model.specs.Examples as examples;
+ghost use Rattle.asl_model.specs.Missing as missing;
+ghost use Rattle.asl_model.specs.ShapeOrder as order;
+ghost use Rattle.asl_tree.specs.View.{view as tree_view};
 ghost use Rattle.asl_shape.specs.View.{view};
 ghost use Rattle.asl_states.specs.Machine.{kind_view, settings_view};
-ghost use Rattle.asl_edges.specs.Entry.{entry_view, AreEdgesOf, IsEntryBelow};
+ghost use Rattle.asl_flow.specs.Doubts.{doubtful_view};
+ghost use Rattle.asl_edges.specs.Entry.{entry_view, IsEntryBelow};
+ghost use Rattle.asl_edges.specs.View.{steps_of, AreStepsBelow};
 ghost use Rattle.asl_numbered.specs.Expansion.{expansions, shape_at, shape_over, AreBelow, AreDistinct, Keeps, RefersBelow};
 ghost use Rattle.asl_numbered.specs.Joins.{Shows};
 ghost use Rattle.asl_numbered.specs.Kinds.{IsProperNode};
@@ -16,11 +21,12 @@ ghost use Rattle.asl_growing.specs.Parts.{parts_of, with_parts, CanBePut, IsPut}
 
 use crate::depths::depth_of;
 use crate::rebuilding::{parts_in, rebuild_kinds};
-use asl_edges::{Edges, Entry, edges_of};
+use asl_edges::{Entry, Step, edges_of};
+use asl_flow::{DoubtfulPath, missing_at};
 use asl_numbered::{KindNumbers, Node, Shapes};
 use asl_shape::Shape;
 use asl_states::State;
-use asl_tree::OutOfMemory;
+use asl_tree::{OutOfMemory, Tree};
 use indexmap::IndexMap;
 use std::alloc::Global;
 use std::marker::Model;
@@ -135,33 +141,48 @@ impl Store {
         Ok(number.unwrap())
     }
 
-    /// Whether the first number's shape is inside the second's.
-    pub fn is_inside(&mut self, inner: usize, outer: usize) -> Result<bool, OutOfMemory>
+    /// A tree of the first number's shape that lacks the second's, if there is one.
+    pub(crate) fn outside(
+        &mut self,
+        inner: usize,
+        outer: usize,
+    ) -> Result<Option<Tree>, OutOfMemory>
         requires inner { inner < length self.old }
         requires outer { outer < length self.old }
-        ensures inside { IfOk result
-            (λ b. b ≡ order.sub (shape_at (expansions self.old) inner)
+        ensures as_defined { IfOk result
+            (λ tree. option_map tree_view tree
+            ≡ examples.outside (shape_at (expansions self.old) inner)
             (shape_at (expansions self.old) outer)) }
         ensures same { self.new ≡ self.old }
     {
-        let is_inside = self.shapes.sub(inner, outer)?;
-        Ok(is_inside.unwrap())
+        self.shapes.outside(self.alloc, inner, outer)
     }
 
-    /// The edges of a state with these shapes, for what its task gives.
+    /// A tree that shows the path to be doubtful, if there is one.
+    pub(crate) fn counterexample(&mut self, path: DoubtfulPath) -> Result<Option<Tree>, OutOfMemory>
+        requires { path.shape < length self.old }
+        ensures as_defined { IfOk result
+            (λ tree. option_map tree_view tree
+            ≡ missing.counterexample (doubtful_view (expansions self.old) path.entry)) }
+        ensures keeps { Keeps (expansions self.old) (expansions self.new) }
+    {
+        missing_at(self.alloc, &mut self.shapes, path.shape, path.path)
+    }
+
+    /// The steps of the walk through a state with these shapes, for what its task gives.
     pub(crate) fn edges<'m>(
         &mut self,
         state: &'m State,
         entry: Entry,
         gives: usize,
-    ) -> Result<Edges<'m>, OutOfMemory>
+    ) -> Result<Vec<Step<'m>>, OutOfMemory>
         requires entry { IsEntryBelow (length self.old) entry }
         requires gives { gives < length self.old }
         ensures walked { IfOk result
-            (AreEdgesOf (expansions self.new)
-            (walk (shape_at (expansions self.old) gives)
-            (settings_view state.now.settings) (kind_view state.now.kind)
-            (entry_view (expansions self.old) entry.entry))) }
+            (λ steps. steps_of (expansions self.new) steps.items
+            ≡ walk (shape_at (expansions self.old) gives) (settings_view state.now.settings)
+            (kind_view state.now.kind) (entry_view (expansions self.old) entry.entry)) }
+        ensures below { IfOk result (λ steps. AreStepsBelow (length self.new) steps.items) }
         ensures keeps { Keeps (expansions self.old) (expansions self.new) }
     {
         edges_of(self.alloc, &mut self.shapes, state, entry, gives)

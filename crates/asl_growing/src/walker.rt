@@ -6,7 +6,7 @@ use crate::draft::{Draft, Target};
 use crate::predecessors::{Origin, Predecessors};
 use crate::targets::target_of;
 use crate::waiting::Waiting;
-use asl_edges::Edge;
+use asl_edges::{Edge, Step};
 use asl_states::Machine;
 use asl_tree::OutOfMemory;
 
@@ -23,48 +23,75 @@ impl Walker {
     ghost use Rattle.asl_model.specs.Certificate.{Declared};
     ghost use Rattle.asl_model.specs.Numbering.{Table};
     ghost use Rattle.asl_drafts.specs.Drafts.{step_taken, steps_taken, taken_at, Row};
-    ghost use Rattle.asl_edges.specs.View.{edge_view, flowing_in, steps_of};
+    ghost use Rattle.asl_edges.specs.View.{edge_view, step_view, steps_of, AreStepsBelow, IsStepBelow};
     ghost use Rattle.asl_states.specs.Table.{table_view};
     ghost use Rattle.asl_growing.specs.Calm.{IsCalm};
     ghost use Rattle.asl_growing.specs.Underway.{IsCalmAfter, OthersStayCalm, StepsOn};
-    ghost use Rattle.asl_numbered.specs.Expansion.{expansions, shape_at, AreBelow, Keeps};
+    ghost use Rattle.asl_numbered.specs.Expansion.{expansions, shape_at, Keeps};
     ghost use Rattle.asl_growing.specs.Drafted.{draft_view, room, target_view};
     ghost use Rattle.asl_growing.specs.Entries.{Makes};
 
-    /// Takes in what flows along the edges of the state of that number, in their order, and says whether a shape was
-    /// changed. What flowed along each edge is remembered. Each other state that waited or was at rest still waits or is at
-    /// rest then. So does the state itself, if these are its edges and no rule of its own is broken.
-    pub fn take_edges(
+    /// Takes in what flows at the steps of the state of that number, in their order, and says whether a shape was changed.
+    /// What flowed at each step is remembered; where a rule is broken, nothing flows. Each other state that waited or was at
+    /// rest still waits or is at rest then. So does the state itself, if these are its steps and no rule of its own is broken.
+    pub fn take_steps(
         &mut self,
         machine: &Machine,
         number: usize,
-        edges: &[Edge],
+        steps: &[Step],
     ) -> Result<bool, OutOfMemory>
-        requires { AreBelow (length self.old.draft.store) (flowing_in edges.now) }
+        requires { AreStepsBelow (length self.old.draft.store) steps.now }
         ensures takes { IfOk result
             (λ changed. Makes room
             (steps_taken (table_view machine.now) number
-            (steps_of (expansions self.old.draft.store) edges.now))
+            (steps_of (expansions self.old.draft.store) steps.now))
             (draft_view self.old.draft) changed (draft_view self.new.draft)) }
         ensures waits { StaysWaiting self.old.waiting self.new.waiting }
         ensures others { IfOk result (λ changed. OthersStayCalm number self.old self.new) }
         ensures walked { IfOk result
             (λ changed. IsCalmAfter (table_view machine.now) number
-            (steps_of (expansions self.old.draft.store) edges.now) self.old self.new) }
+            (steps_of (expansions self.old.draft.store) steps.now) self.old self.new) }
         ensures keeps { Keeps (expansions self.old.draft.store)
             (expansions self.new.draft.store) }
     {
         let mut changed = false;
-        for (place, edge) in edges.iter().enumerate() {
+        for (place, step) in steps.iter().enumerate() {
             let origin = Origin {
                 state: number,
                 place,
             };
-            if self.take_edge(machine, origin, edge)? {
+            if self.take_step(machine, origin, step)? {
                 changed = true;
             }
         }
         Ok(changed)
+    }
+
+    // Takes in what flows at the step of that origin, if something does, and says whether a shape was changed.
+    fn take_step(
+        &mut self,
+        machine: &Machine,
+        origin: Origin,
+        step: &Step,
+    ) -> Result<bool, OutOfMemory>
+        requires { IsStepBelow (length self.old.draft.store) step.now }
+        ensures takes { IfOk result
+            (λ changed. Makes room
+            (step_taken (table_view machine.now) origin.state
+            (step_view (expansions self.old.draft.store) step.now))
+            (draft_view self.old.draft) changed (draft_view self.new.draft)) }
+        ensures waits { StaysWaiting self.old.waiting self.new.waiting }
+        ensures others { IfOk result (λ changed. OthersStayCalm origin.state self.old self.new) }
+        ensures walked { IfOk result
+            (λ changed. StepsOn (table_view machine.now) origin
+            (step_view (expansions self.old.draft.store) step.now) self.old self.new) }
+        ensures keeps { Keeps (expansions self.old.draft.store)
+            (expansions self.new.draft.store) }
+    {
+        match step {
+            Step::Flows(edge) => self.take_edge(machine, origin, edge),
+            Step::Breaks(_) => Ok(false),
+        }
     }
 
     // Takes in what flows along the edge of that origin, remembers it, and says whether a shape was changed.

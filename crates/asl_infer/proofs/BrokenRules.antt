@@ -8,7 +8,7 @@ use Rattle.asl_model.specs.Finding.{FindingFault, NoDefault, WrongKind, array_pa
 use Rattle.asl_model.specs.Inference.{is_of_machine}
 use Rattle.asl_model.specs.Machine.{Catcher, Delay, Seconds, SecondsPath, Timestamp, TimestampPath, Kind, Pass, Task, Choice, Wait, Succeed, Fail, Parallel, Map, Scope, Scopes, NoScopes, AndScope, Settings}
 use Rattle.asl_model.specs.Shape.{Shape, Shapes, Never, ArrayShape, inhabited}
-use Rattle.asl_model.specs.ShapeFlow.{Flow, FlowFault, MissingAt, FailsAt, MisfitAt, is_integer_shape, is_string_shape, is_settled, leave, literal, look, rule_shape}
+use Rattle.asl_model.specs.ShapeFlow.{Flow, FlowFault, MissingAt, FailsAt, MisfitAt, is_integer_shape, is_string_shape, is_settled, leave, literal, found, rule_shape, DoubtfulPath}
 use Rattle.asl_model.specs.Template.{Template}
 use Rattle.asl_model.specs.Test.{Rule}
 
@@ -33,7 +33,7 @@ both (x ∷ xs) ys h k = record { each = (h.each.0, (both xs ys (record { each =
 
 faults : (fs : List FlowFault) → AreOfMachine (map (λ fault. Breaks (breach_of fault)) fs)
 faults [] = none
-faults (MissingAt field ∷ fs) = record { each = (refl, (faults fs).each) }
+faults (MissingAt field doubtful ∷ fs) = record { each = (refl, (faults fs).each) }
 faults (FailsAt field ∷ fs) = record { each = (refl, (faults fs).each) }
 faults (MisfitAt field ∷ fs) = record { each = (refl, (faults fs).each) }
 
@@ -63,15 +63,15 @@ unless : (holds : Bool) (field : List ℕ) (fault : FindingFault) → IsTrue (is
 unless true field fault own = none
 unless false field fault own = record { each = (own, tt) }
 
-named : (field : List ℕ) (test : Shape → Bool) (r : Result Shape ℕ) → AreOfMachine (walk_named field test r)
+named : (field : List ℕ) (test : Shape → Bool) (r : Result Shape DoubtfulPath) → AreOfMachine (walk_named field test r)
 named field test (Ok s) = unless (test s) field WrongKind refl
-named field test (Err at) = record { each = (refl, tt) }
+named field test (Err doubtful) = record { each = (refl, tt) }
 
 delay : (d : Delay) (s : Shape) → AreOfMachine (walk_delay d s)
 delay (Seconds n) s = none
-delay (SecondsPath path) s = named (codes "SecondsPath") is_integer_shape (look path s)
+delay (SecondsPath path) s = named (codes "SecondsPath") is_integer_shape (found path s)
 delay (Timestamp t) s = none
-delay (TimestampPath path) s = named (codes "TimestampPath") is_string_shape (look path s)
+delay (TimestampPath path) s = named (codes "TimestampPath") is_string_shape (found path s)
 
 child : (field : List ℕ) (scope : Scope) (s : Shape) → AreOfMachine (to_child field scope s)
 child field scope s = record { each = ((λ e. absurd (cc)), tt) }
@@ -94,13 +94,13 @@ listed : (go_on : Shapes × Shape → List Walked) → ((elements : Shapes × Sh
 listed go_on h None = record { each = (refl, tt) }
 listed go_on h (Some elements) = h elements
 
-items : (go_on : Shapes × Shape → List Walked) → ((elements : Shapes × Shape) → AreOfMachine (go_on elements)) → (r : Result Shape ℕ) → AreOfMachine (walk_items go_on r)
+items : (go_on : Shapes × Shape → List Walked) → ((elements : Shapes × Shape) → AreOfMachine (go_on elements)) → (r : Result Shape DoubtfulPath) → AreOfMachine (walk_items go_on r)
 items go_on h (Ok s) = listed go_on h (array_parts s)
-items go_on h (Err at) = record { each = (refl, tt) }
+items go_on h (Err doubtful) = record { each = (refl, tt) }
 
-rule : (settings : Settings) (kind : Kind) (input : Shape) (name : List ℕ) (o : Option Shape) → AreOfMachine (walk_rule settings kind input name o)
-rule settings kind input name None = record { each = (refl, tt) }
-rule settings kind input name (Some s) = chosen settings kind input (codes "Choices") name s
+rule : (settings : Settings) (kind : Kind) (input : Shape) (name : List ℕ) (r : Result Shape DoubtfulPath) → AreOfMachine (walk_rule settings kind input name r)
+rule settings kind input name (Err doubtful) = record { each = (refl, tt) }
+rule settings kind input name (Ok s) = chosen settings kind input (codes "Choices") name s
 
 rules_walked : (settings : Settings) (kind : Kind) (input : Shape) (rs : List Rule) (s : Shape) → AreOfMachine (walk_rules settings kind input rs s)
 rules_walked settings kind input [] s = none
@@ -129,7 +129,7 @@ work settings (Wait d) entry s = both (walk_delay d s) (walk_result settings (Wa
 work settings Succeed entry s = after (to_end (codes "Type")) (end (codes "Type")) (leave settings Succeed entry.input s)
 work settings (Fail error cause) entry s = none
 work settings (Parallel scopes) entry s = branches scopes s
-work settings (Map path selector processor) entry s = items (walk_elements settings (Map path selector processor) entry selector processor s) (elements_walked settings (Map path selector processor) entry selector processor s) (look path s)
+work settings (Map path selector processor) entry s = items (walk_elements settings (Map path selector processor) entry selector processor s) (elements_walked settings (Map path selector processor) entry selector processor s) (found path s)
 
 settled : (gives : Shape) (settings : Settings) (kind : Kind) (entry : StateShapes) → AreOfMachine (walk_settled gives settings kind entry)
 settled gives settings (Pass None) entry = none

@@ -24,7 +24,7 @@ use Rattle.asl_infer.specs.declared.rounds.Given.{Given}
 use Rattle.asl_infer.specs.declared.inferring.InferRefusal.{InferRefusal}
 use Rattle.asl_infer.specs.declared.inferring.InferRefusal.TheVariants as refusal
 use Rattle.asl_infer.proofs.FirstNames.{have-named}
-use Rattle.asl_infer.proofs.MisnamedFindings.{BrokenStands, misnamed-stands}
+use Rattle.asl_infer.proofs.MisnamedFindings.{BrokenStands, ExamplesStand, misnamed-stands}
 use Rattle.asl_infer.proofs.TakenRounds.{told-first}
 use Rattle.asl_infer.proofs.ToldFindings.{StandsInTable, WalkBreaks, in-rounds}
 
@@ -94,11 +94,11 @@ module _ (shown : Machine) (declared : model.Declared) (rounds : ℕ) where
 
 -- ---- what is told stands for some certificate
 
-pub told-stands : StandsInTable → WalkBreaks → BrokenStands → (machine : Scope) (declared : model.Declared) (rounds : ℕ) (found : Finding) → IsWellNamed machine → IsTold (table_of machine) declared rounds found → IsOfMachine machine declared found
-told-stands law bridge broken machine declared rounds found well h = in-rounds law bridge machine declared names rounds found h
+pub told-stands : StandsInTable → WalkBreaks → BrokenStands → ExamplesStand → (machine : Scope) (declared : model.Declared) (rounds : ℕ) (found : Finding) → IsWellNamed machine → IsTold (table_of machine) declared rounds found → IsOfMachine machine declared found
+told-stands law bridge broken shown machine declared rounds found well h = in-rounds law bridge machine declared names rounds found h
   where
     names : (other : Finding) → Among (misnamed (table_of machine) declared) other → IsOfMachine machine declared other
-    names other among = misnamed-stands broken machine declared other (λ n. have-named (table_of machine) n (well-distinct machine well) ∙ task-named machine n (distinct machine well)) among
+    names other among = misnamed-stands broken shown machine declared other (λ n. have-named (table_of machine) n (well-distinct machine well) ∙ task-named machine n (distinct machine well)) among
 
 -- ---- by what is given
 

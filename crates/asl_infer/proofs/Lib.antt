@@ -8,7 +8,7 @@ pub mod Levels
 pub mod Listing
 pub mod MisnamedFindings
 pub mod OwnRules
-pub mod StateEdges
+pub mod StateSteps
 pub mod TakenRounds
 pub mod TaskNames
 pub mod ToldFindings

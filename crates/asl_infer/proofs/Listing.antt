@@ -1,12 +1,13 @@
 -- What is in two lists, and in the rules that are broken along a walk.
-use Rattle.std.proofs.Common.{◌≡◌, List, [], ◌∷◌, ◌++◌, Bool, true, false, Contains, IsTrue, refl, subst, ◌⊎◌, inl, inr}
+use Rattle.std.proofs.Common.{◌≡◌, ℕ, List, [], ◌∷◌, ◌++◌, Option, Some, None, Contains, IsTrue, refl, ap, subst, ◌⊎◌, inl, inr}
 use Rattle.std.proofs.lemmas.List.Elements.{Contains-append_left, Contains-append_right}
 use Rattle.std.specs.List.{AllByRecursion}
 use Rattle.asl_model.specs.Edges.{Destination, DestinationShapes, ToInput, ToOutput, ToEnd, ToTask, Walked, Flows, Breaks, breaches_along, breaches_at, stands_at}
-use Rattle.asl_model.specs.Finding.{Breach, breach_unless, breach_unless_sub}
+use Rattle.asl_model.specs.Examples.{outside}
+use Rattle.asl_model.specs.Finding.{Breach, FindingFault, breach_shown, breach_unless_sub}
 use Rattle.asl_model.specs.Inference.{is_of_machine}
 use Rattle.asl_model.specs.Shape.{Shape}
-use Rattle.asl_model.specs.ShapeOrder.{sub}
+use Rattle.asl_model.specs.Tree.{Tree}
 use Rattle.asl_model.proofs.Listed.{first_in, first_or_later, later_in, none_in}
 use Rattle.asl_drafts.specs.Drafts.{own_breaches}
 use Rattle.asl_drafts.proofs.SettledClosed.{own_shapes}
@@ -25,13 +26,13 @@ either-in (x ∷ xs) ys b h = go (first_or_later x b (xs ++ ys) h) (either-in xs
     go (inl e) further = inl (subst (λ z. Contains (x ∷ xs) z) e (first_in x xs))
     go (inr c) further = next (further c)
 
--- what is told of a test that fails
-pub unless-in : (holds : Bool) (breach b : Breach) → Contains (breach_unless holds breach.field breach.fault) b → breach ≡ b
-unless-in true breach b h = none_in b h
-unless-in false breach b h = go (first_or_later breach b [] h)
+-- what a tree shows has that fault
+shown-fault : (field : List ℕ) (fault : FindingFault) (o : Option Tree) (b : Breach) → Contains (breach_shown field fault o) b → fault ≡ b.fault
+shown-fault field fault None b h = none_in b h
+shown-fault field fault (Some t) b h = go (first_or_later (record { field = field; fault = fault; example = Some t }) b [] h)
   where
-    go : (breach ≡ b) ⊎ Contains [] b → breach ≡ b
-    go (inl e) = e
+    go : (let breach : Breach = record { field = field; fault = fault; example = Some t } in breach ≡ b) ⊎ Contains [] b → fault ≡ b.fault
+    go (inl e) = ap (λ (x : Breach). x.fault) e
     go (inr c) = none_in b c
 
 -- ---- the rules that are broken whatever is certified elsewhere
@@ -69,7 +70,7 @@ own-at-machine takes (Flows edge) b is h = by edge.destination refl h
     by (ToInput next) e k = none_in b k
     by ToOutput e k = none_in b k
     by ToEnd e k = none_in b k
-    by ToTask e k = subst (λ (x : Breach). IsTrue (is_of_machine x.fault)) (unless-in (sub edge.flowing takes) (record { field = edge.field; fault = edge.fault }) b k) (is e)
+    by ToTask e k = subst (λ fault. IsTrue (is_of_machine fault)) (shown-fault edge.field edge.fault (outside edge.flowing takes) b k) (is e)
 
 pub own-of-machine : (takes : Shape) (steps : List Walked) (b : Breach) → AllByRecursion IsOfMachine steps → Contains (own_breaches takes steps) b → IsTrue (is_of_machine b.fault)
 own-of-machine takes [] b all h = none_in b h

@@ -73,7 +73,7 @@ module _ (table : Table) (declared : Declared) where
   at-row : (row : Row) (first : Option Misnamed) (holds : Bool) → not (is_task (kind_of row.state)) || is_some (under row.name declared.tasks) ≡ holds → option_map misnamed_view first ≡ first_by_name (found_at row.name (breach_unless holds (codes "Resource") TaskUndeclared)) → option_map misnamed_view first ≡ first_by_name (undeclared declared (row ∷ []))
   at-row row first holds is h = h ∙ (ap (λ b. first_by_name (found_at row.name (breach_unless b (codes "Resource") TaskUndeclared))) (sym is) ∙ sym (ap first_by_name (append-nil (found_at row.name (breach_unless (not (is_task (kind_of row.state)) || is_some (under row.name declared.tasks)) (codes "Resource") TaskUndeclared)))))
 
-  pub told-at : (number : ℕ) (row : Row) (misnamed : Misnamed) → IsIn table row → row.number ≡ number → is_task (kind_of row.state) ≡ true → is_some (under row.name declared.tasks) ≡ false → misnamed_view misnamed ≡ record { state = row.name; field = codes "Resource"; fault = TaskUndeclared } → IsFirstAt table declared number (Some misnamed)
+  pub told-at : (number : ℕ) (row : Row) (misnamed : Misnamed) → IsIn table row → row.number ≡ number → is_task (kind_of row.state) ≡ true → is_some (under row.name declared.tasks) ≡ false → misnamed_view misnamed ≡ record { state = row.name; field = codes "Resource"; fault = TaskUndeclared; example = None } → IsFirstAt table declared number (Some misnamed)
   told-at number row misnamed is same task missing told = record {
     first = λ r also here. subst (λ (x : Row). option_map misnamed_view (Some misnamed) ≡ first_by_name (undeclared declared (x ∷ []))) (Rattle.asl_infer.proofs.WalkedRows.same-row table row r is also (same ∙ sym here))
         (at-row row (Some misnamed) false (ap (λ b. not b || is_some (under row.name declared.tasks)) task ∙ missing) (ap Some told));
@@ -115,9 +115,9 @@ module _ (table : Table) where
     first = λ distinct task same. at-task task None true (have-named table task.0 distinct ∙ (ap (names_task_in table) same ∙ is)) refl;
   }
 
-  pub unknown-of : (name : List ℕ) (misnamed : Misnamed) → names_task_in table name ≡ false → misnamed_view misnamed ≡ record { state = name; field = codes "tasks"; fault = TaskUnknown } → IsFirstOf table name (Some misnamed)
+  pub unknown-of : (name : List ℕ) (misnamed : Misnamed) → names_task_in table name ≡ false → misnamed_view misnamed ≡ record { state = name; field = codes "tasks"; fault = TaskUnknown; example = None } → IsFirstOf table name (Some misnamed)
   unknown-of name misnamed is told = record {
-    first = λ distinct task same. at-task task (Some misnamed) false (have-named table task.0 distinct ∙ (ap (names_task_in table) same ∙ is)) (ap Some told ∙ ap (λ n. let found : Finding = record { state = n; field = codes "tasks"; fault = TaskUnknown } in Some found) (sym same));
+    first = λ distinct task same. at-task task (Some misnamed) false (have-named table task.0 distinct ∙ (ap (names_task_in table) same ∙ is)) (ap Some told ∙ ap (λ n. let found : Finding = record { state = n; field = codes "tasks"; fault = TaskUnknown; example = None } in Some found) (sym same));
   }
 
 -- ---- both

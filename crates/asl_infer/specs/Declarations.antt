@@ -2,13 +2,14 @@
 use Rattle.std.specs.Prelude.{◌≡◌, ℕ, List, [], ◌∷◌, true, Option, Some, None, option_map, slice_get, if◌then◌else◌, ⊤}
 use Rattle.asl_model.specs.Certificate.{Declared, TaskShapes}
 use Rattle.asl_model.specs.Finding as finding
+use Rattle.asl_model.specs.Finding.{plain_breach}
 use Rattle.asl_model.specs.Inference.{finding_of}
 use Rattle.asl_model.specs.Numbering.{Table}
 use Rattle.asl_model.specs.ShapeSpelling.{are_distinct}
 use Rattle.asl_model.specs.Tree.{comes_before}
 use Rattle.asl_drafts.specs.Drafts.{Row, misnamed, rows_of, undeclared, unknown}
 use Rattle.asl_check.specs.View.{finding_view}
-use Rattle.asl_edges.specs.View.{broken_view}
+use Rattle.asl_edges.specs.View.{finding_fault_view}
 use Rattle.asl_infer.specs.Rounds.{IsIn}
 use Rattle.asl_infer.specs.declared.declarations.Misnamed.{Misnamed}
 use Rattle.asl_infer.specs.declared.inferring.InferRefusal.{InferRefusal}
@@ -16,7 +17,7 @@ use Rattle.asl_infer.specs.declared.inferring.InferRefusal.TheVariants.{Finding,
 
 -- as a finding
 abbrev pub misnamed_view : Misnamed → finding.Finding
-misnamed_view m = finding_of m.name.now (broken_view m.rule)
+misnamed_view m = finding_of m.name.now (plain_breach m.field.now (finding_fault_view m.fault))
 
 -- the finding whose name comes first in byte order
 abbrev pub earlier : finding.Finding → Option finding.Finding → finding.Finding

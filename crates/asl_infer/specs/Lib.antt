@@ -2,3 +2,4 @@ pub mod Declarations
 pub mod Inferring
 pub mod Rounds
 pub mod Tasks
+pub mod Telling

@@ -1,9 +1,8 @@
 -- What is known of the states that are walked. No public clause cites this module.
 use Rattle.std.specs.Prelude.{◌≡◌, ◌≢◌, ◌≤◌, ◌*◌, ℕ, List, [], length, Bool, true, slice_get}
-use Rattle.std.specs.Prelude.{Option, Some, option_map, Result, Ok, Err, ⊤}
+use Rattle.std.specs.Prelude.{Some, Result, Ok, Err, ⊤}
 use Rattle.asl_model.specs.Certificate as model
 use Rattle.asl_model.specs.Certificate.{takes_of}
-use Rattle.asl_model.specs.Edges.{Walked}
 use Rattle.asl_model.specs.Finding as finding
 use Rattle.asl_model.specs.Numbering.{Table}
 use Rattle.asl_model.specs.Shape.{Shape}
@@ -17,10 +16,8 @@ use Rattle.asl_records.specs.declared.records.Declared.{Declared}
 use Rattle.asl_states.specs.Machine.{state_view}
 use Rattle.asl_states.specs.Table.{table_view}
 use Rattle.asl_states.specs.declared.machine.Machine.{Machine}
-use Rattle.asl_edges.specs.Entry.{AreEdgesOf}
-use Rattle.asl_edges.specs.View.{broken_view, steps_of}
-use Rattle.asl_edges.specs.declared.faults.Broken.{Broken}
-use Rattle.asl_edges.specs.declared.found.Edges.{Edges}
+use Rattle.asl_edges.specs.View.{steps_of}
+use Rattle.asl_edges.specs.declared.found.Step.{Step}
 use Rattle.asl_growing.specs.Calm.{IsCalm}
 use Rattle.asl_growing.specs.Drafted.{room}
 use Rattle.asl_growing.specs.Entries.{IsToldOf}
@@ -100,16 +97,11 @@ Tells come_to (Finding found) = come_to ≡ Err (finding_view found)
 Tells come_to NotSettled = ⊥
 Tells come_to OutOfMemory = ⊤
 
--- the first rule that is broken along the edges whatever is certified elsewhere, where the task takes the shape
-pub record IsFirstBroken (table : List Shape) (takes : Shape) (edges : Edges) (rule : Option Broken) : Type 0 where
-  pub first : (steps : List Walked) → AreEdgesOf table steps edges
-      → slice_get (own_breaches takes steps) 0 ≡ option_map broken_view rule
-
--- the edges are the steps of the row, and no rule of its own is broken
-pub record AreWhole (declared : model.Declared) (row : drafts.Row) (before : Draft) (table : List Shape) (edges : Edges)
-    : Type 0 where
-  pub seen : drafts.steps_of declared before row ≡ steps_of table edges.edges.items
-  pub whole : own_breaches (takes_of declared row.name) (steps_of table edges.edges.items) ≡ []
+-- the steps are those of the row, and no rule of its own is broken
+pub record AreWhole (declared : model.Declared) (row : drafts.Row) (before : Draft) (table : List Shape)
+    (steps : List Step) : Type 0 where
+  pub seen : drafts.steps_of declared before row ≡ steps_of table steps
+  pub whole : own_breaches (takes_of declared row.name) (steps_of table steps) ≡ []
 
 -- the state of that number is walked
 pub record Walks (table : Table) (declared : model.Declared) (number : ℕ) (before after : Draft) : Type 0 where

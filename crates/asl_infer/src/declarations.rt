@@ -12,17 +12,18 @@ ghost use Rattle.asl_infer.specs.Declarations.{AreNamed, IsFirst, IsFirstAt, IsF
 ghost use Rattle.asl_infer.specs.Declarations.{first_of, misnamed_view};
 
 use crate::inferring::InferRefusal;
-use crate::rounds::finding;
-use asl_edges::{Broken, FindingFault};
+use crate::telling::{Breach, finding};
+use asl_edges::FindingFault;
 use asl_records::Declared;
 use asl_states::{Kind, Machine};
 use std::alloc::Global;
 
-/// A name for which a rule about what is declared is broken.
+/// A name for which a rule about what is declared is broken. No tree shows that.
 #[derive(Clone, Copy, Drop)]
 pub(crate) struct Misnamed<'n> {
     name: &'n str,
-    rule: Broken,
+    field: &'static str,
+    fault: FindingFault,
 }
 
 /// Refuses where a Task isn't declared or a declared task names no Task, with the first such name in byte order. The
@@ -40,7 +41,14 @@ pub(crate) fn check_tasks(
     let undeclared = first_undeclared(machine, declared, order);
     let unknown = first_unknown(machine, declared);
     match earlier(undeclared, unknown) {
-        Some(first) => Err(InferRefusal::Finding(finding(alloc, first.name, first.rule)?)),
+        Some(first) => {
+            let breach = Breach {
+                field: first.field,
+                fault: first.fault,
+                example: None,
+            };
+            Err(InferRefusal::Finding(finding(alloc, first.name, breach)?))
+        }
         None => Ok(()),
     }
 }
@@ -69,11 +77,11 @@ fn undeclared<'n>(machine: &'n Machine, declared: &Declared, number: usize) -> O
     let name = machine.name(number)?;
     let state = machine.state(number)?;
     if is_task(&state.kind) && declared.task(name).is_none() {
-        let rule = Broken {
+        Some(Misnamed {
+            name,
             field: "Resource",
             fault: FindingFault::TaskUndeclared,
-        };
-        Some(Misnamed { name, rule })
+        })
     } else {
         None
     }
@@ -98,11 +106,11 @@ fn unknown<'n>(machine: &Machine, name: &'n str) -> Option<Misnamed<'n>>
     if names_task(machine, name) {
         None
     } else {
-        let rule = Broken {
+        Some(Misnamed {
+            name,
             field: "tasks",
             fault: FindingFault::TaskUnknown,
-        };
-        Some(Misnamed { name, rule })
+        })
     }
 }
 

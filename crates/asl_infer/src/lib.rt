@@ -6,5 +6,6 @@ mod declarations;
 mod inferring;
 mod rounds;
 mod tasks;
+mod telling;
 
 pub use inferring::{InferRefusal, infer, infer_numbered};

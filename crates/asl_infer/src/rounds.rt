@@ -1,24 +1,20 @@
 // The rounds of an inference: the states are walked, and what flows out of them is taken in.
 
-ghost use Rattle.std.specs.Prelude.{◌≡◌, ◌<◌, [], ◌∷◌, length, not, IfErr, IfNone, IfOk, IfSome, OnOk};
-ghost use Rattle.asl_drafts.specs.Drafts.{first_draft, input_taken, own_breaches};
-ghost use Rattle.asl_model.specs.Finding.{breach_unless};
-ghost use Rattle.asl_model.specs.Inference.{finding_of};
-ghost use Rattle.asl_states.specs.Table.{table_view};
-ghost use Rattle.asl_numbered.specs.Expansion.{expansions, shape_at, AreBelow, Keeps};
-ghost use Rattle.asl_edges.specs.View.{broken_view, edge_view, finding_fault_view, flowing_in};
+ghost use Rattle.std.specs.Prelude.{◌≡◌, length, IfErr, IfNone, IfOk, IfSome, OnOk};
+ghost use Rattle.asl_drafts.specs.Drafts.{first_draft, input_taken};
+ghost use Rattle.asl_numbered.specs.Expansion.{expansions, Keeps};
+ghost use Rattle.asl_edges.specs.View.{AreStepsBelow};
 ghost use Rattle.asl_growing.specs.Drafted.{draft_view, room};
 ghost use Rattle.asl_growing.specs.Entries.{Makes};
-ghost use Rattle.asl_check.specs.View.{finding_view};
 ghost use Rattle.asl_infer.specs.Rounds.{AreCalm, AreWhole, EndsWhereNamed, IsChanged};
-ghost use Rattle.asl_infer.specs.Rounds.{IsFirstBroken, IsGiven, IsGivenOf, IsNoRow, IsRowOf, RoundTells};
+ghost use Rattle.asl_infer.specs.Rounds.{IsGiven, IsGivenOf, IsNoRow, IsRowOf, RoundTells};
 ghost use Rattle.asl_infer.specs.Rounds.{SettlesWhereNamed, TakesRound, Walks, WalkTells};
 ghost use Rattle.asl_infer.specs.Rounds.{declared_in, row_view, table_in};
 
 use crate::inferring::InferRefusal;
 use crate::tasks::{TaskNumbers, task_numbers};
-use asl_check::Finding;
-use asl_edges::{Broken, Destination, Edge, Edges};
+use crate::telling::{finding, first_broken};
+use asl_edges::Step;
 use asl_growing::{Draft, Store, Target, Walker};
 use asl_records::Declared;
 use asl_states::{Machine, State};
@@ -165,8 +161,8 @@ impl<'m> Given<'m> {
         let Some(row) = self.row(number) else {
             return Ok(false);
         };
-        let edges = self.edges(number, &row, &mut walker.draft)?;
-        Ok(walker.take_edges(self.machine, number, &edges.edges)?)
+        let steps = self.steps(number, &row, &mut walker.draft)?;
+        Ok(walker.take_steps(self.machine, number, &steps)?)
     }
 
     // The state of that number, with its name and the numbers of its task's shapes.
@@ -185,85 +181,30 @@ impl<'m> Given<'m> {
         })
     }
 
-    // The edges of the state of that number. Refuses where one of its rules is broken whatever is certified elsewhere.
-    fn edges(
+    // The steps of the walk through the state of that number, all of them edges. Refuses where a rule of its own is broken
+    // whatever is certified elsewhere, with the first of them.
+    fn steps(
         &self,
         number: usize,
         row: &Row<'m>,
         draft: &mut Draft,
-    ) -> Result<Edges<'m>, InferRefusal>
+    ) -> Result<Vec<Step<'m>>, InferRefusal>
         requires given { IsGiven (expansions draft.old.store) self.now }
         requires row { IsRowOf self.now number row.now }
         ensures whole { IfOk result
-            (AreWhole (declared_in self.now) (row_view number row.now) (draft_view draft.old)
-            (expansions draft.new.store)) }
-        ensures below { IfOk result
-            (λ edges. AreBelow (length draft.new.store) (flowing_in edges.edges.items)) }
+            (λ steps. AreWhole (declared_in self.now) (row_view number row.now)
+            (draft_view draft.old) (expansions draft.new.store) steps.items) }
+        ensures below { IfOk result (λ steps. AreStepsBelow (length draft.new.store) steps.items) }
         ensures told { IfErr result
             (WalkTells (table_in self.now) (declared_in self.now) number (draft_view draft.old)) }
         ensures same { draft_view draft.new ≡ draft_view draft.old }
         ensures keeps { Keeps (expansions draft.old.store)
             (expansions draft.new.store) }
     {
-        let edges = draft.edges(number, row.state, row.task.gives)?;
-        match broken_rule(draft, &edges, row.task.takes)? {
-            Some(rule) => Err(InferRefusal::Finding(finding(self.alloc, row.name, rule)?)),
-            None => Ok(edges),
+        let steps = draft.edges(number, row.state, row.task.gives)?;
+        match first_broken(draft, &steps, row.task.takes)? {
+            Some(breach) => Err(InferRefusal::Finding(finding(self.alloc, row.name, breach)?)),
+            None => Ok(steps),
         }
     }
-}
-
-// The first rule that is broken along the edges whatever is certified elsewhere: a payload is not inside what the task
-// takes, or it is broken on the way.
-fn broken_rule(
-    draft: &mut Draft,
-    edges: &Edges,
-    takes: usize,
-) -> Result<Option<Broken>, OutOfMemory>
-    requires below { AreBelow (length draft.old.store) (flowing_in edges.now.edges.items) }
-    requires takes { takes < length draft.old.store }
-    ensures first { IfOk result
-        (IsFirstBroken (expansions draft.old.store)
-        (shape_at (expansions draft.old.store) takes) edges.now) }
-    ensures kept { draft.new.store ≡ draft.old.store }
-    ensures same { draft_view draft.new ≡ draft_view draft.old }
-{
-    for edge in &edges.edges {
-        if breaks_payload(draft, edge, takes)? {
-            return Ok(Some(Broken {
-                field: edge.field,
-                fault: edge.fault,
-            }));
-        }
-    }
-    Ok(edges.broken)
-}
-
-// Whether the edge leads to the task, and what flows along it isn't inside the shape of that number.
-fn breaks_payload(draft: &mut Draft, edge: &Edge, takes: usize) -> Result<bool, OutOfMemory>
-    requires flowing { edge.now.flowing < length draft.old.store }
-    requires takes { takes < length draft.old.store }
-    ensures broken { IfOk result
-        (λ broken. own_breaches (shape_at (expansions draft.old.store) takes)
-        (edge_view (expansions draft.old.store) edge.now ∷ [])
-        ≡ breach_unless (not broken) edge.now.field.now (finding_fault_view edge.now.fault)) }
-    ensures kept { draft.new.store ≡ draft.old.store }
-    ensures same { draft_view draft.new ≡ draft_view draft.old }
-{
-    match edge.destination {
-        Destination::Task => Ok(!draft.is_inside(edge.flowing, takes)?),
-        Destination::Input(_) | Destination::Output | Destination::End => Ok(false),
-    }
-}
-
-/// A broken rule of the state of that name, as a finding.
-pub(crate) fn finding(alloc: Global, name: &str, rule: Broken) -> Result<Finding, OutOfMemory>
-    ensures { IfOk result
-        (λ finding. finding_view finding ≡ finding_of name.now (broken_view rule)) }
-{
-    Ok(Finding {
-        state: String::from_str(alloc, name)?,
-        field: String::from_str(alloc, rule.field)?,
-        fault: rule.fault,
-    })
 }

@@ -1,6 +1,6 @@
 use Rattle.std.proofs.Common.{◌∙◌, subst}
-use Rattle.std.specs.Prelude.{IfOk}
-use Rattle.asl_edges.specs.Entry.{AreEdgesOf}
+use Rattle.std.specs.Prelude.{◌≡◌, IfOk}
+use Rattle.asl_edges.specs.View.{steps_of}
 use Rattle.asl_numbered.specs.Expansion.{expansions}
 use Rattle.asl_states.specs.Machine.{kind_view, settings_view}
 use Rattle.asl_growing.specs.Drafted.{draft_view, entry_at}
@@ -23,13 +23,13 @@ invariant_of-self c =
       entries_grown = entries_kept before.store c.edges.new.self before.entries.items c.edges.ensures.keeps before.entries_grown;
     }
 
-pub returns-clause-edges : goal.returns-clause-edges
-returns-clause-edges c =
+pub returns-clause-walked : goal.returns-clause-walked
+returns-clause-walked c =
     let first = c.args.self.now in
     let before = c.never.new.self in
     let kind = kind_view c.args.state.now.kind in
     let shown = c.entry_in-entry.ensures.shown (expansions before.store) (entry_at (draft_view before) c.args.number) (state-shown before c.in_ok-never.never c.in_ok-never.ensures.number c.in_ok-numbers.numbers c.args.number c.in_ok-numbers.ensures) in
-    subst (λ steps. IfOk c.edges.result (AreEdgesOf (expansions c.edges.new.self) steps)) (walk-same first.store before.store (draft_view first) (draft_view before) c.args.number c.args.gives (settings_view c.args.state.now.settings) kind c.entry_in-entry.result c.in_ok-never.ensures.keeps c.requires c.in_ok-never.ensures.same shown) c.edges.ensures.walked
+    subst (λ walked. IfOk c.edges.result (λ steps. steps_of (expansions c.edges.new.self) steps.items ≡ walked)) (walk-same first.store before.store (draft_view first) (draft_view before) c.args.number c.args.gives (settings_view c.args.state.now.settings) kind c.entry_in-entry.result c.in_ok-never.ensures.keeps c.requires c.in_ok-never.ensures.same shown) c.edges.ensures.walked
 
 pub returns-clause-same : goal.returns-clause-same
 returns-clause-same c =

@@ -9,7 +9,7 @@ use Rattle.asl_growing.specs.Underway.{IsCalmAfter}
 use Rattle.asl_growing.specs.declared.walker.Walker.{Walker}
 use Rattle.asl_infer.specs.Rounds.{declared_in, table_in}
 use Rattle.asl_infer.proofs.CalmStates.{none-calm, pass-calm, pass-walks, stop-calm, walked-calm}
-use Rattle.asl_infer.proofs.StateEdges.{state-calm, state-walks}
+use Rattle.asl_infer.proofs.StateSteps.{state-calm, state-walks}
 use Rattle.asl_infer.proofs.rounds.Given.take_turn.Goals as goal
 
 pub returns-then-not-stop-clause-walks : goal.returns-then-not-stop-clause-walks
@@ -32,10 +32,10 @@ returns-clause-walks c =
     let n = c.args.number in
     let first = c.args.walker.now in
     let one : Walker = record { draft = first.draft; waiting = c.stop.new.self; predecessors = first.predecessors } in
-    let two = c.take_edges.new.self in
-    let made : Walker = record { draft = c.edges.new.draft; waiting = one.waiting; predecessors = one.predecessors } in
-    state-walks given n c.in-Some.row one made two c.in_ok-edges.edges c.in-Some.ensures.there c.in_ok-edges.ensures.whole c.in_ok-edges.ensures.same c.in_ok-take_edges.field-0
-    (subst (λ es. Makes room (steps_taken (table_in given) n (steps_of (expansions made.draft.store) es)) (draft_view made.draft) c.in_ok-take_edges.field-0 (draft_view two.draft)) c.deref.ensures.value c.in_ok-take_edges.ensures.takes)
+    let two = c.take_steps.new.self in
+    let made : Walker = record { draft = c.steps.new.draft; waiting = one.waiting; predecessors = one.predecessors } in
+    state-walks given n c.in-Some.row one made two c.in_ok-steps.steps.items c.in-Some.ensures.there c.in_ok-steps.ensures.whole c.in_ok-steps.ensures.same c.in_ok-take_steps.field-0
+    (subst (λ es. Makes room (steps_taken (table_in given) n (steps_of (expansions made.draft.store) es)) (draft_view made.draft) c.in_ok-take_steps.field-0 (draft_view two.draft)) c.deref.ensures.value c.in_ok-take_steps.ensures.takes)
 
 pub returns-clause-calm : goal.returns-clause-calm
 returns-clause-calm c =
@@ -43,9 +43,9 @@ returns-clause-calm c =
     let n = c.args.number in
     let first = c.args.walker.now in
     let one : Walker = record { draft = first.draft; waiting = c.stop.new.self; predecessors = first.predecessors } in
-    let two = c.take_edges.new.self in
-    let made : Walker = record { draft = c.edges.new.draft; waiting = one.waiting; predecessors = one.predecessors } in
-    let after = subst (λ es. IsCalmAfter (table_in given) n (steps_of (expansions made.draft.store) es) made two) c.deref.ensures.value c.in_ok-take_edges.ensures.walked in
-    walked-calm (table_in given) (declared_in given) one made two n refl refl c.in_ok-edges.ensures.same c.in_ok-edges.ensures.keeps c.in_ok-take_edges.ensures.waits c.in_ok-take_edges.ensures.others
-    (state-calm given n c.in-Some.row one made two c.in_ok-edges.edges c.in-Some.ensures.there c.in_ok-edges.ensures.whole c.in_ok-edges.ensures.same after)
+    let two = c.take_steps.new.self in
+    let made : Walker = record { draft = c.steps.new.draft; waiting = one.waiting; predecessors = one.predecessors } in
+    let after = subst (λ es. IsCalmAfter (table_in given) n (steps_of (expansions made.draft.store) es) made two) c.deref.ensures.value c.in_ok-take_steps.ensures.walked in
+    walked-calm (table_in given) (declared_in given) one made two n refl refl c.in_ok-steps.ensures.same c.in_ok-steps.ensures.keeps c.in_ok-take_steps.ensures.waits c.in_ok-take_steps.ensures.others
+    (state-calm given n c.in-Some.row one made two c.in_ok-steps.steps.items c.in-Some.ensures.there c.in_ok-steps.ensures.whole c.in_ok-steps.ensures.same after)
     (stop-calm (table_in given) (declared_in given) first one n c.stop.ensures.stops c.stop.ensures.order refl refl (keeps_same (expansions first.draft.store)) c.requires.calm)

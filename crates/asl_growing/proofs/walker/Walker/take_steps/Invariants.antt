@@ -3,8 +3,8 @@ use Rattle.asl_states.specs.Table.{table_view}
 use Rattle.asl_numbered.specs.Expansion.{expansions}
 use Rattle.asl_growing.proofs.Leading.{first_steps}
 use Rattle.asl_growing.proofs.Underway.{HasWalked}
-use Rattle.asl_growing.proofs.walker.Walker.take_edges.Given as goal
+use Rattle.asl_growing.proofs.walker.Walker.take_steps.Given as goal
 
 abbrev pub invariant-loop-place : goal.invariant-loop-place
 invariant-loop-place l =
-    HasWalked (table_view l.machine) l.number (steps_of (expansions l.initial.self.draft.store) l.edges) (first_steps (expansions l.initial.self.draft.store) l.edges l.place) l.initial.self l.changed l.self
+    HasWalked (table_view l.machine) l.number (steps_of (expansions l.initial.self.draft.store) l.steps) (first_steps (expansions l.initial.self.draft.store) l.steps l.place) l.initial.self l.changed l.self

@@ -1,0 +1,74 @@
+-- The steps of a state, and what its walk tells.
+use Rattle.std.proofs.Common.{◌≡◌, ◌<◌, ℕ, List, [], length, slice_get, Bool, Option, Some, None, option_map, Err, refl, sym, ap, ◌∙◌, subst}
+use Rattle.asl_model.specs.Certificate as model
+use Rattle.asl_model.specs.Certificate.{takes_of}
+use Rattle.asl_model.specs.Edges.{Walked, walk}
+use Rattle.asl_model.specs.Inference.{finding_of}
+use Rattle.asl_model.specs.Shape.{Shape}
+use Rattle.asl_drafts.specs.Drafts as drafts
+use Rattle.asl_drafts.specs.Drafts.{Draft, own_breaches, steps_taken}
+use Rattle.asl_numbered.specs.Expansion.{expansions, shape_at, Keeps}
+use Rattle.asl_numbered.proofs.Expansions.{kept_shape}
+use Rattle.asl_states.specs.Machine.{kind_view, settings_view}
+use Rattle.asl_edges.specs.View.{steps_of}
+use Rattle.asl_edges.specs.declared.found.Step.{Step}
+use Rattle.asl_growing.specs.Calm.{IsCalm}
+use Rattle.asl_growing.specs.Drafted.{draft_view, room, shapes_of}
+use Rattle.asl_growing.specs.Entries.{Makes}
+use Rattle.asl_growing.specs.Underway.{IsCalmAfter}
+use Rattle.asl_growing.specs.declared.walker.Walker.{Walker}
+use Rattle.asl_check.specs.View.{finding_view}
+use Rattle.asl_check.specs.declared.verdicts.Finding.{Finding}
+use Rattle.asl_infer.specs.Rounds.{AreWhole, IsIn, IsRowOf, WalkTells, Walks, declared_in, row_view, table_in}
+use Rattle.asl_infer.specs.Tasks.{IsTaskOf}
+use Rattle.asl_infer.specs.Telling.{IsFirstBroken, breach_view}
+use Rattle.asl_infer.specs.declared.inferring.InferRefusal.TheVariants as refusal
+use Rattle.asl_infer.specs.declared.rounds.Given.{Given}
+use Rattle.asl_infer.specs.declared.rounds.Row.{Row}
+use Rattle.asl_infer.specs.declared.telling.Breach.{Breach}
+use Rattle.asl_infer.proofs.OwnRules.{whole-steps}
+use Rattle.asl_infer.proofs.WalkedRows.{same-row, tells-row, walked-broken, walked-whole, walks-row}
+
+module _ (given : Given) (number : ℕ) (row : Row) (before : Draft) (old new : List Shape) (steps : List Step) (task : IsTaskOf (declared_in given) row.name.now old row.task) (keeps : Keeps old new) (walked : steps_of new steps ≡ walk (shape_at old row.task.gives) (settings_view row.state.now.settings) (kind_view row.state.now.kind) (shapes_of before number (kind_view row.state.now.kind))) (breach : Option Breach) (first : IsFirstBroken new (shape_at new row.task.takes) steps breach) where
+  abbrev declared : model.Declared
+  declared = declared_in given
+
+  abbrev shown : drafts.Row
+  shown = row_view number row
+
+  seen : drafts.steps_of declared before shown ≡ steps_of new steps
+  seen = sym (walked ∙ ap (λ s. walk s (settings_view row.state.now.settings) (kind_view row.state.now.kind) (shapes_of before number (kind_view row.state.now.kind))) task.gives.same)
+
+  takes : shape_at new row.task.takes ≡ takes_of declared row.name.now
+  takes = kept_shape old new row.task.takes keeps task.takes.within ∙ task.takes.same
+
+  own : IsFirstBroken new (takes_of declared row.name.now) steps breach
+  own = subst (λ s. IsFirstBroken new s steps breach) takes first
+
+  -- no rule is broken
+  pub whole-row : breach ≡ None → AreWhole declared shown before new steps
+  whole-row is = record { seen = seen; whole = whole-steps new (takes_of declared row.name.now) steps (subst (IsFirstBroken new (takes_of declared row.name.now) steps) is own) }
+
+  -- one is
+  pub row-tells : (one : Breach) (found : Finding) → breach ≡ Some one → finding_view found ≡ finding_of row.name.now (breach_view one) → IsIn (table_in given) shown → WalkTells (table_in given) declared number before (refusal.Finding found)
+  row-tells one found is told among =
+      let at : slice_get (own_breaches (takes_of declared row.name.now) (drafts.steps_of declared before shown)) 0 ≡ Some (breach_view one) = ap (λ steps. slice_get (own_breaches (takes_of declared row.name.now) steps) 0) seen ∙ (own.first ∙ ap (option_map breach_view) is) in
+      tells-row (table_in given) declared number shown before (refusal.Finding found) among refl (walked-broken (table_in given) declared shown before (breach_view one) at ∙ ap Err (sym told))
+
+-- ---- the state has been walked
+
+module _ (given : Given) (number : ℕ) (row : Row) (one made two : Walker) (steps : List Step) (of : IsRowOf given number row) (whole : AreWhole (declared_in given) (row_view number row) (draft_view one.draft) (expansions made.draft.store) steps) (same : draft_view made.draft ≡ draft_view one.draft) where
+  abbrev all : List Walked
+  all = steps_of (expansions made.draft.store) steps
+
+  pub state-walks : (changed : Bool) → Makes room (steps_taken (table_in given) number all) (draft_view made.draft) changed (draft_view two.draft) → Walks (table_in given) (declared_in given) number (draft_view one.draft) (draft_view two.draft)
+  state-walks changed makes =
+      let after : draft_view two.draft ≡ steps_taken (table_in given) number all (draft_view one.draft) = makes.made ∙ ap (steps_taken (table_in given) number all) same in
+      walks-row (table_in given) (declared_in given) number (row_view number row) (draft_view one.draft) (draft_view two.draft) of.among refl
+      (walked-whole (table_in given) (declared_in given) (row_view number row) all (draft_view one.draft) (draft_view two.draft) whole.seen whole.whole after)
+
+  pub state-calm : IsCalmAfter (table_in given) number all made two → (r : drafts.Row) → IsIn (table_in given) r → r.number ≡ number → r.number < length two.waiting.waits.items → IsCalm (table_in given) (declared_in given) r two
+  state-calm after r is here within =
+      let shown : row_view number row ≡ r = same-row (table_in given) (row_view number row) r of.among is (sym here) in
+      let seen : drafts.steps_of (declared_in given) (draft_view one.draft) r ≡ all = subst (λ (x : drafts.Row). drafts.steps_of (declared_in given) (draft_view one.draft) x ≡ all) shown whole.seen in
+      after.calm (declared_in given) r here within (ap (λ d. drafts.steps_of (declared_in given) d r) same ∙ seen) (subst (λ (x : drafts.Row). own_breaches (takes_of (declared_in given) x.name) all ≡ []) shown whole.whole)
