@@ -1,8 +1,9 @@
 //! The lines that a verdict, a run and a fault are told by.
 
-ghost use Rattle.std.specs.Prelude.{◌≡◌, ◌++◌, IfOk, string_bytes, codes, decimal};
-ghost use Rattle.asl_model.specs.Printed.{quoted_name, finding_line, finding_lines, verdict_text, verdict_status, place_text, refusal_text, refusal_line, refusal_status, out_of_memory, fault_line, fault_status, closing_line, closing_status, run_line, run_status, AnswerShape};
+ghost use Rattle.std.specs.Prelude.{◌≡◌, ◌++◌, IfOk, OnOk, option_map, string_bytes, codes, decimal};
+ghost use Rattle.asl_model.specs.Printed.{quoted_name, example_text, finding_line, finding_lines, verdict_text, verdict_status, place_text, refusal_text, refusal_line, refusal_status, out_of_memory, fault_line, fault_status, closing_line, closing_status, run_line, run_status, AnswerShape};
 ghost use Rattle.asl_check.specs.View.{finding_view, findings_view, verdict_view};
+ghost use Rattle.asl_tree.specs.View.{view};
 ghost use Rattle.asl_tool.specs.View.{which_view, tree_refusal_view, def_refusal_view, record_refusal_view, text_fault_view, run_fault_view, run_end_view, closing_view};
 
 use crate::endings::Closing;
@@ -16,7 +17,7 @@ use asl_tree::{OutOfMemory, Tree, TreeRefusal, to_text};
 use std::alloc::Global;
 
 /// The lines of a verdict, each ended by a line break: `yes`, or `no STATE FIELD FAULT` for each finding, the state's
-/// name as a JSON text.
+/// name as a JSON text, and behind a space the finding's example as a JSON text where it has one.
 pub fn verdict_text(alloc: Global, verdict: &Verdict) -> Result<String, OutOfMemory>
     ensures { IfOk result (λ text. string_bytes text ≡ verdict_text (verdict_view verdict.now)) }
 {
@@ -50,8 +51,22 @@ fn finding_text(alloc: Global, finding: &Finding) -> Result<String, OutOfMemory>
     text.push_str(&finding.field)?;
     text.push_str(" ")?;
     text.push_str(finding.fault.name())?;
+    push_example(alloc, &mut text, &finding.example)?;
     text.push_str("\n")?;
     Ok(text)
+}
+
+/// Puts a space and the example as a JSON text behind the text; nothing where there is none.
+fn push_example(alloc: Global, text: &mut String, example: &Option<Tree>) -> Result<(), OutOfMemory>
+    ensures { OnOk result
+        (string_bytes text.new ≡ string_bytes text.old ++ example_text (option_map view example.now)) }
+{
+    if let Some(tree) = example {
+        let written = to_text(alloc, tree)?;
+        text.push_str(" ")?;
+        text.push_str(&written)?;
+    }
+    Ok(())
 }
 
 /// The exit status of the program and the line on standard error, with its break, empty where there is none.
