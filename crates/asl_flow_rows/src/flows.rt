@@ -1,19 +1,21 @@
-//! Shapes through a state: what paths name, what is put, what templates give and rules let through, and what leaves a
-//! state, each call once with ample memory.
+//! Shapes through a state: what paths name, or where they may name nothing, what is put, what templates give and rules let
+//! through, and what leaves a state, each call once with ample memory.
 use asl_choice::{Test, from_tree};
 use asl_flow::{
-    leave, leave_at, literal_shape, look, put, rule_shape, template_shape, template_shape_at,
+    FlowFault, RuleShapeRefusal, TemplateShapeRefusal, leave, leave_at, literal_shape, look,
+    missing, put, rule_shape, template_shape, template_shape_at,
 };
 use asl_numbered::Shapes;
 use asl_path::{RefPath, parse};
-use asl_shape::{Shape, read, write};
+use asl_shape::{Shape, has, read, write};
 use asl_states::{Kind, Settings, State};
-use asl_tree::to_text;
+use asl_template::Template;
+use asl_tree::{Tree, to_text};
 use std::alloc::Global;
 use std::process::Abort;
 
 /// The shape that the JSON text spells.
-fn shape(rt: &impl Abort, alloc: Global, text: &str) -> Shape {
+pub(crate) fn shape(rt: &impl Abort, alloc: Global, text: &str) -> Shape {
     let tree = asl_tree::read(alloc, text.as_bytes()).expect(rt, "a tree");
     read(alloc, &tree).expect(rt, "a shape")
 }
@@ -23,15 +25,21 @@ fn written(rt: &impl Abort, alloc: Global, shape: &Shape) -> String {
     to_text(alloc, &write(alloc, shape).expect(rt, "a tree")).expect(rt, "a text")
 }
 
+/// What is told, and behind a space the tree that shows it.
+fn showing(rt: &impl Abort, alloc: Global, told: &str, tree: &Tree) -> String {
+    let text = to_text(alloc, tree).expect(rt, "a text");
+    format!(in alloc; "{told} {text}").expect(rt, "memory")
+}
+
 /// The test of the rule that has these fields.
-fn test(rt: &impl Abort, alloc: Global, fields: &str) -> Test {
+pub(crate) fn test(rt: &impl Abort, alloc: Global, fields: &str) -> Test {
     let text = format!(in alloc; "{{{fields},\"Next\":\"B\"}}").expect(rt, "memory");
     let tree = asl_tree::read(alloc, text.as_bytes()).expect(rt, "a tree");
     from_tree(alloc, &tree).expect(rt, "a rule").test
 }
 
 /// The fields of a rule, a shape, and the shape of its trees for which the rule is true, or the refusal.
-const TRUE_OF: [(&str, &str, &str); 33] = [
+const TRUE_OF: [(&str, &str, &str); 38] = [
     (
         r#""Variable":"$.k","IsPresent":true"#,
         r#"{"type":"object","additionalProperties":false}"#,
@@ -60,7 +68,7 @@ const TRUE_OF: [(&str, &str, &str); 33] = [
     (
         r#""And":[{"Variable":"$.k","StringEquals":"x"},{"Variable":"$.k","IsPresent":true}]"#,
         r#"{"type":"object","properties":{"k":{"type":"string"}}}"#,
-        "MayBeMissing",
+        "MayBeMissing {}",
     ),
     (
         r#""Not":{"Variable":"$.k","IsPresent":true}"#,
@@ -75,7 +83,7 @@ const TRUE_OF: [(&str, &str, &str); 33] = [
     (
         r#""Or":[{"Variable":"$.k","IsPresent":true},{"Variable":"$.k","IsNull":true}]"#,
         r#"{"type":"object"}"#,
-        "MayBeMissing",
+        "MayBeMissing {}",
     ),
     (
         r#""And":[{"Variable":"$.k","IsPresent":true},{"Variable":"$.j","IsNull":true}]"#,
@@ -95,7 +103,7 @@ const TRUE_OF: [(&str, &str, &str); 33] = [
     (
         r#""Variable":"$.a","StringEqualsPath":"$.b""#,
         r#"{"type":"object","required":["a"]}"#,
-        "MayBeMissing",
+        r#"MayBeMissing {"a":null}"#,
     ),
     (
         r#""Variable":"$.a","StringEqualsPath":"$.b""#,
@@ -110,7 +118,7 @@ const TRUE_OF: [(&str, &str, &str); 33] = [
     (
         r#""Variable":"$.k","IsString":false"#,
         r#"{"type":"object"}"#,
-        "MayBeMissing",
+        "MayBeMissing {}",
     ),
     (r#""Variable":"$.k","IsString":false"#, "false", "false"),
     (
@@ -182,12 +190,37 @@ const TRUE_OF: [(&str, &str, &str); 33] = [
     (
         r#""Variable":"$.a","NumericEquals":1"#,
         r#"{"type":["null","object"],"properties":{"a":{"type":"integer"}},"required":["a"],"additionalProperties":false}"#,
-        "MayBeMissing",
+        "MayBeMissing null",
     ),
     (
         r#""Variable":"$.a","NumericEquals":1"#,
         r#"{"type":["array","object"],"prefixItems":[false],"minItems":1,"properties":{"a":{"type":"integer"}},"required":["a"],"additionalProperties":false}"#,
         r#"{"additionalProperties":false,"minItems":1,"prefixItems":[false],"properties":{"a":{"type":"integer"}},"required":["a"],"type":["array","object"]}"#,
+    ),
+    (
+        r#""And":[{"Variable":"$.k","IsPresent":true},{"Variable":"$.j","IsNull":true}]"#,
+        r#"{"type":"object","properties":{"k":{"type":"string"}}}"#,
+        r#"MayBeMissing {"k":""}"#,
+    ),
+    (
+        r#""Variable":"$.a","StringEqualsPath":"$.b""#,
+        r#"{"type":"object","properties":{"b":{"type":"integer"}}}"#,
+        "MayBeMissing {}",
+    ),
+    (
+        r#""Variable":"$[1]","NumericEquals":1"#,
+        r#"{"type":"array","prefixItems":[{"type":"integer"}],"minItems":1}"#,
+        "MayBeMissing [0]",
+    ),
+    (
+        r#""Variable":"$.a.b","BooleanEquals":true"#,
+        r#"{"type":"object","properties":{"a":{"type":["array","object"],"required":["b"]},"c":{"type":"string"}},"required":["a","c"]}"#,
+        r#"MayBeMissing {"a":[],"c":""}"#,
+    ),
+    (
+        r#""Or":[{"Not":{"Variable":"$.k","IsPresent":true}},{"Variable":"$.j","IsNull":true},{"Variable":"$.i","IsNull":true}]"#,
+        r#"{"type":"object","properties":{"i":{"type":"null"}},"required":["i"]}"#,
+        r#"MayBeMissing {"i":null}"#,
     ),
 ];
 
@@ -197,6 +230,9 @@ fn rules(rt: HostRuntime) {
     for (fields, given, wanted) in &TRUE_OF {
         let answer = match rule_shape(alloc, &test(&rt, alloc, fields), &shape(&rt, alloc, given)) {
             Ok(narrowed) => written(&rt, alloc, &narrowed),
+            Err(RuleShapeRefusal::MayBeMissing(tree)) => {
+                showing(&rt, alloc, "MayBeMissing", &tree)
+            }
             Err(refusal) => format!(in alloc; "{refusal:?}").expect(&rt, "memory"),
         };
         assert_eq!(rt; answer.as_str(), *wanted, "at {fields} on {given}");
@@ -204,7 +240,7 @@ fn rules(rt: HostRuntime) {
 }
 
 /// A template, the shape of its input, and the shape of the template's value, or the refusal; there is no item.
-const FILLED: [(&str, &str, &str); 30] = [
+const FILLED: [(&str, &str, &str); 33] = [
     (
         r#"{"p.$":"$"}"#,
         r#"{"type":"object","additionalProperties":false}"#,
@@ -213,17 +249,17 @@ const FILLED: [(&str, &str, &str); 30] = [
     (
         r#"{"p.$":"$.k"}"#,
         r#"{"type":"object","additionalProperties":false}"#,
-        r#"MayBeMissing("p")"#,
+        r#"MayBeMissing("p") {}"#,
     ),
     (
         r#"{"p.$":"$.k"}"#,
         r#"{"type":"object","properties":{"k":{"type":"null"}}}"#,
-        r#"MayBeMissing("p")"#,
+        r#"MayBeMissing("p") {}"#,
     ),
     (
         r#"{"p":{"b":[1,{"c.$":"$[1]"}]}}"#,
         r#"{"type":"array","prefixItems":[true],"minItems":1}"#,
-        r#"MayBeMissing("c")"#,
+        r#"MayBeMissing("c") [null]"#,
     ),
     (
         r#"{"p":{"b":[1,{"c.$":"$[0]"}]}}"#,
@@ -297,7 +333,7 @@ const FILLED: [(&str, &str, &str); 30] = [
     (
         r#"{"p.$":"$.a"}"#,
         r#"{"type":["null","object"],"properties":{"a":{"type":"integer"}},"required":["a"],"additionalProperties":false}"#,
-        r#"MayBeMissing("p")"#,
+        r#"MayBeMissing("p") null"#,
     ),
     (
         r#"{"p.$":"$.a"}"#,
@@ -339,10 +375,25 @@ const FILLED: [(&str, &str, &str); 30] = [
         r#"{"type":["integer","null"]}"#,
         r#"{"additionalProperties":false,"properties":{"l":{"items":false,"minItems":1,"prefixItems":[{"type":["integer","null"]}],"type":"array"}},"required":["l"],"type":"object"}"#,
     ),
+    (
+        r#"{"b.$":"$.y","a":[{"c.$":"$.x"}]}"#,
+        r#"{"type":"object","required":["z"]}"#,
+        r#"MayBeMissing("c") {"z":null}"#,
+    ),
+    (
+        r#"{"a.$":"States.Array($.x)","b.$":"$.x"}"#,
+        r#"{"type":"object"}"#,
+        r#"MayFail("a")"#,
+    ),
+    (
+        r#"{"p.$":"$.l[1].k"}"#,
+        r#"{"type":"object","properties":{"l":{"type":"array","prefixItems":[{"type":"string"},{"type":["array","null","object"],"prefixItems":[{"type":"integer"}],"minItems":1,"required":["k"]}],"minItems":2}},"required":["l"]}"#,
+        r#"MayBeMissing("p") {"l":["",[0]]}"#,
+    ),
 ];
 
 /// A template, the shape of its input, that of the item, and the shape of the template's value, or the refusal.
-const WITH_ITEM: [(&str, &str, &str, &str); 6] = [
+const WITH_ITEM: [(&str, &str, &str, &str); 7] = [
     (
         r#"{"i.$":"$$.Map.Item.Index"}"#,
         "true",
@@ -359,7 +410,7 @@ const WITH_ITEM: [(&str, &str, &str, &str); 6] = [
         r#"{"v.$":"$$.Map.Item.Value.k"}"#,
         r#"{"type":"object","required":["k"]}"#,
         r#"{"type":"object"}"#,
-        r#"MayBeMissing("v")"#,
+        r#"MayBeMissing("v") {}"#,
     ),
     (
         r#"{"v.$":"$$.Map.Item.Value.k"}"#,
@@ -379,7 +430,19 @@ const WITH_ITEM: [(&str, &str, &str, &str); 6] = [
         "false",
         r#"{"additionalProperties":false,"properties":{"x":{"type":"string"}},"required":["x"],"type":"object"}"#,
     ),
+    (
+        r#"{"p.$":"$$.Map.Item.Value.k"}"#,
+        r#"{"type":"object","required":["k"]}"#,
+        r#"{"type":"object","properties":{"j":{"type":"integer"}},"required":["j"]}"#,
+        r#"MayBeMissing("p") {"j":0}"#,
+    ),
 ];
+
+/// The template that the JSON text spells, in which paths to an item may stand.
+pub(crate) fn template(rt: &impl Abort, alloc: Global, text: &str) -> Template {
+    let tree = asl_tree::read(alloc, text.as_bytes()).expect(rt, "a tree");
+    asl_template::from_tree(alloc, &tree, true).expect(rt, "a template")
+}
 
 /// The shape of the template's value as it is written, or the refusal.
 fn filled(
@@ -389,8 +452,7 @@ fn filled(
     input: &str,
     item: Option<&str>,
 ) -> String {
-    let tree = asl_tree::read(alloc, spelling.as_bytes()).expect(rt, "a tree");
-    let template = asl_template::from_tree(alloc, &tree, true).expect(rt, "a template");
+    let template = template(rt, alloc, spelling);
     let input = shape(rt, alloc, input);
     let answer = match item {
         Some(text) => template_shape(alloc, &template, &input, Some(&shape(rt, alloc, text))),
@@ -398,6 +460,10 @@ fn filled(
     };
     match answer {
         Ok(filled) => written(rt, alloc, &filled),
+        Err(TemplateShapeRefusal::MayBeMissing(name, tree)) => {
+            let told = format!(in alloc; "MayBeMissing({name:?})").expect(rt, "memory");
+            showing(rt, alloc, &told, &tree)
+        }
         Err(refusal) => format!(in alloc; "{refusal:?}").expect(rt, "memory"),
     }
 }
@@ -525,6 +591,121 @@ const NAMED: [(&str, &str, &str); 18] = [
         r#"{"type":["integer","string"]}"#,
     ),
 ];
+
+/// A shape, a path, and a value of that shape in which the path names nothing, or `none`.
+const MISSING: [(&str, &str, &str); 22] = [
+    (
+        r#"{"type":"object","additionalProperties":false}"#,
+        "$.a",
+        "{}",
+    ),
+    (
+        r#"{"type":"object","properties":{"a":{"type":"integer"}}}"#,
+        "$.a",
+        "{}",
+    ),
+    (
+        r#"{"type":"object","properties":{"a":{"type":"integer"}},"required":["a"]}"#,
+        "$.a",
+        "none",
+    ),
+    (
+        r#"{"type":"object","properties":{"a":{"type":"object","required":["b"]},"c":{"type":"string"},"d":true},"required":["a","c"]}"#,
+        "$.a.c",
+        r#"{"a":{"b":null},"c":""}"#,
+    ),
+    (
+        r#"{"type":"array","prefixItems":[{"type":"integer"},{"type":"string"}],"minItems":2}"#,
+        "$[2]",
+        r#"[0,""]"#,
+    ),
+    (
+        r#"{"type":"array","prefixItems":[{"type":"integer"},{"type":"string"}],"minItems":2}"#,
+        "$.a",
+        r#"[0,""]"#,
+    ),
+    (r#"{"type":"string"}"#, "$.a", r#""""#),
+    (r#"{"type":"string"}"#, "$", "none"),
+    ("true", "$[0]", "null"),
+    ("true", "$.a.b", "null"),
+    ("true", "$", "none"),
+    ("false", "$.a", "none"),
+    (
+        r#"{"type":"object","properties":{"b":false},"required":["b"]}"#,
+        "$.a",
+        "none",
+    ),
+    (
+        r#"{"type":["null","object"],"properties":{"a":{"type":"integer"}},"required":["a"]}"#,
+        "$.a",
+        "null",
+    ),
+    (
+        r#"{"type":["null","object"],"properties":{"a":{"type":"integer"}},"required":["a"]}"#,
+        "$[0]",
+        "null",
+    ),
+    (
+        r#"{"type":["array","string"],"prefixItems":[{"type":"integer"}],"minItems":1}"#,
+        "$[0]",
+        r#""""#,
+    ),
+    (
+        r#"{"type":["array","object"],"prefixItems":[false],"minItems":1,"properties":{"a":{"type":"integer"}},"required":["a"]}"#,
+        "$.a",
+        "none",
+    ),
+    (
+        r#"{"type":["array","object"],"prefixItems":[false],"minItems":1,"properties":{"a":{"type":"integer"}},"required":["a"]}"#,
+        "$[0]",
+        r#"{"a":0}"#,
+    ),
+    (
+        r#"{"type":["array","object"],"prefixItems":[{"type":"integer"}],"minItems":1,"required":["a"]}"#,
+        "$.a",
+        "[0]",
+    ),
+    (
+        r#"{"type":["array","object"],"prefixItems":[{"type":"integer"}],"minItems":1,"required":["a"]}"#,
+        "$[0]",
+        r#"{"a":null}"#,
+    ),
+    (
+        r#"{"type":"object","properties":{"b":{"type":["null","object"],"properties":{"a":{"type":"integer"}},"required":["a"]}},"required":["b"]}"#,
+        "$.b.a",
+        r#"{"b":null}"#,
+    ),
+    (
+        r#"{"type":"array","prefixItems":[{"type":"object","properties":{"a":{"type":"array","prefixItems":[{"type":"null"}],"minItems":1},"b":{"type":"boolean"}},"required":["a","b"]},{"type":"integer"}],"minItems":2}"#,
+        "$[0].a[1].c",
+        r#"[{"a":[null],"b":false},0]"#,
+    ),
+];
+
+#[test]
+fn missing_parts(rt: HostRuntime) {
+    let alloc = rt.alloc();
+    for (given, path, wanted) in &MISSING {
+        let steps = parse(alloc, path).expect(&rt, "a path");
+        let given_shape = shape(&rt, alloc, given);
+        let named = look(alloc, &given_shape, &steps);
+        let Some(tree) = missing(alloc, &given_shape, &steps).expect(&rt, "an answer") else {
+            assert_eq!(rt; *wanted, "none", "at {path} in {given}");
+            assert!(rt; named.is_ok(), "at {path} in {given}");
+            continue;
+        };
+        let answer = to_text(alloc, &tree).expect(&rt, "a text");
+        assert_eq!(rt; answer.as_str(), *wanted, "at {path} in {given}");
+        assert!(rt;
+            named.is_err() && has(&given_shape, &tree),
+            "at {path} in {given}"
+        );
+        assert!(rt;
+            asl_path::find(&tree, &steps).is_none(),
+            "at {path} in {given}"
+        );
+    }
+}
 
 /// A shape, a path, what is put there, and the shape that comes out, or the refusal.
 const PUT: [(&str, &str, &str, &str); 22] = [
@@ -686,13 +867,17 @@ fn path_or_null(rt: &impl Abort, alloc: Global, text: &str) -> Option<RefPath> {
 }
 
 /// A state with that `ResultSelector`, `ResultPath` and `OutputPath`; no text is none and null.
-fn state(rt: &impl Abort, alloc: Global, kind: Kind, fields: (&str, &str, &str)) -> State {
+pub(crate) fn state(
+    rt: &impl Abort,
+    alloc: Global,
+    kind: Kind,
+    fields: (&str, &str, &str),
+) -> State {
     let (selector, result_path, output_path) = fields;
     let result_selector = if selector.is_empty() {
         None
     } else {
-        let tree = asl_tree::read(alloc, selector.as_bytes()).expect(rt, "a tree");
-        Some(asl_template::from_tree(alloc, &tree, false).expect(rt, "a template"))
+        Some(template(rt, alloc, selector))
     };
     let settings = Settings {
         input_path: Some(parse(alloc, "$").expect(rt, "a path")),
@@ -713,7 +898,7 @@ fn state(rt: &impl Abort, alloc: Global, kind: Kind, fields: (&str, &str, &str))
 
 /// `ResultSelector`, `ResultPath` and `OutputPath` of a Pass, the shapes of its raw input and of its result, and the
 /// shape of its output, or the refusal.
-const OUTPUTS: [((&str, &str, &str), &str, &str, &str); 9] = [
+const OUTPUTS: [((&str, &str, &str), &str, &str, &str); 11] = [
     (
         ("", "$", "$"),
         r#"{"type":"integer"}"#,
@@ -748,7 +933,19 @@ const OUTPUTS: [((&str, &str, &str), &str, &str, &str); 9] = [
         ("", "$", "$.b"),
         "true",
         r#"{"type":"object"}"#,
-        r#"MayBeMissing("OutputPath")"#,
+        r#"MayBeMissing("OutputPath") {}"#,
+    ),
+    (
+        ("", "$.a", "$.b"),
+        r#"{"type":"object","properties":{"b":{"type":"string"}},"additionalProperties":false}"#,
+        r#"{"type":"integer"}"#,
+        r#"MayBeMissing("OutputPath") {"a":0}"#,
+    ),
+    (
+        (r#"{"m.$":"$.n","k.$":"$.o"}"#, "$", "$"),
+        "true",
+        r#"{"type":"object","required":["p"]}"#,
+        r#"MayBeMissing("ResultSelector") {"p":null}"#,
     ),
     (
         ("", "$.a.b", "$"),
@@ -777,6 +974,10 @@ fn outputs(rt: HostRuntime) {
             &shape(&rt, alloc, work),
         ) {
             Ok(output) => written(&rt, alloc, &output),
+            Err(FlowFault::MayBeMissing(field, tree)) => {
+                let told = format!(in alloc; "MayBeMissing({field:?})").expect(&rt, "memory");
+                showing(&rt, alloc, &told, &tree)
+            }
             Err(fault) => format!(in alloc; "{fault:?}").expect(&rt, "memory"),
         };
         assert_eq!(rt; answer.as_str(), wanted);
@@ -823,9 +1024,7 @@ fn outputs_by_number(rt: HostRuntime) {
     let alloc = rt.alloc();
     let kind = Kind::Pass { result: None };
     let mut pass = state(&rt, alloc, kind, ("", "$.box.out", "$.box"));
-    let parameters = asl_tree::read(alloc, r#"{"m.$":"$.n","k":true}"#.as_bytes());
-    let parameters = asl_template::from_tree(alloc, &parameters.expect(&rt, "a tree"), false);
-    pass.settings.parameters = Some(parameters.expect(&rt, "a template"));
+    pass.settings.parameters = Some(template(&rt, alloc, r#"{"m.$":"$.n","k":true}"#));
     let raw = shape(
         &rt,
         alloc,

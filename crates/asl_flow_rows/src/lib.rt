@@ -5,4 +5,6 @@
 #![tactic(auto)]
 
 #[cfg(test)]
+mod doubts;
+#[cfg(test)]
 mod flows;

@@ -2,7 +2,7 @@
 use asl_infer::{InferRefusal, infer};
 use asl_records::{Certificate, StateShapes, read_certificate, read_declared};
 use asl_shape::{Shape, same};
-use asl_tree::read_value;
+use asl_tree::{read_value, to_text};
 use std::alloc::Global;
 use std::process::Abort;
 
@@ -58,7 +58,13 @@ fn refusal(
             let state = finding.state.as_str();
             let field = finding.field.as_str();
             let fault = finding.fault.name();
-            format!(in alloc; "{state} {field} {fault}").expect(rt, "memory")
+            match &finding.example {
+                Some(tree) => {
+                    let example = to_text(alloc, tree).expect(rt, "a text");
+                    format!(in alloc; "{state} {field} {fault} {example}").expect(rt, "memory")
+                }
+                None => format!(in alloc; "{state} {field} {fault}").expect(rt, "memory"),
+            }
         }
         Err(InferRefusal::NotSettled) => String::from_str(alloc, "not settled").expect(
             rt, "memory",
@@ -249,7 +255,12 @@ fn refusals(rt: HostRuntime) {
         (TWO_TASKS, TWO_EMPTY_LISTS, 17, "not settled"),
         (CAUGHT, NULL_TO_INTEGER, 2, "not settled"),
         (MAP, INTEGER, 3, "M ItemsPath WrongKind"),
-        (PAST_BRANCHES, TASKS, 3, "N InputPath PathMayBeMissing"),
+        (
+            PAST_BRANCHES,
+            TASKS,
+            3,
+            r#"N InputPath PathMayBeMissing [0,""]"#,
+        ),
         (BRANCHES, INTEGER, 0, "T0 Resource TaskUndeclared"),
         (
             PASS,
@@ -261,7 +272,7 @@ fn refusals(rt: HostRuntime) {
             BRANCHES,
             r#"{"input":true,"tasks":{"T0":{"takes":{"type":"string"},"gives":true},"T1":{"gives":true}}}"#,
             3,
-            "T0 Parameters PayloadNotTaken",
+            "T0 Parameters PayloadNotTaken []",
         ),
     ];
     for (definition, declared, rounds, wanted) in vectors {

@@ -1,8 +1,8 @@
-//! Shapes in a table: their numbers, their nodes, the shapes again, how they compare and join, and how they are read
-//! from their spellings, each call once with ample memory.
+//! Shapes in a table: their numbers, their nodes, the shapes again, how they compare and join, which trees show what they
+//! say, and how they are read from their spellings, each call once with ample memory.
 use asl_numbered::{Node, NodeField, NumberedRefusal, Shapes};
 use asl_shape::{Shape, ShapeRefusal, read, write};
-use asl_tree::to_text;
+use asl_tree::{Tree, to_text};
 use std::alloc::Global;
 use std::collections::BTreeMap;
 use std::process::Abort;
@@ -315,6 +315,197 @@ fn forty_doublings(rt: HostRuntime) {
         [Some(second), Some(second)]
     );
     assert_eq!(rt; shapes.len(), 123);
+}
+
+/// A shape and its example, or `none`.
+const EXAMPLES: [(&str, &str); 7] = [
+    ("true", "null"),
+    ("false", "none"),
+    (
+        r#"{"type":"array","prefixItems":[{"type":"integer"},{"type":"string"}],"minItems":2}"#,
+        r#"[0,""]"#,
+    ),
+    (
+        r#"{"type":"object","properties":{"a":{"type":"integer"},"b":{"type":"boolean"},"c":true},"required":["b","c"]}"#,
+        r#"{"b":false,"c":null}"#,
+    ),
+    (
+        r#"{"type":["array","string"],"prefixItems":[{"type":["null","object"]}],"minItems":1}"#,
+        "[null]",
+    ),
+    (
+        r#"{"type":["array","null"],"prefixItems":[false],"minItems":1}"#,
+        "null",
+    ),
+    (
+        r#"{"type":["array","object"],"prefixItems":[false],"minItems":1,"required":["a"],"additionalProperties":false}"#,
+        "none",
+    ),
+];
+
+/// Two shapes, and a value of the first that lacks the second, or `none`.
+const OUTSIDE: [(&str, &str, &str); 20] = [
+    (r#"{"type":"integer"}"#, "true", "none"),
+    ("true", r#"{"type":"integer"}"#, "[]"),
+    (
+        r#"{"type":"integer"}"#,
+        r#"{"type":["null","string"]}"#,
+        "0",
+    ),
+    (
+        "true",
+        r#"{"type":["array","boolean","integer","null","object","string"]}"#,
+        "none",
+    ),
+    (
+        "true",
+        r#"{"type":["boolean","integer","null","object","string"]}"#,
+        "[]",
+    ),
+    (
+        "true",
+        r#"{"type":["array","boolean","integer","null","object","string"],"required":["a"]}"#,
+        "{}",
+    ),
+    (
+        r#"{"type":"array","items":{"type":"integer"}}"#,
+        r#"{"type":"array","items":{"type":"string"}}"#,
+        "[0]",
+    ),
+    (
+        r#"{"type":"array","items":{"type":"integer"}}"#,
+        r#"{"type":"array","prefixItems":[{"type":"integer"}],"minItems":1,"items":{"type":"integer"}}"#,
+        "[]",
+    ),
+    (
+        r#"{"type":"array","prefixItems":[{"type":"integer"},{"type":["null","string"]},true],"minItems":3}"#,
+        r#"{"type":"array","prefixItems":[{"type":"integer"},{"type":"null"}],"minItems":2}"#,
+        r#"[0,"",null]"#,
+    ),
+    (
+        r#"{"type":"array","prefixItems":[{"type":"integer"}],"minItems":1}"#,
+        r#"{"type":"array","prefixItems":[{"type":"integer"}],"minItems":1,"items":false}"#,
+        "[0,[]]",
+    ),
+    (
+        r#"{"type":"array","items":false}"#,
+        r#"{"type":["array","null"],"prefixItems":[false],"minItems":1}"#,
+        "[]",
+    ),
+    (
+        r#"{"type":"object","properties":{"a":{"type":"integer"},"b":{"type":"integer"}},"required":["a"]}"#,
+        r#"{"type":"object","properties":{"a":{"type":"integer"},"b":{"type":"string"}}}"#,
+        r#"{"a":0,"b":0}"#,
+    ),
+    (
+        r#"{"type":"object","required":["c"]}"#,
+        r#"{"type":"object","properties":{"a":true,"b":{"type":"integer"}}}"#,
+        r#"{"b":[],"c":null}"#,
+    ),
+    (
+        r#"{"type":"object","properties":{"a":false,"b":true},"additionalProperties":false}"#,
+        r#"{"type":"object","additionalProperties":false}"#,
+        r#"{"b":[]}"#,
+    ),
+    (
+        r#"{"type":"object","properties":{"a":false},"additionalProperties":false}"#,
+        r#"{"type":"object","additionalProperties":false}"#,
+        "none",
+    ),
+    (
+        r#"{"type":"object","properties":{"a":{"type":"integer"}},"required":["a"]}"#,
+        r#"{"type":"object","properties":{"a":{"type":"integer"}},"required":["a"],"additionalProperties":false}"#,
+        r#"{"a":0,"aa":null}"#,
+    ),
+    (
+        r#"{"type":"object"}"#,
+        r#"{"type":"object","additionalProperties":false}"#,
+        r#"{"a":null}"#,
+    ),
+    (
+        r#"{"type":"object","properties":{"a":{"type":"integer"}}}"#,
+        r#"{"type":"object","properties":{"a":{"type":"integer"},"aa":true},"additionalProperties":false}"#,
+        r#"{"aaa":null}"#,
+    ),
+    (
+        r#"{"type":"object","properties":{"b":{"type":"array","items":{"type":"object","properties":{"c":{"type":"integer"}},"required":["c"]}}},"required":["b"]}"#,
+        r#"{"type":"object","properties":{"b":{"type":"array","items":{"type":"object","properties":{"c":{"type":"string"}},"required":["c"]}}}}"#,
+        r#"{"b":[{"c":0}]}"#,
+    ),
+    (
+        r#"{"type":["array","null"],"items":{"type":["integer","string"]}}"#,
+        r#"{"type":["array","null"],"items":{"type":"integer"}}"#,
+        r#"[""]"#,
+    ),
+];
+
+/// The text of the tree, or `none`.
+fn text_of(rt: &impl Abort, alloc: Global, tree: &Option<Tree>) -> String {
+    match tree {
+        Some(tree) => to_text(alloc, tree).expect(rt, "a text"),
+        None => String::from_str(alloc, "none").expect(rt, "memory"),
+    }
+}
+
+#[test]
+fn examples_as_worked_out_by_hand(rt: HostRuntime) {
+    let alloc = rt.alloc();
+    let mut shapes = Shapes::new(alloc);
+    for (text, wanted) in &EXAMPLES {
+        let number = shapes.add(&shape(&rt, alloc, text)).expect(&rt, "a number");
+        let tree = shapes.example(alloc, number).expect(&rt, "an answer");
+        assert_eq!(rt; text_of(&rt, alloc, &tree).as_str(), *wanted, "{text}");
+    }
+    for (first, second, wanted) in &OUTSIDE {
+        let inner = shapes
+            .add(&shape(&rt, alloc, first))
+            .expect(&rt, "a number");
+        let outer = shapes
+            .add(&shape(&rt, alloc, second))
+            .expect(&rt, "a number");
+        for _ in 0..2 {
+            let tree = shapes.outside(alloc, inner, outer).expect(&rt, "an answer");
+            assert_eq!(rt;
+                text_of(&rt, alloc, &tree).as_str(),
+                *wanted,
+                "{first} {second}"
+            );
+        }
+        let is_inside = shapes.sub(inner, outer).expect(&rt, "an answer");
+        assert_eq!(rt; is_inside, Some(*wanted == "none"), "{first} {second}");
+    }
+    let beyond = shapes.len();
+    assert!(rt;
+        shapes
+            .example(alloc, beyond)
+            .expect(&rt, "an answer")
+            .is_none()
+    );
+    for (inner, outer) in [(0, beyond), (beyond, 0)] {
+        let tree = shapes.outside(alloc, inner, outer).expect(&rt, "an answer");
+        assert!(rt; tree.is_none());
+    }
+}
+
+/// How often shapes are doubled whose examples are larger than any memory.
+const LARGE: usize = 100;
+
+#[test]
+fn examples_larger_than_memory(rt: HostRuntime) {
+    let alloc = rt.alloc();
+    let mut shapes = Shapes::new(alloc);
+    let null = shapes.add(&Shape::Null).expect(&rt, "a number");
+    let mut first = shapes.add(&Shape::Int).expect(&rt, "a number");
+    let mut second = shapes.add(&Shape::Text).expect(&rt, "a number");
+    for _ in 0..LARGE {
+        first = doubled(&rt, alloc, &mut shapes, first);
+        second = doubled(&rt, alloc, &mut shapes, second);
+    }
+    assert!(rt; shapes.example(alloc, first).is_err());
+    assert!(rt; shapes.outside(alloc, first, second).is_err());
+    assert!(rt; shapes.outside(alloc, first, null).is_err());
+    let tree = shapes.outside(alloc, null, first).expect(&rt, "an answer");
+    assert_eq!(rt; text_of(&rt, alloc, &tree).as_str(), "null");
 }
 
 /// What comes of reading a shape: the number and the shape, or the refusal.

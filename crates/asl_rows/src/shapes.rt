@@ -1,8 +1,8 @@
-//! Vectors for shapes: what each spelling reads as, the tests of shapes on a few pairs, and what is copied, written and
-//! joined, each call once with ample memory.
+//! Vectors for shapes: what each spelling reads as, the tests of shapes on a few pairs, which trees show what shapes say,
+//! and what is copied, written and joined, each call once with ample memory.
 use asl_shape::{
-    OwnedKinds, Shape, ShapeRefusal, copy, has, inhabited, join, of_kinds, proper, read, read_v1,
-    read_value, read_value_v1, same, sub, take_apart, write,
+    OwnedKinds, Shape, ShapeRefusal, copy, example, has, inhabited, join, of_kinds, outside,
+    proper, read, read_v1, read_value, read_value_v1, same, sub, take_apart, write,
 };
 use asl_tree::{Tree, to_text, to_value};
 use std::alloc::Global;
@@ -420,6 +420,252 @@ fn answers_as_worked_out_by_hand(rt: HostRuntime) {
         let tree = write(alloc, &joined.expect(&rt, "a join")).expect(&rt, "a tree");
         let answered = to_text(alloc, &tree).expect(&rt, "a text");
         assert_eq!(rt; answered.as_str(), *written, "{first} {second}");
+    }
+}
+
+/// A shape and its example, or `none`.
+const EXAMPLES: [(&str, &str); 20] = [
+    ("true", "null"),
+    ("false", "none"),
+    (r#"{"type":"null"}"#, "null"),
+    (r#"{"type":"boolean"}"#, "false"),
+    (r#"{"type":"integer"}"#, "0"),
+    (r#"{"type":"string"}"#, r#""""#),
+    (r#"{"type":"array"}"#, "[]"),
+    (r#"{"type":"object"}"#, "{}"),
+    (
+        r#"{"type":"array","prefixItems":[{"type":"integer"},{"type":"string"}],"minItems":2}"#,
+        r#"[0,""]"#,
+    ),
+    (
+        r#"{"type":"array","prefixItems":[false],"minItems":1}"#,
+        "none",
+    ),
+    (
+        r#"{"type":"object","properties":{"a":{"type":"integer"},"b":{"type":"boolean"},"c":true},"required":["b","c"]}"#,
+        r#"{"b":false,"c":null}"#,
+    ),
+    (
+        r#"{"type":"object","required":["a"],"additionalProperties":false}"#,
+        "none",
+    ),
+    (r#"{"type":["null","string"]}"#, "null"),
+    (r#"{"type":["object","string"]}"#, "{}"),
+    (r#"{"type":["string","object","integer"]}"#, "0"),
+    (r#"{"type":["null","boolean"]}"#, "false"),
+    (
+        r#"{"type":["array","string"],"prefixItems":[{"type":["null","object"]}],"minItems":1}"#,
+        "[null]",
+    ),
+    (
+        r#"{"type":["array","null"],"prefixItems":[false],"minItems":1}"#,
+        "null",
+    ),
+    (
+        r#"{"type":["object","string"],"properties":{"a":false},"required":["a"]}"#,
+        r#""""#,
+    ),
+    (
+        r#"{"type":["array","object"],"prefixItems":[false],"minItems":1,"required":["a"],"additionalProperties":false}"#,
+        "none",
+    ),
+];
+
+/// Two shapes, and a value of the first that lacks the second, or `none`.
+const OUTSIDE: [(&str, &str, &str); 35] = [
+    (r#"{"type":"integer"}"#, "true", "none"),
+    ("true", r#"{"type":"integer"}"#, "[]"),
+    ("false", r#"{"type":"null"}"#, "none"),
+    (r#"{"type":"integer"}"#, r#"{"type":"string"}"#, "0"),
+    (
+        r#"{"type":"integer"}"#,
+        r#"{"type":["null","string"]}"#,
+        "0",
+    ),
+    (
+        r#"{"type":["null","string"]}"#,
+        r#"{"type":"null"}"#,
+        r#""""#,
+    ),
+    (
+        r#"{"type":["boolean","integer","null"]}"#,
+        r#"{"type":"integer"}"#,
+        "false",
+    ),
+    (
+        "true",
+        r#"{"type":["array","boolean","integer","null","object","string"]}"#,
+        "none",
+    ),
+    (
+        "true",
+        r#"{"type":["boolean","integer","null","object","string"]}"#,
+        "[]",
+    ),
+    (
+        "true",
+        r#"{"type":["array","boolean","integer","null","object"]}"#,
+        r#""""#,
+    ),
+    (
+        "true",
+        r#"{"type":["array","integer","null","object","string"]}"#,
+        "false",
+    ),
+    (
+        "true",
+        r#"{"type":["array","boolean","integer","null","object","string"],"items":{"type":"integer"}}"#,
+        "[[]]",
+    ),
+    (
+        "true",
+        r#"{"type":["array","boolean","integer","null","object","string"],"required":["a"]}"#,
+        "{}",
+    ),
+    (
+        "true",
+        r#"{"type":["array","boolean","integer","null","object","string"],"additionalProperties":false}"#,
+        r#"{"a":null}"#,
+    ),
+    (
+        r#"{"type":"array","items":{"type":"integer"}}"#,
+        r#"{"type":"array","items":{"type":"string"}}"#,
+        "[0]",
+    ),
+    (
+        r#"{"type":"array","items":{"type":"integer"}}"#,
+        r#"{"type":"array","prefixItems":[{"type":"integer"}],"minItems":1,"items":{"type":"integer"}}"#,
+        "[]",
+    ),
+    (
+        r#"{"type":"array","prefixItems":[{"type":"integer"},{"type":"string"}],"minItems":2,"items":false}"#,
+        r#"{"type":"array","items":{"type":"integer"}}"#,
+        r#"[0,""]"#,
+    ),
+    (
+        r#"{"type":"array","prefixItems":[{"type":"integer"},{"type":["null","string"]},true],"minItems":3}"#,
+        r#"{"type":"array","prefixItems":[{"type":"integer"},{"type":"null"}],"minItems":2}"#,
+        r#"[0,"",null]"#,
+    ),
+    (
+        r#"{"type":"array","prefixItems":[{"type":"integer"}],"minItems":1}"#,
+        r#"{"type":"array","prefixItems":[{"type":"integer"}],"minItems":1,"items":false}"#,
+        "[0,[]]",
+    ),
+    (
+        r#"{"type":"array","prefixItems":[false],"minItems":1}"#,
+        r#"{"type":"integer"}"#,
+        "none",
+    ),
+    (
+        r#"{"type":"array","items":false}"#,
+        r#"{"type":["array","null"],"prefixItems":[false],"minItems":1}"#,
+        "[]",
+    ),
+    (r#"{"type":"object"}"#, r#"{"type":"null"}"#, "{}"),
+    (
+        r#"{"type":"object","properties":{"a":{"type":"integer"}}}"#,
+        r#"{"type":"object","properties":{"a":{"type":"integer"}},"required":["a"]}"#,
+        "{}",
+    ),
+    (
+        r#"{"type":"object","properties":{"a":{"type":"integer"},"b":{"type":"integer"}},"required":["a"]}"#,
+        r#"{"type":"object","properties":{"a":{"type":"integer"},"b":{"type":"string"}}}"#,
+        r#"{"a":0,"b":0}"#,
+    ),
+    (
+        r#"{"type":"object","required":["c"]}"#,
+        r#"{"type":"object","properties":{"a":true,"b":{"type":"integer"}}}"#,
+        r#"{"b":[],"c":null}"#,
+    ),
+    (
+        r#"{"type":"object","properties":{"a":{"type":"integer"}},"additionalProperties":false}"#,
+        r#"{"type":"object","additionalProperties":false}"#,
+        r#"{"a":0}"#,
+    ),
+    (
+        r#"{"type":"object","properties":{"a":false,"b":true},"additionalProperties":false}"#,
+        r#"{"type":"object","additionalProperties":false}"#,
+        r#"{"b":[]}"#,
+    ),
+    (
+        r#"{"type":"object","properties":{"a":false},"additionalProperties":false}"#,
+        r#"{"type":"object","additionalProperties":false}"#,
+        "none",
+    ),
+    (
+        r#"{"type":"object","properties":{"a":{"type":"integer"}},"required":["a"]}"#,
+        r#"{"type":"object","properties":{"a":{"type":"integer"}},"required":["a"],"additionalProperties":false}"#,
+        r#"{"a":0,"aa":null}"#,
+    ),
+    (
+        r#"{"type":"object"}"#,
+        r#"{"type":"object","additionalProperties":false}"#,
+        r#"{"a":null}"#,
+    ),
+    (
+        r#"{"type":"object","properties":{"a":{"type":"integer"}}}"#,
+        r#"{"type":"object","properties":{"a":{"type":"integer"},"aa":true},"additionalProperties":false}"#,
+        r#"{"aaa":null}"#,
+    ),
+    (
+        r#"{"type":"object","properties":{"b":{"type":"array","items":{"type":"object","properties":{"c":{"type":"integer"}},"required":["c"]}}},"required":["b"]}"#,
+        r#"{"type":"object","properties":{"b":{"type":"array","items":{"type":"object","properties":{"c":{"type":"string"}},"required":["c"]}}}}"#,
+        r#"{"b":[{"c":0}]}"#,
+    ),
+    (
+        r#"{"type":["array","null"],"items":{"type":["integer","string"]}}"#,
+        r#"{"type":["array","null"],"items":{"type":"integer"}}"#,
+        r#"[""]"#,
+    ),
+    (
+        r#"{"type":["null","object"],"required":["a"]}"#,
+        r#"{"type":["null","object"],"properties":{"a":{"type":"integer"}}}"#,
+        r#"{"a":[]}"#,
+    ),
+    (
+        r#"{"type":["object","string"]}"#,
+        r#"{"type":"object"}"#,
+        r#""""#,
+    ),
+];
+
+/// The text of the tree, or `none`.
+fn text_of(rt: &impl Abort, alloc: Global, tree: &Option<Tree>) -> String {
+    match tree {
+        Some(tree) => to_text(alloc, tree).expect(rt, "a text"),
+        None => String::from_str(alloc, "none").expect(rt, "memory"),
+    }
+}
+
+#[test]
+fn examples_as_worked_out_by_hand(rt: HostRuntime) {
+    let alloc = rt.alloc();
+    for (text, wanted) in &EXAMPLES {
+        let given = shape(&rt, alloc, text);
+        let tree = example(alloc, &given).expect(&rt, "an answer");
+        assert_eq!(rt; text_of(&rt, alloc, &tree).as_str(), *wanted, "{text}");
+        assert_eq!(rt; tree.is_some(), inhabited(&given), "{text}");
+        if let Some(tree) = tree {
+            assert!(rt; has(&given, &tree), "{text}");
+        }
+    }
+    for (first, second, wanted) in &OUTSIDE {
+        let inner = shape(&rt, alloc, first);
+        let outer = shape(&rt, alloc, second);
+        let tree = outside(alloc, &inner, &outer).expect(&rt, "an answer");
+        assert_eq!(rt;
+            text_of(&rt, alloc, &tree).as_str(),
+            *wanted,
+            "{first} {second}"
+        );
+        assert_eq!(rt; tree.is_none(), sub(&inner, &outer), "{first} {second}");
+        if let Some(tree) = tree {
+            assert!(rt;
+                has(&inner, &tree) && !has(&outer, &tree),
+                "{first} {second}"
+            );
+        }
     }
 }
 

@@ -1,8 +1,10 @@
 //! Texts of inferred certificates, with a list of their shapes and without one, and what is told of these certificates.
 use asl_tool::{
-    FindingFault, Inferred, Verdict, Verified, infer_texts, verify_inferred, verify_texts,
+    FindingFault, Inferred, Verdict, Verified, infer_texts, verdict_text, verify_inferred,
+    verify_texts,
 };
 use std::alloc::Global;
+use std::process::Abort;
 
 const PARALLEL: &str =
     r#"{"StartAt":"P","States":{"P":{"Type":"Parallel","Branches":[{"StartAt":"T0","States":{"T0":{"Type":"Task","Resource":"r","End":true}}},{"StartAt":"T1","States":{"T1":{"Type":"Task","Resource":"r","End":true}}}],"End":true}}}"#;
@@ -83,4 +85,42 @@ fn verdicts_on_what_is_inferred(rt: HostRuntime) {
     assert_eq!(rt; finding.state.as_str(), "T0");
     assert_eq!(rt; finding.field.as_str(), "Resource");
     assert!(rt; matches!(finding.fault, FindingFault::TaskUndeclared));
+    assert!(rt; finding.example.is_none());
+}
+
+/// A state with a path that may name nothing in its input.
+const ASTRAY: &str =
+    r#"{"StartAt":"A","States":{"A":{"Type":"Pass","InputPath":"$.k","End":true}}}"#;
+
+/// The line of the finding that is told in place of a certificate; an empty one where none is.
+fn told_line(rt: &impl Abort, alloc: Global, definition: &str, declared: &str) -> String {
+    match verified(alloc, definition, declared, 3) {
+        Some(Verified::Finding(finding)) => {
+            let mut findings = Vec::new(alloc);
+            findings.push(finding).expect(rt, "memory");
+            verdict_text(alloc, &Verdict::No(findings)).expect(rt, "a text")
+        }
+        _ => String::new(alloc),
+    }
+}
+
+/// A finding is told with its example.
+#[test]
+fn findings_with_examples(rt: HostRuntime) {
+    let alloc = rt.alloc();
+    let integer_needed =
+        r#"{"input":{"type":"object","properties":{"j":{"type":"integer"}},"required":["j"]}}"#;
+    for (declared, wanted) in [
+        (
+            integer_needed,
+            "no \"A\" InputPath PathMayBeMissing {\"j\":0}\n",
+        ),
+        (
+            r#"{"input":true}"#,
+            "no \"A\" InputPath PathMayBeMissing null\n",
+        ),
+    ] {
+        let line = told_line(&rt, alloc, ASTRAY, declared);
+        assert_eq!(rt; line.as_str(), wanted);
+    }
 }

@@ -99,7 +99,7 @@ fn answers_three_lines(rt: HostRuntime) {
             DEFINITION,
             DECLARED,
             r#"{"version":1,"output":true,"states":{"A":{"input":false,"output":true}}}"#,
-            "no \"A\" StartAt StartInput\n",
+            "no \"A\" StartAt StartInput 0\n",
             1,
             "",
         ),
