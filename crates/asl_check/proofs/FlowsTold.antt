@@ -1,9 +1,9 @@
 -- What is told of the edges of a state is told of what flows through it.
-use Rattle.std.proofs.Common.{◌≡◌, ◌<◌, ℕ, List, length, map, Option, None, option_map, option_to_list, Result, IfOk, IfSome, Bor, refl, ap, ◌∙◌, subst}
+use Rattle.std.proofs.Common.{◌≡◌, ◌<◌, ℕ, List, length, map, Option, None, option_map, option_to_list, Result, IfOk, OnOk, IfSome, Bor, refl, ap, ◌∙◌, subst}
 use Rattle.asl_model.specs.Certificate.{Declared, StateShapes, gives_of}
 use Rattle.asl_model.specs.Edges as edges
 use Rattle.asl_model.specs.Edges.{breaches_along, destination_shapes, walk}
-use Rattle.asl_model.specs.Finding.{Breach, Surroundings, surrounded_by, flow_breaches}
+use Rattle.asl_model.specs.Finding.{Breach, Surroundings, found_at, surrounded_by, flow_breaches}
 use Rattle.asl_model.specs.Machine.{Kind, Settings}
 use Rattle.asl_model.specs.Numbering.{Placement}
 use Rattle.asl_model.specs.Shape.{Shape}
@@ -17,35 +17,33 @@ use Rattle.asl_records.specs.declared.records.StateNumbers.{StateNumbers}
 use Rattle.asl_records.proofs.Kept.{numbers_within, shown, within}
 use Rattle.asl_edges.specs.Entry.{IsEntryBelow, entry_view}
 use Rattle.asl_edges.specs.declared.found.Entry.{Entry}
-use Rattle.asl_check.specs.Checking.{Told}
 use Rattle.asl_check.specs.Faults.{fault_view}
 use Rattle.asl_check.specs.declared.faults.Fault.{Fault}
+use Rattle.asl_check.specs.Listing.{Adds}
 use Rattle.asl_check.specs.Numbers.{IsWithin, certificate_of}
 use Rattle.asl_check.specs.Rules.{end_in, inputs_in}
 use Rattle.asl_check.specs.Standing.{AreStanding, standing_view}
 use Rattle.asl_check.specs.Tasks.{AreOfTask}
+use Rattle.asl_check.specs.declared.listed.Listed.{Listed}
 use Rattle.asl_check.specs.declared.standing.Standing.{Standing}
 use Rattle.asl_check.specs.declared.tasks.TaskNumbers.{TaskNumbers}
 use Rattle.asl_check.proofs.Grown.{certificate_kept, checker_within}
 
 -- ---- one list for another
 
-pub same_answered : (table : List Shape) (answer : Result (Option Fault) OutOfMemory) (xs ys : List Breach) → xs ≡ ys → IfOk answer (λ told. Told xs (option_map (fault_view table) told)) → IfOk answer (λ told. Told ys (option_map (fault_view table) told))
-same_answered table answer xs ys e t = subst (λ bs. IfOk answer (λ told. Told bs (option_map (fault_view table) told))) e t
-
--- so where what is told is the list, of a table that has stayed the same
+-- what is told is the list, of a table that has stayed the same
 pub same_listed : (old new : List Node) (answer : Result (Option Fault) OutOfMemory) (xs ys : List Breach) → new ≡ old → xs ≡ ys → IfOk answer (λ told. option_to_list (option_map (fault_view (expansions old)) told) ≡ xs)
     → IfOk answer (λ told. option_to_list (option_map (fault_view (expansions new)) told) ≡ ys)
 same_listed old new answer xs ys unchanged e t = rw unchanged (subst (λ bs. IfOk answer (λ told. option_to_list (option_map (fault_view (expansions old)) told) ≡ bs)) e t)
 
--- what is told along the walk with what stands there, in a table that has stayed the same
-pub answered_along : (around : Surroundings) (entry : StateShapes) (settings : Settings) (kind : Kind) (s : edges.DestinationShapes) (given : Shape) (steps : List edges.Walked) (old new : List Node) (answer : Result (Option Fault) OutOfMemory) → new ≡ old → s ≡ destination_shapes around → given ≡ gives_of around.declared around.name → entry ≡ around.entry
+-- what is listed along the walk with what stands there, in a table that has stayed the same
+pub listed_along : (around : Surroundings) (settings : Settings) (kind : Kind) (s : edges.DestinationShapes) (given : Shape) (entry : StateShapes) (steps : List edges.Walked) (old new : List Node) (before after : List Listed) (answer : Result Unit OutOfMemory) → new ≡ old → s ≡ destination_shapes around → given ≡ gives_of around.declared around.name → entry ≡ around.entry
     → steps ≡ walk given settings kind entry
     → breaches_along (destination_shapes around) (walk (gives_of around.declared around.name) settings kind around.entry) ≡ flow_breaches around settings kind
-    → IfOk answer (λ told. Told (breaches_along s steps) (option_map (fault_view (expansions old)) told)) → IfOk answer (λ told. Told (flow_breaches around settings kind) (option_map (fault_view (expansions new)) told))
-answered_along around entry settings kind s given steps old new answer unchanged standing gives same is law told =
+    → OnOk answer (Adds (expansions old) before after (found_at around.name (breaches_along s steps))) → OnOk answer (Adds (expansions new) before after (found_at around.name (flow_breaches around settings kind)))
+listed_along around settings kind s given entry steps old new before after answer unchanged standing gives same is law added =
     let walked : breaches_along s steps ≡ breaches_along (destination_shapes around) (walk (gives_of around.declared around.name) settings kind around.entry) = rw (is, standing, gives, same) refl in
-    rw unchanged (same_answered (expansions old) answer _ _ (walked ∙ law) told)
+    rw unchanged (subst (λ bs. OnOk answer (Adds (expansions old) before after (found_at around.name bs))) (walked ∙ law) added)
 
 -- ---- an entry that is lent to the walk
 

@@ -1,5 +1,8 @@
+pub mod Adding
 pub mod Below
 pub mod Compared
+pub mod EntryRules
+pub mod FirstOf
 pub mod FlowsTold
 pub mod Grown
 pub mod InOrder
@@ -7,15 +10,12 @@ pub mod LookedUp
 pub mod Members
 pub mod Named
 pub mod Notes
-pub mod OneAfterAnother
 pub mod Passes
-pub mod RowsLeft
-pub mod StateRules
-pub mod StepsTold
+pub mod StepsListed
 pub mod TableEnds
 pub mod TableFindings
+pub mod TableListed
 pub mod TableNames
-pub mod TableNoted
 pub mod TableRows
 pub mod TableScopes
 pub mod TaskNumbers

@@ -1,106 +1,125 @@
 -- Notes of broken rules: what noting one more does to them, and what they tell.
-use Rattle.std.proofs.Common.{◌≡◌, ◌≢◌, ℕ, List, [], ◌∷◌, Option, Some, None, is_some, option_map, option_to_list, true, false, cond, Ordering, Less, Equal, Greater, String, string_bytes, string_cmp, refl, sym, ap, subst, ◌⊎◌, inl, inr, length, arith}
-use Rattle.std.specs.List.{Contains}
+use Rattle.std.proofs.Common.{◌≡◌, ◌+◌, ◌<◌, ◌≤◌, ℕ, List, [], ◌∷◌, ◌++◌, length, get_or, drop, Bool, Option, Some, None, is_some, true, false, cond, bytes_eq, Ordering, Less, Equal, Greater, String, string_bytes, string_cmp, refl, sym, ap, ◌∙◌, subst, append_assoc, drop-cons, add-one}
+use Rattle.std.proofs.lemmas.List.{append-nil, drop_all}
 use Rattle.std.specs.List.Sorted.{IsStrictlySortedBy}
+use Rattle.std.specs.Option.{option_or}
 use Rattle.std.specs.declared.alloc.Global.{Global}
 use Rattle.std.specs.BTreeMap.{is_at, insert_entry}
 use Rattle.std.specs.Map.{lookup, keys_of}
 use Rattle.std.specs.Ordering.{match_ordering, is_eq, nat_cmp}
 use Rattle.std.specs.Cmp.Lexicographic.{slice_cmp}
-use Rattle.std.proofs.lemmas.Map.Lookups.{exact_bytes}
-use Rattle.asl_model.specs.Finding as finding
-use Rattle.asl_model.specs.Finding.{found_at}
-use Rattle.asl_model.specs.Verdict.{AreInNameOrder, TellsOf}
-use Rattle.asl_check.proofs.Members.{first, later, first_or_later, only}
-use Rattle.asl_check.proofs.Passes.{named_at}
+use Rattle.std.proofs.lemmas.Slice.Eq.{bytes_eq-Decides}
+use Rattle.asl_model.specs.Finding.{Breach, Finding}
+use Rattle.asl_model.specs.Shape.{Shape}
+use Rattle.asl_model.specs.Verdict.{AreInNameOrder}
+use Rattle.asl_shape.proofs.Lookups.{same_name}
+use Rattle.asl_check.specs.Listing.{listed_view, rules_view}
 use Rattle.asl_check.specs.Noting.{AreNoted, note_view, noted_breach, notes_view}
+use Rattle.asl_check.specs.Told.{first_of}
+use Rattle.asl_check.specs.declared.listed.Listed.{Listed}
 use Rattle.asl_check.specs.declared.noting.Noted.{Noted}
+use Rattle.asl_check.proofs.FirstOf.{first_of_both, or_none}
 
 -- a name with its broken rule
 abbrev pub Note : Type 0
 Note = String Global × Noted
 
+-- what stands under a name
+abbrev note_of : List ℕ → List Note → Option Noted
+note_of n notes = lookup (is_at (λ (k : String Global). slice_cmp nat_cmp n (string_bytes k))) notes
+
 -- ---- one more note
 
--- the second list has x and what the first has
-record AddsOne (x : finding.Finding) (xs ys : List finding.Finding) : Type 0 where
-  pub held : (f : finding.Finding) → Contains xs f → Contains ys f
-  pub added : Contains ys x
-  pub no_other : (f : finding.Finding) → Contains ys f → (x ≡ f) ⊎ Contains xs f
-
--- x in front of a list
-adds_front : (x : finding.Finding) (xs : List finding.Finding) → AddsOne x xs (x ∷ xs)
-adds_front x xs = record { held = λ f h. later x xs f h; added = first x xs; no_other = λ f h. first_or_later x xs f h }
-
--- so behind another member
-adds_behind : (y x : finding.Finding) (xs ys : List finding.Finding) → AddsOne x xs ys → AddsOne x (y ∷ xs) (y ∷ ys)
-adds_behind y x xs ys a = record { held = λ f h. hold f (first_or_later y xs f h); added = later y ys x a.added; no_other = λ f h. other f (first_or_later y ys f h) }
+-- a rule may stand behind others of which none has its name
+moved_behind : (n : List ℕ) (x : Finding) (xs : List Finding) → first_of x.state xs ≡ None → first_of n (x ∷ xs) ≡ first_of n (xs ++ x ∷ [])
+moved_behind n x xs none = go (bytes_eq x.state n) refl ∙ sym (first_of_both n xs (x ∷ []))
   where
-    hold : (f : finding.Finding) → (y ≡ f) ⊎ Contains xs f → Contains (y ∷ ys) f
-    hold f (inl is) = subst (λ z. Contains (y ∷ ys) z) is (first y ys)
-    hold f (inr h) = later y ys f (a.held f h)
+    go : (b : Bool) → bytes_eq x.state n ≡ b → cond b (Some x) (first_of n xs) ≡ option_or (first_of n xs) (cond b (Some x) None)
+    go true is = ap (λ o. option_or o (Some x)) (sym (subst (λ m. first_of m xs ≡ None) ((bytes_eq-Decides x.state n).0 is) none))
+    go false is = sym (or_none (first_of n xs))
 
-    further : (f : finding.Finding) → (x ≡ f) ⊎ Contains xs f → (x ≡ f) ⊎ Contains (y ∷ xs) f
-    further f (inl is) = inl is
-    further f (inr h) = inr (later y xs f h)
-
-    other : (f : finding.Finding) → (y ≡ f) ⊎ Contains ys f → (x ≡ f) ⊎ Contains (y ∷ xs) f
-    other f (inl is) = inr (subst (λ z. Contains (y ∷ xs) z) is (first y xs))
-    other f (inr h) = further f (a.no_other f h)
-
--- a name that isn't there yet goes to its place among the others
-inserted : (notes : List Note) (k : String Global) (b : Noted) → lookup (is_at (string_cmp k)) notes ≡ None → AddsOne (note_view (k, b)) (notes_view notes) (notes_view (insert_entry string_cmp notes k b))
-inserted [] k b h = adds_front (note_view (k, b)) []
-inserted (e ∷ es) k b h = go (string_cmp k e.0) h (inserted es k b)
+-- a rule has a name where a note stands under it
+noted_name : (n : List ℕ) (notes : List Note) → is_some (first_of n (notes_view notes)) ≡ is_some (note_of n notes)
+noted_name n [] = refl
+noted_name n (e ∷ es) = rw (same_name n (string_bytes e.0)) (go (is_eq (slice_cmp nat_cmp n (string_bytes e.0))) (noted_name n es))
   where
-    go : (o : Ordering) → cond (is_eq o) (Some e.1) (lookup (is_at (string_cmp k)) es) ≡ None → (lookup (is_at (string_cmp k)) es ≡ None → AddsOne (note_view (k, b)) (notes_view es) (notes_view (insert_entry string_cmp es k b)))
-        → AddsOne (note_view (k, b)) (notes_view (e ∷ es)) (notes_view (match_ordering o ((k, b) ∷ e ∷ es) ((e.0, b) ∷ es) (e ∷ insert_entry string_cmp es k b)))
-    go Less h' below = adds_front (note_view (k, b)) (notes_view (e ∷ es))
-    go Equal h' below = absurd (cc)
-    go Greater h' below = adds_behind (note_view e) (note_view (k, b)) (notes_view es) (notes_view (insert_entry string_cmp es k b)) (below h')
-
--- one more note notes its rule
-noted_by : (x : finding.Finding) (xs ys : List finding.Finding) → AddsOne x xs ys → AreNoted (x ∷ []) xs ys
-noted_by x xs ys a = record { stays = a.held; further = λ f h. turn f (a.no_other f h); each = λ f h. (x, a.added, ap (λ (g : finding.Finding). g.state) (only x f h)) }
-  where
-    turn : (f : finding.Finding) → (x ≡ f) ⊎ Contains xs f → Contains xs f ⊎ Contains (x ∷ []) f
-    turn f (inl is) = inr (subst (λ z. Contains (x ∷ []) z) is (first x []))
-    turn f (inr h) = inl h
+    go : (b : Bool) → is_some (first_of n (notes_view es)) ≡ is_some (note_of n es) → is_some (cond b (Some (note_view e)) (first_of n (notes_view es))) ≡ is_some (cond b (Some e.1) (note_of n es))
+    go true below = refl
+    go false below = below
 
 -- what isn't there is none
-none_there : (o : Option Noted) → is_some o ≡ false → o ≡ None
+none_there : {A : Type 0} (o : Option A) → is_some o ≡ false → o ≡ None
 none_there None h = refl
-none_there (Some b) h = absurd (cc)
+none_there (Some x) h = absurd (cc)
 
--- no note has the name
-abbrev IsNew : List ℕ → List Note → Type 0
-IsNew n notes = is_some (lookup (is_at (λ (k : String Global). slice_cmp nat_cmp n (string_bytes k))) notes) ≡ false
-
--- a rule of a name that has no note is noted
-pub note_new : (notes : List Note) (k : String Global) (n : List ℕ) (b : Noted) → string_bytes k ≡ n → IsNew n notes
-    → AreNoted (found_at n (option_to_list (option_map noted_breach (Some b)))) (notes_view notes) (notes_view (insert_entry string_cmp notes k b))
-note_new notes k n b same none = subst (λ m. (IsNew m notes → AreNoted (found_at m (option_to_list (option_map noted_breach (Some b)))) (notes_view notes) (notes_view (insert_entry string_cmp notes k b)))) same (λ h. noted_by (note_view (k, b)) (notes_view notes) (notes_view (insert_entry string_cmp notes k b)) (inserted notes k b (none_there _ h))) none
-
--- a note has the name
-abbrev IsNoted : List ℕ → List Note → Type 0
-IsNoted n notes = is_some (lookup (is_at (λ (k : String Global). slice_cmp nat_cmp n (string_bytes k))) notes) ≡ true
-
--- a name that is looked up has a note
-told_of : (notes : List Note) (n : List ℕ) → IsNoted n notes → TellsOf (notes_view notes) n
-told_of [] n h = absurd (cc)
-told_of (e ∷ es) n h = go (slice_cmp nat_cmp n (string_bytes e.0)) refl h (told_of es n)
+-- a name that isn't there yet goes to its place among the others
+inserted : (notes : List Note) (k : String Global) (b : Noted) (n : List ℕ) → note_of (string_bytes k) notes ≡ None → first_of n (notes_view (insert_entry string_cmp notes k b)) ≡ first_of n (notes_view notes ++ note_view (k, b) ∷ [])
+inserted [] k b n h = refl
+inserted (e ∷ es) k b n h = go (string_cmp k e.0) h (inserted es k b n)
   where
-    among : TellsOf (notes_view es) n → TellsOf (notes_view (e ∷ es)) n
-    among t = (t.0, later (note_view e) (notes_view es) t.0 t.1, t.2)
+    front : first_of n (note_view (k, b) ∷ notes_view (e ∷ es)) ≡ first_of n (notes_view (e ∷ es) ++ note_view (k, b) ∷ [])
+    front = moved_behind n (note_view (k, b)) (notes_view (e ∷ es)) (none_there _ (noted_name (string_bytes k) (e ∷ es) ∙ ap is_some h))
 
-    go : (o : Ordering) → slice_cmp nat_cmp n (string_bytes e.0) ≡ o → is_some (cond (is_eq o) (Some e.1) (lookup (is_at (λ (k : String Global). slice_cmp nat_cmp n (string_bytes k))) es)) ≡ true → (IsNoted n es → TellsOf (notes_view es) n) → TellsOf (notes_view (e ∷ es)) n
-    go Less is h' below = among (below h')
-    go Equal is h' below = (note_view e, first (note_view e) (notes_view es), sym (exact_bytes n (string_bytes e.0) is))
-    go Greater is h' below = among (below h')
+    go : (o : Ordering) → cond (is_eq o) (Some e.1) (note_of (string_bytes k) es) ≡ None → (note_of (string_bytes k) es ≡ None → first_of n (notes_view (insert_entry string_cmp es k b)) ≡ first_of n (notes_view es ++ note_view (k, b) ∷ []))
+        → first_of n (notes_view (match_ordering o ((k, b) ∷ e ∷ es) ((e.0, b) ∷ es) (e ∷ insert_entry string_cmp es k b))) ≡ first_of n (notes_view (e ∷ es) ++ note_view (k, b) ∷ [])
+    go Less h' below = front
+    go Equal h' below = absurd (cc)
+    go Greater h' below = ap (cond (bytes_eq (string_bytes e.0) n) (Some (note_view e))) (below h')
 
--- rules of a name that has a note need none
-pub note_old : (notes : List Note) (n : List ℕ) (breaches : List finding.Breach) → IsNoted n notes → AreNoted (found_at n breaches) (notes_view notes) (notes_view notes)
-note_old notes n breaches h = record { stays = λ f g. g; further = λ f g. inl g; each = λ f g. subst (TellsOf (notes_view notes)) (named_at n breaches f g) (told_of notes n h) }
+-- a rule of a name that has no note
+pub note_new : (notes : List Note) (k : String Global) (b : Noted) (n : List ℕ) (breach : Breach) → string_bytes k ≡ n → noted_breach b ≡ breach → is_some (note_of n notes) ≡ false
+    → AreNoted (notes_view notes ++ record { state = n; field = breach.field; fault = breach.fault; example = breach.example } ∷ []) (notes_view (insert_entry string_cmp notes k b))
+note_new notes k b n breach named seen none =
+    let free : note_of (string_bytes k) notes ≡ None = none_there _ (subst (λ m. is_some (note_of m notes) ≡ false) (sym named) none) in
+    let same : note_view (k, b) ≡ record { state = n; field = breach.field; fault = breach.fault; example = breach.example } =
+    ap (λ m. record { state = m; field = b.field.now; fault = (noted_breach b).fault; example = (noted_breach b).example }) named
+    ∙ ap (λ (c : Breach). record { state = n; field = c.field; fault = c.fault; example = c.example }) seen in
+    record { first = λ m. inserted notes k b m free ∙ ap (λ (x : Finding). first_of m (notes_view notes ++ x ∷ [])) same }
+
+-- a rule of a name that has a note
+pub note_old : (notes : List Note) (x : Finding) → is_some (note_of x.state notes) ≡ true → AreNoted (notes_view notes ++ x ∷ []) (notes_view notes)
+note_old notes x there = record { first = λ n. go n (bytes_eq x.state n) refl ∙ sym (first_of_both n (notes_view notes) (x ∷ [])) }
+  where
+    some : (o other : Option Finding) → is_some o ≡ true → o ≡ option_or o other
+    some None other h = absurd (cc)
+    some (Some f) other h = refl
+
+    go : (n : List ℕ) (b : Bool) → bytes_eq x.state n ≡ b → first_of n (notes_view notes) ≡ option_or (first_of n (notes_view notes)) (cond b (Some x) None)
+    go n true is = some (first_of n (notes_view notes)) (Some x) (noted_name n notes ∙ subst (λ m. is_some (note_of m notes) ≡ true) ((bytes_eq-Decides x.state n).0 is) there)
+    go n false is = sym (or_none (first_of n (notes_view notes)))
+
+-- ---- rules that are noted one after another
+
+module _ (table : List Shape) (rules : List Listed) where
+  -- the notes so far, and the rules that are left
+  abbrev pub with_left : List Note → ℕ → List Finding
+  with_left notes i = notes_view notes ++ rules_view table (drop i rules)
+
+  -- at first all are left
+  pub none_noted : (notes : List Note) → notes ≡ [] → AreNoted (rules_view table rules) (with_left notes 0)
+  none_noted notes none = record { first = λ n. ap (λ (ns : List Note). first_of n (with_left ns 0)) none }
+
+  -- one more is noted
+  pub one_noted : (now next : List Note) (i : ℕ) (rule : Listed) → i < length rules → rule ≡ get_or rules i rule → AreNoted (rules_view table rules) (with_left now i) → AreNoted (notes_view now ++ listed_view table rule ∷ []) (notes_view next) → AreNoted (rules_view table rules) (with_left next (i + 1))
+  one_noted now next i rule within is l p = record { first = λ n. moved n ∙ l.first n }
+    where
+      left : List Finding
+      left = rules_view table (drop (i + 1) rules)
+
+      split : drop i rules ≡ rule ∷ drop (i + 1) rules
+      split = drop-cons rules i rule within ∙ rw (← is, add-one) refl
+
+      moved : (n : List ℕ) → first_of n (notes_view next ++ left) ≡ first_of n (with_left now i)
+      moved n =
+          first_of_both n (notes_view next) left
+          ∙ (ap (λ o. option_or o (first_of n left)) (p.first n)
+          ∙ (sym (first_of_both n (notes_view now ++ listed_view table rule ∷ []) left)
+          ∙ (ap (first_of n) (append_assoc (notes_view now) (listed_view table rule ∷ []) left)
+          ∙ ap (λ rest. first_of n (notes_view now ++ rules_view table rest)) (sym split))))
+
+  -- all are noted
+  pub all_noted : (notes : List Note) (i : ℕ) → length rules ≤ i → AreNoted (rules_view table rules) (with_left notes i) → AreNoted (rules_view table rules) (notes_view notes)
+  all_noted notes i end l = record { first = λ n. ap (first_of n) (sym (append-nil (notes_view notes))) ∙ (ap (λ rest. first_of n (notes_view notes ++ rules_view table rest)) (sym (drop_all i rules end)) ∙ l.first n) }
 
 -- ---- what the notes tell
 
@@ -110,13 +129,3 @@ unfolding IsStrictlySortedBy
 in_order [] h = tt
 in_order (e ∷ []) h = (refl, tt)
 in_order (e ∷ (d ∷ notes)) h = ((rw h.0.0 refl), in_order (d ∷ notes) h.1)
-
--- what has no length has no member
-pub no_note : (notes : List Note) → length notes ≡ 0 → notes_view notes ≡ []
-no_note [] h = refl
-no_note (n ∷ notes) h = absurd (omega (arith, h))
-
--- what has a length has a member
-pub some_note : (notes : List Note) → (length notes ≡ 0 → ⊥) → notes_view notes ≢ []
-some_note [] h e = h refl
-some_note (n ∷ notes) h e = absurd (cc)

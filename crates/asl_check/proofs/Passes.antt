@@ -1,91 +1,71 @@
--- How the lists of rules are gone through: one list after another, and each list member by member.
-use Rattle.std.proofs.Common.{◌≡◌, ℕ, List, [], ◌∷◌, ◌++◌, Option, Some, None, option_to_list, String, string_bytes, sym, ap, subst, ◌⊎◌, inl, inr}
-use Rattle.std.specs.List.{Contains}
+-- How lists of rules are gone through, member by member.
+use Rattle.std.proofs.Common.{◌≡◌, ◌<◌, ◌≤◌, ◌+◌, ◌-◌, ℕ, suc, List, [], ◌∷◌, ◌++◌, map, Option, Some, None, String, string_bytes, sym, ap, ◌∙◌, subst, append_assoc, arith, add-one}
 use Rattle.std.specs.declared.alloc.Global.{Global}
-use Rattle.std.proofs.lemmas.List.Elements.{Contains-append_left, Contains-append_right, Contains-append_cases}
+use Rattle.std.proofs.lemmas.List.{append-nil}
 use Rattle.asl_model.specs.Finding.{Breach, Finding, found_at}
-use Rattle.asl_model.specs.Verdict.{TellsOf}
-use Rattle.asl_check.specs.Checking.{Told, found_by}
-use Rattle.asl_check.specs.Noting.{AreNoted}
-use Rattle.asl_check.proofs.Members.{first, no_member, first_or_later, only, given_of}
-use Rattle.asl_check.proofs.OneAfterAnother.{none_told, told_there}
+use Rattle.asl_model.specs.Shape.{Shape}
+use Rattle.asl_numbered.specs.Expansion.{Keeps}
+use Rattle.asl_numbered.proofs.Expansions.{keeps_same}
+use Rattle.asl_check.specs.Listing.{Adds}
+use Rattle.asl_check.specs.Rules.{Row, found_by, found_in, found_from}
+use Rattle.asl_check.specs.declared.listed.Listed.{Listed}
+use Rattle.asl_check.proofs.Adding.{adds_none, adds_same, adds_then}
 
--- ---- one list after another
+-- those that are added so far and those that are left make up the whole
+pub record AreLeft (table : List Shape) (before now : List Listed) (whole left : List Finding) : Type 0 where
+  pub so_far : List Finding
+  pub adds : Adds table before now so_far
+  pub rest : so_far ++ left ≡ whole
 
--- without a rule nothing has to be noted
-pub none_noted : (a : List Finding) → AreNoted [] a a
-none_noted a = record { stays = λ f h. h; further = λ f h. inl h; each = λ f h. absurd (no_member f h) }
+-- at first all are left
+pub all_left : (table : List Shape) (rules : List Listed) (whole left : List Finding) → left ≡ whole → AreLeft table rules rules whole left
+all_left table rules whole left is = record { so_far = []; adds = adds_none table rules; rest = is }
 
--- one list, then another
-pub both_noted : (xs ys a b c : List Finding) → AreNoted xs a b → AreNoted ys b c → AreNoted (xs ++ ys) a c
-both_noted xs ys a b c p q = record { stays = λ f h. q.stays f (p.stays f h); further = λ f h. back f (q.further f h); each = λ f h. told f (Contains-append_cases xs ys f h) }
-  where
-    front : (f : Finding) → Contains a f ⊎ Contains xs f → Contains a f ⊎ Contains (xs ++ ys) f
-    front f (inl h) = inl h
-    front f (inr h) = inr (Contains-append_left xs ys f h)
-
-    back : (f : Finding) → Contains b f ⊎ Contains ys f → Contains a f ⊎ Contains (xs ++ ys) f
-    back f (inl h) = front f (p.further f h)
-    back f (inr h) = inr (Contains-append_right xs ys f h)
-
-    kept : (n : List ℕ) → TellsOf b n → TellsOf c n
-    kept n t = (t.0, q.stays t.0 t.1, t.2)
-
-    told : (f : Finding) → Contains xs f ⊎ Contains ys f → TellsOf c f.state
-    told f (inl h) = kept f.state (p.each f h)
-    told f (inr h) = q.each f h
-
--- a list with the same members
-pub same_noted : (xs ys a b : List Finding) → ((f : Finding) → Contains xs f → Contains ys f) → ((f : Finding) → Contains ys f → Contains xs f) → AreNoted xs a b → AreNoted ys a b
-same_noted xs ys a b there back p = record { stays = p.stays; further = λ f h. moved f (p.further f h); each = λ f h. p.each f (back f h) }
-  where
-    moved : (f : Finding) → Contains a f ⊎ Contains xs f → Contains a f ⊎ Contains ys f
-    moved f (inl h) = inl h
-    moved f (inr h) = inr (there f h)
-
--- ---- one of the rules of a name
-
--- what is found at a name has that name
-pub named_at : (n : List ℕ) (breaches : List Breach) (f : Finding) → Contains (found_at n breaches) f → n ≡ f.state
-named_at n [] f h = absurd (no_member f h)
-named_at n (b ∷ breaches) f h = by (first_or_later _ (found_at n breaches) f h) (named_at n breaches f)
-  where
-    by : (record { state = n; field = b.field; fault = b.fault; example = b.example } ≡ f) ⊎ Contains (found_at n breaches) f → (Contains (found_at n breaches) f → n ≡ f.state) → n ≡ f.state
-    by (inl is) below = ap (λ (g : Finding). g.state) is
-    by (inr there) below = below there
-
--- where the one that is told is noted, all of that name's are
-pub told_noted : (n : List ℕ) (breaches : List Breach) (told : Option Breach) (a b : List Finding) → Told breaches told → AreNoted (found_at n (option_to_list told)) a b → AreNoted (found_at n breaches) a b
-told_noted n breaches None a b t p = subst (λ bs. AreNoted (found_at n bs) a b) (sym (none_told breaches t)) p
-told_noted n breaches (Some breach) a b t p = record { stays = p.stays; further = λ f h. of_all f (p.further f h); each = λ f h. subst (TellsOf b) (named_at n breaches f h) (p.each one (first one [])) }
-  where
-    one : Finding
-    one = record { state = n; field = breach.field; fault = breach.fault; example = breach.example }
-
-    of_all : (f : Finding) → Contains a f ⊎ Contains (found_at n (breach ∷ [])) f → Contains a f ⊎ Contains (found_at n breaches) f
-    of_all f (inl h) = inl h
-    of_all f (inr h) = inr (subst (Contains (found_at n breaches)) (only one f h) (given_of (λ (c : Breach). record { state = n; field = c.field; fault = c.fault; example = c.example }) breaches breach (told_there breaches breach t)))
-
--- ---- a list member by member
-
--- where what is left of a list is noted after those notes, the whole list is noted after the first ones
-pub record AreLeft (whole left before now : List Finding) : Type 0 where
-  pub rest : (after : List Finding) → AreNoted left now after → AreNoted whole before after
-
--- at first all of the list is left
-pub left_all : (whole left now : List Finding) → whole ≡ left → AreLeft whole left now now
-left_all whole left now is = record { rest = λ after p. subst (λ xs. AreNoted xs now after) (sym is) p }
-
--- some members fewer are left
-pub left_less : (whole xs left before now next : List Finding) → AreLeft whole (xs ++ left) before now → AreNoted xs now next → AreLeft whole left before next
-left_less whole xs left before now next l p = record { rest = λ after q. l.rest after (both_noted xs left now next after p q) }
+-- some fewer are left
+pub left_less : (old new : List Shape) (before now next : List Listed) (whole xs left : List Finding) → Keeps old new → AreLeft old before now whole (xs ++ left) → Adds new now next xs → AreLeft new before next whole left
+left_less old new before now next whole xs left keeps l a = record {
+  so_far = l.so_far ++ xs;
+  adds = adds_then old new before now next l.so_far xs keeps l.adds a;
+  rest = append_assoc l.so_far xs left ∙ l.rest;
+}
 
 -- at last none is
-pub left_none : (whole before now : List Finding) → AreLeft whole [] before now → AreNoted whole before now
-left_none whole before now l = l.rest now (none_noted now)
+pub left_none : (table : List Shape) (before now : List Listed) (whole left : List Finding) → left ≡ [] → AreLeft table before now whole left → Adds table before now whole
+left_none table before now whole left none l = adds_same table before now l.so_far whole (sym (append-nil l.so_far) ∙ (ap (λ rest. l.so_far ++ rest) (sym none) ∙ l.rest)) l.adds
+
+-- ---- names
 
 -- one name fewer is left
-pub left_named : (rule : List ℕ → List Breach) (whole before now next : List Finding) (names left : List (String Global)) (name : String Global) (told : Option Breach) → names ≡ name ∷ left → option_to_list told ≡ rule (string_bytes name)
-    → AreLeft whole (found_by rule names) before now → AreNoted (found_at (string_bytes name) (option_to_list told)) now next → AreLeft whole (found_by rule left) before next
-left_named rule whole before now next names left name told is by l p =
-    left_less whole (found_at (string_bytes name) (rule (string_bytes name))) (found_by rule left) before now next (subst (λ ns. AreLeft whole (found_by rule ns) before now) is l) (subst (λ breaches. AreNoted (found_at (string_bytes name) breaches) now next) by p)
+pub left_named : (table : List Shape) (rule : List ℕ → List Breach) (before now next : List Listed) (whole : List Finding) (names left : List (String Global)) (name : String Global) (told : List Breach) → names ≡ name ∷ left → told ≡ rule (string_bytes name)
+    → AreLeft table before now whole (found_by rule (map string_bytes names)) → Adds table now next (found_at (string_bytes name) told) → AreLeft table before next whole (found_by rule (map string_bytes left))
+left_named table rule before now next whole names left name told is by l a =
+    left_less table table before now next whole (found_at (string_bytes name) (rule (string_bytes name))) (found_by rule (map string_bytes left)) (keeps_same table) (subst (λ ns. AreLeft table before now whole (found_by rule (map string_bytes ns))) is l) (subst (λ breaches. Adds table now next (found_at (string_bytes name) breaches)) by a)
+
+-- ---- rows of a table
+
+module _ (found : ℕ → List Finding) (n : ℕ) where
+  -- at first all are left
+  pub all_rows : (table : List Shape) (rules : List Listed) → AreLeft table rules rules (found_from found n 0) (found_from found (n - 0) 0)
+  all_rows table rules =
+      let is : n - 0 ≡ n = omega arith in
+      all_left table rules (found_from found n 0) (found_from found (n - 0) 0) (ap (λ k. found_from found k 0) is)
+
+  -- one number fewer is left
+  pub left_row : (old new : List Shape) (i : ℕ) (before now next : List Listed) (whole : List Finding) → i < n → Keeps old new → AreLeft old before now whole (found_from found (n - i) i) → Adds new now next (found i) → AreLeft new before next whole (found_from found (n - (i + 1)) (i + 1))
+  left_row old new i before now next whole within keeps l a =
+      let is : n - i ≡ suc (n - suc i) = omega (arith, within) in
+      rw add-one (left_less old new before now next whole (found i) (found_from found (n - suc i) (suc i)) keeps (subst (λ k. AreLeft old before now whole (found_from found k i)) is l) a)
+
+  -- none is left
+  pub rows_added : (table : List Shape) (i : ℕ) (before now : List Listed) (whole : List Finding) → n ≤ i → AreLeft table before now whole (found_from found (n - i) i) → Adds table before now whole
+  rows_added table i before now whole past l =
+      let none : n - i ≡ 0 = omega (arith, past) in
+      left_none table before now whole (found_from found (n - i) i) (ap (λ k. found_from found k i) none) l
+
+-- those of a row that is there
+pub row_added : (table : List Shape) (rules : Row → List Breach) (row : Row) (o : Option Row) (now next : List Listed) → Some row ≡ o → Adds table now next (found_at row.name (rules row)) → Adds table now next (found_in rules o)
+row_added table rules row o now next is a = subst (λ r. Adds table now next (found_in rules r)) is a
+
+-- where there is no row, none
+pub no_row : (table : List Shape) (rules : Row → List Breach) (o : Option Row) (now : List Listed) → None ≡ o → Adds table now now (found_in rules o)
+no_row table rules o now is = subst (λ r. Adds table now now (found_in rules r)) is (adds_none table now)

@@ -1,8 +1,10 @@
 pub mod Checking
 pub mod Faults
+pub mod Listing
 pub mod Noting
 pub mod Numbers
 pub mod Rules
 pub mod Standing
 pub mod Tasks
+pub mod Told
 pub mod View

@@ -1,11 +1,10 @@
--- What the checker notes: of each name that has a broken rule, one of them.
-use Rattle.std.specs.Prelude.{List, map, Contains, String, string_bytes, option_map}
+-- What the checker notes: of each name that has a broken rule, the first.
+use Rattle.std.specs.Prelude.{◌≡◌, ℕ, List, map, String, string_bytes, option_map}
 use Rattle.std.specs.declared.alloc.Global.{Global}
-use mathlib.Core.Logic.{◌⊎◌}
 use Rattle.asl_model.specs.Finding as finding
-use Rattle.asl_model.specs.Verdict.{TellsOf}
 use Rattle.asl_tree.specs.View.{view as tree_view}
 use Rattle.asl_edges.specs.View.{finding_fault_view}
+use Rattle.asl_check.specs.Told.{first_of}
 use Rattle.asl_check.specs.declared.noting.Noted.{Noted}
 
 -- a rule that is told
@@ -28,9 +27,6 @@ note_view note = record {
 abbrev pub notes_view : List (String Global × Noted) → List finding.Finding
 notes_view notes = map note_view notes
 
--- From the first notes to the second those rules are noted: the first stay, a further one is one of the rules, and each
--- name that has one of the rules has a note.
-pub record AreNoted (rules before after : List finding.Finding) : Type 0 where
-  pub stays : (f : finding.Finding) → Contains before f → Contains after f
-  pub further : (f : finding.Finding) → Contains after f → Contains before f ⊎ Contains rules f
-  pub each : (f : finding.Finding) → Contains rules f → TellsOf after f.state
+-- of each name the notes have the first of those rules
+pub record AreNoted (rules notes : List finding.Finding) : Type 0 where
+  pub first : (n : List ℕ) → first_of n notes ≡ first_of n rules

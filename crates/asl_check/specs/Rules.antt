@@ -1,9 +1,10 @@
 -- The rules of a certificate, by a machine's table: what they look up in it, and what they find in its rows.
-use Rattle.std.specs.Prelude.{ℕ, zero, suc, List, [], ◌++◌, length, Bool, false, Option, Some, None, codes, is_some, position, bytes_eq, slice_get}
+use Rattle.std.specs.Prelude.{ℕ, zero, suc, List, [], ◌∷◌, ◌++◌, length, map, Bool, false, Option, Some, None, codes, is_some, position, bytes_eq, slice_get}
 use Rattle.asl_model.specs.Shape.{Shape}
 use Rattle.asl_model.specs.Machine.{State, settings_of, kind_of, is_task}
 use Rattle.asl_model.specs.Certificate.{Declared, Certificate, certified, under, child_end}
-use Rattle.asl_model.specs.Finding.{Breach, Finding, StartInput, breach_unless_sub, found_at, input_of_entry, entry_breaches, flow_breaches, surrounded_by, where_certified}
+use Rattle.asl_model.specs.Names.{StateName}
+use Rattle.asl_model.specs.Finding.{Breach, Finding, NotAState, TaskUnknown, StartInput, breach_unless, breach_unless_sub, found_at, input_of_entry, entry_breaches, flow_breaches, surrounded_by, where_certified}
 use Rattle.asl_model.specs.Numbering.{Table, Placement}
 
 -- ---- names
@@ -29,6 +30,23 @@ names_task_in table n = is_task_at table.states (position (bytes_eq n) table.nam
 -- what is compared with the certified input of the state of that name
 abbrev pub inputs_in : Table → Certificate → List ℕ → Option Shape
 inputs_in table certificate n = input_of_entry (names_state_in table n) (certified certificate n)
+
+-- the rule that an entry names a state
+abbrev pub state_rule : Table → StateName → List Breach
+state_rule table n = breach_unless (names_state_in table n) (codes "states") NotAState
+
+-- the rule that a declared task names a Task
+abbrev pub task_rule : Table → StateName → List Breach
+task_rule table n = breach_unless (names_task_in table n) (codes "tasks") TaskUnknown
+
+-- what is found by a rule, of each of those names
+abbrev pub found_by : (StateName → List Breach) → List StateName → List Finding
+found_by rule [] = []
+found_by rule (n ∷ ns) = found_at n (rule n) ++ found_by rule ns
+
+-- the names under which something stands
+abbrev pub names_of : {A : Type 0} → List (StateName × A) → List StateName
+names_of entries = map (λ entry. entry.0) entries
 
 -- ---- the start
 

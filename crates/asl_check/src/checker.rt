@@ -1,31 +1,21 @@
-// Checking a certificate against a machine and its declared shapes, one list of rules after another.
+// Checking a certificate against a machine and its declared shapes.
 
-ghost use Rattle.std.specs.Prelude.{◌≡◌, List, IfOk, IfSome, OnOk, codes, length, option_map, option_to_list};
-ghost use Rattle.std.specs.BTreeMap.{keys};
-ghost use Rattle.asl_model.specs.Finding.{StartInput, breach_unless_sub, findings};
+ghost use Rattle.std.specs.Prelude.{◌≡◌, IfOk};
 ghost use Rattle.asl_model.specs.Machine as machines;
 ghost use Rattle.asl_model.specs.RecordShapes.{HoldsForCertificate, HoldsForDeclared};
 ghost use Rattle.asl_model.specs.Shape as model;
 ghost use Rattle.asl_model.specs.Verdict.{IsRight};
 ghost use Rattle.asl_numbered.specs.Expansion.{expansions, Keeps};
-ghost use Rattle.asl_shape.specs.View.{view};
 ghost use Rattle.asl_states.specs.Table.{Shows, table_view};
 ghost use Rattle.asl_records.specs.Numbered.{AreWithin, numbered_view};
 ghost use Rattle.asl_records.specs.View.{declared_view, certificate_view};
-ghost use Rattle.asl_check.specs.Checking.{state_rule, task_rule, found_by};
-ghost use Rattle.asl_check.specs.Faults.{fault_view, IsFaultBelow};
-ghost use Rattle.asl_check.specs.Noting.{AreNoted, notes_view};
 ghost use Rattle.asl_check.specs.Numbers.{IsWithin, certificate_of};
-ghost use Rattle.asl_check.specs.Rules.{entry_rules, flow_rules, found_in_all, found_at_start, inputs_in};
+ghost use Rattle.asl_check.specs.Told.{listed, TellsFirst};
 ghost use Rattle.asl_check.specs.View.{verdict_view};
 
-use crate::comparing::broken_unless_sub;
-use crate::faults::Fault;
-use crate::lookups::row_of;
-use crate::noting::{BrokenRules, breach_unless, note, note_shown, told};
+use crate::noting::{note_first, told};
 use crate::ordered::names_in_order;
 use crate::verdicts::Verdict;
-use asl_edges::FindingFault;
 use asl_model::shape_laws::findings_are_exactly_the_broken_rules;
 use asl_numbered::Shapes;
 use asl_records::{Certificate, Declared, NumberedCertificate, StateNumbers, number_certificate};
@@ -47,8 +37,9 @@ pub(crate) struct Checker<'c> {
 }
 
 /// Checks the certificate: Yes where no rule is broken, else No with one broken rule of each name that has one, and
-/// with an example, a tree that shows it to be broken. Of several broken rules of a state that is told which comes
-/// first in the walk through it, behind those on its entry; no clause says so.
+/// with an example, a tree that shows it to be broken. Of several broken rules of a name the first is told: the rules
+/// are those on the states' entries and Tasks, of entries without a state, of declared tasks without a Task, of the
+/// start, and then those on what flows through the states, in the order of the walk through each.
 ///
 /// Of a comparison the example is a tree that flows there, by its shape, and lacks the shape that it is compared with;
 /// of a path that may name nothing it is a tree of the shape in which it was looked up where it names nothing. The
@@ -63,6 +54,9 @@ pub fn check(
 ) -> Result<Verdict, OutOfMemory>
     ensures verdict { IfOk result (λ verdict. (m : machines.Scope) → Shows machine.now m
         → IsRight m (declared_view declared.now) (certificate_view certificate.now)
+        (verdict_view verdict)) }
+    ensures first { IfOk result (λ verdict. TellsFirst
+        (listed (table_view machine.now) (declared_view declared.now) (certificate_view certificate.now))
         (verdict_view verdict)) }
 {
     let mut numbered = number_certificate(alloc, certificate)?;
@@ -80,6 +74,9 @@ pub fn check_numbered(
     requires within { AreWithin certificate.old }
     ensures verdict { IfOk result (λ verdict. (m : machines.Scope) → Shows machine.now m
         → IsRight m (declared_view declared.now) (numbered_view certificate.old)
+        (verdict_view verdict)) }
+    ensures first { IfOk result (λ verdict. TellsFirst
+        (listed (table_view machine.now) (declared_view declared.now) (numbered_view certificate.old))
         (verdict_view verdict)) }
     ensures same { numbered_view certificate.new ≡ numbered_view certificate.old }
     ensures within { AreWithin certificate.new }
@@ -106,15 +103,18 @@ impl Checker<'_> {
         ensures verdict { IfOk result (λ verdict. (m : machines.Scope)
             → Shows self.now.machine.now m → IsRight m (declared_view self.now.declared.now)
             (certificate_of (expansions shapes.old) self.now) (verdict_view verdict)) }
+        ensures first { IfOk result (λ verdict. TellsFirst
+            (listed (table_view self.now.machine.now) (declared_view self.now.declared.now)
+            (certificate_of (expansions shapes.old) self.now)) (verdict_view verdict)) }
         ensures keeps { Keeps (expansions shapes.old) (expansions shapes.new) }
     {
         findings_are_exactly_the_broken_rules();
-        let mut notes = BTreeMap::new(self.alloc);
-        self.note_all(shapes, &mut notes)?;
-        if notes.is_empty() {
+        let rules = self.list_all(shapes)?;
+        if rules.is_empty() {
             return Ok(Verdict::Yes);
         }
         self.are_in_order(shapes);
+        let notes = note_first(self.alloc, shapes, &rules)?;
         let findings = told(self.alloc, notes)?;
         Ok(Verdict::No(findings))
     }
@@ -128,122 +128,5 @@ impl Checker<'_> {
     {
         shapes.are_proper();
         names_in_order(self.declared);
-    }
-
-    /// Notes every name that has a broken rule, with the first one in the order of these lists.
-    fn note_all(&self, shapes: &mut Shapes, notes: &mut BrokenRules) -> Result<(), OutOfMemory>
-        requires within { IsWithin shapes.old self.now }
-        ensures noted { OnOk result ((m : machines.Scope) → Shows self.now.machine.now m
-            → AreNoted (findings m (declared_view self.now.declared.now)
-            (certificate_of (expansions shapes.old) self.now))
-            (notes_view notes.old.entries) (notes_view notes.new.entries)) }
-        ensures keeps { Keeps (expansions shapes.old) (expansions shapes.new) }
-    {
-        self.note_entries(notes)?;
-        self.note_unknown_entries(notes)?;
-        self.note_unknown_tasks(notes)?;
-        self.note_start(shapes, notes)?;
-        self.note_flows(shapes, notes)
-    }
-
-    /// Notes the states without an entry of the right form, and the Tasks that aren't declared.
-    fn note_entries(&self, notes: &mut BrokenRules) -> Result<(), OutOfMemory>
-        ensures { (table : List model.Shape) → OnOk result
-            (AreNoted (found_in_all (entry_rules (declared_view self.now.declared.now)
-            (certificate_of table self.now)) (table_view self.now.machine.now))
-            (notes_view notes.old.entries) (notes_view notes.new.entries)) }
-    {
-        for number in 0..self.machine.states() {
-            if let Some(row) = row_of(self.machine, number) {
-                note(self.alloc, notes, row.name, self.broken_by_entry(&row))?;
-            }
-        }
-        Ok(())
-    }
-
-    /// Notes the entries' names that no state has.
-    fn note_unknown_entries(&self, notes: &mut BrokenRules) -> Result<(), OutOfMemory>
-        ensures { OnOk result
-            (AreNoted (found_by (state_rule (table_view self.now.machine.now))
-            (keys self.now.states.now))
-            (notes_view notes.old.entries) (notes_view notes.new.entries)) }
-    {
-        for name in self.states.keys() {
-            let known = self.machine.state_named(name).is_some();
-            let rule = breach_unless(known, "states", FindingFault::NotAState);
-            note(self.alloc, notes, name, rule)?;
-        }
-        Ok(())
-    }
-
-    /// Notes the declared tasks' names that no Task has.
-    fn note_unknown_tasks(&self, notes: &mut BrokenRules) -> Result<(), OutOfMemory>
-        ensures { OnOk result
-            (AreNoted (found_by (task_rule (table_view self.now.machine.now))
-            (keys self.now.declared.now.tasks))
-            (notes_view notes.old.entries) (notes_view notes.new.entries)) }
-    {
-        for name in self.declared.tasks.keys() {
-            let known = self.names_task(name);
-            let rule = breach_unless(known, "tasks", FindingFault::TaskUnknown);
-            note(self.alloc, notes, name, rule)?;
-        }
-        Ok(())
-    }
-
-    /// Notes the start state, where the declared input isn't within its certified input.
-    fn note_start(&self, shapes: &mut Shapes, notes: &mut BrokenRules) -> Result<(), OutOfMemory>
-        requires within { IsWithin shapes.old self.now }
-        ensures noted { OnOk result
-            (AreNoted (found_at_start (table_view self.now.machine.now)
-            (declared_view self.now.declared.now)
-            (certificate_of (expansions shapes.old) self.now))
-            (notes_view notes.old.entries) (notes_view notes.new.entries)) }
-        ensures keeps { Keeps (expansions shapes.old) (expansions shapes.new) }
-    {
-        let Some(start) = self.start() else {
-            return Ok(());
-        };
-        let rule = self.broken_at_start(shapes, start)?;
-        note_shown(self.alloc, shapes, notes, start, rule)
-    }
-
-    /// The broken rule where the declared input isn't within the certified input of the state of that name.
-    fn broken_at_start<'m>(
-        &self,
-        shapes: &mut Shapes,
-        start: &str,
-    ) -> Result<Option<Fault<'m>>, OutOfMemory>
-        requires within { IsWithin shapes.old self.now }
-        ensures told { IfOk result
-            (λ told. option_to_list (option_map (fault_view (expansions shapes.new)) told)
-            ≡ breach_unless_sub (codes "StartAt") StartInput (view self.now.declared.now.input)
-            (inputs_in (table_view self.now.machine.now)
-            (certificate_of (expansions shapes.old) self.now) start.now)) }
-        ensures below { IfOk result (λ told. IfSome told (IsFaultBelow (length shapes.new))) }
-        ensures keeps { Keeps (expansions shapes.old) (expansions shapes.new) }
-    {
-        let input = shapes.add(&self.declared.input)?;
-        let expected = self.input_to_compare(start);
-        broken_unless_sub(shapes, input, expected, "StartAt", FindingFault::StartInput)
-    }
-
-    /// Notes the states with a broken rule on what flows through them.
-    fn note_flows(&self, shapes: &mut Shapes, notes: &mut BrokenRules) -> Result<(), OutOfMemory>
-        requires within { IsWithin shapes.old self.now }
-        ensures noted { OnOk result
-            (AreNoted (found_in_all (flow_rules (table_view self.now.machine.now)
-            (declared_view self.now.declared.now)
-            (certificate_of (expansions shapes.old) self.now)) (table_view self.now.machine.now))
-            (notes_view notes.old.entries) (notes_view notes.new.entries)) }
-        ensures keeps { Keeps (expansions shapes.old) (expansions shapes.new) }
-    {
-        for number in 0..self.machine.states() {
-            if let Some(row) = row_of(self.machine, number) {
-                let rule = self.broken_by_flow(shapes, &row)?;
-                note_shown(self.alloc, shapes, notes, row.name, rule)?;
-            }
-        }
-        Ok(())
     }
 }

@@ -1,7 +1,8 @@
 // Rules that are broken in what flows, and what shows them, by the numbers of a table of shapes.
 
-ghost use Rattle.std.specs.Prelude.{◌≡◌, ℕ, IfOk, length, List, option_map};
-ghost use Rattle.asl_edges.specs.View.{broken_view, IsBrokenBelow};
+ghost use Rattle.std.specs.Prelude.{◌≡◌, ℕ, IfOk, IfSome, length, List, option_map, option_to_list};
+ghost use Rattle.asl_edges.specs.View.{broken_view, finding_fault_view, IsBrokenBelow};
+ghost use Rattle.asl_model.specs.Finding as model;
 ghost use Rattle.asl_model.specs.Shape.{Shape};
 ghost use Rattle.asl_numbered.specs.Expansion.{expansions, Keeps};
 ghost use Rattle.asl_tree.specs.View.{view as tree_view};
@@ -32,6 +33,27 @@ pub(crate) struct Fault<'m> {
     pub(crate) field: &'static str,
     pub(crate) fault: FindingFault,
     pub(crate) shown: Shown<'m>,
+}
+
+/// A broken rule that no tree shows, unless the test holds.
+pub(crate) fn breach_unless(
+    holds: bool,
+    field: &'static str,
+    fault: FindingFault,
+) -> Option<Fault<'static>>
+    ensures told { (table : List Shape) → option_to_list (option_map (fault_view table) result)
+        ≡ model.breach_unless holds field.now (finding_fault_view fault) }
+    ensures below { (bound : ℕ) → IfSome result (IsFaultBelow bound) }
+{
+    if holds {
+        None
+    } else {
+        Some(Fault {
+            field,
+            fault,
+            shown: Shown::Nothing,
+        })
+    }
 }
 
 /// The rule that is broken on the way to an edge: a path, if there is one, shows it.

@@ -12,6 +12,8 @@
 mod checker;
 mod comparing;
 mod faults;
+mod listed;
+mod listing;
 mod lookups;
 mod noting;
 mod ordered;

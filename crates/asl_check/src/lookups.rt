@@ -32,9 +32,9 @@ pub(crate) fn row_of(machine: &Machine, number: usize) -> Option<Row<'_>>
     Some(Row { name, state, scope })
 }
 
-impl Checker<'_> {
+impl<'c> Checker<'c> {
     /// The name of the machine's start state.
-    pub(crate) fn start(&self) -> Option<&str>
+    pub(crate) fn start(&self) -> Option<&'c str>
         ensures { option_map (λ n. n.now) result ≡ start_in (table_view self.now.machine.now) }
     {
         let scope = self.machine.scope_of(0)?;

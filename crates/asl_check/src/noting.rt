@@ -1,15 +1,15 @@
 // Noting broken rules: of each name that has one, the first, with the tree that shows it.
 
-ghost use Rattle.std.specs.Prelude.{◌≡◌, IfOk, IfSome, OnOk, length, option_map, option_to_list};
-ghost use Rattle.asl_model.specs.Finding as model;
-ghost use Rattle.asl_model.specs.Finding.{found_at};
+ghost use Rattle.std.specs.Prelude.{◌≡◌, [], ◌∷◌, ◌++◌, IfOk, OnOk, length};
 ghost use Rattle.asl_model.specs.Verdict.{AreInNameOrder};
 ghost use Rattle.asl_numbered.specs.Expansion.{expansions, Keeps};
-ghost use Rattle.asl_check.specs.Faults.{fault_view, IsFaultBelow};
-ghost use Rattle.asl_check.specs.Noting.{AreNoted, noted_breach, notes_view};
-ghost use Rattle.asl_check.specs.View.{finding_fault_view, findings_view};
+ghost use Rattle.asl_check.specs.Faults.{IsFaultBelow};
+ghost use Rattle.asl_check.specs.Listing.{listed_view, rules_view, AreRulesBelow};
+ghost use Rattle.asl_check.specs.Noting.{AreNoted, notes_view};
+ghost use Rattle.asl_check.specs.View.{findings_view};
 
-use crate::faults::{Fault, with_example};
+use crate::faults::with_example;
+use crate::listed::Listed;
 use crate::verdicts::Finding;
 use asl_edges::FindingFault;
 use asl_numbered::Shapes;
@@ -28,73 +28,46 @@ pub(crate) struct Noted {
 /// The first broken rule of each name that has one.
 pub(crate) type BrokenRules = BTreeMap<String, Noted>;
 
-/// A broken rule that no tree shows.
-pub(crate) fn breach(field: &'static str, fault: FindingFault) -> Noted
-    ensures { noted_breach result ≡ model.plain_breach field.now (finding_fault_view fault) }
-{
-    Noted {
-        field,
-        fault,
-        example: None,
-    }
-}
-
-/// A broken rule that no tree shows, unless the test holds.
-pub(crate) fn breach_unless(holds: bool, field: &'static str, fault: FindingFault) -> Option<Noted>
-    ensures { option_to_list (option_map noted_breach result)
-        ≡ model.breach_unless holds field.now (finding_fault_view fault) }
-{
-    if holds {
-        None
-    } else {
-        Some(breach(field, fault))
-    }
-}
-
-/// Notes a broken rule of a name, if there is one and the name has none yet.
-pub(crate) fn note(
+/// Of each name the first of its broken rules. The trees that show these are made, and no others, which may leave further
+/// shapes in the table.
+pub(crate) fn note_first(
     alloc: Global,
-    notes: &mut BrokenRules,
-    name: &str,
-    rule: Option<Noted>,
-) -> Result<(), OutOfMemory>
-    ensures { OnOk result
-        (AreNoted (found_at name.now (option_to_list (option_map noted_breach rule)))
-        (notes_view notes.old.entries) (notes_view notes.new.entries)) }
+    shapes: &mut Shapes,
+    rules: &[Listed],
+) -> Result<BrokenRules, OutOfMemory>
+    requires below { AreRulesBelow (length shapes.old) rules.now }
+    ensures noted { IfOk result
+        (λ notes. AreNoted (rules_view (expansions shapes.old) rules.now)
+        (notes_view notes.entries)) }
+    ensures keeps { Keeps (expansions shapes.old) (expansions shapes.new) }
 {
-    if let Some(rule) = rule {
-        if !notes.contains_key(name) {
-            let name = String::from_str(alloc, name)?;
-            drop(notes.insert(name, rule)?);
-        }
+    let mut notes = BTreeMap::new(alloc);
+    for rule in rules {
+        note(alloc, shapes, &mut notes, rule)?;
     }
-    Ok(())
+    Ok(notes)
 }
 
-/// Notes a rule that is broken in what flows, in the same way. Only where it is noted the tree that shows it is made,
-/// which may leave further shapes in the table.
-pub(crate) fn note_shown(
+/// Notes a broken rule, unless its name has one already.
+fn note(
     alloc: Global,
     shapes: &mut Shapes,
     notes: &mut BrokenRules,
-    name: &str,
-    rule: Option<Fault<'_>>,
+    rule: &Listed,
 ) -> Result<(), OutOfMemory>
-    requires below { IfSome rule (IsFaultBelow (length shapes.old)) }
+    requires below { IsFaultBelow (length shapes.old) rule.now.fault }
     ensures noted { OnOk result
-        (AreNoted (found_at name.now
-        (option_to_list (option_map (fault_view (expansions shapes.old)) rule.entry)))
-        (notes_view notes.old.entries) (notes_view notes.new.entries)) }
+        (AreNoted (notes_view notes.old.entries ++ listed_view (expansions shapes.old) rule.now ∷ [])
+        (notes_view notes.new.entries)) }
     ensures keeps { Keeps (expansions shapes.old) (expansions shapes.new) }
 {
-    let Some(rule) = rule else {
-        return Ok(());
-    };
-    if notes.contains_key(name) {
+    if notes.contains_key(rule.name) {
         return Ok(());
     }
-    let noted = with_example(alloc, shapes, rule)?;
-    note(alloc, notes, name, Some(noted))
+    let noted = with_example(alloc, shapes, rule.fault)?;
+    let name = String::from_str(alloc, rule.name)?;
+    drop(notes.insert(name, noted)?);
+    Ok(())
 }
 
 /// The findings that these notes tell, in the order of their names.

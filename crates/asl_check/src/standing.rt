@@ -1,17 +1,19 @@
 // Comparing what flows out of a state with what stands at the destinations of its edges.
 
-ghost use Rattle.std.specs.Prelude.{◌≡◌, ◌<◌, List, length, IfOk, IfSome, option_map, option_to_list};
+ghost use Rattle.std.specs.Prelude.{◌≡◌, ◌<◌, List, length, IfOk, IfSome, OnOk, option_map, option_to_list};
 ghost use Rattle.asl_model.specs.Edges.{breaches_along, breaches_at, stands_at};
+ghost use Rattle.asl_model.specs.Finding.{found_at};
 ghost use Rattle.asl_numbered.specs.Expansion.{expansions, shape_at};
 ghost use Rattle.asl_numbered.specs.declared.node.Node.{Node};
 ghost use Rattle.asl_edges.specs.View.{destination_view, edge_view, step_view, steps_of, AreStepsBelow, IsStepBelow};
-ghost use Rattle.asl_check.specs.Checking.{Told};
 ghost use Rattle.asl_check.specs.Faults.{fault_view, IsFaultBelow};
+ghost use Rattle.asl_check.specs.Listing.{Adds};
 ghost use Rattle.asl_check.specs.Standing.{AreStanding, standing_view};
 
 use crate::checker::Checker;
 use crate::comparing::broken_unless_sub;
 use crate::faults::{Fault, fault_of};
+use crate::listed::{Listed, list};
 use asl_edges::{Destination, Edge, Step};
 use asl_numbered::Shapes;
 use asl_tree::OutOfMemory;
@@ -27,28 +29,28 @@ pub(crate) struct Standing<'s, 'c> {
 }
 
 impl Standing<'_, '_> {
-    /// The first rule that is broken at one of the steps, in their order: at an edge that doesn't fit, or on the way to
-    /// one.
-    pub(crate) fn broken_by<'m>(
+    /// Lists the rules of the state of that name that are broken at the steps, in their order: at an edge that doesn't
+    /// fit, or on the way to one.
+    pub(crate) fn list_steps<'m>(
         &self,
         shapes: &mut Shapes,
+        rules: &mut Vec<Listed<'m>>,
+        name: &'m str,
         steps: &[Step<'m>],
-    ) -> Result<Option<Fault<'m>>, OutOfMemory>
+    ) -> Result<(), OutOfMemory>
         requires standing { AreStanding shapes.old self.now }
         requires below { AreStepsBelow (length shapes.old) steps.now }
-        ensures told { IfOk result (λ told. Told (breaches_along
-            (standing_view (expansions shapes.old) self.now)
-            (steps_of (expansions shapes.old) steps.now))
-            (option_map (fault_view (expansions shapes.old)) told)) }
-        ensures below { IfOk result (λ told. IfSome told (IsFaultBelow (length shapes.old))) }
+        ensures adds { OnOk result
+            (Adds (expansions shapes.old) rules.old.items rules.new.items
+            (found_at name.now (breaches_along (standing_view (expansions shapes.old) self.now)
+            (steps_of (expansions shapes.old) steps.now)))) }
         ensures unchanged { shapes.new ≡ shapes.old }
     {
         for step in steps {
-            if let Some(fault) = self.broken_at(shapes, step)? {
-                return Ok(Some(fault));
-            }
+            let fault = self.broken_at(shapes, step)?;
+            list(rules, name, fault)?;
         }
-        Ok(None)
+        Ok(())
     }
 
     /// The rule that is broken at a step: where what flows at an edge doesn't fit, or on the way to one.

@@ -1,24 +1,24 @@
 // The rules of one state: on its entry, and on what flows through it.
 
-ghost use Rattle.std.specs.Prelude.{◌≡◌, List, length, IfOk, IfSome, Some, option_map};
+ghost use Rattle.std.specs.Prelude.{◌≡◌, List, length, OnOk, option_map};
 ghost use Rattle.asl_model.specs.Certificate as certificates;
-ghost use Rattle.asl_model.specs.Finding as rules;
+ghost use Rattle.asl_model.specs.Finding as finding;
+ghost use Rattle.asl_model.specs.Finding.{found_at};
 ghost use Rattle.asl_model.specs.Shape as model;
 ghost use Rattle.asl_numbered.specs.Expansion.{expansions, Keeps};
 ghost use Rattle.asl_states.specs.Machine.{kind_view, scope_view, settings_view};
 ghost use Rattle.asl_states.specs.Table.{table_view};
 ghost use Rattle.asl_records.specs.Numbered.{AreNumbersBelow, numbers_view};
 ghost use Rattle.asl_records.specs.View.{declared_view};
-ghost use Rattle.asl_check.specs.Checking.{Told, row_view};
-ghost use Rattle.asl_check.specs.Faults.{fault_view, IsFaultBelow};
-ghost use Rattle.asl_check.specs.Noting.{noted_breach};
+ghost use Rattle.asl_check.specs.Checking.{row_view};
+ghost use Rattle.asl_check.specs.Listing.{Adds};
 ghost use Rattle.asl_check.specs.Numbers.{IsWithin, certificate_of};
 ghost use Rattle.asl_check.specs.Rules.{end_in, inputs_in, entry_rules, flow_rules};
 
 use crate::checker::Checker;
-use crate::faults::Fault;
+use crate::faults::breach_unless;
+use crate::listed::{Listed, list};
 use crate::lookups::{Row, is_task};
-use crate::noting::{Noted, breach, breach_unless};
 use crate::standing::Standing;
 use crate::tasks::number_task;
 use asl_edges::{Entry, FindingFault, edges_of};
@@ -29,59 +29,68 @@ use asl_states::Kind;
 use asl_tree::OutOfMemory;
 
 impl Checker<'_> {
-    /// The first broken rule on a state's entry, which has the right form, and on what is declared of a Task.
-    pub(crate) fn broken_by_entry(&self, row: &Row) -> Option<Noted>
-        ensures { (table : List model.Shape)
-            → Told (entry_rules (declared_view self.now.declared.now)
-            (certificate_of table self.now) (row_view row.now)) (option_map noted_breach result) }
+    /// Lists the broken rules on a state's entry, which has the right form, and on what is declared of a Task.
+    pub(crate) fn list_entry<'m>(
+        &self,
+        rules: &mut Vec<Listed<'m>>,
+        row: &Row<'m>,
+    ) -> Result<(), OutOfMemory>
+        ensures { (table : List model.Shape) → OnOk result
+            (Adds table rules.old.items rules.new.items
+            (found_at row.now.name.now (entry_rules (declared_view self.now.declared.now)
+            (certificate_of table self.now) (row_view row.now)))) }
     {
         let kind = &row.state.kind;
-        if !is_certified(kind, self.states.get(row.name)) {
-            return Some(breach("states", FindingFault::NotCertified));
-        }
+        let certified = is_certified(kind, self.states.get(row.name));
+        let uncertified = breach_unless(certified, "states", FindingFault::NotCertified);
+        list(rules, row.name, uncertified)?;
         let declared = !is_task(kind) || self.declared.task(row.name).is_some();
-        breach_unless(declared, "Resource", FindingFault::TaskUndeclared)
+        let undeclared = breach_unless(declared, "Resource", FindingFault::TaskUndeclared);
+        list(rules, row.name, undeclared)
     }
 
-    /// The first broken rule on what flows through a state; none is told where it has no entry.
-    pub(crate) fn broken_by_flow<'m>(
+    /// Lists the broken rules on what flows through a state; none where it has no entry.
+    pub(crate) fn list_flow<'m>(
         &self,
         shapes: &mut Shapes,
+        rules: &mut Vec<Listed<'m>>,
         row: &Row<'m>,
-    ) -> Result<Option<Fault<'m>>, OutOfMemory>
+    ) -> Result<(), OutOfMemory>
         requires within { IsWithin shapes.old self.now }
-        ensures told { IfOk result (λ told. Told (flow_rules (table_view self.now.machine.now)
+        ensures adds { OnOk result
+            (Adds (expansions shapes.new) rules.old.items rules.new.items
+            (found_at row.now.name.now (flow_rules (table_view self.now.machine.now)
             (declared_view self.now.declared.now) (certificate_of (expansions shapes.old) self.now)
-            (row_view row.now)) (option_map (fault_view (expansions shapes.new)) told)) }
-        ensures below { IfOk result (λ told. IfSome told (IsFaultBelow (length shapes.new))) }
+            (row_view row.now)))) }
         ensures keeps { Keeps (expansions shapes.old) (expansions shapes.new) }
     {
         match self.states.get(row.name) {
-            Some(entry) => self.broken_by_state(shapes, row, entry),
-            None => Ok(None),
+            Some(entry) => self.list_walk(shapes, rules, row, entry),
+            None => Ok(()),
         }
     }
 
-    /// The first broken rule on what flows through a state with that entry: at the first step of the walk that doesn't
-    /// fit, or that is broken itself.
-    fn broken_by_state<'m>(
+    /// Lists the broken rules on what flows through a state with that entry: at the steps of the walk that don't fit, or
+    /// that are broken themselves.
+    fn list_walk<'m>(
         &self,
         shapes: &mut Shapes,
+        rules: &mut Vec<Listed<'m>>,
         row: &Row<'m>,
         entry: &StateNumbers,
-    ) -> Result<Option<Fault<'m>>, OutOfMemory>
+    ) -> Result<(), OutOfMemory>
         requires within { IsWithin shapes.old self.now }
         requires entry { AreNumbersBelow (length shapes.old) entry.now }
-        ensures told { IfOk result (λ told. Told (rules.flow_breaches
-            (rules.surrounded_by (declared_view self.now.declared.now)
+        ensures adds { OnOk result
+            (Adds (expansions shapes.new) rules.old.items rules.new.items
+            (found_at row.now.name.now (finding.flow_breaches
+            (finding.surrounded_by (declared_view self.now.declared.now)
             (inputs_in (table_view self.now.machine.now)
             (certificate_of (expansions shapes.old) self.now))
             (end_in (table_view self.now.machine.now)
             (certificate_of (expansions shapes.old) self.now) (scope_view row.now.scope.now))
             row.now.name.now (numbers_view (expansions shapes.old) entry.now))
-            (settings_view row.now.state.now.settings) (kind_view row.now.state.now.kind))
-            (option_map (fault_view (expansions shapes.new)) told)) }
-        ensures below { IfOk result (λ told. IfSome told (IsFaultBelow (length shapes.new))) }
+            (settings_view row.now.state.now.settings) (kind_view row.now.state.now.kind)))) }
         ensures keeps { Keeps (expansions shapes.old) (expansions shapes.new) }
     {
         walk_breaks_what_flow_breaks();
@@ -99,14 +108,14 @@ impl Checker<'_> {
             end: self.end_of(row.scope),
             takes: task.takes,
         };
-        standing.broken_by(shapes, &steps)
+        standing.list_steps(shapes, rules, row.name, &steps)
     }
 }
 
 /// Whether there is an entry, of the form that the state's type asks for.
 fn is_certified(kind: &Kind, entry: Option<&StateNumbers>) -> bool
     ensures { (table : List model.Shape)
-        → result ≡ rules.is_certified (kind_view kind.now)
+        → result ≡ finding.is_certified (kind_view kind.now)
         (option_map (λ e. numbers_view table e.now) entry.entry) }
 {
     match entry {

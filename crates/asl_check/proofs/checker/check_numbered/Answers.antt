@@ -3,9 +3,10 @@ use Rattle.asl_model.specs.Certificate.{Certificate}
 use Rattle.asl_model.specs.Machine.{Scope}
 use Rattle.asl_model.specs.Verdict.{IsRight}
 use Rattle.asl_numbered.proofs.Expansions.{keeps_trans}
-use Rattle.asl_states.specs.Table.{Shows}
+use Rattle.asl_states.specs.Table.{Shows, table_view}
 use Rattle.asl_records.proofs.Kept.{certificate_shown, certificate_within}
 use Rattle.asl_records.specs.View.{declared_view}
+use Rattle.asl_check.specs.Told.{listed, TellsFirst}
 use Rattle.asl_check.specs.View.{verdict_view}
 use Rattle.asl_check.proofs.Grown.{checked_within, in_table}
 use Rattle.asl_check.proofs.checker.check_numbered.Goals as goal
@@ -33,3 +34,9 @@ returns-clause-within c = certificate_within c.args.certificate.now (in_table c.
 
 pub returns-clause-keeps : goal.returns-clause-keeps
 returns-clause-keeps c = keeps_trans _ _ _ c.add.ensures.keeps c.verdict.ensures.keeps
+
+pub returns-clause-first : goal.returns-clause-first
+returns-clause-first c =
+    let old = c.args.certificate.now in
+    let same = certificate_shown old (in_table old c.add.new.self) c.add.ensures.keeps refl refl c.requires.within in
+    subst (λ (certificate : Certificate). IfOk c.verdict.result (λ verdict. TellsFirst (listed (table_view c.args.machine.now) (declared_view c.args.declared.now) certificate) (verdict_view verdict))) same c.verdict.ensures.first

@@ -1,12 +1,15 @@
-use Rattle.std.proofs.Common.{option_map, option_to_list, sym, ◌∙◌}
-use Rattle.asl_check.specs.Noting.{noted_breach}
+use Rattle.std.proofs.Common.{sym, ◌∙◌}
+use Rattle.asl_numbered.specs.Expansion.{expansions}
+use Rattle.asl_check.specs.Faults.{fault_view}
+use Rattle.asl_check.specs.Listing.{listed_view}
 use Rattle.asl_check.proofs.Notes.{note_new, note_old}
 use Rattle.asl_check.proofs.noting.note.Goals as goal
 
-pub returns-in_ok-insert : goal.returns-in_ok-insert
-returns-in_ok-insert c =
-    rw (c.in-Some.is, c.in_ok-insert.ensures.entries) (note_new c.args.notes.now.entries c.in_ok-name.name c.args.name.now c.in-Some.rule c.in_ok-name.ensures.ok (sym c.contains_key.ensures ∙ c.if-not-contains_key.true))
+pub returns-then-contains_key-clause-noted : goal.returns-then-contains_key-clause-noted
+returns-then-contains_key-clause-noted c =
+    note_old c.args.notes.now.entries (listed_view (expansions c.args.shapes.now) c.args.rule.now) (sym c.contains_key.ensures ∙ c.if-contains_key.true)
 
-pub returns-else-not-contains_key : goal.returns-else-not-contains_key
-returns-else-not-contains_key c =
-    note_old c.args.notes.now.entries c.args.name.now (option_to_list (option_map noted_breach c.args.rule)) (sym c.contains_key.ensures ∙ c.if-not-contains_key.false)
+pub returns-clause-noted : goal.returns-clause-noted
+returns-clause-noted c =
+    let rule = c.args.rule.now in
+    rw c.in_ok-insert.ensures.entries (note_new c.args.notes.now.entries c.in_ok-name.name c.in_ok-noted.noted rule.name.now (fault_view (expansions c.args.shapes.now) rule.fault) c.in_ok-name.ensures.ok c.in_ok-noted.ensures.seen (sym c.contains_key.ensures ∙ c.if-contains_key.false))
