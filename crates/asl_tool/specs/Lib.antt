@@ -1,6 +1,7 @@
 pub mod Answers
 pub mod CertificateTokens
 pub mod Chunk
+pub mod FirstTold
 pub mod Fronts
 pub mod Inferred
 pub mod Lines

@@ -9,6 +9,7 @@ ghost use Rattle.asl_model.specs.Texts.{ReadsAsCertificate};
 ghost use Rattle.asl_model.specs.Written.{written_certificate};
 ghost use Rattle.asl_model.specs.WrittenNumbered.{written_numbered};
 ghost use Rattle.asl_records.specs.Numbered.{AreWithin, numbered_view};
+ghost use Rattle.asl_tool.specs.FirstTold.{TellsFirstOnInferred, TellsFirstOnWritten};
 ghost use Rattle.asl_tool.specs.Inferred.{AreFewRounds, InferFaultStands, IsFindingOn, IsWrittenFor, WhereCertificate, WhereFinding, WhereNotSettled, written_as};
 ghost use Rattle.asl_tool.specs.VerifiedInference.{Describes, IsVerdictOnInferred, IsVerdictOnWritten, NeverFaultsAsInferred, Tells, WhereVerdict};
 
@@ -87,7 +88,7 @@ pub enum Verified {
 
 /// Infers a certificate of a definition and declared shapes, both given as JSON texts, in at most `max_rounds` rounds, and
 /// checks it: the verdict is right for the certificate that the text of [`infer_texts`] reads as, in the sense in which
-/// that of [`verify_texts`](crate::verify_texts) on this text is.
+/// that of [`verify_texts`](crate::verify_texts) on this text is, and its findings are those which that one tells.
 ///
 /// Where it is yes, then for every input of the declared shape and every list of moves and task answers, branches and
 /// iterations interleaved in any way, each answer a failure or of its declared shape, the run raises none of the six
@@ -104,6 +105,10 @@ pub fn verify_inferred(
         (WhereVerdict (IsVerdictOnInferred max_rounds definition.now declared.now)) }
     ensures on_texts { IfOk result
         (WhereVerdict (IsVerdictOnWritten max_rounds definition.now declared.now)) }
+    ensures first { IfOk result
+        (WhereVerdict (TellsFirstOnInferred max_rounds definition.now declared.now)) }
+    ensures first_on_texts { IfOk result
+        (WhereVerdict (TellsFirstOnWritten max_rounds definition.now declared.now)) }
     ensures headline { IfOk result
         (WhereVerdict (WhereAccepted
         (NeverFaultsAsInferred max_rounds definition.now declared.now))) }

@@ -1,11 +1,12 @@
 //! What a yes means for what stands in the midst of a run. The functions here do nothing: their contracts are the laws.
 
-ghost use Rattle.std.specs.Prelude.{List, Option, Some, ℕ};
+ghost use Rattle.std.specs.Prelude.{◌≡◌, List, Option, Some, ℕ};
 ghost use Rattle.asl_model.specs.Headline.{IsVerdictOn, NeverFaults};
 ghost use Rattle.asl_model.specs.Machine.{Scope, LeadsInside};
 ghost use Rattle.asl_model.specs.Certificate.{Declared, Certificate, IsClosed, MovesOn, Works, Nests, IsKeptBy, KeepsData};
 ghost use Rattle.asl_model.specs.Printed.{RunEnd};
 ghost use Rattle.asl_model.specs.TracePrinted.{HasNoRaiseLine};
+ghost use Rattle.asl_tool.specs.FirstTold.{TellsFirstOn};
 ghost use Rattle.asl_tool.specs.Runs.{RunsTexts, texts_of, request_of};
 ghost use Rattle.asl_model.specs.Verdict.{Verdict};
 ghost use Rattle.asl_tool.specs.VerifiedInference.{Agree};
@@ -62,12 +63,18 @@ pub fn verified_runs_write_no_raise_line()
     asl_model::run_laws::faultless_traces_have_no_raise_line();
 }
 
-/// Two right verdicts on the same three texts agree: both are yes, or both are no with findings of the same names. So
-/// does the one of `verify_inferred` with that of `verify_texts`, on each text that `infer_texts` may write.
+/// Two right verdicts on the same three texts agree: both are yes, or both are no with findings of the same names. Where
+/// both tell of each name the first of its broken rules, they are the same verdict, examples included. So the one of
+/// `verify_inferred` is that of `verify_texts`, on each text that `infer_texts` may write.
 pub fn verdicts_on_the_same_texts_agree()
-    ensures { (definition declared certificate : List ℕ) (one other : Verdict)
+    ensures agree { (definition declared certificate : List ℕ) (one other : Verdict)
         → IsVerdictOn definition declared certificate one
         → IsVerdictOn definition declared certificate other → Agree one other }
+    ensures same { (definition declared certificate : List ℕ) (one other : Verdict)
+        → IsVerdictOn definition declared certificate one
+        → IsVerdictOn definition declared certificate other
+        → TellsFirstOn definition declared certificate one
+        → TellsFirstOn definition declared certificate other → one ≡ other }
 {
     asl_model::reading_laws::texts_have_one_meaning();
 }

@@ -5,6 +5,7 @@ ghost use Rattle.std.specs.Io.KnownBytes.{Appends};
 ghost use Rattle.asl_model.specs.Printed.{verdict_text};
 ghost use Rattle.asl_model.specs.Headline.{AreClosed, NeverFaults, AreRejected, IsVerdictOn, WhereAccepted, WhereRejected};
 ghost use Rattle.asl_check.specs.View.{verdict_view};
+ghost use Rattle.asl_tool.specs.FirstTold.{TellsFirstOn};
 ghost use Rattle.asl_tool.specs.Fronts.{IfLinesRead, NoFrontLineIsLong};
 ghost use Rattle.asl_tool.specs.Lines.{NoLineIsLong};
 ghost use Rattle.asl_tool.specs.Verifying.{IsRefused, OfLines, TellsRefusal};
@@ -27,7 +28,8 @@ use std::alloc::Global;
 /// Yes where no rule of the checker is broken. Then for every input of the declared shape and every list of moves and
 /// task answers, branches and iterations interleaved in any way, each answer a failure or of its declared shape, the run
 /// raises none of the six data-flow faults, and every state's input, every task's payload and every output has its
-/// certified shape. Otherwise No, with one finding for each name that has a broken rule.
+/// certified shape. Otherwise No, with one finding for each name that has a broken rule: the first one, in the order in
+/// which the checker goes over the rules.
 ///
 /// The texts are read in this order, and the first refused one is told, with a fault that stands in it; or the one for
 /// which there was no memory, with OutOfMemory: those in front of it read. Where there was none to check the three, that
@@ -39,6 +41,7 @@ pub fn verify_texts(
     certificate: &[u8],
 ) -> Result<Verdict, TextRefusal>
     ensures verdict { IfOk result (λ v. IsVerdictOn definition.now declared.now certificate.now (verdict_view v)) }
+    ensures first { IfOk result (λ v. TellsFirstOn definition.now declared.now certificate.now (verdict_view v)) }
     ensures yes { IfOk result (λ v. WhereAccepted (AreClosed definition.now declared.now certificate.now) (verdict_view v)) }
     ensures headline { IfOk result (λ v. WhereAccepted (NeverFaults definition.now declared.now certificate.now) (verdict_view v)) }
     ensures no { IfOk result (λ v. WhereRejected (AreRejected definition.now declared.now certificate.now) (verdict_view v)) }
@@ -93,6 +96,7 @@ pub fn check_lines<R: Source, W: Sink>(
     sink: &mut W,
 ) -> Result<Verdict, RunFault>
     ensures verdict { IfOk result (λ v. OfLines (R.remaining source.old) (λ definition declared certificate. IsVerdictOn definition declared certificate (verdict_view v))) }
+    ensures first { IfOk result (λ v. OfLines (R.remaining source.old) (λ definition declared certificate. TellsFirstOn definition declared certificate (verdict_view v))) }
     ensures yes { IfOk result (λ v. OfLines (R.remaining source.old) (λ definition declared certificate. WhereAccepted (AreClosed definition declared certificate) (verdict_view v))) }
     ensures headline { IfOk result (λ v. OfLines (R.remaining source.old) (λ definition declared certificate. WhereAccepted (NeverFaults definition declared certificate) (verdict_view v))) }
     ensures no { IfOk result (λ v. OfLines (R.remaining source.old) (λ definition declared certificate. WhereRejected (AreRejected definition declared certificate) (verdict_view v))) }

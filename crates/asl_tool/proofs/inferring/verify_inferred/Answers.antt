@@ -1,8 +1,11 @@
+use Rattle.std.proofs.Common.{subst}
+use Rattle.asl_model.specs.Numbering.{Table}
 use Rattle.asl_records.specs.Numbered.{numbered_view}
 use Rattle.asl_records.specs.View.{declared_view}
+use Rattle.asl_check.specs.Told.{listed, TellsFirst}
 use Rattle.asl_check.specs.View.{verdict_view}
 use Rattle.asl_tool.specs.VerifiedInference.{NeverFaultsAsInferred}
-use Rattle.asl_tool.proofs.InferredOnce.{verdict_on_written}
+use Rattle.asl_tool.proofs.InferredOnce.{first_on_written, verdict_on_written}
 use Rattle.asl_tool.proofs.Promises.{where_accepted}
 use Rattle.asl_tool.proofs.inferring.verify_inferred.Goals as goal
 
@@ -47,6 +50,31 @@ returns-in-Ok-check_numbered-clause-on_texts c =
     let subject = c.in_ok-subject.subject in
     let read = c.in_ok-subject.ensures.read in
     let definition = read.machine.definition in
-    verdict_on_written c.args.max_rounds c.args.definition.now c.args.declared.now definition (declared_view subject.declared) (numbered_view c.in-Ok.certificate) (verdict_view c.in-Ok-check_numbered.verdict)
-    c.texts_have_one_meaning.ensures.machine c.texts_have_one_meaning.ensures.declared read.machine.reads read.as_declared
-    (c.in-Ok.ensures.inferred definition read.machine.shown) (c.in-Ok-check_numbered.ensures.verdict definition read.machine.shown)
+    verdict_on_written c.args.max_rounds c.args.definition.now c.args.declared.now definition (declared_view subject.declared) (numbered_view c.in-Ok.certificate)
+    c.texts_have_one_meaning.ensures.machine c.texts_have_one_meaning.ensures.declared read.machine.reads read.as_declared (c.in-Ok.ensures.inferred definition read.machine.shown)
+    (verdict_view c.in-Ok-check_numbered.verdict) (c.in-Ok-check_numbered.ensures.verdict definition read.machine.shown)
+
+pub returns-in-Ok-check_numbered-clause-first : goal.returns-in-Ok-check_numbered-clause-first
+returns-in-Ok-check_numbered-clause-first c =
+    let shapes = declared_view c.in_ok-subject.subject.declared in
+    let read = c.in_ok-subject.ensures.read in
+    let definition = read.machine.definition in
+    let certified = numbered_view c.in-Ok.certificate in
+    record {
+      machine = definition;
+      shapes = shapes;
+      certified = certified;
+      as_machine = read.machine.reads;
+      as_declared = read.as_declared;
+      inferred = c.in-Ok.ensures.inferred definition read.machine.shown;
+      first = subst (λ (table : Table). TellsFirst (listed table shapes certified) (verdict_view c.in-Ok-check_numbered.verdict)) read.machine.shown.table c.in-Ok-check_numbered.ensures.first;
+    }
+
+pub returns-in-Ok-check_numbered-clause-first_on_texts : goal.returns-in-Ok-check_numbered-clause-first_on_texts
+returns-in-Ok-check_numbered-clause-first_on_texts c =
+    let subject = c.in_ok-subject.subject in
+    let read = c.in_ok-subject.ensures.read in
+    let definition = read.machine.definition in
+    first_on_written c.args.max_rounds c.args.definition.now c.args.declared.now definition (declared_view subject.declared) (numbered_view c.in-Ok.certificate)
+    c.texts_have_one_meaning.ensures.machine c.texts_have_one_meaning.ensures.declared read.machine.reads read.as_declared (c.in-Ok.ensures.inferred definition read.machine.shown)
+    (verdict_view c.in-Ok-check_numbered.verdict) (subst (λ (table : Table). TellsFirst (listed table (declared_view subject.declared) (numbered_view c.in-Ok.certificate)) (verdict_view c.in-Ok-check_numbered.verdict)) read.machine.shown.table c.in-Ok-check_numbered.ensures.first)

@@ -1,5 +1,8 @@
+use Rattle.std.proofs.Common.{subst}
+use Rattle.asl_model.specs.Numbering.{Table}
 use Rattle.asl_records.specs.Numbered.{numbered_view}
 use Rattle.asl_records.specs.View.{declared_view}
+use Rattle.asl_check.specs.Told.{listed, TellsFirst}
 use Rattle.asl_check.specs.View.{verdict_view}
 use Rattle.asl_tool.specs.View.{text_fault_view}
 use Rattle.asl_tool.proofs.Promises.{closed, headline, rejected}
@@ -27,6 +30,19 @@ returns-in-Ok-check_numbered-clause-verdict c = record {
   read = record { as_machine = c.in-Ok.ensures.machine.reads; as_declared = c.in-Ok-declared_text.ensures.declared; as_certificate = c.in-Ok-certificate_text.ensures.certificate };
   right = c.in-Ok-check_numbered.ensures.verdict c.in-Ok.ensures.machine.definition c.in-Ok.ensures.machine.shown;
 }
+
+pub returns-in-Ok-check_numbered-clause-first : goal.returns-in-Ok-check_numbered-clause-first
+returns-in-Ok-check_numbered-clause-first c =
+    let shapes = declared_view c.in-Ok-declared_text.declared in
+    let certified = numbered_view c.in-Ok-certificate_text.certificate in
+    let definition = c.in-Ok.ensures.machine.definition in
+    record {
+      machine = definition;
+      shapes = shapes;
+      certified = certified;
+      read = record { as_machine = c.in-Ok.ensures.machine.reads; as_declared = c.in-Ok-declared_text.ensures.declared; as_certificate = c.in-Ok-certificate_text.ensures.certificate };
+      first = subst (λ (table : Table). TellsFirst (listed table shapes certified) (verdict_view c.in-Ok-check_numbered.verdict)) c.in-Ok.ensures.machine.shown.table c.in-Ok-check_numbered.ensures.first;
+    }
 
 pub returns-in-Ok-check_numbered-clause-yes : goal.returns-in-Ok-check_numbered-clause-yes
 returns-in-Ok-check_numbered-clause-yes c =
