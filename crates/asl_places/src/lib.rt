@@ -1,0 +1,14 @@
+//! Places in a JSON text: the line and the column of a byte, and the bytes at which values begin.
+//!
+//! [`place_at`] tells the line and the column of a byte. An [`Outline`] has a text's tokens with their bytes; a [`Spot`]
+//! is a value in it, or a member's name.
+#![tactic(auto)]
+
+mod faults;
+mod outline;
+mod place;
+#[cfg(test)]
+mod tests;
+
+pub use outline::{Outline, OutlineRefusal, Spot};
+pub use place::{Place, place_at};

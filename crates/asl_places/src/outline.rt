@@ -1,0 +1,122 @@
+//! Outlines of JSON texts.
+ghost use Rattle.std.specs.Prelude.{◌≡◌, ◌<◌, ℕ, map, length, slice_index, Err, IfOk, IsSome, None};
+ghost use Rattle.json.specs.Lex.{tokens};
+ghost use Rattle.json.specs.Json.{document};
+ghost use Rattle.json.specs.Tape.{node_token, Linked};
+ghost use Rattle.json.specs.declared.tape.TheConstants.{MAX_LEN};
+
+use crate::faults::fault_of;
+use asl_tree::OutOfMemory;
+use json::{Error, Node, Reader, Scratch, Tape};
+use std::alloc::Global;
+use std::marker::Model;
+
+/// A value of an outlined text, or a member's name, by the number of its first token.
+#[derive(Clone, Copy, Debug, Drop, PartialEq, Eq)]
+pub struct Spot {
+    pub token: usize,
+}
+
+/// A JSON text's tokens, and the byte at which each begins.
+#[derive(Drop)]
+pub struct Outline<'a> {
+    tape: Tape<'a>,
+    offsets: Vec<usize>,
+}
+
+impl<'a> Model for Outline<'a> {
+    ghost use Rattle.std.specs.Prelude.{◌≡◌, ℕ, List, length};
+    ghost use Rattle.std.specs.Coded.{coded×, coded_ℕ, coded_list};
+    ghost use Rattle.json.specs.Token.{Token, tokens_code};
+
+    ghost Value = { List Token × List ℕ };
+
+    ghost coded = { coded× tokens_code (coded_list coded_ℕ) };
+
+    ghost view = { λ o. (o.tape, o.offsets.items) };
+
+    ghost invariant = { λ o. length o.offsets.items ≡ length o.tape };
+}
+
+/// Why a text has no outline.
+#[derive(Debug, Drop)]
+pub enum OutlineRefusal {
+    /// The text is no JSON (RFC 8259), or nests deeper than 128. The byte is where the first token begins that can't
+    /// stand there, or the text's end where it breaks off.
+    NotJson(usize),
+    /// The text is longer than an outline may be: 4 GiB less 256 bytes.
+    TooLong,
+    /// An allocation was refused.
+    OutOfMemory,
+}
+
+impl From<OutOfMemory> for OutlineRefusal {
+    ghost use Rattle.asl_places.specs.declared.outline.OutlineRefusal.{OutlineRefusal};
+
+    ghost from_gives = { λ _ refusal. refusal ≡ OutlineRefusal.OutOfMemory };
+
+    fn from(_error: OutOfMemory) -> OutlineRefusal {
+        OutlineRefusal::OutOfMemory
+    }
+}
+
+impl<'a> Outline<'a> {
+    /// The outline of `text`. Names and strings with escapes are kept in `scratch`.
+    pub fn read(
+        alloc: Global,
+        text: &'a str,
+        scratch: &'a mut Scratch,
+    ) -> Result<Outline<'a>, OutlineRefusal>
+        ensures tokens { IfOk result (λ o. o.0 ≡ tokens text.now) }
+        ensures json { IfOk result (λ _. IsSome (document text.now)) }
+        ensures no_json { (byte : ℕ) → result ≡ Err (OutlineRefusal.NotJson byte)
+            → document text.now ≡ None }
+        ensures too_long { result ≡ Err OutlineRefusal.TooLong → MAX_LEN < length text.now }
+    {
+        let offsets = offsets_of(alloc, text, scratch)?;
+        match Tape::parse(text, scratch, Vec::new(alloc)) {
+            Ok(tape) => Ok(Outline { tape, offsets }),
+            Err(Error::TooLong) => Err(OutlineRefusal::TooLong),
+            Err(Error::OutOfMemory) => Err(OutlineRefusal::OutOfMemory),
+            Err(Error::Invalid | Error::DuplicateKey) => {
+                Err(OutlineRefusal::NotJson(fault_of(alloc, text)?))
+            }
+        }
+    }
+
+    /// The text's own value.
+    pub fn root(&self) -> Spot
+        ensures { result.token ≡ 0 }
+    {
+        Spot { token: 0 }
+    }
+
+    /// The first byte of a value or a name. Where the text has no such token it is 0.
+    pub fn offset(&self, spot: Spot) -> usize
+        ensures { result ≡ slice_index self.now.1 spot.token }
+    {
+        self.offsets.get(spot.token).copied().unwrap_or(0)
+    }
+
+    /// The tokens, each with the number of the token behind the value that begins with it.
+    pub(crate) fn nodes(&self) -> &[Node<'a>]
+        ensures tokens { map node_token result.now ≡ self.now.0 }
+        ensures links { Linked self.now.0 0 result.now }
+    {
+        self.tape.nodes()
+    }
+}
+
+/// The first byte of each token.
+fn offsets_of(alloc: Global, text: &str, scratch: &mut Scratch) -> Result<Vec<usize>, OutOfMemory>
+    ensures { IfOk result (λ v. length v.items ≡ length (tokens text.now)) }
+{
+    let mut reader = Reader::new(text, scratch)?;
+    let mut offsets = Vec::new(alloc);
+    let mut offset = reader.offset();
+    while let Some(_) = reader.next() {
+        offsets.push(offset)?;
+        offset = reader.offset();
+    }
+    Ok(offsets)
+}
