@@ -4,11 +4,13 @@
 //! is a value in it, or a member's name.
 #![tactic(auto)]
 
+mod cursors;
 mod faults;
 mod outline;
 mod place;
 #[cfg(test)]
 mod tests;
 
-pub use outline::{Outline, OutlineRefusal, Spot};
+pub use cursors::{Items, Members};
+pub use outline::{Member, Outline, OutlineRefusal, Spot};
 pub use place::{Place, place_at};

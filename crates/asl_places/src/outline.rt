@@ -1,10 +1,14 @@
 //! Outlines of JSON texts.
-ghost use Rattle.std.specs.Prelude.{◌≡◌, ◌<◌, ℕ, map, length, slice_index, Err, IfOk, IsSome, None};
+ghost use Rattle.std.specs.Prelude.{◌≡◌, ◌<◌, ℕ, None, Err, MatchOption, IfOk, IfSome, IsSome, option_map, map, length, drop, slice_index};
 ghost use Rattle.json.specs.Lex.{tokens};
-ghost use Rattle.json.specs.Json.{document};
+ghost use Rattle.json.specs.Json as spec;
+ghost use Rattle.json.specs.Json.{Json, document};
+ghost use Rattle.json.specs.Find.{InItems, InMembers, as_array, as_object, get, at};
 ghost use Rattle.json.specs.Tape.{node_token, Linked};
 ghost use Rattle.json.specs.declared.tape.TheConstants.{MAX_LEN};
+ghost use Rattle.asl_places.specs.Found.{BeginsAt, FindsAt, IsNamed};
 
+use crate::cursors::{Items, Members};
 use crate::faults::fault_of;
 use asl_tree::OutOfMemory;
 use json::{Error, Node, Reader, Scratch, Tape};
@@ -15,6 +19,13 @@ use std::marker::Model;
 #[derive(Clone, Copy, Debug, Drop, PartialEq, Eq)]
 pub struct Spot {
     pub token: usize,
+}
+
+/// A member of an object: its name and its value.
+#[derive(Clone, Copy, Debug, Drop, PartialEq, Eq)]
+pub struct Member {
+    pub name: Spot,
+    pub value: Spot,
 }
 
 /// A JSON text's tokens, and the byte at which each begins.
@@ -96,6 +107,58 @@ impl<'a> Outline<'a> {
         ensures { result ≡ slice_index self.now.1 spot.token }
     {
         self.offsets.get(spot.token).copied().unwrap_or(0)
+    }
+
+    /// The members of the object at the spot, in the author's order, where it is one.
+    pub fn members(&self, object: Spot) -> Option<Members<'_, 'a>>
+        ensures tokens { IfSome result (λ m. m.0 ≡ self.now.0) }
+        ensures members { (j : Json) → BeginsAt self.now.0 object j
+            → MatchOption result (as_object j ≡ None)
+            (λ m. (ms : spec.Members) × (j ≡ spec.object ms) × InMembers (drop m.1 m.0) ms) }
+    {
+        Members::of(self.nodes(), object)
+    }
+
+    /// The elements of the list at the spot, where it is one.
+    pub fn items(&self, list: Spot) -> Option<Items<'_, 'a>>
+        ensures tokens { IfSome result (λ m. m.0 ≡ self.now.0) }
+        ensures items { (j : Json) → BeginsAt self.now.0 list j
+            → MatchOption result (as_array j ≡ None)
+            (λ m. (js : spec.Items) × (j ≡ spec.array js) × InItems (drop m.1 m.0) js) }
+    {
+        Items::of(self.nodes(), list)
+    }
+
+    /// The member of that name of the object at the spot; of a repeated name the last.
+    pub fn member(&self, object: Spot, name: &str) -> Option<Member>
+        ensures value { (j : Json) → BeginsAt self.now.0 object j
+            → FindsAt self.now.0 (option_map (λ m. m.value) result) (get name.now j) }
+        ensures named { IfSome result (λ m. IsNamed self.now.0 m name.now) }
+    {
+        let mut found = None;
+        let mut members = self.members(object)?;
+        while let Some((other, member)) = members.next() {
+            if other == name {
+                found = Some(member);
+            }
+        }
+        found
+    }
+
+    /// The element at that index of the list at the spot, counted from 0.
+    pub fn element(&self, list: Spot, index: usize) -> Option<Spot>
+        ensures { (j : Json) → BeginsAt self.now.0 list j
+            → FindsAt self.now.0 result (at index j) }
+    {
+        let mut items = self.items(list)?;
+        let mut left = index;
+        loop {
+            let item = items.next()?;
+            if left == 0 {
+                return Some(item);
+            }
+            left -= 1;
+        }
     }
 
     /// The tokens, each with the number of the token behind the value that begins with it.
