@@ -1,7 +1,9 @@
 -- The steps of the cursors, over nodes and numbers.
-use Rattle.std.proofs.Common.{◌≡◌, ℕ, ◌+◌, ◌<◌, ◌≤◌, List, ◌∷◌, map, length, drop, get_or, slice_get, Some, None, option_map, refl, ap, ◌∙◌, subst, arith}
+use Rattle.std.proofs.Common.{◌≡◌, ℕ, ◌+◌, ◌-◌, ◌<◌, ◌≤◌, List, [], ◌∷◌, ◌++◌, take, position, nat_lt, not, cond, ap₂, map, length, drop, get_or, slice_get, Some, None, option_map, refl, sym, ap, ◌∙◌, subst, arith}
+use Rattle.std.proofs.Common as common
 use Rattle.std.specs.Borrow.{Bor}
-use Rattle.std.proofs.lemmas.List.{drop_all, length-drop, length-map}
+use Rattle.std.specs.List.{prefix_len}
+use Rattle.std.proofs.lemmas.List.{append_cancel_right, drop_all, drop-drop, drop-map, length-drop, length-map, take-append-drop, take-map}
 use Rattle.std.proofs.lemmas.Option.{slice_get-get_or, slice_get-map}
 use Rattle.json.specs.Token.{Token}
 use Rattle.json.specs.Json.{Json, array, object, Items, Members, after_end_array, value}
@@ -98,3 +100,27 @@ members_past nodes at h ms given = members_short (tokens_from nodes at) ms (omeg
 pub members_closed : (nodes : List Node) (at : ℕ) → at < length nodes → ((s : Bor (List ℕ)) → at_node nodes at ≡ Key s → ⊥) → NextMember (tokens_from nodes at) None (tokens_from nodes at)
 members_closed nodes at h never ms given =
     members_close (node_token (at_node nodes at)) (tokens_from nodes (at + 1)) ms (no_name (at_node nodes at) never) (subst (λ ts. InMembers ts ms) (drop-node_token nodes at (Object 0) h) given)
+
+-- ---- strings
+
+prefix_len-map : (p : Token → common.Bool) (nodes : List Node) → prefix_len p (map node_token nodes) ≡ prefix_len (λ n. p (node_token n)) nodes
+prefix_len-map p [] = refl
+prefix_len-map p (n ∷ nodes) = ap (λ k. cond (p (node_token n)) (1 + k) 0) (prefix_len-map p nodes)
+
+position-map : (p : Token → common.Bool) (nodes : List Node) → position p (map node_token nodes) ≡ position (λ n. p (node_token n)) nodes
+position-map p nodes = ap₂ (λ k len. cond (nat_lt k len) (Some k) None) (prefix_len-map (λ t. not (p t)) nodes) (length-map nodes node_token)
+
+-- a value takes up the tokens of the nodes from the one number to the other
+taken_up : (nodes : List Node) (start behind : ℕ) (taken rest : List Token) → start ≤ behind → rest ≡ tokens_from nodes behind → tokens_from nodes start ≡ taken ++ rest → taken ≡ map node_token (take (behind - start) (drop start nodes))
+taken_up nodes start behind taken rest h is whole =
+    let tokens = map node_token nodes in
+    let count = behind - start in
+    let there : start + count ≡ behind = omega arith in
+    let last = drop-drop count start tokens ∙ ap (λ k. drop k tokens) there ∙ sym is in
+    let both = sym whole ∙ sym (take-append-drop count (drop start tokens)) ∙ ap (λ ts. take count (drop start tokens) ++ ts) last in
+    append_cancel_right taken (take count (drop start tokens)) rest both ∙ ap (take count) (drop-map node_token start nodes) ∙ take-map node_token count (drop start nodes)
+
+-- so a string is found among them where it is among the value's tokens
+pub position_taken : (p : Token → common.Bool) (nodes : List Node) (start behind : ℕ) (taken rest : List Token) → start ≤ behind → rest ≡ tokens_from nodes behind → tokens_from nodes start ≡ taken ++ rest
+    → position (λ n. p (node_token n)) (take (behind - start) (drop start nodes)) ≡ position p taken
+position_taken p nodes start behind taken rest h is whole = sym (position-map p (take (behind - start) (drop start nodes))) ∙ ap (position p) (sym (taken_up nodes start behind taken rest h is whole))

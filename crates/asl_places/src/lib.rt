@@ -1,16 +1,17 @@
 //! Places in a JSON text: the line and the column of a byte, and the bytes at which values begin.
 //!
 //! [`place_at`] tells the line and the column of a byte. An [`Outline`] has a text's tokens with their bytes; a [`Spot`]
-//! is a value in it, or a member's name.
+//! is a value in it or a member's name, found from the text's own value by names and indices. [`States`] has the states
+//! of a state machine's definition by name.
 #![tactic(auto)]
 
 mod cursors;
 mod faults;
 mod outline;
 mod place;
-#[cfg(test)]
-mod tests;
+mod states;
 
 pub use cursors::{Items, Members};
 pub use outline::{Member, Outline, OutlineRefusal, Spot};
 pub use place::{Place, place_at};
+pub use states::States;
