@@ -102,7 +102,8 @@ impl<'o, 'a> Members<'o, 'a> {
             (option_map (λ m. (m.0.now, drop m.1.value.token self.old.0)) result)
             (drop self.new.1 self.new.0) }
         ensures named { IfSome result (λ m. IsNamed self.old.0 m.1 m.0.now) }
-        ensures later { OnSome result ((self.old.1 < self.new.1) × (self.new.1 ≤ length self.old.0)) }
+        ensures later { OnSome result
+            ((self.old.1 < self.new.1) × (self.new.1 ≤ length self.old.0)) }
     {
         let (nodes, at) = (self.nodes, self.next);
         if at >= nodes.len().saturating_sub(1) {
@@ -147,7 +148,8 @@ impl<'o, 'a> Items<'o, 'a> {
         ensures tokens { self.new.0 ≡ self.old.0 }
         ensures value { NextItem (drop self.old.1 self.old.0)
             (option_map (λ s. drop s.token self.old.0) result) (drop self.new.1 self.new.0) }
-        ensures later { OnSome result ((self.old.1 < self.new.1) × (self.new.1 ≤ length self.old.0)) }
+        ensures later { OnSome result
+            ((self.old.1 < self.new.1) × (self.new.1 ≤ length self.old.0)) }
     {
         let (nodes, at) = (self.nodes, self.next);
         if at >= nodes.len() {

@@ -1,8 +1,8 @@
 //! Places in a JSON text: the line and the column of a byte, and the bytes at which values begin.
 //!
-//! [`place_at`] tells the line and the column of a byte. An [`Outline`] has a text's tokens with their bytes; a [`Spot`]
-//! is a value in it or a member's name, found from the text's own value by names and indices. [`States`] has the states
-//! of a state machine's definition by name.
+//! [`place_at`] tells the line and the column of a byte. An [`Outline`] has a text's tokens with their bytes; a
+//! [`Spot`] is a value in it or a member's name, found from the text's own value by names and indices. [`States`] has
+//! the states of a state machine's definition by name.
 #![tactic(auto)]
 
 mod cursors;

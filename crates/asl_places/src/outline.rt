@@ -196,7 +196,8 @@ impl<'a> Outline<'a> {
     pub fn string_or_field(&self, state: Member, field: &str, text: &str) -> Spot
         ensures { (j : Json) → BeginsAt self.now.0 state.value j
             → MatchOption (get field.now j) (result ≡ state.name)
-            (λ v. (at : Spot) × BeginsAt self.now.0 at v × TellsString self.now.0 text.now at v result) }
+            (λ v. (at : Spot) × BeginsAt self.now.0 at v
+            × TellsString self.now.0 text.now at v result) }
     {
         match self.member(state.value, field) {
             Some(found) => self.string_in(found.value, text).unwrap_or(found.value),
