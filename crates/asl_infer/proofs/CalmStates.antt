@@ -5,7 +5,7 @@ use Rattle.std.proofs.lemmas.Bool.Decides.{eqb_tells}
 use Rattle.std.proofs.lemmas.Option.{slice_get_within}
 use Rattle.asl_model.specs.Certificate.{Declared}
 use Rattle.asl_model.specs.Numbering.{Table}
-use Rattle.asl_drafts.specs.Drafts.{Row}
+use Rattle.asl_drafts.specs.Drafts.{Draft, Row, walked}
 use Rattle.asl_drafts.specs.Resting.{Rests}
 use Rattle.asl_drafts.proofs.PassedOver.{rests-known, rests-walked}
 use Rattle.asl_numbered.specs.Expansion.{expansions, Keeps}
@@ -18,24 +18,33 @@ use Rattle.asl_growing.specs.Walker.{StaysWaiting}
 use Rattle.asl_growing.specs.declared.waiting.Waiting.{Waiting}
 use Rattle.asl_growing.specs.declared.walker.Walker.{Walker}
 use Rattle.asl_growing.proofs.Calm.{remembered}
-use Rattle.asl_infer.specs.Rounds.{AreCalm, AreOthersCalm, IsIn, IsNoRow, Walks}
+use Rattle.asl_infer.specs.Rounds.{AreCalm, AreOthersCalm, IsIn, IsNoRow, Walks, walked_by}
+use Rattle.asl_infer.specs.declared.rounds.Strictness.{Strictness}
+use Rattle.asl_infer.specs.declared.rounds.Strictness.TheVariants.{Strict, Lenient}
+use Rattle.asl_infer.proofs.StrictRounds.{walked-leniently}
 
 -- ---- flags
 
-clear-many : (ws : List Bool) (n : ℕ) → length (slice_set ws n false) ≡ length ws
-clear-many [] n = refl
-clear-many (w ∷ ws) zero = refl
-clear-many (w ∷ ws) (suc n) = ap suc (clear-many ws n)
+set-many : (ws : List Bool) (n : ℕ) (flag : Bool) → length (slice_set ws n flag) ≡ length ws
+set-many [] n flag = refl
+set-many (w ∷ ws) zero flag = refl
+set-many (w ∷ ws) (suc n) flag = ap suc (set-many ws n flag)
 
 -- the flag of another one stays
-clear-other : (ws : List Bool) (n m : ℕ) → m ≢ n → waits_in (slice_set ws n false) m ≡ waits_in ws m
-clear-other [] n m other = refl
-clear-other (w ∷ ws) zero zero other = absurd (other refl)
-clear-other (w ∷ ws) zero (suc m) other = refl
-clear-other (w ∷ ws) (suc n) zero other = refl
-clear-other (w ∷ ws) (suc n) (suc m) other = clear-other ws n m (λ same. other (ap suc same))
+set-other : (ws : List Bool) (n m : ℕ) (flag : Bool) → m ≢ n → waits_in (slice_set ws n flag) m ≡ waits_in ws m
+set-other [] n m flag other = refl
+set-other (w ∷ ws) zero zero flag other = absurd (other refl)
+set-other (w ∷ ws) zero (suc m) flag other = refl
+set-other (w ∷ ws) (suc n) zero flag other = refl
+set-other (w ∷ ws) (suc n) (suc m) flag other = set-other ws n m flag (λ same. other (ap suc same))
 
--- and so does one that is cleared already
+-- its own is set
+set-own : (ws : List Bool) (n : ℕ) (flag : Bool) → n < length ws → waits_in (slice_set ws n flag) n ≡ flag
+set-own [] n flag within = absurd (omega (arith, within))
+set-own (w ∷ ws) zero flag within = refl
+set-own (w ∷ ws) (suc n) flag within = set-own ws n flag (omega (arith, within))
+
+-- one that is cleared already stays so
 clear-cleared : (ws : List Bool) (n m : ℕ) → waits_in ws n ≡ false → waits_in (slice_set ws n false) m ≡ waits_in ws m
 clear-cleared [] n m h = refl
 clear-cleared (w ∷ ws) zero zero h = sym h
@@ -98,26 +107,34 @@ module _ (table : Table) (declared : Declared) where
   -- the flag of one is cleared
   pub stop-calm : (one two : Walker) (number : ℕ) → two.waiting.waits.items ≡ slice_set one.waiting.waits.items number false → two.waiting.order ≡ one.waiting.order → two.draft ≡ one.draft → two.predecessors ≡ one.predecessors → Keeps (expansions one.draft.store) (expansions two.draft.store) → AreCalm table declared one → AreOthersCalm table declared number two
   stop-calm one two number cleared order draft remembers keeps are = record {
-    many = ap length cleared ∙ (clear-many one.waiting.waits.items number ∙ are.many);
+    many = ap length cleared ∙ (set-many one.waiting.waits.items number false ∙ are.many);
     ordered = order-kept table one.waiting two.waiting order are.ordered;
-    each = λ row is other. calm-kept table declared row one two keeps (ap draft_view draft) remembers (ap (λ ws. waits_in ws row.number) cleared ∙ clear-other one.waiting.waits.items number row.number other) (are.each row is);
+    each = λ row is other. calm-kept table declared row one two keeps (ap draft_view draft) remembers (ap (λ ws. waits_in ws row.number) cleared ∙ set-other one.waiting.waits.items number row.number false other) (are.each row is);
   }
 
   -- which was cleared already
   pub pass-calm : (one two : Walker) (number : ℕ) → two.waiting.waits.items ≡ slice_set one.waiting.waits.items number false → waits_in one.waiting.waits.items number ≡ false → two.waiting.order ≡ one.waiting.order → two.draft ≡ one.draft → two.predecessors ≡ one.predecessors → Keeps (expansions one.draft.store) (expansions two.draft.store) → AreCalm table declared one → AreCalm table declared two
   pass-calm one two number cleared none order draft remembers keeps are = record {
-    many = ap length cleared ∙ (clear-many one.waiting.waits.items number ∙ are.many);
+    many = ap length cleared ∙ (set-many one.waiting.waits.items number false ∙ are.many);
     ordered = order-kept table one.waiting two.waiting order are.ordered;
     each = λ row is. calm-kept table declared row one two keeps (ap draft_view draft) remembers (ap (λ ws. waits_in ws row.number) cleared ∙ clear-cleared one.waiting.waits.items number row.number none) (are.each row is);
   }
 
   -- a walk through it would change nothing
-  pub pass-walks : (walker : Walker) (number : ℕ) → waits_in walker.waiting.waits.items number ≡ false → AreCalm table declared walker → Walks table declared number (draft_view walker.draft) (draft_view walker.draft)
-  pass-walks walker number none are = record {
-    walks = λ row is here.
-        let waits : waits_in walker.waiting.waits.items row.number ≡ false = ap (waits_in walker.waiting.waits.items) here ∙ none in
-        rests-walked table declared row (memory_of (expansions walker.draft.store) walker.predecessors) (draft_view walker.draft) (calm-rests table declared row walker waits (are.each row is));
-  }
+  pub pass-walks : (strictness : Strictness) (walker : Walker) (number : ℕ) → waits_in walker.waiting.waits.items number ≡ false → AreCalm table declared walker → Walks strictness table declared number (draft_view walker.draft) (draft_view walker.draft)
+  pass-walks strictness walker number none are = record { walks = λ row is here. by strictness row (rests row is here) }
+    where
+      now : Draft
+      now = draft_view walker.draft
+
+      rests : (row : Row) → IsIn table row → row.number ≡ number → walked table declared row now ≡ Ok now
+      rests row is here =
+          let waits : waits_in walker.waiting.waits.items row.number ≡ false = ap (waits_in walker.waiting.waits.items) here ∙ none in
+          rests-walked table declared row (memory_of (expansions walker.draft.store) walker.predecessors) now (calm-rests table declared row walker waits (are.each row is))
+
+      by : (strictness : Strictness) (row : Row) → walked table declared row now ≡ Ok now → walked_by strictness table declared row now ≡ Ok now
+      by Strict row h = h
+      by Lenient row h = ap Ok (walked-leniently table declared row now now h)
 
   -- a shape has been taken in
   pub taken-calm : (one two : Walker) → StaysWaiting one.waiting two.waiting → ((row : Row) → row.number < length two.waiting.waits.items → IsCalm table declared row one → IsCalm table declared row two) → AreCalm table declared one → AreCalm table declared two
@@ -131,19 +148,38 @@ module _ (table : Table) (declared : Declared) where
   pub none-calm : (walker : Walker) (number : ℕ) → IsNoRow table number → AreOthersCalm table declared number walker → AreCalm table declared walker
   none-calm walker number none are = record { many = are.many; ordered = are.ordered; each = λ row is. are.each row is (λ same. none.none row is same) }
 
-  -- the edges of the state of that number were made, and what flows along them was taken in
+  -- the steps of the state of that number were made, and what flows at them was taken in
   pub walked-calm : (one made two : Walker) (number : ℕ) → made.waiting ≡ one.waiting → made.predecessors ≡ one.predecessors → draft_view made.draft ≡ draft_view one.draft → Keeps (expansions one.draft.store) (expansions made.draft.store)
-      → StaysWaiting made.waiting two.waiting → OthersStayCalm number made two → ((row : Row) → IsIn table row → row.number ≡ number → row.number < length two.waiting.waits.items → IsCalm table declared row two)
-      → AreOthersCalm table declared number one → AreCalm table declared two
-  walked-calm one made two number waits remembers same keeps stays others own are = record {
+      → StaysWaiting made.waiting two.waiting → OthersStayCalm number made two → AreOthersCalm table declared number one → AreOthersCalm table declared number two
+  walked-calm one made two number waits remembers same keeps stays others are = record {
     many = many;
     ordered = order-kept table one.waiting two.waiting (stays.order ∙ ap (λ (w : Waiting). w.order) waits) are.ordered;
-    each = λ row is. by row is (eqb_tells row.number number);
+    each = λ row is other. others.calm table declared row other (omega (arith, row-below table row is, many)) (calm-kept table declared row one made keeps same remembers (ap (λ (w : Waiting). waits_in w.waits.items row.number) waits) (are.each row is other));
   }
     where
       many : length two.waiting.waits.items ≡ length table.states
       many = stays.many ∙ (ap (λ (w : Waiting). length w.waits.items) waits ∙ are.many)
 
-      by : (row : Row) → IsIn table row → ((Rattle.std.proofs.Common.eqb row.number number ≡ true) × (row.number ≡ number)) ⊎ ((Rattle.std.proofs.Common.eqb row.number number ≡ false) × (row.number ≢ number)) → IsCalm table declared row two
-      by row is (inl here) = own row is here.1 (omega (arith, row-below table row is, many))
-      by row is (inr other) = others.calm table declared row other.1 (omega (arith, row-below table row is, many)) (calm-kept table declared row one made keeps same remembers (ap (λ (w : Waiting). waits_in w.waits.items row.number) waits) (are.each row is other.1))
+  -- each is calm where that one is, too
+  pub all-calm : (walker : Walker) (number : ℕ) → ((row : Row) → IsIn table row → row.number ≡ number → row.number < length walker.waiting.waits.items → IsCalm table declared row walker) → AreOthersCalm table declared number walker → AreCalm table declared walker
+  all-calm walker number own are = record { many = are.many; ordered = are.ordered; each = λ row is. by row is (eqb_tells row.number number) }
+    where
+      by : (row : Row) → IsIn table row → ((Rattle.std.proofs.Common.eqb row.number number ≡ true) × (row.number ≡ number)) ⊎ ((Rattle.std.proofs.Common.eqb row.number number ≡ false) × (row.number ≢ number)) → IsCalm table declared row walker
+      by row is (inl here) = own row is here.1 (omega (arith, row-below table row is, are.many))
+      by row is (inr other) = are.each row is other.1
+
+  -- as where it waits again
+  pub woken-calm : (one two : Walker) (number : ℕ) → two.waiting.waits.items ≡ slice_set one.waiting.waits.items number true → two.waiting.order ≡ one.waiting.order → two.draft ≡ one.draft → two.predecessors ≡ one.predecessors → Keeps (expansions one.draft.store) (expansions two.draft.store) → AreOthersCalm table declared number one → AreCalm table declared two
+  woken-calm one two number woken order draft remembers keeps are = all-calm two number own others
+    where
+      others : AreOthersCalm table declared number two
+      others = record {
+        many = ap length woken ∙ (set-many one.waiting.waits.items number true ∙ are.many);
+        ordered = order-kept table one.waiting two.waiting order are.ordered;
+        each = λ row is other. calm-kept table declared row one two keeps (ap draft_view draft) remembers (ap (λ ws. waits_in ws row.number) woken ∙ set-other one.waiting.waits.items number row.number true other) (are.each row is other);
+      }
+
+      own : (row : Row) → IsIn table row → row.number ≡ number → row.number < length two.waiting.waits.items → IsCalm table declared row two
+      own row is here within =
+          let below : number < length one.waiting.waits.items = omega (arith, within, here, ap length woken, set-many one.waiting.waits.items number true) in
+          record { calm = inl (ap (λ ws. waits_in ws row.number) woken ∙ (ap (waits_in (slice_set one.waiting.waits.items number true)) here ∙ set-own one.waiting.waits.items number true below)) }

@@ -15,6 +15,7 @@ use Rattle.asl_infer.specs.Rounds.{IsGiven, IsGivenOf, IsRowOf, declared_in, tab
 use Rattle.asl_infer.specs.Tasks.{IsTaskOf, AreTasks}
 use Rattle.asl_infer.specs.declared.rounds.Given.{Given}
 use Rattle.asl_infer.specs.declared.rounds.Row.{Row}
+use Rattle.asl_infer.specs.declared.rounds.Strictness.{Strictness}
 use Rattle.asl_infer.specs.declared.tasks.TaskNumbers.{TaskNumbers}
 use Rattle.asl_growing.proofs.Known.{shows_kept}
 use Rattle.asl_growing.proofs.Measured.{pushed}
@@ -86,5 +87,5 @@ pub task_of_row : (table : List Shape) (given : Given) (number : ℕ) (row : Row
 task_of_row table given number row is of = is.tasks.each number row.name.now row.task of.among.named of.task
 
 -- what is given, in a table that has grown
-pub given_of_kept : (shown : Machine) (declared : code.Declared) (a b : List Shape) (given : Given) → Keeps a b → IsGivenOf shown declared a given → IsGivenOf shown declared b given
-given_of_kept shown declared a b given keeps is = record { machine = is.machine; declares = is.declares; numbers = given_kept a b given keeps is.numbers }
+pub given_of_kept : (shown : Machine) (declared : code.Declared) (strictness : Strictness) (a b : List Shape) (given : Given) → Keeps a b → IsGivenOf shown declared strictness a given → IsGivenOf shown declared strictness b given
+given_of_kept shown declared strictness a b given keeps is = record { machine = is.machine; declares = is.declares; strict = is.strict; numbers = given_kept a b given keeps is.numbers }

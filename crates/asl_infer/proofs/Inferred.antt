@@ -19,22 +19,24 @@ use Rattle.asl_check.proofs.TableEnds.{distinct}
 use Rattle.asl_check.proofs.TableNames.{task-named}
 use Rattle.asl_infer.specs.Declarations.{AreNamed, NamesTell}
 use Rattle.asl_infer.specs.Inferring.{IsInferRefusal, IsOfMachine, IsReasonOf}
-use Rattle.asl_infer.specs.Rounds.{EndsWhereNamed, Infers, IsEndOf, IsGivenOf, Refuses, SettlesWhereNamed, declared_in, table_in}
+use Rattle.asl_infer.specs.Rounds.{EndsWhereDistinct, Infers, IsEndOf, IsGivenOf, Refuses, SettlesWhereDistinct, declared_in, table_in}
 use Rattle.asl_infer.specs.declared.rounds.Given.{Given}
+use Rattle.asl_infer.specs.declared.rounds.Strictness.{Strictness}
+use Rattle.asl_infer.specs.declared.rounds.Strictness.TheVariants.{Strict}
 use Rattle.asl_infer.specs.declared.inferring.InferRefusal.{InferRefusal}
 use Rattle.asl_infer.specs.declared.inferring.InferRefusal.TheVariants as refusal
 use Rattle.asl_infer.proofs.FirstNames.{have-named}
 use Rattle.asl_infer.proofs.MisnamedFindings.{BrokenStands, ExamplesStand, misnamed-stands}
-use Rattle.asl_infer.proofs.TakenRounds.{told-first}
+use Rattle.asl_infer.proofs.StrictRounds.{strict-ends, strict-settles, told-first}
 use Rattle.asl_infer.proofs.ToldFindings.{StandsInTable, WalkBreaks, in-rounds}
 
 -- ---- by a table
 
 module _ (table : Table) (declared : model.Declared) (rounds : ℕ) where
   -- the certificate of the draft on which the rounds settle
-  pub infers : (draft : Draft) (certificate : model.Certificate) → AreNamed table declared → SettlesWhereNamed table declared rounds draft → (are_distinct table.names ≡ true → certificate ≡ certificate_of table draft) → Infers table declared rounds certificate
+  pub infers : (draft : Draft) (certificate : model.Certificate) → AreNamed table declared → SettlesWhereDistinct Strict table declared rounds draft → (are_distinct table.names ≡ true → certificate ≡ certificate_of table draft) → Infers table declared rounds certificate
   infers draft certificate named settles same = record {
-    inferred = λ d. record { draft = draft; settles = settles.settles d (named.named d); same = same d };
+    inferred = λ d. record { draft = draft; settles = strict-settles table declared (named.named d) rounds draft (settles.settles d); same = same d };
   }
 
   -- a refusal by the names of tasks
@@ -47,8 +49,8 @@ module _ (table : Table) (declared : model.Declared) (rounds : ℕ) where
       by refusal.OutOfMemory d h = tt
 
   -- and one by the rounds
-  pub rounds-refuse : (why : InferRefusal) → AreNamed table declared → EndsWhereNamed table declared rounds why → Refuses table declared rounds why
-  rounds-refuse why named ends = record { refuses = λ d. ends.ends d (named.named d) }
+  pub rounds-refuse : (why : InferRefusal) → AreNamed table declared → EndsWhereDistinct Strict table declared rounds why → Refuses table declared rounds why
+  rounds-refuse why named ends = record { refuses = λ d. strict-ends table declared (named.named d) rounds why (ends.ends d) }
 
   pub memory-refuses : Refuses table declared rounds refusal.OutOfMemory
   memory-refuses = record { refuses = λ d. tt }
@@ -56,7 +58,7 @@ module _ (table : Table) (declared : model.Declared) (rounds : ℕ) where
 -- ---- by a machine
 
 -- no name stands twice
-well-distinct : (machine : Scope) → IsWellNamed machine → are_distinct (table_of machine).names ≡ true
+pub well-distinct : (machine : Scope) → IsWellNamed machine → are_distinct (table_of machine).names ≡ true
 well-distinct machine well = ap are_distinct (outlined_names (standing machine) ∙ names_of_standing None machine) ∙ well.distinct
 
 module _ (shown : Machine) (declared : model.Declared) (rounds : ℕ) where
@@ -102,13 +104,14 @@ told-stands law bridge broken shown machine declared rounds found well h = in-ro
 
 -- ---- by what is given
 
-module _ (shown : Machine) (declared : code.Declared) (table : List Shape) (given : Given) (of : IsGivenOf shown declared table given) (rounds : ℕ) where
-  -- it is of the same table, and of the same shapes
-  moved : (P : Table → model.Declared → Type 0) → P (table_in given) (declared_in given) → P (table_view shown) (declared_view declared)
-  moved P h = subst (λ d. P (table_view shown) (declared_view d)) of.declares (subst (λ m. P (table_view m) (declared_in given)) of.machine h)
+module _ (shown : Machine) (declared : code.Declared) (strictness : Strictness) (table : List Shape) (given : Given) (of : IsGivenOf shown declared strictness table given) where
+  -- it is of the same table and the same shapes, and the rounds are as strict
+  pub moved : (P : Strictness → Table → model.Declared → Type 0) → P given.strictness (table_in given) (declared_in given) → P strictness (table_view shown) (declared_view declared)
+  moved P h = subst (λ s. P s (table_view shown) (declared_view declared)) of.strict (subst (λ d. P given.strictness (table_view shown) (declared_view d)) of.declares (subst (λ m. P given.strictness (table_view m) (declared_in given)) of.machine h))
 
-  pub given-refuses : (why : InferRefusal) → AreNamed (table_view shown) (declared_view declared) → EndsWhereNamed (table_in given) (declared_in given) rounds why → Refuses (table_view shown) (declared_view declared) rounds why
-  given-refuses why named ends = rounds-refuse (table_view shown) (declared_view declared) rounds why named (moved (λ t d. EndsWhereNamed t d rounds why) ends)
+module _ (shown : Machine) (declared : code.Declared) (table : List Shape) (given : Given) (of : IsGivenOf shown declared Strict table given) (rounds : ℕ) where
+  pub given-refuses : (why : InferRefusal) → AreNamed (table_view shown) (declared_view declared) → EndsWhereDistinct given.strictness (table_in given) (declared_in given) rounds why → Refuses (table_view shown) (declared_view declared) rounds why
+  given-refuses why named ends = rounds-refuse (table_view shown) (declared_view declared) rounds why named (moved shown declared Strict table given of (λ s t d. EndsWhereDistinct s t d rounds why) ends)
 
-  pub given-infers : (draft : Draft) (certificate : model.Certificate) → AreNamed (table_view shown) (declared_view declared) → SettlesWhereNamed (table_in given) (declared_in given) rounds draft → (are_distinct (table_view shown).names ≡ true → certificate ≡ certificate_of (table_view shown) draft) → Infers (table_view shown) (declared_view declared) rounds certificate
-  given-infers draft certificate named settles same = infers (table_view shown) (declared_view declared) rounds draft certificate named (moved (λ t d. SettlesWhereNamed t d rounds draft) settles) same
+  pub given-infers : (draft : Draft) (certificate : model.Certificate) → AreNamed (table_view shown) (declared_view declared) → SettlesWhereDistinct given.strictness (table_in given) (declared_in given) rounds draft → (are_distinct (table_view shown).names ≡ true → certificate ≡ certificate_of (table_view shown) draft) → Infers (table_view shown) (declared_view declared) rounds certificate
+  given-infers draft certificate named settles same = infers (table_view shown) (declared_view declared) rounds draft certificate named (moved shown declared Strict table given of (λ s t d. SettlesWhereDistinct s t d rounds draft) settles) same

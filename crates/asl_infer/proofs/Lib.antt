@@ -4,11 +4,13 @@ pub mod Declared
 pub mod FirstNames
 pub mod FirstRooms
 pub mod Inferred
+pub mod LenientAnswers
 pub mod Levels
 pub mod Listing
 pub mod MisnamedFindings
 pub mod OwnRules
 pub mod StateSteps
+pub mod StrictRounds
 pub mod TakenRounds
 pub mod TaskNames
 pub mod ToldFindings

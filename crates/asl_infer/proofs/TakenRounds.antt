@@ -8,7 +8,7 @@ use Rattle.asl_model.specs.Numbering.{Placement, Table}
 use Rattle.asl_model.specs.Shape.{Shape}
 use Rattle.asl_model.specs.ShapeSpelling.{are_distinct}
 use Rattle.asl_model.proofs.RunOptions.{none_some, some_inj}
-use Rattle.asl_drafts.specs.Drafts.{Draft, Input, Row, after_rounds, all_walked, first_draft, input_taken, misnamed, round, rows_of, taken_at, unless_found, unless_told}
+use Rattle.asl_drafts.specs.Drafts.{Draft, Input, Row, first_draft, input_taken, rows_of, taken_at, unless_told}
 use Rattle.asl_drafts.proofs.CertifiedRows.{Among, row-known}
 use Rattle.asl_growing.specs.Drafted.{draft_view, room}
 use Rattle.asl_growing.specs.Entries.{Makes}
@@ -17,9 +17,10 @@ use Rattle.asl_growing.specs.Waiting.{NoneWaits}
 use Rattle.asl_growing.specs.declared.walker.Walker.{Walker}
 use Rattle.asl_growing.proofs.Ordered.{stand-once}
 use Rattle.asl_check.specs.View.{finding_view}
-use Rattle.asl_infer.specs.Rounds.{AreCalm, EndsWhereNamed, IsChanged, IsEndOf, IsIn, RoundTells, SettlesWhereNamed, TakesRound, Tells, WalkTells, Walks}
+use Rattle.asl_infer.specs.Rounds.{AreCalm, EndsWhereDistinct, IsChanged, IsEndBy, IsIn, RoundTells, SettlesWhereDistinct, TakesRound, Tells, WalkTells, Walks, after_rounds_by, all_walked_by, round_by}
 use Rattle.asl_infer.specs.declared.inferring.InferRefusal.{InferRefusal}
 use Rattle.asl_infer.specs.declared.inferring.InferRefusal.TheVariants as refusal
+use Rattle.asl_infer.specs.declared.rounds.Strictness.{Strictness}
 use Rattle.asl_infer.proofs.CalmStates.{pass-walks}
 use Rattle.asl_infer.proofs.FirstRooms.{first-room}
 
@@ -98,32 +99,32 @@ module _ (table : Table) (numbers : List ℕ) (are : AreOrdered table numbers) (
 
 -- ---- a round
 
-module _ (table : Table) (declared : model.Declared) where
+module _ (strictness : Strictness) (table : Table) (declared : model.Declared) where
   -- the rows before that place have been walked
   pub record IsInRound (before : Draft) (place : ℕ) (is_changed : Bool) (now : Draft) : Type 0 where
-    pub walked : are_distinct table.names ≡ true → all_walked table declared (drop place (rows_of table)) now ≡ round table declared before
+    pub walked : are_distinct table.names ≡ true → all_walked_by strictness table declared (drop place (rows_of table)) now ≡ round_by strictness table declared before
     pub changed : IsChanged before is_changed now
 
   pub begin-round : (before : Draft) (changed : Bool) (now : Draft) → Makes room (input_taken table declared) before changed now → IsInRound before 0 changed now
-  begin-round before changed now makes = record { walked = λ distinct. ap (all_walked table declared (rows_of table)) makes.made; changed = record { told = makes.told } }
+  begin-round before changed now makes = record { walked = λ distinct. ap (all_walked_by strictness table declared (rows_of table)) makes.made; changed = record { told = makes.told } }
 
   -- rows of states that don't wait are passed over
-  pass-rows : (walker : Walker) → AreCalm table declared walker → are_distinct table.names ≡ true → (count from : ℕ) → from + count ≤ length walker.waiting.order.items → NoneWaits walker.waiting.order.items walker.waiting.waits.items from (from + count) → all_walked table declared (drop from (rows_of table)) (draft_view walker.draft) ≡ all_walked table declared (drop (from + count) (rows_of table)) (draft_view walker.draft)
+  pass-rows : (walker : Walker) → AreCalm table declared walker → are_distinct table.names ≡ true → (count from : ℕ) → from + count ≤ length walker.waiting.order.items → NoneWaits walker.waiting.order.items walker.waiting.waits.items from (from + count) → all_walked_by strictness table declared (drop from (rows_of table)) (draft_view walker.draft) ≡ all_walked_by strictness table declared (drop (from + count) (rows_of table)) (draft_view walker.draft)
   pass-rows walker are distinct zero from within none =
       let same : from ≡ from + 0 = omega arith in
-      ap (λ i. all_walked table declared (drop i (rows_of table)) (draft_view walker.draft)) same
+      ap (λ i. all_walked_by strictness table declared (drop i (rows_of table)) (draft_view walker.draft)) same
   pass-rows walker are distinct (suc count) from within none =
       let numbers = walker.waiting.order.items in
       let number = get_or numbers from 0 in
       let at : slice_get numbers from ≡ Some number = slice_get-get_or numbers from 0 (omega (arith, within)) in
       let quiet = none.none (stand-once table numbers are.ordered distinct) number from (omega arith) (omega arith) at in
-      let walks = pass-walks table declared walker number quiet are in
+      let walks = pass-walks table declared strictness walker number quiet are in
       let next = next-row table numbers are.ordered distinct from number at in
       let same : (from + 1) + count ≡ from + suc count = omega arith in
-      ap (λ rows. all_walked table declared rows (draft_view walker.draft)) next.left
-      ∙ (ap (unless_told (all_walked table declared (drop (from + 1) (rows_of table)))) (walks.walks next.row next.among next.number)
+      ap (λ rows. all_walked_by strictness table declared rows (draft_view walker.draft)) next.left
+      ∙ (ap (unless_told (all_walked_by strictness table declared (drop (from + 1) (rows_of table)))) (walks.walks next.row next.among next.number)
       ∙ (pass-rows walker are distinct count (from + 1) (omega (arith, within)) (record { none = λ once n place least below there. none.none once n place (omega (arith, least)) (omega (arith, below)) there })
-      ∙ ap (λ i. all_walked table declared (drop i (rows_of table)) (draft_view walker.draft)) same))
+      ∙ ap (λ i. all_walked_by strictness table declared (drop i (rows_of table)) (draft_view walker.draft)) same))
 
   pub pass-round : (walker : Walker) (before : Draft) (from place : ℕ) (changed : Bool) → AreCalm table declared walker → from ≤ place → place ≤ length walker.waiting.order.items → NoneWaits walker.waiting.order.items walker.waiting.waits.items from place → IsInRound before from changed (draft_view walker.draft) → IsInRound before place changed (draft_view walker.draft)
   pass-round walker before from place changed are after within none so_far = record {
@@ -134,69 +135,69 @@ module _ (table : Table) (declared : model.Declared) where
       same : from + (place - from) ≡ place
       same = omega (arith, after)
 
-      passed : are_distinct table.names ≡ true → all_walked table declared (drop from (rows_of table)) (draft_view walker.draft) ≡ all_walked table declared (drop place (rows_of table)) (draft_view walker.draft)
+      passed : are_distinct table.names ≡ true → all_walked_by strictness table declared (drop from (rows_of table)) (draft_view walker.draft) ≡ all_walked_by strictness table declared (drop place (rows_of table)) (draft_view walker.draft)
       passed distinct =
           pass-rows walker are distinct (place - from) from (omega (arith, same, within)) (subst (NoneWaits walker.waiting.order.items walker.waiting.waits.items from) (sym same) none)
-          ∙ ap (λ i. all_walked table declared (drop i (rows_of table)) (draft_view walker.draft)) same
+          ∙ ap (λ i. all_walked_by strictness table declared (drop i (rows_of table)) (draft_view walker.draft)) same
 
-  walk-next : (numbers : List ℕ) (before : Draft) (place number : ℕ) (changed : Bool) (now next : Draft) → AreOrdered table numbers → slice_get numbers place ≡ Some number → IsInRound before place changed now → Walks table declared number now next → are_distinct table.names ≡ true → all_walked table declared (drop (place + 1) (rows_of table)) next ≡ round table declared before
+  walk-next : (numbers : List ℕ) (before : Draft) (place number : ℕ) (changed : Bool) (now next : Draft) → AreOrdered table numbers → slice_get numbers place ≡ Some number → IsInRound before place changed now → Walks strictness table declared number now next → are_distinct table.names ≡ true → all_walked_by strictness table declared (drop (place + 1) (rows_of table)) next ≡ round_by strictness table declared before
   walk-next numbers before place number changed now next are at so_far walks distinct =
       let next = next-row table numbers are distinct place number at in
-      sym (ap (λ rows. all_walked table declared rows now) next.left ∙ ap (unless_told (all_walked table declared (drop (place + 1) (rows_of table)))) (walks.walks next.row next.among next.number)) ∙ so_far.walked distinct
+      sym (ap (λ rows. all_walked_by strictness table declared rows now) next.left ∙ ap (unless_told (all_walked_by strictness table declared (drop (place + 1) (rows_of table)))) (walks.walks next.row next.among next.number)) ∙ so_far.walked distinct
 
-  pub walk-changed : (numbers : List ℕ) (before : Draft) (place number : ℕ) (changed : Bool) (now next : Draft) → AreOrdered table numbers → slice_get numbers place ≡ Some number → IsInRound before place changed now → Walks table declared number now next → IsChanged now true next → IsInRound before (place + 1) true next
+  pub walk-changed : (numbers : List ℕ) (before : Draft) (place number : ℕ) (changed : Bool) (now next : Draft) → AreOrdered table numbers → slice_get numbers place ≡ Some number → IsInRound before place changed now → Walks strictness table declared number now next → IsChanged now true next → IsInRound before (place + 1) true next
   walk-changed numbers before place number changed now next are at so_far walks more = record {
     walked = walk-next numbers before place number changed now next are at so_far walks;
     changed = more-changed before now next changed so_far.changed more;
   }
 
-  pub walk-unchanged : (numbers : List ℕ) (before : Draft) (place number : ℕ) (changed : Bool) (now next : Draft) → AreOrdered table numbers → slice_get numbers place ≡ Some number → IsInRound before place changed now → Walks table declared number now next → IsChanged now false next → IsInRound before (place + 1) changed next
+  pub walk-unchanged : (numbers : List ℕ) (before : Draft) (place number : ℕ) (changed : Bool) (now next : Draft) → AreOrdered table numbers → slice_get numbers place ≡ Some number → IsInRound before place changed now → Walks strictness table declared number now next → IsChanged now false next → IsInRound before (place + 1) changed next
   walk-unchanged numbers before place number changed now next are at so_far walks more = record {
     walked = walk-next numbers before place number changed now next are at so_far walks;
     changed = still-changed before now next changed so_far.changed more;
   }
 
   -- a walk tells
-  pub walk-told : (numbers : List ℕ) (before : Draft) (place number : ℕ) (changed : Bool) (now : Draft) (why : InferRefusal) → AreOrdered table numbers → slice_get numbers place ≡ Some number → IsInRound before place changed now → WalkTells table declared number now why → RoundTells table declared before why
+  pub walk-told : (numbers : List ℕ) (before : Draft) (place number : ℕ) (changed : Bool) (now : Draft) (why : InferRefusal) → AreOrdered table numbers → slice_get numbers place ≡ Some number → IsInRound before place changed now → WalkTells strictness table declared number now why → RoundTells strictness table declared before why
   walk-told numbers before place number changed now why are at so_far tells = record { tells = λ distinct. by why distinct (next-row table numbers are distinct place number at) tells }
     where
-      by : (r : InferRefusal) → are_distinct table.names ≡ true → IsNext table place number → WalkTells table declared number now r → Tells (round table declared before) r
+      by : (r : InferRefusal) → are_distinct table.names ≡ true → IsNext table place number → WalkTells strictness table declared number now r → Tells (round_by strictness table declared before) r
       by (refusal.Finding found) distinct at h =
-          sym (so_far.walked distinct) ∙ (ap (λ rows. all_walked table declared rows now) at.left ∙ ap (unless_told (all_walked table declared (drop (place + 1) (rows_of table)))) (h.tells at.row at.among at.number))
+          sym (so_far.walked distinct) ∙ (ap (λ rows. all_walked_by strictness table declared rows now) at.left ∙ ap (unless_told (all_walked_by strictness table declared (drop (place + 1) (rows_of table)))) (h.tells at.row at.among at.number))
       by refusal.NotSettled distinct at h = h.tells at.row at.among at.number
       by refusal.OutOfMemory distinct at h = tt
 
-  pub end-round : (numbers : List ℕ) (before : Draft) (place : ℕ) (changed : Bool) (now : Draft) → AreOrdered table numbers → length numbers ≤ place → IsInRound before place changed now → TakesRound table declared before now
+  pub end-round : (numbers : List ℕ) (before : Draft) (place : ℕ) (changed : Bool) (now : Draft) → AreOrdered table numbers → length numbers ≤ place → IsInRound before place changed now → TakesRound strictness table declared before now
   end-round numbers before place changed now are past so_far = record {
-    taken = λ distinct. sym (so_far.walked distinct) ∙ ap (λ rows. all_walked table declared rows now) (no-row table numbers are distinct place past);
+    taken = λ distinct. sym (so_far.walked distinct) ∙ ap (λ rows. all_walked_by strictness table declared rows now) (no-row table numbers are distinct place past);
   }
 
-  pub memory-told : (before : Draft) → RoundTells table declared before refusal.OutOfMemory
+  pub memory-told : (before : Draft) → RoundTells strictness table declared before refusal.OutOfMemory
   memory-told before = record { tells = λ distinct. tt }
 
   -- ---- several rounds
 
   -- so many have been taken, and each of them changed the draft before it
   abbrev pub Changes : ℕ → Type 0
-  Changes n = (before after : Draft) × (after_rounds table declared n ≡ Ok before) × (round table declared before ≡ Ok after) × (after ≢ before)
+  Changes n = (before after : Draft) × (after_rounds_by strictness table declared n ≡ Ok before) × (round_by strictness table declared before ≡ Ok after) × (after ≢ before)
 
   pub record AreTaken (count : ℕ) (now : Draft) : Type 0 where
-    pub comes : are_distinct table.names ≡ true → misnamed table declared ≡ [] → after_rounds table declared count ≡ Ok now
-    pub changes : are_distinct table.names ≡ true → misnamed table declared ≡ [] → (n : ℕ) → n < count → Changes n
+    pub comes : are_distinct table.names ≡ true → after_rounds_by strictness table declared count ≡ Ok now
+    pub changes : are_distinct table.names ≡ true → (n : ℕ) → n < count → Changes n
     pub spent : room now + count ≤ room (first_draft table)
 
   pub none-taken : (now : Draft) → now ≡ first_draft table → AreTaken 0 now
   none-taken now is = record {
-    comes = λ distinct named. ap (λ findings. unless_found findings (first_draft table)) named ∙ ap Ok (sym is);
-    changes = λ distinct named n less. absurd (omega (arith, less));
+    comes = λ distinct. ap Ok (sym is);
+    changes = λ distinct n less. absurd (omega (arith, less));
     spent = subst (λ (d : Draft). room d + 0 ≤ room (first_draft table)) (sym is) (omega arith);
   }
 
   -- one that changed the draft
-  pub one-taken : (count : ℕ) (now next : Draft) → AreTaken count now → TakesRound table declared now next → IsChanged now true next → AreTaken (count + 1) next
+  pub one-taken : (count : ℕ) (now next : Draft) → AreTaken count now → TakesRound strictness table declared now next → IsChanged now true next → AreTaken (count + 1) next
   one-taken count now next are takes changed = record {
-    comes = λ distinct named. let more : count + 1 ≡ suc count = omega arith in ap (after_rounds table declared) more ∙ (ap (unless_told (round table declared)) (are.comes distinct named) ∙ takes.taken distinct);
-    changes = λ distinct named n less. by distinct named n (Rattle.std.proofs.lemmas.Bool.Decides.eqb_tells n count) less;
+    comes = λ distinct. let more : count + 1 ≡ suc count = omega arith in ap (after_rounds_by strictness table declared) more ∙ (ap (unless_told (round_by strictness table declared)) (are.comes distinct) ∙ takes.taken distinct);
+    changes = λ distinct n less. by distinct n (Rattle.std.proofs.lemmas.Bool.Decides.eqb_tells n count) less;
     spent = omega (arith, are.spent, changed.told);
   }
     where
@@ -205,53 +206,45 @@ module _ (table : Table) (declared : model.Declared) where
           let never : room now < room now = subst (λ (d : Draft). room d < room now) same changed.told in
           omega (arith, never)
 
-      by : are_distinct table.names ≡ true → misnamed table declared ≡ [] → (n : ℕ) → ((Rattle.std.proofs.Common.eqb n count ≡ true) × (n ≡ count)) ⊎ ((Rattle.std.proofs.Common.eqb n count ≡ false) × (n ≢ count)) → n < count + 1 → Changes n
-      by distinct named n (inl here) less = (now, next, ap (after_rounds table declared) here.1 ∙ are.comes distinct named, takes.taken distinct, other)
-      by distinct named n (inr before) less = are.changes distinct named n (omega (arith, less, before.1))
+      by : are_distinct table.names ≡ true → (n : ℕ) → ((Rattle.std.proofs.Common.eqb n count ≡ true) × (n ≡ count)) ⊎ ((Rattle.std.proofs.Common.eqb n count ≡ false) × (n ≢ count)) → n < count + 1 → Changes n
+      by distinct n (inl here) less = (now, next, ap (after_rounds_by strictness table declared) here.1 ∙ are.comes distinct, takes.taken distinct, other)
+      by distinct n (inr before) less = are.changes distinct n (omega (arith, less, before.1))
 
   -- one that left it as it was
-  pub settled : (rounds count : ℕ) (now next : Draft) → AreTaken count now → count < rounds → TakesRound table declared now next → IsChanged now false next → SettlesWhereNamed table declared rounds next
+  pub settled : (rounds count : ℕ) (now next : Draft) → AreTaken count now → count < rounds → TakesRound strictness table declared now next → IsChanged now false next → SettlesWhereDistinct strictness table declared rounds next
   settled rounds count now next are within takes changed = record {
-    settles = λ distinct named.
+    settles = λ distinct.
         let same : next ≡ now = changed.told in
         record {
           before = count;
           within = within;
-          comes = are.comes distinct named ∙ ap Ok (sym same);
-          stays = ap (round table declared) same ∙ takes.taken distinct;
+          comes = are.comes distinct ∙ ap Ok (sym same);
+          stays = ap (round_by strictness table declared) same ∙ takes.taken distinct;
         };
   }
 
   -- what is told stays so in further rounds
-  told-later : (rounds n : ℕ) (found : Finding) → n ≤ rounds → after_rounds table declared n ≡ Err found → after_rounds table declared rounds ≡ Err found
+  told-later : (rounds n : ℕ) (found : Finding) → n ≤ rounds → after_rounds_by strictness table declared n ≡ Err found → after_rounds_by strictness table declared rounds ≡ Err found
   told-later zero n found within h =
       let none : n ≡ 0 = omega (arith, within) in
-      subst (λ m. after_rounds table declared m ≡ Err found) none h
+      subst (λ m. after_rounds_by strictness table declared m ≡ Err found) none h
   told-later (suc rounds) n found within h = by (Rattle.std.proofs.lemmas.Bool.Decides.eqb_tells n (suc rounds)) (λ less. told-later rounds n found less h)
     where
-      by : ((Rattle.std.proofs.Common.eqb n (suc rounds) ≡ true) × (n ≡ suc rounds)) ⊎ ((Rattle.std.proofs.Common.eqb n (suc rounds) ≡ false) × (n ≢ suc rounds)) → (n ≤ rounds → after_rounds table declared rounds ≡ Err found) → after_rounds table declared (suc rounds) ≡ Err found
-      by (inl same) below = subst (λ m. after_rounds table declared m ≡ Err found) same.1 h
-      by (inr other) below = ap (unless_told (round table declared)) (below (omega (arith, within, other.1)))
-
-  -- and so is what is told of the names of tasks
-  pub told-first : (rounds : ℕ) (found : Finding) → slice_get (misnamed table declared) 0 ≡ Some found → after_rounds table declared rounds ≡ Err found
-  told-first rounds found h = told-later rounds 0 found (omega arith) (by (misnamed table declared) h)
-    where
-      by : (findings : List Finding) → slice_get findings 0 ≡ Some found → unless_found findings (first_draft table) ≡ Err found
-      by [] e = none_some e
-      by (first ∷ further) e = ap Err (some_inj e)
+      by : ((Rattle.std.proofs.Common.eqb n (suc rounds) ≡ true) × (n ≡ suc rounds)) ⊎ ((Rattle.std.proofs.Common.eqb n (suc rounds) ≡ false) × (n ≢ suc rounds)) → (n ≤ rounds → after_rounds_by strictness table declared rounds ≡ Err found) → after_rounds_by strictness table declared (suc rounds) ≡ Err found
+      by (inl same) below = subst (λ m. after_rounds_by strictness table declared m ≡ Err found) same.1 h
+      by (inr other) below = ap (unless_told (round_by strictness table declared)) (below (omega (arith, within, other.1)))
 
   -- one that tells
-  pub told : (rounds count : ℕ) (now : Draft) (why : InferRefusal) → AreTaken count now → count < rounds → RoundTells table declared now why → EndsWhereNamed table declared rounds why
+  pub told : (rounds count : ℕ) (now : Draft) (why : InferRefusal) → AreTaken count now → count < rounds → RoundTells strictness table declared now why → EndsWhereDistinct strictness table declared rounds why
   told rounds count now why are within tells = record { ends = by why tells }
     where
-      by : (r : InferRefusal) → RoundTells table declared now r → are_distinct table.names ≡ true → misnamed table declared ≡ [] → IsEndOf table declared rounds r
-      by (refusal.Finding found) h distinct named = told-later rounds (suc count) (finding_view found) (omega (arith, within)) (ap (unless_told (round table declared)) (are.comes distinct named) ∙ h.tells distinct)
-      by refusal.NotSettled h distinct named = absurd (h.tells distinct)
-      by refusal.OutOfMemory h distinct named = tt
+      by : (r : InferRefusal) → RoundTells strictness table declared now r → are_distinct table.names ≡ true → IsEndBy strictness table declared rounds r
+      by (refusal.Finding found) h distinct = told-later rounds (suc count) (finding_view found) (omega (arith, within)) (ap (unless_told (round_by strictness table declared)) (are.comes distinct) ∙ h.tells distinct)
+      by refusal.NotSettled h distinct = absurd (h.tells distinct)
+      by refusal.OutOfMemory h distinct = tt
 
   -- all of them
-  pub never-settled : (rounds count : ℕ) (now : Draft) → AreTaken count now → rounds ≤ count → EndsWhereNamed table declared rounds refusal.NotSettled
+  pub never-settled : (rounds count : ℕ) (now : Draft) → AreTaken count now → rounds ≤ count → EndsWhereDistinct strictness table declared rounds refusal.NotSettled
   never-settled rounds count now are past = record {
-    ends = λ distinct named. (record { changes = λ n less. are.changes distinct named n (omega (arith, less, past)) }, omega (arith, are.spent, past, first-room table));
+    ends = λ distinct. (record { changes = λ n less. are.changes distinct n (omega (arith, less, past)) }, omega (arith, are.spent, past, first-room table));
   }

@@ -1,5 +1,5 @@
 -- Walks through the states of a table.
-use Rattle.std.proofs.Common.{◌≡◌, ℕ, List, [], ◌∷◌, length, slice_get, Option, Some, None, option_map, Ok, Err, sym, ap, ◌∙◌, subst, arith}
+use Rattle.std.proofs.Common.{◌≡◌, ℕ, List, [], ◌∷◌, length, slice_get, Bool, true, false, Option, Some, None, option_map, Ok, Err, refl, sym, ap, ◌∙◌, subst, arith}
 use Rattle.std.proofs.lemmas.Option.{slice_get_within}
 use Rattle.asl_model.specs.Certificate as model
 use Rattle.asl_model.specs.Certificate.{takes_of}
@@ -10,9 +10,11 @@ use Rattle.asl_model.specs.Numbering.{Table}
 use Rattle.asl_model.proofs.RunOptions.{none_some, some_inj}
 use Rattle.asl_drafts.specs.Drafts.{Draft, Row, own_breaches, steps_of, steps_taken, unless_found, walked}
 use Rattle.asl_drafts.proofs.DraftShapes.{there-within}
-use Rattle.asl_infer.specs.Rounds.{IsIn, IsNoRow, Tells, WalkTells, Walks}
+use Rattle.asl_infer.specs.Rounds.{IsIn, IsNoRow, Tells, WalkTells, Walks, walked_by}
 use Rattle.asl_infer.specs.declared.inferring.InferRefusal.{InferRefusal}
 use Rattle.asl_infer.specs.declared.inferring.InferRefusal.TheVariants as refusal
+use Rattle.asl_infer.specs.declared.rounds.Strictness.{Strictness}
+use Rattle.asl_infer.specs.declared.rounds.Strictness.TheVariants.{Strict, Lenient}
 
 -- ---- the row of a number
 
@@ -47,28 +49,35 @@ none-seen f o p is none = sym is ∙ ap (option_map f) none
 
 -- ---- walks
 
-module _ (table : Table) (declared : model.Declared) where
+module _ (strictness : Strictness) (table : Table) (declared : model.Declared) where
   -- of the row of that number
-  pub walks-row : (number : ℕ) (row : Row) (before after : Draft) → IsIn table row → row.number ≡ number → walked table declared row before ≡ Ok after → Walks table declared number before after
-  walks-row number row before after is same h = record { walks = λ r also here. subst (λ (x : Row). walked table declared x before ≡ Ok after) (same-row table row r is also (same ∙ sym here)) h }
+  pub walks-row : (number : ℕ) (row : Row) (before after : Draft) → IsIn table row → row.number ≡ number → walked_by strictness table declared row before ≡ Ok after → Walks strictness table declared number before after
+  walks-row number row before after is same h = record { walks = λ r also here. subst (λ (x : Row). walked_by strictness table declared x before ≡ Ok after) (same-row table row r is also (same ∙ sym here)) h }
 
-  pub tells-row : (number : ℕ) (row : Row) (before : Draft) (why : InferRefusal) → IsIn table row → row.number ≡ number → Tells (walked table declared row before) why → WalkTells table declared number before why
-  tells-row number row before why is same h = record { tells = λ r also here. subst (λ (x : Row). Tells (walked table declared x before) why) (same-row table row r is also (same ∙ sym here)) h }
+  pub tells-row : (number : ℕ) (row : Row) (before : Draft) (why : InferRefusal) → IsIn table row → row.number ≡ number → Tells (walked_by strictness table declared row before) why → WalkTells strictness table declared number before why
+  tells-row number row before why is same h = record { tells = λ r also here. subst (λ (x : Row). Tells (walked_by strictness table declared x before) why) (same-row table row r is also (same ∙ sym here)) h }
 
   -- of none
-  pub walks-none : (number : ℕ) (before after : Draft) → IsNoRow table number → Walks table declared number before after
+  pub walks-none : (number : ℕ) (before after : Draft) → IsNoRow table number → Walks strictness table declared number before after
   walks-none number before after none = record { walks = λ row is same. absurd (none.none row is same) }
 
   -- memory may run out at any time
-  pub tells-memory : (number : ℕ) (before : Draft) → WalkTells table declared number before refusal.OutOfMemory
+  pub tells-memory : (number : ℕ) (before : Draft) → WalkTells strictness table declared number before refusal.OutOfMemory
   tells-memory number before = record { tells = λ row is same. tt }
 
+module _ (table : Table) (declared : model.Declared) where
   -- no rule is broken
   pub walked-whole : (row : Row) (steps : List Walked) (before after : Draft) → steps_of declared before row ≡ steps → own_breaches (takes_of declared row.name) steps ≡ [] → after ≡ steps_taken table row.number steps before → walked table declared row before ≡ Ok after
   walked-whole row steps before after seen whole made =
       ap (λ ss. unless_found (found_at row.name (own_breaches (takes_of declared row.name) ss)) (steps_taken table row.number ss before)) seen
       ∙ (ap (λ bs. unless_found (found_at row.name bs) (steps_taken table row.number steps before)) whole
       ∙ ap Ok (sym made))
+
+  -- or the rounds are lenient
+  pub walked-steps : (strictness : Strictness) (row : Row) (steps : List Walked) (before after : Draft) (are_whole : Bool) → steps_of declared before row ≡ steps → (are_whole ≡ true → own_breaches (takes_of declared row.name) steps ≡ []) → (are_whole ≡ false → strictness ≡ Lenient) → after ≡ steps_taken table row.number steps before → walked_by strictness table declared row before ≡ Ok after
+  walked-steps Strict row steps before after true seen whole lenient made = walked-whole row steps before after seen (whole refl) made
+  walked-steps Strict row steps before after false seen whole lenient made = absurd (let other : Strict ≡ Lenient = lenient refl in cc)
+  walked-steps Lenient row steps before after are_whole seen whole lenient made = ap (λ ss. Ok (steps_taken table row.number ss before)) seen ∙ ap Ok (sym made)
 
   -- one is
   pub walked-broken : (row : Row) (before : Draft) (breach : Breach) → slice_get (own_breaches (takes_of declared row.name) (steps_of declared before row)) 0 ≡ Some breach → walked table declared row before ≡ Err (finding_of row.name breach)

@@ -1,6 +1,6 @@
 -- What is known of the states that are walked. No public clause cites this module.
-use Rattle.std.specs.Prelude.{◌≡◌, ◌≢◌, ◌≤◌, ◌*◌, ℕ, List, [], length, Bool, true, slice_get}
-use Rattle.std.specs.Prelude.{Some, Result, Ok, Err, ⊤}
+use Rattle.std.specs.Prelude.{◌≡◌, ◌≢◌, ◌<◌, ◌≤◌, ◌*◌, ℕ, zero, suc, List, [], ◌∷◌, length, Bool, true, false}
+use Rattle.std.specs.Prelude.{slice_get, Option, Some, None, Result, Ok, Err, is_ok, IsErrAnd, ⊤}
 use Rattle.asl_model.specs.Certificate as model
 use Rattle.asl_model.specs.Certificate.{takes_of}
 use Rattle.asl_model.specs.Finding as finding
@@ -8,8 +8,8 @@ use Rattle.asl_model.specs.Numbering.{Table}
 use Rattle.asl_model.specs.Shape.{Shape}
 use Rattle.asl_model.specs.ShapeSpelling.{are_distinct}
 use Rattle.asl_drafts.specs.Drafts as drafts
-use Rattle.asl_drafts.specs.Drafts.{Draft, IsInferred, IsTold, NeverSettles, Settles}
-use Rattle.asl_drafts.specs.Drafts.{misnamed, own_breaches, round, walked}
+use Rattle.asl_drafts.specs.Drafts.{Draft, IsInferred, IsTold, NeverSettles}
+use Rattle.asl_drafts.specs.Drafts.{first_draft, input_taken, own_breaches, rows_of, unless_told, walked}
 use Rattle.asl_numbered.specs.Joins.{Shows}
 use Rattle.asl_records.specs.View.{declared_view}
 use Rattle.asl_records.specs.declared.records.Declared.{Declared}
@@ -25,11 +25,14 @@ use Rattle.asl_growing.specs.Order.{AreOrdered}
 use Rattle.asl_growing.specs.declared.walker.Walker.{Walker}
 use Rattle.asl_check.specs.View.{finding_view}
 use Rattle.asl_infer.specs.Inferring.{certified_shapes}
+use Rattle.asl_infer.specs.Lenient.{IsInferredLeniently, NeverSettlesLeniently, lenient_walk}
 use Rattle.asl_infer.specs.Tasks.{AreTasks}
 use Rattle.asl_infer.specs.declared.inferring.InferRefusal.{InferRefusal}
 use Rattle.asl_infer.specs.declared.inferring.InferRefusal.TheVariants.{Finding, NotSettled, OutOfMemory}
 use Rattle.asl_infer.specs.declared.rounds.Given.{Given}
 use Rattle.asl_infer.specs.declared.rounds.Row.{Row}
+use Rattle.asl_infer.specs.declared.rounds.Strictness.{Strictness}
+use Rattle.asl_infer.specs.declared.rounds.Strictness.TheVariants.{Strict, Lenient}
 
 -- ---- what is given
 
@@ -46,10 +49,12 @@ pub record IsGiven (table : List Shape) (given : Given) : Type 0 where
   pub many : length given.tasks.items ≡ length (table_in given).states
   pub input : Shows table (declared_in given).input given.input
 
--- they are those of that machine and of what is declared so
-pub record IsGivenOf (shown : Machine) (declared : Declared) (table : List Shape) (given : Given) : Type 0 where
+-- they are those of that machine and of what is declared so, for rounds of that strictness
+pub record IsGivenOf (shown : Machine) (declared : Declared) (strictness : Strictness) (table : List Shape)
+    (given : Given) : Type 0 where
   pub machine : given.machine.now ≡ shown
   pub declares : given.declared.now ≡ declared
+  pub strict : given.strictness ≡ strictness
   pub numbers : IsGiven table given
 
 -- ---- rows
@@ -85,6 +90,28 @@ pub record AreOthersCalm (table : Table) (declared : model.Declared) (number : �
   pub ordered : AreOrdered table walker.waiting.order.items
   pub each : (row : drafts.Row) → IsIn table row → row.number ≢ number → IsCalm table declared row walker
 
+-- ---- rounds, strict or lenient
+
+-- the draft after the walk through a state: a rule of its own that is broken is told, or it is passed over
+abbrev pub walked_by : Strictness → Table → model.Declared → drafts.Row → Draft → Result Draft finding.Finding
+walked_by Strict table declared row draft = walked table declared row draft
+walked_by Lenient table declared row draft = Ok (lenient_walk table declared draft row)
+
+-- so after a walk through each of the states in turn, after one more round, and after so many
+abbrev pub all_walked_by : Strictness → Table → model.Declared → List drafts.Row → Draft → Result Draft finding.Finding
+all_walked_by strictness table declared [] draft = Ok draft
+all_walked_by strictness table declared (row ∷ rows) draft =
+    unless_told (all_walked_by strictness table declared rows) (walked_by strictness table declared row draft)
+
+abbrev pub round_by : Strictness → Table → model.Declared → Draft → Result Draft finding.Finding
+round_by strictness table declared draft =
+    all_walked_by strictness table declared (rows_of table) (input_taken table declared draft)
+
+abbrev pub after_rounds_by : Strictness → Table → model.Declared → ℕ → Result Draft finding.Finding
+after_rounds_by strictness table declared zero = Ok (first_draft table)
+after_rounds_by strictness table declared (suc n) =
+    unless_told (round_by strictness table declared) (after_rounds_by strictness table declared n)
+
 -- ---- what the code does of a round
 
 -- it is told whether the draft was changed
@@ -97,48 +124,73 @@ Tells come_to (Finding found) = come_to ≡ Err (finding_view found)
 Tells come_to NotSettled = ⊥
 Tells come_to OutOfMemory = ⊤
 
--- the steps are those of the row, and no rule of its own is broken
-pub record AreWhole (declared : model.Declared) (row : drafts.Row) (before : Draft) (table : List Shape)
-    (steps : List Step) : Type 0 where
+-- The steps are those of the row. No rule of its own is broken where they are whole, and else the rounds are lenient.
+pub record AreStepsOf (strictness : Strictness) (declared : model.Declared) (row : drafts.Row) (before : Draft)
+    (table : List Shape) (steps : List Step) (are_whole : Bool) : Type 0 where
   pub seen : drafts.steps_of declared before row ≡ steps_of table steps
-  pub whole : own_breaches (takes_of declared row.name) (steps_of table steps) ≡ []
+  pub whole : are_whole ≡ true → own_breaches (takes_of declared row.name) (steps_of table steps) ≡ []
+  pub lenient : are_whole ≡ false → strictness ≡ Lenient
 
 -- the state of that number is walked
-pub record Walks (table : Table) (declared : model.Declared) (number : ℕ) (before after : Draft) : Type 0 where
+pub record Walks (strictness : Strictness) (table : Table) (declared : model.Declared) (number : ℕ)
+    (before after : Draft) : Type 0 where
   pub walks : (row : drafts.Row) → IsIn table row → row.number ≡ number
-      → walked table declared row before ≡ Ok after
+      → walked_by strictness table declared row before ≡ Ok after
 
 -- the walk tells that
-pub record WalkTells (table : Table) (declared : model.Declared) (number : ℕ) (before : Draft) (refusal : InferRefusal)
-    : Type 0 where
+pub record WalkTells (strictness : Strictness) (table : Table) (declared : model.Declared) (number : ℕ)
+    (before : Draft) (refusal : InferRefusal) : Type 0 where
   pub tells : (row : drafts.Row) → IsIn table row → row.number ≡ number
-      → Tells (walked table declared row before) refusal
+      → Tells (walked_by strictness table declared row before) refusal
 
 -- a round is taken, where no name stands twice
-pub record TakesRound (table : Table) (declared : model.Declared) (before after : Draft) : Type 0 where
-  pub taken : are_distinct table.names ≡ true → round table declared before ≡ Ok after
+pub record TakesRound (strictness : Strictness) (table : Table) (declared : model.Declared) (before after : Draft)
+    : Type 0 where
+  pub taken : are_distinct table.names ≡ true → round_by strictness table declared before ≡ Ok after
 
 -- the round tells that
-pub record RoundTells (table : Table) (declared : model.Declared) (before : Draft) (refusal : InferRefusal)
-    : Type 0 where
-  pub tells : are_distinct table.names ≡ true → Tells (round table declared before) refusal
+pub record RoundTells (strictness : Strictness) (table : Table) (declared : model.Declared) (before : Draft)
+    (refusal : InferRefusal) : Type 0 where
+  pub tells : are_distinct table.names ≡ true → Tells (round_by strictness table declared before) refusal
 
 -- ---- what the rounds come to
 
--- they settle on the draft, where the names are right
-pub record SettlesWhereNamed (table : Table) (declared : model.Declared) (rounds : ℕ) (draft : Draft) : Type 0 where
-  pub settles : are_distinct table.names ≡ true → misnamed table declared ≡ [] → Settles table declared rounds draft
-
--- why they don't
-abbrev pub IsEndOf : Table → model.Declared → ℕ → InferRefusal → Type 0
-IsEndOf table declared rounds (Finding found) = IsTold table declared rounds (finding_view found)
-IsEndOf table declared rounds NotSettled =
-    NeverSettles table declared rounds × (rounds ≤ 33 * certified_shapes table)
-IsEndOf table declared rounds OutOfMemory = ⊤
-
-pub record EndsWhereNamed (table : Table) (declared : model.Declared) (rounds : ℕ) (refusal : InferRefusal)
+-- the draft is one that a round leaves as it is, after fewer than so many of them
+pub record SettlesBy (strictness : Strictness) (table : Table) (declared : model.Declared) (rounds : ℕ) (draft : Draft)
     : Type 0 where
-  pub ends : are_distinct table.names ≡ true → misnamed table declared ≡ [] → IsEndOf table declared rounds refusal
+  pub before : ℕ
+  pub within : before < rounds
+  pub comes : after_rounds_by strictness table declared before ≡ Ok draft
+  pub stays : round_by strictness table declared draft ≡ Ok draft
+
+-- each of the rounds changes the draft before it
+pub record NeverSettlesBy (strictness : Strictness) (table : Table) (declared : model.Declared) (rounds : ℕ)
+    : Type 0 where
+  pub changes : (n : ℕ) → n < rounds → (before after : Draft)
+      × (after_rounds_by strictness table declared n ≡ Ok before)
+      × (round_by strictness table declared before ≡ Ok after) × (after ≢ before)
+
+-- why the rounds don't settle
+abbrev pub IsEndBy : Strictness → Table → model.Declared → ℕ → InferRefusal → Type 0
+IsEndBy strictness table declared rounds (Finding found) =
+    after_rounds_by strictness table declared rounds ≡ Err (finding_view found)
+IsEndBy strictness table declared rounds NotSettled =
+    NeverSettlesBy strictness table declared rounds × (rounds ≤ 33 * certified_shapes table)
+IsEndBy strictness table declared rounds OutOfMemory = ⊤
+
+-- whether they settled; if not, memory wasn't refused
+pub record IsSettledOrNot {A : Type 0} (came_to : Result A InferRefusal) (settled : Bool) : Type 0 where
+  pub did : settled ≡ true → is_ok came_to ≡ true
+  pub ended : settled ≡ false → IsErrAnd came_to (λ why. why ≢ OutOfMemory)
+
+-- they settle on the draft, or end so, where no name stands twice
+pub record SettlesWhereDistinct (strictness : Strictness) (table : Table) (declared : model.Declared) (rounds : ℕ)
+    (draft : Draft) : Type 0 where
+  pub settles : are_distinct table.names ≡ true → SettlesBy strictness table declared rounds draft
+
+pub record EndsWhereDistinct (strictness : Strictness) (table : Table) (declared : model.Declared) (rounds : ℕ)
+    (refusal : InferRefusal) : Type 0 where
+  pub ends : are_distinct table.names ≡ true → IsEndBy strictness table declared rounds refusal
 
 -- ---- what is inferred, where no name stands twice
 
@@ -148,5 +200,21 @@ pub record Infers (table : Table) (declared : model.Declared) (rounds : ℕ) (ce
   pub inferred : are_distinct table.names ≡ true → IsInferred table declared rounds certificate
 
 -- why there is none: of the names of tasks, or of the rounds
+abbrev pub IsEndOf : Table → model.Declared → ℕ → InferRefusal → Type 0
+IsEndOf table declared rounds (Finding found) = IsTold table declared rounds (finding_view found)
+IsEndOf table declared rounds NotSettled =
+    NeverSettles table declared rounds × (rounds ≤ 33 * certified_shapes table)
+IsEndOf table declared rounds OutOfMemory = ⊤
+
 pub record Refuses (table : Table) (declared : model.Declared) (rounds : ℕ) (refusal : InferRefusal) : Type 0 where
   pub refuses : are_distinct table.names ≡ true → IsEndOf table declared rounds refusal
+
+-- the certificate is that of lenient rounds, and there is none where they don't settle
+abbrev pub IsLenientAnswer : Table → model.Declared → ℕ → Option model.Certificate → Type 0
+IsLenientAnswer table declared rounds (Some certificate) = IsInferredLeniently table declared rounds certificate
+IsLenientAnswer table declared rounds None =
+    NeverSettlesLeniently table declared rounds × (rounds ≤ 33 * certified_shapes table)
+
+pub record AnswersLeniently (table : Table) (declared : model.Declared) (rounds : ℕ) (found : Option model.Certificate)
+    : Type 0 where
+  pub answers : are_distinct table.names ≡ true → IsLenientAnswer table declared rounds found

@@ -23,7 +23,7 @@ ghost use Rattle.asl_infer.specs.Inferring.{IsInferRefusal, IsOfMachine, IsReaso
 ghost use Rattle.asl_infer.specs.Rounds.{AreCalm, Infers, IsGivenOf, Refuses};
 
 use crate::declarations::check_tasks;
-use crate::rounds::Given;
+use crate::rounds::{Given, Strictness};
 use asl_check::Finding;
 use asl_drafts::settled_drafts_are_closed;
 use asl_growing::{Draft, Predecessors, Store, Waiting, Walker, order_of};
@@ -132,28 +132,29 @@ fn settle(
 {
     let order = order_of(alloc, machine)?;
     check_tasks(alloc, machine, declared, &order)?;
-    let (given, mut walker) = begin(alloc, machine, declared, order)?;
+    let (given, mut walker) = begin(alloc, machine, declared, Strictness::Strict, order)?;
     given.take_rounds(max_rounds, &mut walker)?;
     Ok(walker.draft.certificate(machine)?)
 }
 
-// What is given, and the draft before the first round, for which all states wait. They are walked in that order.
-fn begin<'m>(
+/// What is given, and the draft before the first round, for which all states wait. They are walked in that order.
+pub(crate) fn begin<'m>(
     alloc: Global,
     machine: &'m Machine,
     declared: &'m Declared,
+    strictness: Strictness,
     order: Vec<usize>,
 ) -> Result<(Given<'m>, Walker), OutOfMemory>
     requires { AreOrdered (table_view machine.now) order.items }
     ensures given { IfOk result (λ begun.
-        IsGivenOf machine.now declared.now (expansions begun.1.draft.store) begun.0) }
+        IsGivenOf machine.now declared.now strictness (expansions begun.1.draft.store) begun.0) }
     ensures first { IfOk result (λ begun.
         draft_view begun.1.draft ≡ first_draft (table_view machine.now)) }
     ensures calm { IfOk result (λ begun.
         AreCalm (table_view machine.now) (declared_view declared.now) begun.1) }
 {
     let mut store = Store::new(alloc);
-    let given = Given::new(alloc, machine, declared, &mut store)?;
+    let given = Given::new(alloc, machine, declared, strictness, &mut store)?;
     let draft = Draft::new(machine, store)?;
     let waiting = Waiting::new(alloc, machine.states(), order)?;
     let predecessors = Predecessors::new(alloc);

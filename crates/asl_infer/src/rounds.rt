@@ -6,9 +6,9 @@ ghost use Rattle.asl_numbered.specs.Expansion.{expansions, Keeps};
 ghost use Rattle.asl_edges.specs.View.{AreStepsBelow};
 ghost use Rattle.asl_growing.specs.Drafted.{draft_view, room};
 ghost use Rattle.asl_growing.specs.Entries.{Makes};
-ghost use Rattle.asl_infer.specs.Rounds.{AreCalm, AreWhole, EndsWhereNamed, IsChanged};
+ghost use Rattle.asl_infer.specs.Rounds.{AreCalm, AreStepsOf, EndsWhereDistinct, IsChanged};
 ghost use Rattle.asl_infer.specs.Rounds.{IsGiven, IsGivenOf, IsNoRow, IsRowOf, RoundTells};
-ghost use Rattle.asl_infer.specs.Rounds.{SettlesWhereNamed, TakesRound, Walks, WalkTells};
+ghost use Rattle.asl_infer.specs.Rounds.{SettlesWhereDistinct, TakesRound, Walks, WalkTells};
 ghost use Rattle.asl_infer.specs.Rounds.{declared_in, row_view, table_in};
 
 use crate::inferring::InferRefusal;
@@ -21,12 +21,23 @@ use asl_states::{Machine, State};
 use asl_tree::OutOfMemory;
 use std::alloc::Global;
 
-/// What is given: the machine and what is declared, with the numbers of the shapes of the tasks and of the input.
+/// What becomes of a round in which a state breaks a rule of its own.
+#[derive(Clone, Copy)]
+pub(crate) enum Strictness {
+    /// It ends, and the rule is told.
+    Strict,
+    /// It goes on, and nothing flows on where the rule is broken.
+    Lenient,
+}
+
+/// What is given: the machine and what is declared, with the numbers of the shapes of the tasks and of the input, and how
+/// strict the rounds are.
 #[derive(Drop)]
 pub(crate) struct Given<'m> {
     alloc: Global,
     machine: &'m Machine,
     declared: &'m Declared,
+    strictness: Strictness,
     tasks: Vec<TaskNumbers>,
     input: usize,
 }
@@ -45,10 +56,11 @@ impl<'m> Given<'m> {
         alloc: Global,
         machine: &'m Machine,
         declared: &'m Declared,
+        strictness: Strictness,
         store: &mut Store,
     ) -> Result<Given<'m>, OutOfMemory>
         ensures given { IfOk result
-            (IsGivenOf machine.now declared.now (expansions store.new)) }
+            (IsGivenOf machine.now declared.now strictness (expansions store.new)) }
         ensures keeps { Keeps (expansions store.old) (expansions store.new) }
     {
         let tasks = task_numbers(alloc, machine, declared, store)?;
@@ -57,6 +69,7 @@ impl<'m> Given<'m> {
             alloc,
             machine,
             declared,
+            strictness,
             tasks,
             input,
         })
@@ -73,10 +86,11 @@ impl<'m> Given<'m> {
         requires first { draft_view walker.old.draft ≡ first_draft (table_in self.now) }
         requires calm { AreCalm (table_in self.now) (declared_in self.now) walker.old }
         ensures settled { OnOk result
-            (SettlesWhereNamed (table_in self.now) (declared_in self.now) max_rounds
-            (draft_view walker.new.draft)) }
+            (SettlesWhereDistinct self.now.strictness (table_in self.now) (declared_in self.now)
+            max_rounds (draft_view walker.new.draft)) }
         ensures told { IfErr result
-            (EndsWhereNamed (table_in self.now) (declared_in self.now) max_rounds) }
+            (EndsWhereDistinct self.now.strictness (table_in self.now) (declared_in self.now)
+            max_rounds) }
     {
         for _ in 0..max_rounds {
             let changed = self.take_round(walker)?;
@@ -93,13 +107,13 @@ impl<'m> Given<'m> {
         requires given { IsGiven (expansions walker.old.draft.store) self.now }
         requires calm { AreCalm (table_in self.now) (declared_in self.now) walker.old }
         ensures round { OnOk result
-            (TakesRound (table_in self.now) (declared_in self.now) (draft_view walker.old.draft)
-            (draft_view walker.new.draft)) }
+            (TakesRound self.now.strictness (table_in self.now) (declared_in self.now)
+            (draft_view walker.old.draft) (draft_view walker.new.draft)) }
         ensures changed { IfOk result
             (λ changed. IsChanged (draft_view walker.old.draft) changed
             (draft_view walker.new.draft)) }
         ensures told { IfErr result
-            (RoundTells (table_in self.now) (declared_in self.now)
+            (RoundTells self.now.strictness (table_in self.now) (declared_in self.now)
             (draft_view walker.old.draft)) }
         ensures calm { OnOk result
             (AreCalm (table_in self.now) (declared_in self.now) walker.new) }
@@ -136,18 +150,18 @@ impl<'m> Given<'m> {
     }
 
     // Takes in what flows out of the state of that number if it waits, and says whether a shape was changed. A walk
-    // through one that doesn't wait would change nothing.
+    // through one that doesn't wait would change nothing. One that breaks a rule of its own waits again.
     fn take_turn(&self, number: usize, walker: &mut Walker) -> Result<bool, InferRefusal>
         requires given { IsGiven (expansions walker.old.draft.store) self.now }
         requires calm { AreCalm (table_in self.now) (declared_in self.now) walker.old }
         ensures walks { OnOk result
-            (Walks (table_in self.now) (declared_in self.now) number
+            (Walks self.now.strictness (table_in self.now) (declared_in self.now) number
             (draft_view walker.old.draft) (draft_view walker.new.draft)) }
         ensures changed { IfOk result
             (λ changed. IsChanged (draft_view walker.old.draft) changed
             (draft_view walker.new.draft)) }
         ensures told { IfErr result
-            (WalkTells (table_in self.now) (declared_in self.now) number
+            (WalkTells self.now.strictness (table_in self.now) (declared_in self.now) number
             (draft_view walker.old.draft)) }
         ensures calm { OnOk result
             (AreCalm (table_in self.now) (declared_in self.now) walker.new) }
@@ -161,8 +175,13 @@ impl<'m> Given<'m> {
         let Some(row) = self.row(number) else {
             return Ok(false);
         };
-        let steps = self.steps(number, &row, &mut walker.draft)?;
-        Ok(walker.take_steps(self.machine, number, &steps)?)
+        let (steps, are_whole) = self.steps(number, &row, &mut walker.draft)?;
+        let changed = walker.take_steps(self.machine, number, &steps)?;
+        if are_whole {
+            return Ok(changed);
+        }
+        walker.waiting.wake(number)?;
+        Ok(changed)
     }
 
     // The state of that number, with its name and the numbers of its task's shapes.
@@ -181,30 +200,37 @@ impl<'m> Given<'m> {
         })
     }
 
-    // The steps of the walk through the state of that number, all of them edges. Refuses where a rule of its own is broken
-    // whatever is certified elsewhere, with the first of them.
+    // The steps of the walk through the state of that number, and whether they are whole: they break no rule of its own,
+    // whatever is certified elsewhere. Strict rounds refuse where one is broken, with the first of them.
     fn steps(
         &self,
         number: usize,
         row: &Row<'m>,
         draft: &mut Draft,
-    ) -> Result<Vec<Step<'m>>, InferRefusal>
+    ) -> Result<(Vec<Step<'m>>, bool), InferRefusal>
         requires given { IsGiven (expansions draft.old.store) self.now }
         requires row { IsRowOf self.now number row.now }
-        ensures whole { IfOk result
-            (λ steps. AreWhole (declared_in self.now) (row_view number row.now)
-            (draft_view draft.old) (expansions draft.new.store) steps.items) }
-        ensures below { IfOk result (λ steps. AreStepsBelow (length draft.new.store) steps.items) }
+        ensures steps { IfOk result
+            (λ found. AreStepsOf self.now.strictness (declared_in self.now) (row_view number row.now)
+            (draft_view draft.old) (expansions draft.new.store) found.0.items found.1) }
+        ensures below { IfOk result
+            (λ found. AreStepsBelow (length draft.new.store) found.0.items) }
         ensures told { IfErr result
-            (WalkTells (table_in self.now) (declared_in self.now) number (draft_view draft.old)) }
+            (WalkTells self.now.strictness (table_in self.now) (declared_in self.now) number
+            (draft_view draft.old)) }
         ensures same { draft_view draft.new ≡ draft_view draft.old }
         ensures keeps { Keeps (expansions draft.old.store)
             (expansions draft.new.store) }
     {
         let steps = draft.edges(number, row.state, row.task.gives)?;
-        match first_broken(draft, &steps, row.task.takes)? {
-            Some(breach) => Err(InferRefusal::Finding(finding(self.alloc, row.name, breach)?)),
-            None => Ok(steps),
+        let Some(breach) = first_broken(draft, &steps, row.task.takes)? else {
+            return Ok((steps, true));
+        };
+        match self.strictness {
+            Strictness::Strict => {
+                Err(InferRefusal::Finding(finding(self.alloc, row.name, breach)?))
+            }
+            Strictness::Lenient => Ok((steps, false)),
         }
     }
 }

@@ -9,6 +9,7 @@ pub returns-clause-given : goal.returns-clause-given
 returns-clause-given c = record {
   machine = refl;
   declares = refl;
+  strict = refl;
   numbers = record {
     tasks = tasks_kept (declared_view c.args.declared.now) (table_view c.args.machine.now).names (expansions c.task_numbers.new.store) (expansions c.add.new.self) c.in_ok-tasks.tasks.items c.in_ok-input.ensures.keeps c.in_ok-tasks.ensures.tasks;
     many = c.in_ok-tasks.ensures.many;

@@ -10,7 +10,7 @@ invariant-loop-turn l = record {
   keeps : Keeps (expansions l.fn.walker.draft.store) (expansions l.walker.draft.store);
   calm : AreCalm (table_in l.self) (declared_in l.self) l.walker;
   within : l.from ≤ length l.walker.waiting.order.items;
-  round : IsInRound (table_in l.self) (declared_in l.self) (draft_view l.fn.walker.draft) l.from l.changed (draft_view l.walker.draft);
+  round : IsInRound l.self.strictness (table_in l.self) (declared_in l.self) (draft_view l.fn.walker.draft) l.from l.changed (draft_view l.walker.draft);
 }
 
 abbrev pub decreases-loop-turn : goal.decreases-loop-turn

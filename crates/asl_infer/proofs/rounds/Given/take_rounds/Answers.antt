@@ -14,7 +14,7 @@ take_round-requires-clause-given c = given_kept (expansions c.args.walker.now.dr
 pub returns-in_err-changed-clause-told : goal.returns-in_err-changed-clause-told
 returns-in_err-changed-clause-told c =
     let p = err_from_is_err_and c.from_residual.result c.from_residual.ensures.1 in
-    rw (p.1, p.2) (told (table_in c.args.self.now) (declared_in c.args.self.now) c.args.max_rounds c.loop.counter (draft_view c.loop.walker.draft) c.in_err-changed.field-0.0 c.loop.invariant.taken c.loop-test.true c.in_err-changed.ensures.told)
+    rw (p.1, p.2) (told c.args.self.now.strictness (table_in c.args.self.now) (declared_in c.args.self.now) c.args.max_rounds c.loop.counter (draft_view c.loop.walker.draft) c.in_err-changed.field-0.0 c.loop.invariant.taken c.loop-test.true c.in_err-changed.ensures.told)
 
 pub loop-preserved : goal.loop-preserved
 loop-preserved c =
@@ -24,8 +24,8 @@ loop-preserved c =
     record {
       keeps = keeps_trans _ _ _ c.loop.invariant.keeps known.keeps;
       calm = known.calm;
-      taken = one-taken (table_in c.args.self.now) (declared_in c.args.self.now) c.loop.counter now next c.loop.invariant.taken known.round (subst (λ b. IsChanged now b next) c.if-not-changed.false known.changed);
+      taken = one-taken c.args.self.now.strictness (table_in c.args.self.now) (declared_in c.args.self.now) c.loop.counter now next c.loop.invariant.taken known.round (subst (λ b. IsChanged now b next) c.if-not-changed.false known.changed);
     }
 
 pub returns-clause-told : goal.returns-clause-told
-returns-clause-told c = never-settled (table_in c.args.self.now) (declared_in c.args.self.now) c.args.max_rounds c.loop.counter (draft_view c.loop.walker.draft) c.loop.invariant.taken c.loop-test.false
+returns-clause-told c = never-settled c.args.self.now.strictness (table_in c.args.self.now) (declared_in c.args.self.now) c.args.max_rounds c.loop.counter (draft_view c.loop.walker.draft) c.loop.invariant.taken c.loop-test.false

@@ -8,5 +8,5 @@ abbrev pub invariant-loop : goal.invariant-loop
 invariant-loop l = record {
   keeps : Keeps (expansions l.fn.walker.draft.store) (expansions l.walker.draft.store);
   calm : AreCalm (table_in l.self) (declared_in l.self) l.walker;
-  taken : AreTaken (table_in l.self) (declared_in l.self) l.counter (draft_view l.walker.draft);
+  taken : AreTaken l.self.strictness (table_in l.self) (declared_in l.self) l.counter (draft_view l.walker.draft);
 }
