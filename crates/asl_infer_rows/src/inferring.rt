@@ -76,7 +76,7 @@ fn refusal(
 }
 
 /// Whether two certificates have the same shapes.
-fn are_same(first: &Certificate, second: &Certificate) -> bool {
+pub(crate) fn are_same(first: &Certificate, second: &Certificate) -> bool {
     if !same(&first.output, &second.output) || first.states.len() != second.states.len() {
         return false;
     }
@@ -135,18 +135,18 @@ const CAUGHT: &str =
 const NULL_TO_INTEGER: &str =
     r#"{"input":{"type":"null"},"tasks":{"T":{"gives":{"type":"integer"}}}}"#;
 
-const PASS: &str = r#"{"StartAt":"A","States":{"A":{"Type":"Pass","End":true}}}"#;
+pub(crate) const PASS: &str = r#"{"StartAt":"A","States":{"A":{"Type":"Pass","End":true}}}"#;
 
-const LOOP: &str =
+pub(crate) const LOOP: &str =
     r#"{"StartAt":"A","States":{"A":{"Type":"Pass","Parameters":{"p.$":"$"},"Next":"A"}}}"#;
 
 const STEEP_LOOP: &str =
     r#"{"StartAt":"A","States":{"A":{"Type":"Pass","Parameters":{"p":{"q.$":"$"}},"Next":"A"}}}"#;
 
-const BRANCHES: &str =
+pub(crate) const BRANCHES: &str =
     r#"{"StartAt":"P","States":{"P":{"Type":"Parallel","Branches":[{"StartAt":"T0","States":{"T0":{"Type":"Task","Resource":"r","End":true}}},{"StartAt":"T1","States":{"T1":{"Type":"Task","Resource":"r","End":true}}}],"End":true}}}"#;
 
-const PAST_BRANCHES: &str =
+pub(crate) const PAST_BRANCHES: &str =
     r#"{"StartAt":"P","States":{"P":{"Type":"Parallel","Branches":[{"StartAt":"T0","States":{"T0":{"Type":"Task","Resource":"r","End":true}}},{"StartAt":"T1","States":{"T1":{"Type":"Task","Resource":"r","End":true}}}],"Next":"N"},"N":{"Type":"Pass","InputPath":"$[2]","End":true}}}"#;
 
 // The state that comes first in byte order of names takes what the other one gives.
@@ -166,75 +166,77 @@ const TWO_TASKS: &str =
 const TWO_EMPTY_LISTS: &str =
     r#"{"input":{"type":"integer"},"tasks":{"B":{"gives":{"type":"array","items":{"type":"object","properties":{"f":false},"required":["f"]}}},"C":{"gives":{"type":"array","items":false}}}}"#;
 
-const TASKS: &str =
+pub(crate) const TASKS: &str =
     r#"{"input":{"type":"integer"},"tasks":{"T0":{"gives":{"type":"integer"}},"T1":{"gives":{"type":"string"}}}}"#;
 
-const MAP: &str =
+pub(crate) const MAP: &str =
     r#"{"StartAt":"M","States":{"M":{"Type":"Map","ItemProcessor":{"StartAt":"B","States":{"B":{"Type":"Pass","End":true}}},"End":true}}}"#;
 
-const INTEGER: &str = r#"{"input":{"type":"integer"},"tasks":{}}"#;
+pub(crate) const INTEGER: &str = r#"{"input":{"type":"integer"},"tasks":{}}"#;
 
 const INTEGERS: &str = r#"{"input":{"type":"array","items":{"type":"integer"}}}"#;
 
 const TWO_FIELDS: &str =
     r#"{"input":{"type":"object","properties":{"a":{"type":"integer"},"b":{"type":"integer"}},"additionalProperties":false}}"#;
 
-const NO_FIELD: &str = r#"{"input":{"type":"object","additionalProperties":false}}"#;
+pub(crate) const NO_FIELD: &str = r#"{"input":{"type":"object","additionalProperties":false}}"#;
+
+/// A definition, what is declared, in how many rounds the shapes settle, and the certificate.
+pub(crate) const CERTIFICATES: [(&str, &str, u32, &str); 8] = [
+    (
+        PASS,
+        INTEGER,
+        2,
+        r#"{"version":1,"output":{"type":"integer"},"states":{"A":{"input":{"type":"integer"},"output":{"type":"integer"}}}}"#,
+    ),
+    (
+        AGAINST_NAMES,
+        INTEGER,
+        3,
+        r#"{"version":1,"output":{"type":"integer"},"states":{"A":{"input":{"type":"integer"},"output":{"type":"integer"}},"Z":{"input":{"type":"integer"},"output":{"type":"integer"}}}}"#,
+    ),
+    (
+        LOOP,
+        NO_FIELD,
+        34,
+        r#"{"output":false,"states":{"A":{"input":true,"output":true}},"version":1}"#,
+    ),
+    (
+        BRANCHES,
+        TASKS,
+        3,
+        r#"{"output":{"items":false,"minItems":2,"prefixItems":[{"type":"integer"},{"type":"string"}],"type":"array"},"states":{"P":{"branches":[{"type":"integer"},{"type":"string"}],"input":{"type":"integer"},"output":{"items":false,"minItems":2,"prefixItems":[{"type":"integer"},{"type":"string"}],"type":"array"}},"T0":{"input":{"type":"integer"},"output":{"type":"integer"}},"T1":{"input":{"type":"integer"},"output":{"type":"string"}}},"version":1}"#,
+    ),
+    (
+        MAP,
+        INTEGERS,
+        3,
+        r#"{"output":{"items":{"type":"integer"},"type":"array"},"states":{"B":{"input":{"type":"integer"},"output":{"type":"integer"}},"M":{"input":{"items":{"type":"integer"},"type":"array"},"item":{"type":"integer"},"output":{"items":{"type":"integer"},"type":"array"}}},"version":1}"#,
+    ),
+    (
+        TWO_TASKS,
+        TWO_EMPTY_LISTS,
+        18,
+        r#"{"output":true,"states":{"A":{"input":{"type":"integer"},"output":{"type":"integer"}},"B":{"input":{"type":"integer"},"output":{"items":{"properties":{"f":false},"required":["f"],"type":"object"},"type":"array"}},"C":{"input":{"type":"integer"},"output":{"items":false,"type":"array"}},"D":{"input":true,"output":true}},"version":1}"#,
+    ),
+    (
+        CAUGHT,
+        NULL_TO_INTEGER,
+        3,
+        r#"{"output":{"additionalProperties":false,"properties":{"Cause":{"type":"string"},"Error":{"type":"string"}},"required":["Cause","Error"],"type":["integer","object"]},"states":{"E":{"input":{"additionalProperties":false,"properties":{"Cause":{"type":"string"},"Error":{"type":"string"}},"required":["Cause","Error"],"type":["integer","object"]},"output":{"additionalProperties":false,"properties":{"Cause":{"type":"string"},"Error":{"type":"string"}},"required":["Cause","Error"],"type":["integer","object"]}},"T":{"input":{"type":"null"},"output":{"type":"integer"}}},"version":2}"#,
+    ),
+    (
+        PASS,
+        r#"{"input":{"type":["array","null"],"prefixItems":[false],"minItems":1}}"#,
+        3,
+        r#"{"output":{"type":"null"},"states":{"A":{"input":{"type":"null"},"output":{"type":"null"}}},"version":1}"#,
+    ),
+];
 
 #[test]
 fn certificates(rt: HostRuntime) {
     let alloc = rt.alloc();
-    let vectors = [
-        (
-            PASS,
-            INTEGER,
-            2,
-            r#"{"version":1,"output":{"type":"integer"},"states":{"A":{"input":{"type":"integer"},"output":{"type":"integer"}}}}"#,
-        ),
-        (
-            AGAINST_NAMES,
-            INTEGER,
-            3,
-            r#"{"version":1,"output":{"type":"integer"},"states":{"A":{"input":{"type":"integer"},"output":{"type":"integer"}},"Z":{"input":{"type":"integer"},"output":{"type":"integer"}}}}"#,
-        ),
-        (
-            LOOP,
-            NO_FIELD,
-            34,
-            r#"{"output":false,"states":{"A":{"input":true,"output":true}},"version":1}"#,
-        ),
-        (
-            BRANCHES,
-            TASKS,
-            3,
-            r#"{"output":{"items":false,"minItems":2,"prefixItems":[{"type":"integer"},{"type":"string"}],"type":"array"},"states":{"P":{"branches":[{"type":"integer"},{"type":"string"}],"input":{"type":"integer"},"output":{"items":false,"minItems":2,"prefixItems":[{"type":"integer"},{"type":"string"}],"type":"array"}},"T0":{"input":{"type":"integer"},"output":{"type":"integer"}},"T1":{"input":{"type":"integer"},"output":{"type":"string"}}},"version":1}"#,
-        ),
-        (
-            MAP,
-            INTEGERS,
-            3,
-            r#"{"output":{"items":{"type":"integer"},"type":"array"},"states":{"B":{"input":{"type":"integer"},"output":{"type":"integer"}},"M":{"input":{"items":{"type":"integer"},"type":"array"},"item":{"type":"integer"},"output":{"items":{"type":"integer"},"type":"array"}}},"version":1}"#,
-        ),
-        (
-            TWO_TASKS,
-            TWO_EMPTY_LISTS,
-            18,
-            r#"{"output":true,"states":{"A":{"input":{"type":"integer"},"output":{"type":"integer"}},"B":{"input":{"type":"integer"},"output":{"items":{"properties":{"f":false},"required":["f"],"type":"object"},"type":"array"}},"C":{"input":{"type":"integer"},"output":{"items":false,"type":"array"}},"D":{"input":true,"output":true}},"version":1}"#,
-        ),
-        (
-            CAUGHT,
-            NULL_TO_INTEGER,
-            3,
-            r#"{"output":{"additionalProperties":false,"properties":{"Cause":{"type":"string"},"Error":{"type":"string"}},"required":["Cause","Error"],"type":["integer","object"]},"states":{"E":{"input":{"additionalProperties":false,"properties":{"Cause":{"type":"string"},"Error":{"type":"string"}},"required":["Cause","Error"],"type":["integer","object"]},"output":{"additionalProperties":false,"properties":{"Cause":{"type":"string"},"Error":{"type":"string"}},"required":["Cause","Error"],"type":["integer","object"]}},"T":{"input":{"type":"null"},"output":{"type":"integer"}}},"version":2}"#,
-        ),
-        (
-            PASS,
-            r#"{"input":{"type":["array","null"],"prefixItems":[false],"minItems":1}}"#,
-            3,
-            r#"{"output":{"type":"null"},"states":{"A":{"input":{"type":"null"},"output":{"type":"null"}}},"version":1}"#,
-        ),
-    ];
-    for (definition, declared, rounds, certificate) in vectors {
+    for (definition, declared, rounds, certificate) in CERTIFICATES {
         let is_inferred = infers(&rt, alloc, definition, declared, rounds, certificate);
         assert!(rt; is_inferred, "of {definition}");
     }

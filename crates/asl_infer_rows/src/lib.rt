@@ -6,3 +6,5 @@
 
 #[cfg(test)]
 mod inferring;
+#[cfg(test)]
+mod lenient;
