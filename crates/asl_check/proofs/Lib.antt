@@ -2,6 +2,7 @@ pub mod Adding
 pub mod Below
 pub mod Compared
 pub mod EntryRules
+pub mod Findings
 pub mod FirstOf
 pub mod FlowsTold
 pub mod Grown
@@ -11,6 +12,7 @@ pub mod Members
 pub mod Named
 pub mod Notes
 pub mod Passes
+pub mod RightVerdicts
 pub mod StepsListed
 pub mod TableEnds
 pub mod TableFindings
@@ -19,4 +21,3 @@ pub mod TableNames
 pub mod TableRows
 pub mod TableScopes
 pub mod TaskNumbers
-pub mod Telling

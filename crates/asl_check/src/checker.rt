@@ -11,11 +11,12 @@ ghost use Rattle.asl_records.specs.Numbered.{AreWithin, numbered_view};
 ghost use Rattle.asl_records.specs.View.{declared_view, certificate_view};
 ghost use Rattle.asl_check.specs.Numbers.{IsWithin, certificate_of};
 ghost use Rattle.asl_check.specs.Told.{listed, TellsFirst};
-ghost use Rattle.asl_check.specs.View.{verdict_view};
+ghost use Rattle.asl_check.specs.View.{findings_view, verdict_view};
 
 use crate::noting::{note_first, told};
 use crate::ordered::names_in_order;
-use crate::verdicts::Verdict;
+use crate::telling::tell_each;
+use crate::verdicts::{Finding, Verdict};
 use asl_model::shape_laws::findings_are_exactly_the_broken_rules;
 use asl_numbered::Shapes;
 use asl_records::{Certificate, Declared, NumberedCertificate, StateNumbers, number_certificate};
@@ -96,7 +97,50 @@ pub fn check_numbered(
     checker.verdict(&mut certificate.shapes)
 }
 
+/// Finds every broken rule of the certificate, and not only the first of each name: in the order in which [`check`] goes
+/// over them, each with its example, if its fault has one. Further shapes may stand in the table afterwards, also where
+/// memory runs out; each that stood there keeps its number, and the certificate's own numbers are the same.
+pub fn find_all(
+    alloc: Global,
+    machine: &Machine,
+    declared: &Declared,
+    certificate: &mut NumberedCertificate,
+) -> Result<Vec<Finding>, OutOfMemory>
+    requires within { AreWithin certificate.old }
+    ensures listed { IfOk result (λ findings. findings_view findings.items
+        ≡ listed (table_view machine.now) (declared_view declared.now)
+        (numbered_view certificate.old)) }
+    ensures same { numbered_view certificate.new ≡ numbered_view certificate.old }
+    ensures within { AreWithin certificate.new }
+    ensures keeps { Keeps (expansions certificate.old.shapes) (expansions certificate.new.shapes) }
+    ensures output { certificate.new.output ≡ certificate.old.output }
+    ensures states { certificate.new.states ≡ certificate.old.states }
+{
+    let never = certificate.shapes.add(&Shape::Never)?;
+    let checker = Checker {
+        alloc,
+        machine,
+        declared,
+        output: certificate.output,
+        states: &certificate.states,
+        never,
+    };
+    checker.findings(&mut certificate.shapes)
+}
+
 impl Checker<'_> {
+    /// Every broken rule, with the tree that shows it, if one does.
+    fn findings(&self, shapes: &mut Shapes) -> Result<Vec<Finding>, OutOfMemory>
+        requires within { IsWithin shapes.old self.now }
+        ensures listed { IfOk result (λ findings. findings_view findings.items
+            ≡ listed (table_view self.now.machine.now) (declared_view self.now.declared.now)
+            (certificate_of (expansions shapes.old) self.now)) }
+        ensures keeps { Keeps (expansions shapes.old) (expansions shapes.new) }
+    {
+        let rules = self.list_all(shapes)?;
+        tell_each(self.alloc, shapes, &rules)
+    }
+
     /// The verdict on what is checked.
     fn verdict(&self, shapes: &mut Shapes) -> Result<Verdict, OutOfMemory>
         requires within { IsWithin shapes.old self.now }

@@ -2,11 +2,11 @@
 //!
 //! [`check_numbered`] goes over the steps of the walk through each state ([`asl_edges::edges_of`]) and compares what
 //! flows at each edge with what stands there, by the numbers of the certificate's table; [`check`] does so for a
-//! certificate with shapes of its own. Of each name that has a broken rule the first is told, as a [`Finding`]. A
-//! comparison that fails has an example there, a tree that flows and lacks the shape that it is compared with, and so
-//! has a path that may name nothing, a tree in which it names nothing. What is declared and the certificates, with
-//! their readers and writers, are those of [`asl_records`], which this crate shows again: who checks a certificate
-//! names no other crate for it.
+//! certificate with shapes of its own. Of each name that has a broken rule the first is told, as a [`Finding`];
+//! [`find_all`] tells all of them. A comparison that fails has an example there, a tree that flows and lacks the shape
+//! that it is compared with, and so has a path that may name nothing, a tree in which it names nothing. What is declared
+//! and the certificates, with their readers and writers, are those of [`asl_records`], which this crate shows again: who
+//! checks a certificate names no other crate for it.
 #![tactic(auto)]
 
 mod checker;
@@ -20,6 +20,7 @@ mod ordered;
 mod standing;
 mod states;
 mod tasks;
+mod telling;
 mod verdicts;
 
 pub use asl_edges::{Broken, FindingFault};
@@ -29,5 +30,5 @@ pub use asl_records::{
     read_certificate, read_declared, read_numbered, write_certificate, write_declared,
     write_numbered,
 };
-pub use checker::{check, check_numbered};
+pub use checker::{check, check_numbered, find_all};
 pub use verdicts::{Finding, Verdict};

@@ -1,10 +1,13 @@
-//! Tests of the calls from texts to texts, and of texts that are cut off, of readers and of writers that fail.
+//! Tests of the calls from texts to texts, and of texts that are cut off, of readers and of writers that fail; and of all
+//! findings of a certificate.
 //!
 //! They stand apart from the other libraries' tests, so that those needn't wait for the crate that these test. Beside them
 //! stands a source that never ends: by its contract it is never read as a text.
 #![tactic(auto)]
 
 mod endless;
+#[cfg(test)]
+mod findings;
 #[cfg(test)]
 mod hostile;
 #[cfg(test)]

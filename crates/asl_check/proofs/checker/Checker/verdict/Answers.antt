@@ -11,7 +11,7 @@ use Rattle.asl_check.specs.Numbers.{certificate_of}
 use Rattle.asl_check.specs.View.{findings_view}
 use Rattle.asl_check.proofs.Adding.{no_rules, some_rules}
 use Rattle.asl_check.proofs.Grown.{certificate_kept}
-use Rattle.asl_check.proofs.Telling.{accepted, first_told, rejected}
+use Rattle.asl_check.proofs.RightVerdicts.{accepted, first_told, rejected}
 use Rattle.asl_check.proofs.checker.Checker.verdict.Goals as goal
 
 pub returns-then-is_empty-clause-verdict : goal.returns-then-is_empty-clause-verdict

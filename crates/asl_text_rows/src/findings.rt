@@ -1,0 +1,71 @@
+//! All broken rules of a certificate, in the order in which the checker goes over them.
+use asl_check::{Verdict, find_all, read_declared, read_numbered};
+use asl_tool::verdict_text;
+use asl_tree::read_value;
+use std::alloc::Global;
+use std::process::Abort;
+
+const TWO_PASSES: &str =
+    r#"{"StartAt":"A","States":{"A":{"Type":"Pass","Next":"B"},"B":{"Type":"Pass","End":true}}}"#;
+
+const TASK: &str = r#"{"StartAt":"T","States":{"T":{"Type":"Task","Resource":"r","End":true}}}"#;
+
+/// The lines of all broken rules.
+fn all_lines(
+    rt: &impl Abort,
+    alloc: Global,
+    definition: &str,
+    declared: &str,
+    certificate: &str,
+) -> String {
+    let definition = read_value(alloc, definition.as_bytes()).expect(rt, "a value");
+    let declared = read_value(alloc, declared.as_bytes()).expect(rt, "a value");
+    let certificate = read_value(alloc, certificate.as_bytes()).expect(rt, "a value");
+    let machine = asl_machine::read(alloc, &definition)
+        .ok()
+        .expect(rt, "a machine");
+    let declared = read_declared(alloc, declared)
+        .ok()
+        .expect(rt, "declared shapes");
+    let read = read_numbered(alloc, certificate);
+    let mut certificate = read.ok().expect(rt, "a certificate");
+    let findings = find_all(alloc, &machine, &declared, &mut certificate);
+    let findings = findings.ok().expect(rt, "memory");
+    verdict_text(alloc, &Verdict::No(findings)).expect(rt, "a text")
+}
+
+/// The entry of no state and the declared task of none come before the start, and that before what flows; of a state all
+/// broken rules are told, each with its example.
+#[test]
+fn all_of_each_name(rt: HostRuntime) {
+    let alloc = rt.alloc();
+    let declared = r#"{"input":{"type":"integer"},"tasks":{"Z":{"gives":true}}}"#;
+    let certificate =
+        r#"{"output":{"type":"boolean"},"states":{"A":{"input":{"type":"string"},"output":{"type":"integer"}},"B":{"input":{"type":"null"},"output":{"type":"null"}},"C":{"input":true,"output":true}},"version":1}"#;
+    let wanted =
+        "no \"C\" states NotAState\nno \"Z\" tasks TaskUnknown\nno \"A\" StartAt StartInput 0\nno \"A\" OutputPath OutputNotCertified \"\"\nno \"A\" Next NextInput \"\"\nno \"B\" End ScopeOutput null\n";
+    let lines = all_lines(&rt, alloc, TWO_PASSES, declared, certificate);
+    assert_eq!(rt; lines.as_str(), wanted);
+}
+
+/// A Task without an entry that isn't declared breaks both rules, and a certificate that breaks none has no finding.
+#[test]
+fn all_of_an_entry(rt: HostRuntime) {
+    let alloc = rt.alloc();
+    let certified = r#"{"output":true,"states":{"T":{"input":true,"output":true}},"version":1}"#;
+    for (declared, certificate, wanted) in [
+        (
+            r#"{"input":true}"#,
+            r#"{"output":true,"states":{},"version":1}"#,
+            "no \"T\" states NotCertified\nno \"T\" Resource TaskUndeclared\n",
+        ),
+        (
+            r#"{"input":true,"tasks":{"T":{"gives":true}}}"#,
+            certified,
+            "",
+        ),
+    ] {
+        let lines = all_lines(&rt, alloc, TASK, declared, certificate);
+        assert_eq!(rt; lines.as_str(), wanted);
+    }
+}
