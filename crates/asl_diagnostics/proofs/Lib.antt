@@ -1,0 +1,2 @@
+mod PlaceOrder
+mod WrittenFields
