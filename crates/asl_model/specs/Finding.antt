@@ -1,5 +1,5 @@
 -- What a checker may tell: every rule of a certificate that is broken, as computed lists (the profile's own). A
--- finding stands where it is in the list of all; which one of a state is told is the checker's choice.
+-- finding stands where it is in the list of all; which one of a state a checker tells isn't said here.
 use Rattle.std.specs.Prelude.{ℕ, suc, ◌==◌, List, [], ◌∷◌, ◌++◌, length, map, Bool, true, false, ◌&&◌, ◌||◌, not}
 use Rattle.std.specs.Prelude.{Option, Some, None, Result, Ok, Err, Contains, is_some, is_none, codes, if◌then◌else◌}
 use Rattle.asl_model.specs.Names.{StateName, FieldName}
