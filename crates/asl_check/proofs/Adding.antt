@@ -12,6 +12,7 @@ use Rattle.asl_numbered.proofs.Expansions.{as_many, kept_shape, keeps_longer}
 use Rattle.asl_edges.specs.View.{finding_fault_view}
 use Rattle.asl_check.specs.Faults.{shown_view, IsShownBelow, IsFaultBelow}
 use Rattle.asl_check.specs.Listing.{listed_view, rules_view, Adds, AreRulesBelow}
+use Rattle.asl_check.specs.declared.faults.Fault.{Fault}
 use Rattle.asl_check.specs.declared.faults.Shown.{Shown}
 use Rattle.asl_check.specs.declared.faults.Shown.TheVariants.{Nothing, Missing, Outside}
 use Rattle.asl_check.specs.declared.listed.Listed.{Listed}
@@ -20,11 +21,11 @@ use Rattle.asl_check.specs.declared.listed.Listed.{Listed}
 
 shown_kept : (old new : List Shape) (shown : Shown) → Keeps old new → IsShownBelow (length old) shown → shown_view new shown ≡ shown_view old shown
 shown_kept old new Nothing keeps h = refl
-shown_kept old new (Missing path) keeps h = ap (λ s. counterexample (record { path = path.path.now; segment = path.segment; shape = s })) (kept_shape old new path.shape keeps h)
+shown_kept old new (Missing path name) keeps h = ap (λ s. counterexample (record { path = path.path.now; segment = path.segment; shape = s })) (kept_shape old new path.shape keeps h)
 shown_kept old new (Outside inner outer) keeps h = ap (λ s. outside s (shape_at new outer)) (kept_shape old new inner keeps h.0) ∙ ap (outside (shape_at old inner)) (kept_shape old new outer keeps h.1)
 
 rule_kept : (old new : List Shape) (rule : Listed) → Keeps old new → IsFaultBelow (length old) rule.fault → listed_view new rule ≡ listed_view old rule
-rule_kept old new rule keeps h = ap (λ example. record { state = rule.name.now; field = rule.fault.field.now; fault = finding_fault_view rule.fault.fault; example = example }) (shown_kept old new rule.fault.shown keeps h)
+rule_kept old new rule keeps h = ap (λ example. record { state = rule.name.now; field = rule.fault.field.now; fault = finding_fault_view rule.fault.fault; example = example }) (shown_kept old new rule.fault.shown keeps h.below)
 
 rules_kept : (old new : List Shape) (rules : List Listed) → Keeps old new → AreRulesBelow (length old) rules → rules_view new rules ≡ rules_view old rules
 rules_kept old new [] keeps h = refl
@@ -34,12 +35,15 @@ rules_kept old new (rule ∷ rules) keeps h = rw (rule_kept old new rule keeps h
 
 shown_wider : (bound wider : ℕ) (shown : Shown) → bound ≤ wider → IsShownBelow bound shown → IsShownBelow wider shown
 shown_wider bound wider Nothing more h = tt
-shown_wider bound wider (Missing path) more h = omega (arith, more, h)
+shown_wider bound wider (Missing path name) more h = omega (arith, more, h)
 shown_wider bound wider (Outside inner outer) more h = (omega (arith, more, h.0), omega (arith, more, h.1))
+
+fault_wider : (bound wider : ℕ) (f : Fault) → bound ≤ wider → IsFaultBelow bound f → IsFaultBelow wider f
+fault_wider bound wider f more h = record { below = shown_wider bound wider f.shown more h.below; apart = h.apart }
 
 rules_wider : (bound wider : ℕ) (rules : List Listed) → bound ≤ wider → AreRulesBelow bound rules → AreRulesBelow wider rules
 rules_wider bound wider [] more h = tt
-rules_wider bound wider (rule ∷ rules) more h = (shown_wider bound wider rule.fault.shown more h.0, rules_wider bound wider rules more h.1)
+rules_wider bound wider (rule ∷ rules) more h = (fault_wider bound wider rule.fault more h.0, rules_wider bound wider rules more h.1)
 
 both_below : (bound : ℕ) (xs ys : List Listed) → AreRulesBelow bound xs → AreRulesBelow bound ys → AreRulesBelow bound (xs ++ ys)
 both_below bound [] ys here behind = behind
@@ -60,7 +64,7 @@ module _ (a b : List Node) (rules : List Listed) (i : ℕ) (rule : Listed) (is :
   pub rule_within : IsFaultBelow (length b) rule.fault
   rule_within =
       let longer : length a ≤ length b = omega (arith, keeps_longer (expansions a) (expansions b) keeps, as_many a, as_many b) in
-      shown_wider (length a) (length b) rule.fault.shown longer here
+      fault_wider (length a) (length b) rule.fault longer here
 
   -- it is seen as it was
   pub rule_shown : listed_view (expansions b) rule ≡ listed_view (expansions a) rule

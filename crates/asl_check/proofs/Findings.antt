@@ -7,10 +7,10 @@ use Rattle.asl_tree.specs.View.{view as tree_view}
 use Rattle.asl_edges.specs.View.{finding_fault_view}
 use Rattle.asl_check.specs.Listing.{listed_view, rules_view}
 use Rattle.asl_check.specs.Noting.{noted_breach}
-use Rattle.asl_check.specs.View.{finding_view, findings_view}
+use Rattle.asl_check.specs.View.{finding_view, findings_of}
 use Rattle.asl_check.specs.declared.listed.Listed.{Listed}
 use Rattle.asl_check.specs.declared.noting.Noted.{Noted}
-use Rattle.asl_check.specs.declared.verdicts.Finding.{Finding}
+use Rattle.asl_check.specs.declared.verdicts.Located.{Located}
 
 -- ---- one
 
@@ -29,17 +29,17 @@ told_seen state field n noted breach named at seen = ap (λ m. told_at m field n
 
 module _ (table : List Shape) (rules : List Listed) where
   -- the findings so far, and the rules that are left
-  abbrev pub with_left : List Finding → ℕ → List model.Finding
-  with_left findings i = findings_view findings ++ rules_view table (drop i rules)
+  abbrev pub with_left : List Located → ℕ → List model.Finding
+  with_left findings i = findings_of findings ++ rules_view table (drop i rules)
 
   -- one more is told
-  pub one_told : (findings next : List Finding) (f : Finding) (i : ℕ) (rule : Listed) → next ≡ findings ++ f ∷ [] → finding_view f ≡ listed_view table rule → i < length rules → rule ≡ get_or rules i rule → with_left next (i + 1) ≡ with_left findings i
+  pub one_told : (findings next : List Located) (f : Located) (i : ℕ) (rule : Listed) → next ≡ findings ++ f ∷ [] → finding_view f.finding ≡ listed_view table rule → i < length rules → rule ≡ get_or rules i rule → with_left next (i + 1) ≡ with_left findings i
   one_told findings next f i rule pushed seen within is =
       ap (λ fs. with_left fs (i + 1)) pushed
-      ∙ (ap (λ fs. fs ++ left) (map-append finding_view findings (f ∷ []))
-      ∙ (ap (λ g. (findings_view findings ++ g ∷ []) ++ left) seen
-      ∙ (append_assoc (findings_view findings) (listed_view table rule ∷ []) left
-      ∙ ap (λ rest. findings_view findings ++ rules_view table rest) (sym split))))
+      ∙ (ap (λ fs. fs ++ left) (map-append (λ (g : Located). finding_view g.finding) findings (f ∷ []))
+      ∙ (ap (λ g. (findings_of findings ++ g ∷ []) ++ left) seen
+      ∙ (append_assoc (findings_of findings) (listed_view table rule ∷ []) left
+      ∙ ap (λ rest. findings_of findings ++ rules_view table rest) (sym split))))
     where
       left : List model.Finding
       left = rules_view table (drop (i + 1) rules)
@@ -48,5 +48,5 @@ module _ (table : List Shape) (rules : List Listed) where
       split = drop-cons rules i rule within ∙ rw (← is, add-one) refl
 
   -- all are told
-  pub all_told : (findings : List Finding) (i : ℕ) → length rules ≤ i → with_left findings i ≡ rules_view table rules → findings_view findings ≡ rules_view table rules
-  all_told findings i end told = sym (append-nil (findings_view findings)) ∙ (ap (λ rest. findings_view findings ++ rules_view table rest) (sym (drop_all i rules end)) ∙ told)
+  pub all_told : (findings : List Located) (i : ℕ) → length rules ≤ i → with_left findings i ≡ rules_view table rules → findings_of findings ≡ rules_view table rules
+  all_told findings i end told = sym (append-nil (findings_of findings)) ∙ (ap (λ rest. findings_of findings ++ rules_view table rest) (sym (drop_all i rules end)) ∙ told)

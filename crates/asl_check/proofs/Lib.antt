@@ -12,7 +12,9 @@ pub mod Members
 pub mod Named
 pub mod Notes
 pub mod Passes
+pub mod Paths
 pub mod RightVerdicts
+pub mod StepsApart
 pub mod StepsListed
 pub mod TableEnds
 pub mod TableFindings
@@ -21,3 +23,4 @@ pub mod TableNames
 pub mod TableRows
 pub mod TableScopes
 pub mod TaskNumbers
+pub mod WalkSteps

@@ -34,6 +34,10 @@ module _ (m : Machine) (machine : Scope) (shows : Shows m machine) (declared : D
   same_rules : AreSame all (findings machine declared certificate)
   same_rules = subst (λ (table : Table). AreSame (listed table declared certificate) (findings machine declared certificate)) (sym shows.table) (listed_found machine shows.well_named declared certificate)
 
+  -- each of them stands
+  pub each_stands : (f : Finding) → Contains all f → Stands machine declared certificate f
+  each_stands f h = same_rules.there f h
+
   -- where there is none, yes is right
   pub accepted : [] ≡ all → IsRight machine declared certificate Accepted
   accepted none = by (findings machine declared certificate) (λ f h. subst (λ rules. Contains rules f) (sym none) (same_rules.back f h))

@@ -1,10 +1,16 @@
--- What stands at the destinations of a state's edges, by number.
-use Rattle.std.specs.Prelude.{◌<◌, List, length, option_map, IfSome}
+-- What stands at the destinations of a state's edges, by number, and what fails there.
+use Rattle.std.specs.Prelude.{◌≢◌, ◌<◌, List, length, option_map, IfSome, ⊤}
+use Rattle.std.specs.List.{AllByRecursion}
 use Rattle.asl_model.specs.Edges as model
+use Rattle.asl_model.specs.Finding.{PathMayBeMissing}
 use Rattle.asl_model.specs.Shape.{Shape}
 use Rattle.asl_numbered.specs.Expansion.{shape_at}
 use Rattle.asl_numbered.specs.declared.node.Node.{Node}
 use Rattle.asl_states.specs.Table.{table_view}
+use Rattle.asl_edges.specs.View.{finding_fault_view}
+use Rattle.asl_edges.specs.declared.found.Edge.{Edge}
+use Rattle.asl_edges.specs.declared.found.Step.{Step}
+use Rattle.asl_edges.specs.declared.found.Step.TheVariants.{Flows, Breaks}
 use Rattle.asl_check.specs.Numbers.{IsWithin, certificate_of}
 use Rattle.asl_check.specs.Rules.{inputs_in}
 use Rattle.asl_check.specs.declared.standing.Standing.{Standing}
@@ -24,3 +30,16 @@ pub record AreStanding (nodes : List Node) (s : Standing) : Type 0 where
   pub output : s.output < length nodes
   pub end : IfSome s.end (λ n. n < length nodes)
   pub takes : s.takes < length nodes
+
+-- what is wrong where what flows at an edge doesn't fit isn't that a path may name nothing
+abbrev pub IsEdgeApart : Edge → Type 0
+IsEdgeApart e = finding_fault_view e.fault ≢ PathMayBeMissing
+
+-- so at a step, if it is an edge
+abbrev pub IsStepApart : Step → Type 0
+IsStepApart (Flows e) = IsEdgeApart e
+IsStepApart (Breaks b) = ⊤
+
+-- so at each step
+abbrev pub AreStepsApart : List Step → Type 0
+AreStepsApart steps = AllByRecursion IsStepApart steps

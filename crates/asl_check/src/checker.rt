@@ -1,6 +1,7 @@
 // Checking a certificate against a machine and its declared shapes.
 
-ghost use Rattle.std.specs.Prelude.{◌≡◌, IfOk};
+ghost use Rattle.std.specs.Prelude.{◌≡◌, ◌↔◌, IfOk, IsSome};
+ghost use Rattle.std.specs.List.{All};
 ghost use Rattle.asl_model.specs.Machine as machines;
 ghost use Rattle.asl_model.specs.RecordShapes.{HoldsForCertificate, HoldsForDeclared};
 ghost use Rattle.asl_model.specs.Shape as model;
@@ -11,12 +12,12 @@ ghost use Rattle.asl_records.specs.Numbered.{AreWithin, numbered_view};
 ghost use Rattle.asl_records.specs.View.{declared_view, certificate_view};
 ghost use Rattle.asl_check.specs.Numbers.{IsWithin, certificate_of};
 ghost use Rattle.asl_check.specs.Told.{listed, TellsFirst};
-ghost use Rattle.asl_check.specs.View.{findings_view, verdict_view};
+ghost use Rattle.asl_check.specs.View.{findings_of, verdict_view, IsLocated, TellsMissing};
 
 use crate::noting::{note_first, told};
 use crate::ordered::names_in_order;
 use crate::telling::tell_each;
-use crate::verdicts::{Finding, Verdict};
+use crate::verdicts::{Located, Verdict};
 use asl_model::shape_laws::findings_are_exactly_the_broken_rules;
 use asl_numbered::Shapes;
 use asl_records::{Certificate, Declared, NumberedCertificate, StateNumbers, number_certificate};
@@ -98,18 +99,22 @@ pub fn check_numbered(
 }
 
 /// Finds every broken rule of the certificate, and not only the first of each name: in the order in which [`check`] goes
-/// over them, each with its example, if its fault has one. Further shapes may stand in the table afterwards, also where
-/// memory runs out; each that stood there keeps its number, and the certificate's own numbers are the same.
+/// over them, each with its example, if its fault has one. A finding that a path may name nothing tells that path, which
+/// names nothing in the example, and no other finding tells one. Further shapes may stand in the table afterwards, also
+/// where memory runs out; each that stood there keeps its number, and the certificate's own numbers are the same.
 pub fn find_all(
     alloc: Global,
     machine: &Machine,
     declared: &Declared,
     certificate: &mut NumberedCertificate,
-) -> Result<Vec<Finding>, OutOfMemory>
+) -> Result<Vec<Located>, OutOfMemory>
     requires within { AreWithin certificate.old }
-    ensures listed { IfOk result (λ findings. findings_view findings.items
+    ensures listed { IfOk result (λ all. findings_of all.items
         ≡ listed (table_view machine.now) (declared_view declared.now)
         (numbered_view certificate.old)) }
+    ensures located { IfOk result (λ all. All IsLocated all.items) }
+    ensures exactly { IfOk result (λ all. (m : machines.Scope) → Shows machine.now m
+        → All (λ f. IsSome f.path ↔ TellsMissing f.finding) all.items) }
     ensures same { numbered_view certificate.new ≡ numbered_view certificate.old }
     ensures within { AreWithin certificate.new }
     ensures keeps { Keeps (expansions certificate.old.shapes) (expansions certificate.new.shapes) }
@@ -129,14 +134,18 @@ pub fn find_all(
 }
 
 impl Checker<'_> {
-    /// Every broken rule, with the tree that shows it, if one does.
-    fn findings(&self, shapes: &mut Shapes) -> Result<Vec<Finding>, OutOfMemory>
+    /// Every broken rule, with the tree that shows it, if one does, and the path that names nothing there, if it is one.
+    fn findings(&self, shapes: &mut Shapes) -> Result<Vec<Located>, OutOfMemory>
         requires within { IsWithin shapes.old self.now }
-        ensures listed { IfOk result (λ findings. findings_view findings.items
+        ensures listed { IfOk result (λ all. findings_of all.items
             ≡ listed (table_view self.now.machine.now) (declared_view self.now.declared.now)
             (certificate_of (expansions shapes.old) self.now)) }
+        ensures located { IfOk result (λ all. All IsLocated all.items) }
+        ensures exactly { IfOk result (λ all. (m : machines.Scope) → Shows self.now.machine.now m
+            → All (λ f. IsSome f.path ↔ TellsMissing f.finding) all.items) }
         ensures keeps { Keeps (expansions shapes.old) (expansions shapes.new) }
     {
+        findings_are_exactly_the_broken_rules();
         let rules = self.list_all(shapes)?;
         tell_each(self.alloc, shapes, &rules)
     }

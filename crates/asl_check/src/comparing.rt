@@ -1,7 +1,7 @@
 // Comparing what flows with what is certified.
 
-ghost use Rattle.std.specs.Prelude.{◌≡◌, ◌<◌, length, IfOk, IfSome, option_map, option_to_list};
-ghost use Rattle.asl_model.specs.Finding.{breach_unless_sub};
+ghost use Rattle.std.specs.Prelude.{◌≡◌, ◌≢◌, ◌<◌, length, IfOk, IfSome, option_map, option_to_list};
+ghost use Rattle.asl_model.specs.Finding.{PathMayBeMissing, breach_unless_sub};
 ghost use Rattle.asl_model.specs.ShapeOrder as order;
 ghost use Rattle.asl_numbered.specs.Expansion.{expansions, shape_at};
 ghost use Rattle.asl_edges.specs.View.{finding_fault_view};
@@ -23,6 +23,7 @@ pub(crate) fn broken_unless_sub<'m>(
 ) -> Result<Option<Fault<'m>>, OutOfMemory>
     requires number { number < length shapes.old }
     requires expected { IfSome expected (λ n. n < length shapes.old) }
+    requires apart { finding_fault_view fault ≢ PathMayBeMissing }
     ensures told { IfOk result
         (λ told. option_to_list (option_map (fault_view (expansions shapes.old)) told)
         ≡ breach_unless_sub field.now (finding_fault_view fault)

@@ -6,7 +6,7 @@ ghost use Rattle.asl_model.specs.Finding as model;
 ghost use Rattle.asl_model.specs.Shape.{Shape};
 ghost use Rattle.asl_numbered.specs.Expansion.{expansions, Keeps};
 ghost use Rattle.asl_tree.specs.View.{view as tree_view};
-ghost use Rattle.asl_check.specs.Faults.{fault_view, shown_view, IsFaultBelow, IsShownBelow};
+ghost use Rattle.asl_check.specs.Faults.{fault_view, shown_view, IsFaultBelow, IsShownBelow, NamesNothing};
 ghost use Rattle.asl_check.specs.Noting.{noted_breach};
 
 use crate::noting::Noted;
@@ -21,10 +21,16 @@ use std::alloc::Global;
 pub(crate) enum Shown<'m> {
     /// No tree does.
     Nothing,
-    /// A tree of a shape in which the path names nothing.
-    Missing(DoubtfulPath<'m>),
+    /// A tree of a shape in which the path names nothing; the name is that of the nearest field in a template.
+    Missing {
+        path: DoubtfulPath<'m>,
+        name: &'m str,
+    },
     /// A tree that has the first shape and lacks the second.
-    Outside { inner: usize, outer: usize },
+    Outside {
+        inner: usize,
+        outer: usize,
+    },
 }
 
 /// A broken rule: its field, what is wrong, and what shows it.
@@ -64,14 +70,14 @@ pub(crate) fn fault_of<'m>(broken: Broken<'m>) -> Fault<'m>
     let Broken {
         field,
         fault,
+        name,
         path,
-        ..
     } = broken;
     match path {
         Some(path) => Fault {
             field,
             fault,
-            shown: Shown::Missing(path),
+            shown: Shown::Missing { path, name },
         },
         None => Fault {
             field,
@@ -90,6 +96,8 @@ pub(crate) fn with_example(
     requires below { IsFaultBelow (length shapes.old) fault }
     ensures seen { IfOk result
         (λ noted. noted_breach noted ≡ fault_view (expansions shapes.old) fault.entry) }
+    ensures nothing { IfOk result
+        (λ noted. NamesNothing fault.entry.shown (option_map tree_view noted.example)) }
     ensures keeps { Keeps (expansions shapes.old) (expansions shapes.new) }
 {
     let example = example_of(alloc, shapes, fault.shown)?;
@@ -110,11 +118,13 @@ fn example_of(
     ensures seen { IfOk result
         (λ example. option_map tree_view example
         ≡ shown_view (expansions shapes.old) shown.entry) }
+    ensures nothing { IfOk result
+        (λ example. NamesNothing shown.entry (option_map tree_view example)) }
     ensures keeps { Keeps (expansions shapes.old) (expansions shapes.new) }
 {
     match shown {
         Shown::Nothing => Ok(None),
-        Shown::Missing(path) => missing_at(alloc, shapes, path.shape, path.path),
+        Shown::Missing { path, .. } => missing_at(alloc, shapes, path.shape, path.path),
         Shown::Outside { inner, outer } => shapes.outside(alloc, inner, outer),
     }
 }

@@ -8,7 +8,7 @@ ghost use Rattle.asl_numbered.specs.declared.node.Node.{Node};
 ghost use Rattle.asl_edges.specs.View.{destination_view, edge_view, step_view, steps_of, AreStepsBelow, IsStepBelow};
 ghost use Rattle.asl_check.specs.Faults.{fault_view, IsFaultBelow};
 ghost use Rattle.asl_check.specs.Listing.{Adds};
-ghost use Rattle.asl_check.specs.Standing.{AreStanding, standing_view};
+ghost use Rattle.asl_check.specs.Standing.{AreStanding, AreStepsApart, IsEdgeApart, IsStepApart, standing_view};
 
 use crate::checker::Checker;
 use crate::comparing::broken_unless_sub;
@@ -40,6 +40,7 @@ impl Standing<'_, '_> {
     ) -> Result<(), OutOfMemory>
         requires standing { AreStanding shapes.old self.now }
         requires below { AreStepsBelow (length shapes.old) steps.now }
+        requires apart { AreStepsApart steps.now }
         ensures adds { OnOk result
             (Adds (expansions shapes.old) rules.old.items rules.new.items
             (found_at name.now (breaches_along (standing_view (expansions shapes.old) self.now)
@@ -61,6 +62,7 @@ impl Standing<'_, '_> {
     ) -> Result<Option<Fault<'m>>, OutOfMemory>
         requires standing { AreStanding shapes.old self.now }
         requires below { IsStepBelow (length shapes.old) step.now }
+        requires apart { IsStepApart step.now }
         ensures told { IfOk result
             (λ told. option_to_list (option_map (fault_view (expansions shapes.old)) told)
             ≡ breaches_at (standing_view (expansions shapes.old) self.now)
@@ -82,6 +84,7 @@ impl Standing<'_, '_> {
     ) -> Result<Option<Fault<'m>>, OutOfMemory>
         requires standing { AreStanding shapes.old self.now }
         requires flowing { edge.flowing < length shapes.old }
+        requires apart { IsEdgeApart edge.entry }
         ensures told { IfOk result
             (λ told. option_to_list (option_map (fault_view (expansions shapes.old)) told)
             ≡ breaches_at (standing_view (expansions shapes.old) self.now)

@@ -17,6 +17,25 @@ pub struct Finding {
     pub example: Option<Tree>,
 }
 
+/// A path that may name nothing, as its text, which is its printed form and spells it.
+///
+/// The number of its first segment that may name nothing, counted from 0, and the name of the nearest field of an object
+/// in a template are told as the walk through the state has them: no clause speaks of these two. Elsewhere than in a
+/// template the name is empty.
+#[derive(Drop)]
+pub struct MissingPath {
+    pub text: String,
+    pub segment: usize,
+    pub name: String,
+}
+
+/// A finding, and the path that may name nothing where that is what it says.
+#[derive(Drop)]
+pub struct Located {
+    pub finding: Finding,
+    pub path: Option<MissingPath>,
+}
+
 /// The checker's answer. The findings, at least one, stand in byte order of their states' names, one a name, each with
 /// the example that shows it, if its fault has one.
 #[derive(Drop)]

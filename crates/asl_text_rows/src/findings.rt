@@ -1,5 +1,5 @@
 //! All broken rules of a certificate, in the order in which the checker goes over them.
-use asl_check::{Verdict, find_all, read_declared, read_numbered};
+use asl_check::{Located, Verdict, find_all, read_declared, read_numbered};
 use asl_tool::verdict_text;
 use asl_tree::read_value;
 use std::alloc::Global;
@@ -10,7 +10,8 @@ const TWO_PASSES: &str =
 
 const TASK: &str = r#"{"StartAt":"T","States":{"T":{"Type":"Task","Resource":"r","End":true}}}"#;
 
-/// The lines of all broken rules.
+/// The lines of all broken rules, and behind that of a path that may name nothing one of the path, the number of its segment
+/// and its name.
 fn all_lines(
     rt: &impl Abort,
     alloc: Global,
@@ -30,8 +31,27 @@ fn all_lines(
     let read = read_numbered(alloc, certificate);
     let mut certificate = read.ok().expect(rt, "a certificate");
     let findings = find_all(alloc, &machine, &declared, &mut certificate);
-    let findings = findings.ok().expect(rt, "memory");
-    verdict_text(alloc, &Verdict::No(findings)).expect(rt, "a text")
+    let mut lines = String::new(alloc);
+    for located in findings.ok().expect(rt, "memory") {
+        let line = line_of(rt, alloc, located);
+        lines.push_str(&line).ok().expect(rt, "memory");
+    }
+    lines
+}
+
+/// The line of a finding, and that of its path, if it has one.
+fn line_of(rt: &impl Abort, alloc: Global, located: Located) -> String {
+    let mut findings = Vec::new(alloc);
+    findings.push(located.finding).ok().expect(rt, "memory");
+    let line = verdict_text(alloc, &Verdict::No(findings)).expect(rt, "a text");
+    match located.path {
+        Some(path) => {
+            let (text, segment, name) = (path.text, path.segment, path.name);
+            let line = format!(in alloc; "{line}  {text} {segment} {name:?}\n");
+            line.ok().expect(rt, "memory")
+        }
+        None => line,
+    }
 }
 
 /// The entry of no state and the declared task of none come before the start, and that before what flows; of a state all
@@ -68,4 +88,22 @@ fn all_of_an_entry(rt: HostRuntime) {
         let lines = all_lines(&rt, alloc, TASK, declared, certificate);
         assert_eq!(rt; lines.as_str(), wanted);
     }
+}
+
+const LOOKING: &str =
+    r#"{"StartAt":"A","States":{"A":{"Type":"Pass","InputPath":"$.a['b c']","Next":"B"},"B":{"Type":"Pass","Parameters":{"u":{"v.$":"$.x[0].y"},"w.$":"$.z"},"End":true}}}"#;
+
+/// A path that may name nothing is told in its printed form: in `A` its second name, in `B` two in a template, each with the
+/// field's name, of which the first breaks at its index.
+#[test]
+fn paths_of_all_that_may_be_missing(rt: HostRuntime) {
+    let alloc = rt.alloc();
+    let declared =
+        r#"{"input":{"type":"object","properties":{"a":{"type":"object"}},"required":["a"]}}"#;
+    let certificate =
+        r#"{"output":{"type":"null"},"states":{"A":{"input":{"type":"object","properties":{"a":{"type":"object"}},"required":["a"]},"output":true},"B":{"input":{"type":"object","properties":{"x":{"type":"array"}},"required":["x"]},"output":true}},"version":1}"#;
+    let wanted =
+        "no \"A\" InputPath PathMayBeMissing {\"a\":{}}\n  $.a['b c'] 1 \"\"\nno \"B\" Parameters PathMayBeMissing {\"x\":[]}\n  $.x[0].y 1 \"v\"\nno \"B\" Parameters PathMayBeMissing {\"x\":[]}\n  $.z 0 \"w\"\n";
+    let lines = all_lines(&rt, alloc, LOOKING, declared, certificate);
+    assert_eq!(rt; lines.as_str(), wanted);
 }

@@ -5,7 +5,7 @@ use Rattle.asl_states.specs.Table.{table_view}
 use Rattle.asl_records.proofs.Kept.{certificate_shown, certificate_within}
 use Rattle.asl_records.specs.View.{declared_view}
 use Rattle.asl_check.specs.Told.{listed}
-use Rattle.asl_check.specs.View.{findings_view}
+use Rattle.asl_check.specs.View.{findings_of}
 use Rattle.asl_check.proofs.Grown.{checked_within, in_table}
 use Rattle.asl_check.proofs.checker.find_all.Goals as goal
 
@@ -22,7 +22,7 @@ pub returns-clause-listed : goal.returns-clause-listed
 returns-clause-listed c =
     let old = c.args.certificate.now in
     let same = certificate_shown old (in_table old c.add.new.self) c.add.ensures.keeps refl refl c.requires.within in
-    subst (λ (certificate : Certificate). IfOk c.findings.result (λ findings. findings_view findings.items ≡ listed (table_view c.args.machine.now) (declared_view c.args.declared.now) certificate)) same c.findings.ensures.listed
+    subst (λ (certificate : Certificate). IfOk c.findings.result (λ all. findings_of all.items ≡ listed (table_view c.args.machine.now) (declared_view c.args.declared.now) certificate)) same c.findings.ensures.listed
 
 pub returns-clause-same : goal.returns-clause-same
 returns-clause-same c = certificate_shown c.args.certificate.now (in_table c.args.certificate.now c.findings.new.shapes) (keeps_trans _ _ _ c.add.ensures.keeps c.findings.ensures.keeps) refl refl c.requires.within

@@ -1,8 +1,11 @@
-use Rattle.std.proofs.Common.{◌∙◌}
+use Rattle.std.proofs.Common.{sym, subst, ◌∙◌}
+use Rattle.std.specs.List.{All}
+use Rattle.std.proofs.lemmas.List.Elements.{All-push}
 use Rattle.asl_numbered.specs.Expansion.{expansions}
 use Rattle.asl_numbered.proofs.Expansions.{keeps_trans}
 use Rattle.asl_check.proofs.Adding.{rule_shown, rule_within}
 use Rattle.asl_check.proofs.Findings.{all_told, one_told}
+use Rattle.asl_check.specs.View.{IsLocated}
 use Rattle.asl_check.proofs.telling.tell_each.Goals as goal
 
 pub tell-requires : goal.tell-requires
@@ -18,6 +21,7 @@ loop-rule-preserved c =
     let seen = c.in_ok-finding.ensures.told ∙ rule_shown a l.shapes rules l.rule-index rule c.rule-item.is l.invariant.keeps within c.requires.below in
     record {
       keeps = keeps_trans _ _ _ l.invariant.keeps c.in_ok-finding.ensures.keeps;
+      located = subst (All IsLocated) (sym c.in_ok-push.ensures.items) (All-push IsLocated l.findings.items c.in_ok-finding.finding l.invariant.located c.in_ok-finding.ensures.located);
       told = one_told (expansions a) rules l.findings.items _ c.in_ok-finding.finding l.rule-index rule c.in_ok-push.ensures.items seen within c.rule-item.is ∙ l.invariant.told;
     }
 

@@ -12,6 +12,7 @@ use Rattle.asl_check.specs.Rules.{end_in, inputs_in}
 use Rattle.asl_check.specs.Standing.{standing_view}
 use Rattle.asl_check.specs.declared.standing.Standing.{Standing}
 use Rattle.asl_check.proofs.FlowsTold.{listed_along, entered, entered_below, standing_seen, standing_within}
+use Rattle.asl_check.proofs.StepsApart.{steps_apart}
 use Rattle.asl_records.proofs.Kept.{numbers_shown}
 use Rattle.asl_check.proofs.checker.Checker.list_walk.Goals as goal
 
@@ -21,6 +22,9 @@ edges_of-requires-clause-entry c = entered_below c.args.entry.now c.deref.result
 pub list_steps-requires-clause-standing : goal.list_steps-requires-clause-standing
 list_steps-requires-clause-standing c =
     standing_within c.args.shapes.now c.number_task.new.shapes c.edges_of.new.shapes c.number_task.ensures.keeps c.edges_of.ensures.keeps _ c.requires.within c.args.entry.now c.requires.entry _ _ c.in_ok-task.task c.in_ok-task.ensures.numbered refl refl c.end_of.ensures.within
+
+pub list_steps-requires-clause-apart : goal.list_steps-requires-clause-apart
+list_steps-requires-clause-apart c = steps_apart (expansions c.edges_of.new.shapes) c.deref-2.result _ _ _ _ (ap (steps_of (expansions c.edges_of.new.shapes)) c.deref-2.ensures.value ∙ c.in_ok-steps.ensures.walked)
 
 pub returns-clause-adds : goal.returns-clause-adds
 returns-clause-adds c =

@@ -8,6 +8,7 @@ use Rattle.asl_edges.specs.View.{step_view, AreStepsBelow}
 use Rattle.asl_check.specs.Faults.{fault_view, IsFaultBelow}
 use Rattle.asl_check.specs.Standing.{standing_view}
 use Rattle.asl_check.proofs.Passes.{all_left}
+use Rattle.asl_check.proofs.StepsApart.{step_apart}
 use Rattle.asl_check.proofs.StepsListed.{step_below, step_listed, steps_listed}
 use Rattle.asl_check.proofs.standing.Standing.list_steps.Goals as goal
 
@@ -18,6 +19,9 @@ pub broken_at-requires-clause-below : goal.broken_at-requires-clause-below
 broken_at-requires-clause-below c =
     let below = subst (λ nodes. AreStepsBelow (length nodes) c.args.steps.now) (sym c.loop-step.invariant.unchanged) c.requires.below in
     step_below _ c.args.steps.now c.loop-step.step-index _ c.loop-step-test.true c.step-item.is below
+
+pub broken_at-requires-clause-apart : goal.broken_at-requires-clause-apart
+broken_at-requires-clause-apart c = step_apart c.args.steps.now c.loop-step.step-index _ c.loop-step-test.true c.step-item.is c.requires.apart
 
 pub loop-step-preserved : goal.loop-step-preserved
 loop-step-preserved c =
