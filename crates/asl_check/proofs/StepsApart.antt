@@ -25,7 +25,7 @@ apart w edge_to_end = λ e. absurd (cc)
 apart w edge_to_child = λ e. absurd (cc)
 apart w edge_to_caught = λ e. absurd (cc)
 apart w edge_to_task = λ e. absurd (cc)
-apart w path_breaks = tt
+apart w (path_breaks doubtful) = tt
 apart w (plain_breaks plain) = tt
 
 -- those of a walk

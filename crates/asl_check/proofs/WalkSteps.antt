@@ -28,7 +28,7 @@ pub data IsOfWalk : Walked → Type 0 where
   edge_to_child : {field n : List ℕ} {s : Shape} → IsOfWalk (flows_to (ToInput n) field BranchInput s)
   edge_to_caught : {field n : List ℕ} {s : Shape} → IsOfWalk (flows_to (ToInput n) field CatchInput s)
   edge_to_task : {field : List ℕ} {s : Shape} → IsOfWalk (flows_to ToTask field PayloadNotTaken s)
-  path_breaks : {field : List ℕ} {doubtful : DoubtfulPath} → IsOfWalk (Breaks (missing_breach field doubtful))
+  path_breaks : {field : List ℕ} (doubtful : DoubtfulPath) → IsOfWalk (Breaks (missing_breach field doubtful))
   plain_breaks : {field : List ℕ} {fault : FindingFault} → IsPlain fault → IsOfWalk (Breaks (plain_breach field fault))
 
 pub record AreOfWalk (steps : List Walked) : Type 0 where
@@ -45,7 +45,7 @@ both (x ∷ xs) ys h k = record { each = (h.each.0, (both xs ys (record { each =
 
 faults : (fs : List FlowFault) → AreOfWalk (map (λ fault. Breaks (breach_of fault)) fs)
 faults [] = none
-faults (MissingAt field doubtful ∷ fs) = record { each = (path_breaks, (faults fs).each) }
+faults (MissingAt field doubtful ∷ fs) = record { each = (path_breaks doubtful, (faults fs).each) }
 faults (FailsAt field ∷ fs) = record { each = (plain_breaks plain_failure, (faults fs).each) }
 faults (MisfitAt field ∷ fs) = record { each = (plain_breaks plain_misfit, (faults fs).each) }
 
@@ -77,7 +77,7 @@ unless false field fault plain = record { each = (plain_breaks plain, tt) }
 
 named : (field : List ℕ) (test : Shape → Bool) (r : Result Shape DoubtfulPath) → AreOfWalk (walk_named field test r)
 named field test (Ok s) = unless (test s) field WrongKind plain_kind
-named field test (Err doubtful) = record { each = (path_breaks, tt) }
+named field test (Err doubtful) = record { each = (path_breaks doubtful, tt) }
 
 delay : (d : Delay) (s : Shape) → AreOfWalk (walk_delay d s)
 delay (Seconds n) s = none
@@ -108,10 +108,10 @@ listed go_on h (Some elements) = h elements
 
 items : (go_on : Shapes × Shape → List Walked) → ((elements : Shapes × Shape) → AreOfWalk (go_on elements)) → (r : Result Shape DoubtfulPath) → AreOfWalk (walk_items go_on r)
 items go_on h (Ok s) = listed go_on h (array_parts s)
-items go_on h (Err doubtful) = record { each = (path_breaks, tt) }
+items go_on h (Err doubtful) = record { each = (path_breaks doubtful, tt) }
 
 rule : (settings : Settings) (kind : Kind) (input : Shape) (name : List ℕ) (r : Result Shape DoubtfulPath) → AreOfWalk (walk_rule settings kind input name r)
-rule settings kind input name (Err doubtful) = record { each = (path_breaks, tt) }
+rule settings kind input name (Err doubtful) = record { each = (path_breaks doubtful, tt) }
 rule settings kind input name (Ok s) = chosen settings kind input (codes "Choices") name s
 
 rules_walked : (settings : Settings) (kind : Kind) (input : Shape) (rs : List Rule) (s : Shape) → AreOfWalk (walk_rules settings kind input rs s)

@@ -32,24 +32,24 @@ IsShownBelow bound Nothing = ⊤
 IsShownBelow bound (Missing path name) = path.shape < bound
 IsShownBelow bound (Outside inner outer) = (inner < bound) × (outer < bound)
 
--- a comparison doesn't show that a path may name nothing
+-- where a comparison shows it, the fault isn't that a path may name nothing
 abbrev pub IsShownApart : finding.FindingFault → Shown → Type 0
 IsShownApart fault Nothing = ⊤
 IsShownApart fault (Missing path name) = ⊤
 IsShownApart fault (Outside inner outer) = fault ≢ finding.PathMayBeMissing
 
--- so of a broken rule: its numbers are below that bound
+-- so of a broken rule, and the numbers of what shows it are below that bound
 pub record IsFaultBelow (bound : ℕ) (f : Fault) : Type 0 where
   pub below : IsShownBelow bound f.shown
   pub apart : IsShownApart (finding_fault_view f.fault) f.shown
 
--- what shows it is that path
+-- what shows a rule to be broken is that path
 abbrev pub IsShownBy : Shown → List Segment → Type 0
 IsShownBy Nothing p = ⊥
 IsShownBy (Missing path name) p = path.path.now ≡ p
 IsShownBy (Outside inner outer) p = ⊥
 
--- where a path shows it, that names nothing in the tree, if there is one
+-- where a path shows it, that path names nothing in the tree, if there is one
 abbrev pub NamesNothing : Shown → Option Tree → Type 0
 NamesNothing shown tree = (p : List Segment) → IsShownBy shown p → IfSome tree (λ t. named_by p t ≡ None)
 
@@ -60,7 +60,8 @@ pub record IsTextOf (shown : Shown) (text : List ℕ) : Type 0 where
   pub printed : text ≡ printed_path path
   pub spells : Spells text path
 
--- the path of a broken rule, which is there where one that may name nothing shows it
+-- A path is told of a broken rule: where it says that one may name nothing and a path shows it, and nowhere else, and it is
+-- that path.
 pub record IsPathOf (f : Fault) (path : Option MissingPath) : Type 0 where
   pub only : IfSome path (λ p. finding_fault_view f.fault ≡ finding.PathMayBeMissing)
   pub text : IfSome path (λ p. IsTextOf f.shown (string_bytes p.text))
