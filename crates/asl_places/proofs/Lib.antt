@@ -1,3 +1,6 @@
+mod Gathering
+mod Machines
 mod Names
 mod Reading
 mod Steps
+mod Walks

@@ -51,6 +51,10 @@ told (Token.boolean b) after depth j rest e = alone (boolean b) j after rest (sy
 told Token.null after depth j rest e = alone null j after rest (sym (value_is depth _) ∙ e)
 told Token.bad after depth j rest e = not_found (j, rest) (sym (value_is depth _) ∙ e)
 
+-- no value begins with the bracket that closes a list
+pub no_value_closes : (after : List Token) (j : Json) → BeginsWith (Token.end_array ∷ after) j → ⊥
+no_value_closes after j h = told Token.end_array after h.0 j h.1 h.2
+
 -- behind a value that opens no bracket its token is passed
 pub leaf_passed : (t : Token) (after : List Token) (depth : ℕ) (j : Json) (rest : List Token) → (t ≡ Token.begin_object → ⊥) → (t ≡ Token.begin_array → ⊥) → value depth (t ∷ after) ≡ Some (j, rest) → rest ≡ after
 leaf_passed Token.begin_object after depth j rest p q e = absurd (p refl)

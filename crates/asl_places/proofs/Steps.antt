@@ -11,8 +11,9 @@ use Rattle.json.specs.Tape.{node_token}
 use Rattle.json.specs.Find.{BeginsWith, InItems, InMembers, NextItem, NextMember, as_array, as_object}
 use Rattle.json.specs.declared.tape.Node.{Node}
 use Rattle.json.specs.declared.tape.Node.TheVariants.{Object, EndObject, Array, EndArray, Key, String, Number, Bool, Null}
-use Rattle.json.proofs.Found.{IsKey, items_close, items_go_on, items_need_tokens, members_close, members_go_on, members_short, not_empty}
-use Rattle.asl_places.proofs.Reading.{drop-node_token, brace_told, no_brace_told, bracket_told, no_bracket_told, no_brace, no_bracket}
+use Rattle.json.proofs.Found.{IsKey, Some_inj, items_close, items_go_on, items_need_tokens, members_close, members_go_on, members_short, not_empty}
+use Rattle.asl_places.specs.Standing.{NoMemberAt}
+use Rattle.asl_places.proofs.Reading.{drop-node_token, no_value_closes, brace_told, no_brace_told, bracket_told, no_bracket_told, no_brace, no_bracket}
 
 -- the node found there, whatever stands for none
 abbrev pub at_node : List Node → ℕ → Node
@@ -34,6 +35,19 @@ slice_get-node_token nodes at n h is = slice_get-map node_token nodes at ∙ ap 
 
 pub no_value_past : (nodes : List Node) (at : ℕ) (j : Json) → length nodes ≤ at → BeginsWith (tokens_from nodes at) j → ⊥
 no_value_past nodes at j h begins = not_empty j (subst (λ ts. BeginsWith ts j) (drop_all at (map node_token nodes) (omega (arith, length-map nodes node_token))) begins)
+
+-- the token there is that of the node there
+token_at : (nodes : List Node) (at : ℕ) (t : Token) → at < length nodes → slice_get (map node_token nodes) at ≡ Some t → node_token (at_node nodes at) ≡ t
+token_at nodes at t h is = Some_inj _ _ (sym (slice_get-node_token nodes at (at_node nodes at) h refl) ∙ is)
+
+pub no_brace_at : (nodes : List Node) (at : ℕ) → at < length nodes → ((a : ℕ) → at_node nodes at ≡ Object a → ⊥) → slice_get (map node_token nodes) at ≡ Some Token.begin_object → ⊥
+no_brace_at nodes at h never is = no_brace (at_node nodes at) never (token_at nodes at Token.begin_object h is)
+
+pub no_bracket_at : (nodes : List Node) (at : ℕ) → at < length nodes → ((a : ℕ) → at_node nodes at ≡ Array a → ⊥) → slice_get (map node_token nodes) at ≡ Some Token.begin_array → ⊥
+no_bracket_at nodes at h never is = no_bracket (at_node nodes at) never (token_at nodes at Token.begin_array h is)
+
+pub no_value_closed : (nodes : List Node) (at : ℕ) (j : Json) → at < length nodes → at_node nodes at ≡ EndArray → BeginsWith (tokens_from nodes at) j → ⊥
+no_value_closed nodes at j h is begins = no_value_closes (tokens_from nodes (at + 1)) j (subst (λ ts. BeginsWith ts j) (first_token nodes at EndArray h is) begins)
 
 -- ---- where a cursor begins
 
@@ -88,6 +102,9 @@ no_name (String s) never h = h
 no_name (Number s) never h = h
 no_name (Bool b) never h = h
 no_name Null never h = h
+
+pub no_member_at : (nodes : List Node) (at : ℕ) → at < length nodes → ((s : Bor (List ℕ)) → at_node nodes at ≡ Key s → ⊥) → NoMemberAt (map node_token nodes) at
+no_member_at nodes at h never name is has = no_name (at_node nodes at) never (subst IsKey (sym (token_at nodes at (Token.key name) h is)) tt)
 
 pub member_next : (nodes : List Node) (at behind : ℕ) (name : Bor (List ℕ)) → at < length nodes → at_node nodes at ≡ Key name → LeadsBehind nodes (at + 1) behind → NextMember (tokens_from nodes at) (Some (name.now, tokens_from nodes (at + 1))) (tokens_from nodes behind)
 member_next nodes at behind name h is leads ms given =

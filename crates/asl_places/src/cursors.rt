@@ -1,11 +1,12 @@
 //! Going over the members of an object and the elements of a list.
-ghost use Rattle.std.specs.Prelude.{◌≡◌, ◌<◌, ◌≤◌, ℕ, List, None, map, length, drop, option_map, IfSome, OnSome, MatchOption};
-ghost use Rattle.json.specs.Token.{Token};
+ghost use Rattle.std.specs.Prelude.{◌≡◌, ◌≢◌, ◌<◌, ◌≤◌, ◌+◌, ℕ, List, Some, None, map, length, drop, slice_get, option_map, IfSome, OnSome, MatchOption};
+ghost use Rattle.json.specs.Token.{Token, begin_array, begin_object};
 ghost use Rattle.json.specs.Json as spec;
 ghost use Rattle.json.specs.Json.{Json, value};
-ghost use Rattle.json.specs.Find.{InItems, InMembers, NextItem, NextMember, as_array, as_object};
-ghost use Rattle.json.specs.Tape.{node_token, Linked};
+ghost use Rattle.json.specs.Find.{HasValue, InItems, InMembers, NextItem, NextMember, as_array, as_object};
+ghost use Rattle.json.specs.Tape.{node_token, Linked, Passes};
 ghost use Rattle.asl_places.specs.Found.{BeginsAt, IsNamed};
+ghost use Rattle.asl_places.specs.Standing.{StepsOverElement, StepsOverMember};
 
 use crate::outline::{Member, Spot};
 use json::Node;
@@ -63,6 +64,8 @@ pub(crate) fn behind(nodes: &[Node<'_>], at: usize) -> usize
     ensures value { (depth : ℕ) (j : Json) (rest : List Token)
         → value depth (drop at (map node_token nodes.now)) ≡ Some (j, rest)
         → rest ≡ drop result (map node_token nodes.now) }
+    ensures passes { HasValue (drop at (map node_token nodes.now))
+        → Passes (map node_token nodes.now) at result }
     ensures later { at < result }
     ensures inside { result ≤ length nodes.now }
 {
@@ -78,6 +81,10 @@ impl<'o, 'a> Members<'o, 'a> {
     pub(crate) fn of(nodes: &'o [Node<'a>], object: Spot) -> Option<Members<'o, 'a>>
         requires { Linked (map node_token nodes.now) 0 nodes.now }
         ensures tokens { IfSome result (λ m. m.0 ≡ map node_token nodes.now) }
+        ensures opens { MatchOption result
+            (slice_get (map node_token nodes.now) object.token ≢ Some begin_object)
+            (λ m. (m.1 ≡ object.token + 1)
+            × (slice_get (map node_token nodes.now) object.token ≡ Some begin_object)) }
         ensures members { (j : Json) → BeginsAt (map node_token nodes.now) object j
             → MatchOption result (as_object j ≡ None)
             (λ m. (ms : spec.Members) × (j ≡ spec.object ms) × InMembers (drop m.1 m.0) ms) }
@@ -102,8 +109,10 @@ impl<'o, 'a> Members<'o, 'a> {
             (option_map (λ m. (m.0.now, drop m.1.value.token self.old.0)) result)
             (drop self.new.1 self.new.0) }
         ensures named { IfSome result (λ m. IsNamed self.old.0 m.1 m.0.now) }
-        ensures later { OnSome result
-            ((self.old.1 < self.new.1) × (self.new.1 ≤ length self.old.0)) }
+        ensures steps { StepsOverMember self.old.0 self.old.1
+            (option_map (λ m. m.1) result) self.new.1 }
+        ensures later { IfSome result (λ m. (self.old.1 < m.1.value.token)
+            × (m.1.value.token < self.new.1) × (self.new.1 ≤ length self.old.0)) }
     {
         let (nodes, at) = (self.nodes, self.next);
         if at >= nodes.len().saturating_sub(1) {
@@ -126,6 +135,10 @@ impl<'o, 'a> Items<'o, 'a> {
     pub(crate) fn of(nodes: &'o [Node<'a>], list: Spot) -> Option<Items<'o, 'a>>
         requires { Linked (map node_token nodes.now) 0 nodes.now }
         ensures tokens { IfSome result (λ m. m.0 ≡ map node_token nodes.now) }
+        ensures opens { MatchOption result
+            (slice_get (map node_token nodes.now) list.token ≢ Some begin_array)
+            (λ m. (m.1 ≡ list.token + 1)
+            × (slice_get (map node_token nodes.now) list.token ≡ Some begin_array)) }
         ensures items { (j : Json) → BeginsAt (map node_token nodes.now) list j
             → MatchOption result (as_array j ≡ None)
             (λ m. (js : spec.Items) × (j ≡ spec.array js) × InItems (drop m.1 m.0) js) }
@@ -148,8 +161,9 @@ impl<'o, 'a> Items<'o, 'a> {
         ensures tokens { self.new.0 ≡ self.old.0 }
         ensures value { NextItem (drop self.old.1 self.old.0)
             (option_map (λ s. drop s.token self.old.0) result) (drop self.new.1 self.new.0) }
-        ensures later { OnSome result
-            ((self.old.1 < self.new.1) × (self.new.1 ≤ length self.old.0)) }
+        ensures steps { StepsOverElement self.old.0 self.old.1 result self.new.1 }
+        ensures later { IfSome result (λ s. (self.old.1 ≤ s.token) × (s.token < self.new.1)
+            × (self.new.1 ≤ length self.old.0)) }
     {
         let (nodes, at) = (self.nodes, self.next);
         if at >= nodes.len() {

@@ -1,6 +1,6 @@
 //! Outlines of JSON texts.
-ghost use Rattle.std.specs.Prelude.{◌≡◌, ◌<◌, ℕ, None, Err, MatchOption, IfOk, IfSome, IsSome, option_map, map, length, drop, slice_index, List, position, ◌+◌};
-ghost use Rattle.json.specs.Token.{Token};
+ghost use Rattle.std.specs.Prelude.{◌≡◌, ◌≢◌, ◌<◌, ◌≤◌, ℕ, Some, None, Err, MatchOption, IfOk, IfSome, IsSome, option_map, map, length, drop, slice_index, slice_get, List, position, ◌+◌};
+ghost use Rattle.json.specs.Token.{Token, begin_array, begin_object};
 ghost use Rattle.json.specs.Lex.{tokens};
 ghost use Rattle.json.specs.Json as spec;
 ghost use Rattle.json.specs.Json.{Json, document};
@@ -9,6 +9,7 @@ ghost use Rattle.json.specs.Tape.{node_token, Linked};
 ghost use Rattle.json.specs.declared.tape.TheConstants.{MAX_LEN};
 ghost use Rattle.asl_places.specs.declared.outline.Spot.{Spot};
 ghost use Rattle.asl_places.specs.Found.{BeginsAt, FindsAt, IsNamed, TakesUp, TellsString, is_string};
+ghost use Rattle.asl_places.specs.Standing.{FindsMember};
 
 use crate::cursors::{Items, Members, behind};
 use crate::faults::fault_of;
@@ -114,6 +115,10 @@ impl<'a> Outline<'a> {
     /// The members of the object at the spot, in the author's order, where it is one.
     pub fn members(&self, object: Spot) -> Option<Members<'_, 'a>>
         ensures tokens { IfSome result (λ m. m.0 ≡ self.now.0) }
+        ensures opens { MatchOption result
+            (slice_get self.now.0 object.token ≢ Some begin_object)
+            (λ m. (m.1 ≡ object.token + 1)
+            × (slice_get self.now.0 object.token ≡ Some begin_object)) }
         ensures members { (j : Json) → BeginsAt self.now.0 object j
             → MatchOption result (as_object j ≡ None)
             (λ m. (ms : spec.Members) × (j ≡ spec.object ms) × InMembers (drop m.1 m.0) ms) }
@@ -124,6 +129,10 @@ impl<'a> Outline<'a> {
     /// The elements of the list at the spot, where it is one.
     pub fn items(&self, list: Spot) -> Option<Items<'_, 'a>>
         ensures tokens { IfSome result (λ m. m.0 ≡ self.now.0) }
+        ensures opens { MatchOption result
+            (slice_get self.now.0 list.token ≢ Some begin_array)
+            (λ m. (m.1 ≡ list.token + 1)
+            × (slice_get self.now.0 list.token ≡ Some begin_array)) }
         ensures items { (j : Json) → BeginsAt self.now.0 list j
             → MatchOption result (as_array j ≡ None)
             (λ m. (js : spec.Items) × (j ≡ spec.array js) × InItems (drop m.1 m.0) js) }
@@ -136,6 +145,10 @@ impl<'a> Outline<'a> {
         ensures value { (j : Json) → BeginsAt self.now.0 object j
             → FindsAt self.now.0 (option_map (λ m. m.value) result) (get name.now j) }
         ensures named { IfSome result (λ m. IsNamed self.now.0 m name.now) }
+        ensures stands { (j : Json) → BeginsAt self.now.0 object j
+            → FindsMember self.now.0 object name.now result }
+        ensures later { IfSome result (λ m. (object.token < m.value.token)
+            × (m.value.token < length self.now.0)) }
     {
         let mut found = None;
         let mut members = self.members(object)?;

@@ -1,8 +1,11 @@
 //! The states of a state machine's definition, by name.
-ghost use Rattle.std.specs.Prelude.{◌≡◌, ℕ, List, Some, OnOk, IfOk, if◌then◌else◌, bytes_eq};
+ghost use Rattle.std.specs.Prelude.{◌≡◌, ◌≤◌, ℕ, List, Some, OnOk, IfOk, if◌then◌else◌, bytes_eq};
 ghost use Rattle.json.specs.Json.{Json};
 ghost use Rattle.asl_places.specs.Found.{BeginsAt};
-ghost use Rattle.asl_places.specs.Named.{AreNamed, FindsEach, first_of, named_in, state_named};
+ghost use Rattle.asl_places.specs.Standing.{FindsMember, IsElement, IsMemberOf};
+ghost use Rattle.asl_places.specs.Definition.{FindsStates, HasMachine, HasNestedMachine, HasState, HasStateInside, IsBranch, IsProcessor, text_value};
+ghost use Rattle.asl_places.specs.Named.{first_of, named_in, state_named};
+ghost use Rattle.asl_places.specs.Gathering.{Adds, AreBehind, HasMachineUnder, Lists, Puts};
 
 use crate::outline::{Member, Outline, Spot};
 use asl_tree::OutOfMemory;
@@ -21,20 +24,13 @@ impl<'a> States<'a> {
     /// object the last counts; where states of several machines have one name, the first in the text has it. Refuses
     /// only where an allocation was refused.
     pub fn read(alloc: Global, outline: &Outline<'a>) -> Result<States<'a>, OutOfMemory>
-        ensures { IfOk result (λ s. AreNamed outline.now.0 (state_named s)) }
+        ensures { IfOk result (λ s. (j : Json) → BeginsAt outline.now.0 text_value j
+            → FindsStates outline.now.0 text_value (state_named s)) }
     {
         let mut states = States {
             names: BTreeMap::new(alloc),
         };
-        let mut machines = Vec::new(alloc);
-        machines.push(outline.root())?;
-        // No machine is put here twice, so there are no more than tokens.
-        for _ in 0..outline.nodes().len() {
-            let Some(machine) = machines.pop() else {
-                break;
-            };
-            states.add_machine(alloc, outline, machine, &mut machines)?;
-        }
+        states.add_machine(alloc, outline, outline.root())?;
         Ok(states)
     }
 
@@ -45,31 +41,70 @@ impl<'a> States<'a> {
         self.names.get(name).copied()
     }
 
-    /// Adds the states of a machine; the machines in them are put to those that are still to come.
+    /// Adds the states of a machine, at every depth.
     fn add_machine(
         &mut self,
         alloc: Global,
         outline: &Outline<'a>,
         machine: Spot,
-        machines: &mut Vec<Spot>,
     ) -> Result<(), OutOfMemory>
-        requires { AreNamed outline.now.0 (state_named self.old) }
-        ensures { OnOk result (AreNamed outline.now.0 (state_named self.new)) }
+        ensures { OnOk result ((j : Json) → BeginsAt outline.now.0 machine j
+            → Adds (state_named self.old) (state_named self.new)
+            (HasStateInside outline.now.0 machine)) }
     {
-        let Some(states) = outline.member(machine, "States") else {
-            return Ok(());
-        };
-        let scope = members_by_name(alloc, outline, states.value)?;
-        let Some(mut members) = outline.members(states.value) else {
-            return Ok(());
+        let inner = self.add_states(alloc, outline, machine)?;
+        for nested in &inner {
+            self.add_machine(alloc, outline, *nested)?;
+        }
+        Ok(())
+    }
+
+    /// Adds a machine's own states. The answer is where the machines in these begin.
+    fn add_states(
+        &mut self,
+        alloc: Global,
+        outline: &Outline<'a>,
+        machine: Spot,
+    ) -> Result<Vec<Spot>, OutOfMemory>
+        ensures states { IfOk result (λ _. (j : Json) → BeginsAt outline.now.0 machine j
+            → Adds (state_named self.old) (state_named self.new)
+            (HasState outline.now.0 machine)) }
+        ensures machines { IfOk result (λ inner. (j : Json) → BeginsAt outline.now.0 machine j
+            → Lists inner.items (HasNestedMachine outline.now.0 machine)) }
+        ensures later { IfOk result (λ inner. AreBehind outline.now.0 machine.token inner.items) }
+    {
+        match outline.member(machine, "States") {
+            Some(states) => self.add_members(alloc, outline, states.value),
+            None => Ok(Vec::new(alloc)),
+        }
+    }
+
+    /// Adds the members of the object at the spot as states. The answer is where the machines in these begin.
+    fn add_members(
+        &mut self,
+        alloc: Global,
+        outline: &Outline<'a>,
+        object: Spot,
+    ) -> Result<Vec<Spot>, OutOfMemory>
+        ensures states { IfOk result (λ _. (j : Json) → BeginsAt outline.now.0 object j
+            → Adds (state_named self.old) (state_named self.new)
+            (IsMemberOf outline.now.0 object)) }
+        ensures machines { IfOk result (λ inner. (j : Json) → BeginsAt outline.now.0 object j
+            → Lists inner.items (HasMachineUnder outline.now.0 object)) }
+        ensures later { IfOk result (λ inner. AreBehind outline.now.0 object.token inner.items) }
+    {
+        let mut inner = Vec::new(alloc);
+        let scope = members_by_name(alloc, outline, object)?;
+        let Some(mut members) = outline.members(object) else {
+            return Ok(inner);
         };
         while let Some((name, state)) = members.next() {
             if scope.get(name).copied() == Some(state) {
                 self.add(name, state)?;
-                push_machines(outline, state.value, machines)?;
+                push_machines(outline, state.value, &mut inner)?;
             }
         }
-        Ok(())
+        Ok(inner)
     }
 
     /// Adds a state; the first in the text of one name stays.
@@ -100,9 +135,8 @@ fn members_by_name<'a>(
     outline: &Outline<'a>,
     object: Spot,
 ) -> Result<BTreeMap<&'a str, Member>, OutOfMemory>
-    ensures members { IfOk result (λ m. (j : Json) → BeginsAt outline.now.0 object j
-        → FindsEach outline.now.0 (named_in m) j) }
-    ensures named { IfOk result (λ m. AreNamed outline.now.0 (named_in m)) }
+    ensures { IfOk result (λ m. (j : Json) → BeginsAt outline.now.0 object j
+        → (name : List ℕ) → FindsMember outline.now.0 object name (named_in m name)) }
 {
     let mut names = BTreeMap::new(alloc);
     let Some(mut members) = outline.members(object) else {
@@ -119,20 +153,72 @@ fn push_machines(
     outline: &Outline<'_>,
     state: Spot,
     machines: &mut Vec<Spot>,
-) -> Result<(), OutOfMemory> {
-    for field in ["ItemProcessor", "Iterator"] {
-        if let Some(machine) = outline.member(state, field) {
-            machines.push(machine.value)?;
-        }
+) -> Result<(), OutOfMemory>
+    ensures put { OnOk result ((j : Json) → BeginsAt outline.now.0 state j
+        → Puts machines.old.items machines.new.items (HasMachine outline.now.0 state)) }
+    ensures later { OnOk result ((before : ℕ) → before ≤ state.token
+        → AreBehind outline.now.0 before machines.old.items
+        → AreBehind outline.now.0 before machines.new.items) }
+{
+    push_processor(outline, state, "ItemProcessor", machines)?;
+    push_processor(outline, state, "Iterator", machines)?;
+    push_branches(outline, state, machines)
+}
+
+/// Puts the machine that a state has in that field behind the others.
+fn push_processor(
+    outline: &Outline<'_>,
+    state: Spot,
+    field: &str,
+    machines: &mut Vec<Spot>,
+) -> Result<(), OutOfMemory>
+    ensures put { OnOk result ((j : Json) → BeginsAt outline.now.0 state j
+        → Puts machines.old.items machines.new.items (IsProcessor outline.now.0 state field.now)) }
+    ensures later { OnOk result ((before : ℕ) → before ≤ state.token
+        → AreBehind outline.now.0 before machines.old.items
+        → AreBehind outline.now.0 before machines.new.items) }
+{
+    if let Some(machine) = outline.member(state, field) {
+        machines.push(machine.value)?;
     }
-    let Some(branches) = outline.member(state, "Branches") else {
+    Ok(())
+}
+
+/// Puts the branches of a state behind the others.
+fn push_branches(
+    outline: &Outline<'_>,
+    state: Spot,
+    machines: &mut Vec<Spot>,
+) -> Result<(), OutOfMemory>
+    ensures put { OnOk result ((j : Json) → BeginsAt outline.now.0 state j
+        → Puts machines.old.items machines.new.items (IsBranch outline.now.0 state)) }
+    ensures later { OnOk result ((before : ℕ) → before ≤ state.token
+        → AreBehind outline.now.0 before machines.old.items
+        → AreBehind outline.now.0 before machines.new.items) }
+{
+    if let Some(branches) = outline.member(state, "Branches") {
+        push_elements(outline, branches.value, machines)?;
+    }
+    Ok(())
+}
+
+/// Puts the elements of the list at the spot behind the others.
+fn push_elements(
+    outline: &Outline<'_>,
+    list: Spot,
+    machines: &mut Vec<Spot>,
+) -> Result<(), OutOfMemory>
+    ensures put { OnOk result ((j : Json) → BeginsAt outline.now.0 list j
+        → Puts machines.old.items machines.new.items (IsElement outline.now.0 list)) }
+    ensures later { OnOk result ((before : ℕ) → before ≤ list.token
+        → AreBehind outline.now.0 before machines.old.items
+        → AreBehind outline.now.0 before machines.new.items) }
+{
+    let Some(mut elements) = outline.items(list) else {
         return Ok(());
     };
-    let Some(mut branches) = outline.items(branches.value) else {
-        return Ok(());
-    };
-    while let Some(branch) = branches.next() {
-        machines.push(branch)?;
+    while let Some(element) = elements.next() {
+        machines.push(element)?;
     }
     Ok(())
 }

@@ -3,18 +3,24 @@ use Rattle.json.specs.Token.{Token}
 use Rattle.json.specs.Find.{NextMember}
 use Rattle.json.specs.Tape.{node_token}
 use Rattle.json.specs.declared.tape.Node.TheVariants.{Key}
-use Rattle.asl_places.proofs.Steps.{slice_get-node_token, member_next, members_past, members_closed}
+use Rattle.asl_places.specs.Standing.{NoMemberAt}
+use Rattle.asl_places.proofs.Steps.{slice_get-node_token, no_member_at, no_value_past, member_next, members_past, members_closed}
 use Rattle.asl_places.proofs.cursors.Members.next.Goals as goal
 
 pub returns-then-at-saturating_sub-clause-value : goal.returns-then-at-saturating_sub-clause-value
 returns-then-at-saturating_sub-clause-value c =
     subst (λ (p : List Token × ℕ). NextMember (drop p.1 p.0) None (drop p.1 p.0)) c.self.view_is (members_past c.self.inside.nodes.now c.self.inside.next (omega arith))
 
+pub returns-then-at-saturating_sub-clause-steps : goal.returns-then-at-saturating_sub-clause-steps
+returns-then-at-saturating_sub-clause-steps c =
+    subst (λ (p : List Token × ℕ). NoMemberAt p.0 p.1) c.self.view_is (λ name is has. no_value_past c.self.inside.nodes.now (c.self.inside.next + 1) has.0 (omega arith) has.1)
+
 pub returns-in_default : goal.returns-in_default
 returns-in_default c = record {
   tokens = refl;
   value = subst (λ (p : List Token × ℕ). NextMember (drop p.1 p.0) None (drop p.1 p.0)) c.self.view_is (members_closed c.self.inside.nodes.now c.self.inside.next (omega arith) c.in_default.not-Key);
   named = tt;
+  steps = subst (λ (p : List Token × ℕ). NoMemberAt p.0 p.1) c.self.view_is (no_member_at c.self.inside.nodes.now c.self.inside.next (omega arith) c.in_default.not-Key);
   later = tt;
 }
 

@@ -1,5 +1,5 @@
 use Rattle.std.proofs.Common.{arith}
-use Rattle.asl_places.proofs.Steps.{no_value_past, object_opens, no_object_opens}
+use Rattle.asl_places.proofs.Steps.{no_brace_at, no_value_past, object_opens, no_object_opens}
 use Rattle.asl_places.proofs.cursors.Members.of.Goals as goal
 
 pub returns-then-at-nodes-clause-members : goal.returns-then-at-nodes-clause-members
@@ -9,6 +9,7 @@ returns-then-at-nodes-clause-members c j begins =
 pub returns-in_default : goal.returns-in_default
 returns-in_default c = record {
   tokens = tt;
+  opens = no_brace_at c.args.nodes.now c.args.object.token (omega arith) c.in_default.not-Object;
   members = λ j begins. no_object_opens c.args.nodes.now c.args.object.token j (omega arith) c.in_default.not-Object begins;
 }
 
