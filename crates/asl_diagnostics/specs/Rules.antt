@@ -24,6 +24,10 @@ warning_name warning.RetrierNeverTaken = codes "RetrierNeverTaken"
 warning_name warning.RuleNeverTrue = codes "RuleNeverTrue"
 warning_name warning.DefaultNeverTaken = codes "DefaultNeverTaken"
 
+-- the name of what is told where the rounds of an inference don't settle
+abbrev pub not_settled_name : List ℕ
+not_settled_name = codes "NotSettled"
+
 -- the number of the first rule of that name
 abbrev pub index_of : List (Bor Rule) → List ℕ → Option ℕ
 index_of rules id = position (λ rule. bytes_eq rule.now.id.now id) rules

@@ -2,6 +2,7 @@
 ghost use Rattle.std.specs.Prelude.{◌≡◌};
 ghost use Rattle.asl_edges.specs.View.{finding_fault_view};
 ghost use Rattle.asl_model.specs.Printed.{finding_name};
+ghost use Rattle.asl_diagnostics.specs.Rules.{not_settled_name};
 
 use crate::shared_rules::WRONG_KIND;
 use crate::{Rule, Severity};
@@ -171,6 +172,18 @@ const CATCH_INPUT: Rule = Rule {
         input goes on as it is.",
 };
 
+const NOT_SETTLED: Rule = Rule {
+    id: "NotSettled",
+    severity: Severity::Error,
+    short: "The shapes of this machine don't settle.",
+    full: "A certificate is inferred in rounds, until one changes no shape. Each of the rounds that may be taken, \
+        4,096 in the program, still changed one. So there is no certificate, and of what flows through the \
+        machine nothing is known.",
+    help: "Divide the machine into several, of which one starts another by a Task, or declare what tasks give \
+        more narrowly: the rounds come to an end, but a large machine in which many states are led back to \
+        may take more of them.",
+};
+
 /// The rule of a finding.
 pub fn rule_of_finding(fault: FindingFault) -> &'static Rule
     ensures { result.now.id.now ≡ finding_name (finding_fault_view fault) }
@@ -193,4 +206,11 @@ pub fn rule_of_finding(fault: FindingFault) -> &'static Rule
         FindingFault::BranchInput => &BRANCH_INPUT,
         FindingFault::CatchInput => &CATCH_INPUT,
     }
+}
+
+/// The rule of rounds that don't settle.
+pub fn rule_of_unsettled() -> &'static Rule
+    ensures { result.now.id.now ≡ not_settled_name }
+{
+    &NOT_SETTLED
 }

@@ -26,7 +26,7 @@ mod warnings;
 use asl_places::Place;
 use asl_tree::Tree;
 pub use definitions::{rule_of_definition, rule_of_text};
-pub use findings::rule_of_finding;
+pub use findings::{rule_of_finding, rule_of_unsettled};
 pub use github::github_lines;
 pub use listing::json_text;
 pub use order::sort;

@@ -1,7 +1,8 @@
 //! Tests: texts written by hand.
 use crate::{
     Diagnostic, Rule, Severity, Warning, github_lines, json_text, rule_of_definition,
-    rule_of_finding, rule_of_record, rule_of_text, rule_of_warning, sarif_text, sort, text_lines,
+    rule_of_finding, rule_of_record, rule_of_text, rule_of_unsettled, rule_of_warning, sarif_text,
+    sort, text_lines,
 };
 use asl_edges::FindingFault;
 use asl_machine::DefFault;
@@ -279,6 +280,11 @@ fn every_rule_has_its_texts(rt: HostRuntime) -> Result<(), Fail> {
             "{rule:?}"
         );
     }
+    let unsettled = rule_of_unsettled();
+    assert!(rt;
+        has_sound_texts(unsettled) && unsettled.severity == Severity::Error,
+        "{unsettled:?}"
+    );
     Ok(())
 }
 
