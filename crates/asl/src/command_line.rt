@@ -20,6 +20,8 @@ pub(crate) enum Request<'a> {
     Verify(MachineFiles<'a>),
     /// To run a machine.
     Run(RunRequest<'a>),
+    /// To tell all that is wrong with definitions.
+    Lint(LintRequest<'a>),
 }
 
 /// The names of the files with the three texts.
@@ -55,10 +57,40 @@ pub(crate) struct RunRequest<'a> {
     pub(crate) max_steps: u64,
 }
 
+/// Which definitions are looked at, and how it is told.
+#[derive(Drop)]
+pub(crate) struct LintRequest<'a> {
+    /// Files and folders, at least one.
+    pub(crate) names: Vec<&'a str>,
+    /// The file with the declared shapes of all of them.
+    pub(crate) declared: Option<&'a str>,
+    pub(crate) format: Format,
+    /// Whether a warning weighs as much as an error.
+    pub(crate) deny_warnings: bool,
+}
+
+/// How diagnostics are written.
+#[derive(Clone, Copy)]
+pub(crate) enum Format {
+    /// A line for each, for people.
+    Text,
+    /// A JSON list.
+    Json,
+    /// A log in SARIF.
+    Sarif,
+    /// Commands for a workflow of GitHub.
+    Github,
+}
+
 /// What stands below the help of the program.
 const AFTER_HELP: &str = "\
 Without a command, the definition, the declared shapes and the certificate are taken as three lines
 of standard input, and checked.";
+
+/// What stands below the help of the command `lint`.
+const AFTER_LINT_HELP: &str = "\
+Without --declared the shapes that are declared for NAME.asl.json or NAME.json are taken from the file
+NAME.declared.json beside it. Where there is none, only the structure of the definition is checked.";
 
 const DEFINITION: &str = "DEFINITION";
 
@@ -81,6 +113,14 @@ const ORDER: &str = "order";
 const ORDERS: [&str; 2] = ["first", "last"];
 
 const MAX_STEPS: &str = "max-steps";
+
+const FILE: &str = "FILE";
+
+const FORMAT: &str = "format";
+
+const FORMATS: [&str; 4] = ["text", "json", "sarif", "github"];
+
+const DENY_WARNINGS: &str = "deny-warnings";
 
 /// The words of the command line, with the program's own name in front.
 ///
@@ -118,8 +158,11 @@ pub(crate) fn asked<'a>(alloc: Global, words: &'a [String]) -> Result<Request<'a
     if let Some(given) = matches.subcommand_matches("verify") {
         return Ok(Request::Verify(machine_files(given)));
     }
-    match matches.subcommand_matches("run") {
-        Some(given) => Ok(Request::Run(run_request(given))),
+    if let Some(given) = matches.subcommand_matches("run") {
+        return Ok(Request::Run(run_request(given)));
+    }
+    match matches.subcommand_matches("lint") {
+        Some(given) => Ok(Request::Lint(lint_request(alloc, given)?)),
         None => Ok(Request::CheckInput),
     }
 }
@@ -147,6 +190,36 @@ fn run_request<'a>(given: &ArgMatches<'a>) -> RunRequest<'a> {
     }
 }
 
+/// What the arguments of the command `lint` ask for. The format has a default, so it has a value.
+///
+/// Refused: OutOfMemory.
+fn lint_request<'a>(alloc: Global, given: &ArgMatches<'a>) -> Result<LintRequest<'a>, AllocError> {
+    Ok(LintRequest {
+        names: files_named(alloc, given, FILE)?,
+        declared: given.get_str(DECLARED_FILE),
+        format: match given.get_str(FORMAT) {
+            Some("json") => Format::Json,
+            Some("sarif") => Format::Sarif,
+            Some("github") => Format::Github,
+            _ => Format::Text,
+        },
+        deny_warnings: given.get_flag(DENY_WARNINGS),
+    })
+}
+
+/// The names that clap found for an argument that may have several.
+///
+/// Refused: OutOfMemory.
+fn files_named<'a>(
+    alloc: Global,
+    matches: &ArgMatches<'a>,
+    argument: &str,
+) -> Result<Vec<&'a str>, AllocError> {
+    let mut names = Vec::new(alloc);
+    names.extend_from_slice(matches.get_strs(argument).unwrap_or(&[]))?;
+    Ok(names)
+}
+
 /// The file name that clap found for an argument. It asks for each, so the empty name, which no file has, isn't met.
 fn file_named<'a>(matches: &ArgMatches<'a>, argument: &str) -> &'a str {
     matches.get_str(argument).unwrap_or("")
@@ -160,7 +233,8 @@ fn command<'a>(alloc: Global) -> Result<Command<'a>, AllocError> {
         .subcommand(check_command(alloc)?)?
         .subcommand(infer_command(alloc)?)?
         .subcommand(verify_command(alloc)?)?
-        .subcommand(run_command(alloc)?)
+        .subcommand(run_command(alloc)?)?
+        .subcommand(lint_command(alloc)?)
 }
 
 /// The command `check`.
@@ -215,6 +289,34 @@ fn run_command<'a>(alloc: Global) -> Result<Command<'a>, AllocError> {
                 .value_parser(value_parser!(u64).range(0..=10000))
                 .default_value("1000")
                 .help("How many events the run may take, at most 10000"),
+        )
+}
+
+/// The command `lint`.
+fn lint_command<'a>(alloc: Global) -> Result<Command<'a>, AllocError> {
+    Command::new(alloc, "lint")
+        .about("Tell all that is wrong with definitions, and where")
+        .after_help(AFTER_LINT_HELP)
+        .arg(
+            Arg::new(alloc, FILE)
+                .required(true)
+                .num_args(1..)
+                .help("Definitions, and folders with definitions *.asl.json"),
+        )?
+        .arg(option(alloc, DECLARED_FILE, "FILE").help(
+            "File with the declared shapes of all of them",
+        ))?
+        .arg(
+            option(alloc, FORMAT, "FORMAT")
+                .value_parser(FORMATS.as_slice())
+                .default_value("text")
+                .help("How it is told"),
+        )?
+        .arg(
+            Arg::new(alloc, DENY_WARNINGS)
+                .long(DENY_WARNINGS)
+                .action(ArgAction::SetTrue)
+                .help("Exit with status 1 for warnings, too"),
         )
 }
 

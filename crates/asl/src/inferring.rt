@@ -10,7 +10,7 @@ use asl_tool::{
 use std::rt::Files;
 
 /// How many rounds an inference may take.
-const ROUNDS: u32 = 4096;
+pub(crate) const ROUNDS: u32 = 4096;
 
 /// Infers a certificate of the texts in two files, writes it to standard output, and gives the exit status.
 pub(crate) fn infer_files<R: Files + Print + Eprint + AllocGlobal>(

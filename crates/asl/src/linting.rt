@@ -1,0 +1,141 @@
+//! From definitions to all that is wrong with them, on standard output.
+
+use crate::command_line::LintRequest;
+use crate::definitions::definition_paths;
+use crate::endings::finish;
+use crate::files::text_or_why;
+use crate::inferring::ROUNDS;
+use crate::printing::print_text;
+use crate::reports::{Report, Told};
+use asl_lint::{File, lint};
+use asl_tool::{Closing, RunFault};
+use asl_tree::OutOfMemory;
+use std::alloc::Global;
+use std::rt::Files;
+
+/// Checks definitions, writes what is wrong with them to standard output, and gives the exit status. What couldn't be looked
+/// at, and the count of what was told, go to standard error.
+pub(crate) fn lint_files<R: Files + Print + Eprint + AllocGlobal + Clone + Drop>(
+    rt: &R,
+    request: &LintRequest<'_>,
+) -> u8 {
+    match lint_on(rt, request) {
+        Ok(told) => tell(rt, &told),
+        Err(_) => finish(rt, &Closing::Fault(RunFault::OutOfMemory)),
+    }
+}
+
+/// Writes what is told, and gives the exit status.
+fn tell<R: Print + Eprint + AllocGlobal>(rt: &R, told: &Told) -> u8 {
+    let _ = rt.eprint(&told.notes);
+    match print_text(rt, &told.output) {
+        Ok(()) => {
+            let _ = rt.eprint(&told.counts);
+            told.status
+        }
+        Err(fault) => finish(rt, &Closing::Fault(fault)),
+    }
+}
+
+/// What is told of the definitions that are asked for, which are read and checked one after the other.
+///
+/// Refused: OutOfMemory.
+fn lint_on<R: Files + AllocGlobal + Clone + Drop>(
+    rt: &R,
+    request: &LintRequest<'_>,
+) -> Result<Told, OutOfMemory> {
+    let mut report = Report::new(rt.alloc());
+    let paths = definition_paths(rt, &request.names, &mut report)?;
+    match request.declared {
+        Some(declared) => lint_under(rt, &paths, declared, &mut report)?,
+        None => lint_each(rt, &paths, &mut report)?,
+    }
+    report.told(rt.alloc(), request.format, request.deny_warnings)
+}
+
+/// Checks each definition under the shapes in one file; its structure alone, where that file can't be read.
+fn lint_under<R: Files + AllocGlobal>(
+    rt: &R,
+    paths: &[String],
+    declared: &str,
+    report: &mut Report,
+) -> Result<(), OutOfMemory> {
+    let shapes = text_of(rt, declared, report)?;
+    for path in paths {
+        if let Some(text) = text_of(rt, path, report)? {
+            let definition = File { path, text: &text };
+            let shapes = file_of(declared, &shapes);
+            report.add_checked(lint(rt.alloc(), definition, shapes, ROUNDS)?)?;
+        }
+    }
+    Ok(())
+}
+
+/// Checks each definition under the shapes in the file beside it; its structure alone, where there is none, or it can't be
+/// read.
+fn lint_each<R: Files + AllocGlobal>(
+    rt: &R,
+    paths: &[String],
+    report: &mut Report,
+) -> Result<(), OutOfMemory> {
+    for path in paths {
+        if let Some(text) = text_of(rt, path, report)? {
+            let declared = name_beside(rt.alloc(), path)?;
+            let shapes = text_beside(rt, path, &declared, report)?;
+            let definition = File { path, text: &text };
+            let shapes = file_of(&declared, &shapes);
+            report.add_checked(lint(rt.alloc(), definition, shapes, ROUNDS)?)?;
+        }
+    }
+    Ok(())
+}
+
+/// The text of a file with its path, where there is one.
+fn file_of<'a>(path: &'a str, text: &'a Option<Vec<u8>>) -> Option<File<'a>> {
+    match text {
+        Some(text) => Some(File { path, text }),
+        None => None,
+    }
+}
+
+/// The name of the file beside a definition that has its declared shapes: `NAME.declared.json` of `NAME.asl.json`, of
+/// `NAME.json`, and of a `NAME` that ends otherwise.
+fn name_beside(alloc: Global, path: &str) -> Result<String, OutOfMemory> {
+    let stem = match path.strip_suffix(".asl.json") {
+        Some(stem) => stem,
+        None => path.strip_suffix(".json").unwrap_or(path),
+    };
+    let mut name = String::from_str(alloc, stem)?;
+    name.push_str(".declared.json")?;
+    Ok(name)
+}
+
+/// The text of a file; where it can't be read, that is noted.
+fn text_of<R: Files + AllocGlobal>(
+    rt: &R,
+    path: &str,
+    report: &mut Report,
+) -> Result<Option<Vec<u8>>, OutOfMemory> {
+    match text_or_why(rt, path) {
+        Ok(text) => Ok(Some(text)),
+        Err(why) => {
+            report.add_unread(path, &why.words(rt.alloc())?)?;
+            Ok(None)
+        }
+    }
+}
+
+/// The declared shapes beside a definition; where there are none, or they can't be read, that is noted.
+fn text_beside<R: Files + AllocGlobal>(
+    rt: &R,
+    path: &str,
+    declared: &str,
+    report: &mut Report,
+) -> Result<Option<Vec<u8>>, OutOfMemory> {
+    match text_or_why(rt, declared) {
+        Ok(text) => return Ok(Some(text)),
+        Err(why) if why.is_absence() => report.add_undeclared(path)?,
+        Err(why) => report.add_unread(declared, &why.words(rt.alloc())?)?,
+    }
+    Ok(None)
+}

@@ -1,0 +1,241 @@
+//! What a run of the command `lint` tells: diagnostics, lines for standard error, and an exit status.
+
+use crate::command_line::Format;
+use asl_diagnostics::{
+    Diagnostic, Severity, github_lines, json_text, sarif_text, sort, text_lines,
+};
+use asl_lint::Linted;
+use asl_tree::{OutOfMemory, same};
+use std::alloc::Global;
+
+/// What was found so far.
+#[derive(Drop)]
+pub(crate) struct Report {
+    diagnostics: Vec<Diagnostic>,
+    /// How many definitions were checked.
+    checked: usize,
+    /// The definitions without declared shapes.
+    undeclared: Vec<String>,
+    /// Lines for standard error, on what couldn't be looked at.
+    notes: String,
+    /// How many these are.
+    unread: usize,
+    /// Whether a file couldn't be read, or is no JSON.
+    is_partial: bool,
+}
+
+/// What the program writes of a report, and its exit status.
+#[derive(Drop)]
+pub(crate) struct Told {
+    /// What goes to standard output.
+    pub(crate) output: String,
+    /// What goes to standard error in front of it.
+    pub(crate) notes: String,
+    /// What goes to standard error behind it.
+    pub(crate) counts: String,
+    pub(crate) status: u8,
+}
+
+/// How many diagnostics there are of each severity.
+#[derive(Clone, Copy)]
+struct Counts {
+    errors: usize,
+    warnings: usize,
+}
+
+impl Report {
+    /// A report of nothing.
+    pub(crate) fn new(alloc: Global) -> Report {
+        Report {
+            diagnostics: Vec::new(alloc),
+            checked: 0,
+            undeclared: Vec::new(alloc),
+            notes: String::new(alloc),
+            unread: 0,
+            is_partial: false,
+        }
+    }
+
+    /// Takes what was found in a definition.
+    pub(crate) fn add_checked(&mut self, linted: Linted) -> Result<(), OutOfMemory> {
+        self.checked = self.checked.saturating_add(1);
+        self.is_partial |= !linted.is_read;
+        for diagnostic in linted.diagnostics {
+            self.diagnostics.push(diagnostic)?;
+        }
+        Ok(())
+    }
+
+    /// Takes a definition without declared shapes.
+    pub(crate) fn add_undeclared(&mut self, path: &str) -> Result<(), OutOfMemory> {
+        let alloc = *self.undeclared.allocator();
+        self.undeclared.push(String::from_str(alloc, path)?)?;
+        Ok(())
+    }
+
+    /// Takes the path of a file or folder that couldn't be looked at, and why.
+    pub(crate) fn add_unread(&mut self, path: &str, why: &str) -> Result<(), OutOfMemory> {
+        self.is_partial = true;
+        self.unread = self.unread.saturating_add(1);
+        self.notes.push_str(path)?;
+        self.notes.push_str(": ")?;
+        self.notes.push_str(why)?;
+        self.notes.push_str("\n")?;
+        Ok(())
+    }
+
+    /// How many files and folders couldn't be looked at.
+    pub(crate) fn unread(&self) -> usize {
+        self.unread
+    }
+
+    /// What is written of the report, the diagnostics of all definitions in one order. What is said twice at a place, as of
+    /// shapes that are declared for two definitions, is told once.
+    pub(crate) fn told(
+        self,
+        alloc: Global,
+        format: Format,
+        deny_warnings: bool,
+    ) -> Result<Told, OutOfMemory> {
+        let mut diagnostics = self.diagnostics;
+        sort(&mut diagnostics)?;
+        let diagnostics = without_repeats(alloc, diagnostics)?;
+        let counts = Counts::of(&diagnostics);
+        let mut notes = self.notes;
+        push_undeclared(alloc, &mut notes, &self.undeclared)?;
+        Ok(Told {
+            output: written(alloc, &diagnostics, format)?,
+            notes,
+            counts: counts.line(alloc, self.checked)?,
+            status: counts.status(self.is_partial, deny_warnings),
+        })
+    }
+}
+
+impl Counts {
+    /// The counts of diagnostics.
+    fn of(diagnostics: &[Diagnostic]) -> Counts {
+        let errors = diagnostics
+            .iter()
+            .filter(|it| it.severity == Severity::Error)
+            .count();
+        Counts {
+            errors,
+            warnings: diagnostics.len().saturating_sub(errors),
+        }
+    }
+
+    /// The last line on standard error, with its break.
+    fn line(&self, alloc: Global, checked: usize) -> Result<String, OutOfMemory> {
+        let mut line = String::new(alloc);
+        push_count(alloc, &mut line, self.errors, "error")?;
+        line.push_str(", ")?;
+        push_count(alloc, &mut line, self.warnings, "warning")?;
+        line.push_str(" in ")?;
+        push_count(alloc, &mut line, checked, "definition")?;
+        line.push_str("\n")?;
+        Ok(line)
+    }
+
+    /// The exit status: 2 where something couldn't be read, 1 where there is an error, or a warning that weighs as much.
+    fn status(&self, is_partial: bool, deny_warnings: bool) -> u8 {
+        if is_partial {
+            2
+        } else if self.errors > 0 || (deny_warnings && self.warnings > 0) {
+            1
+        } else {
+            0
+        }
+    }
+}
+
+/// Puts a number and what is counted, in the plural where it isn't one, behind the text.
+fn push_count(
+    alloc: Global,
+    text: &mut String,
+    count: usize,
+    what: &str,
+) -> Result<(), OutOfMemory> {
+    let digits = count.to_string(alloc)?;
+    text.push_str(&digits)?;
+    text.push_str(" ")?;
+    text.push_str(what)?;
+    if count != 1 {
+        text.push_str("s")?;
+    }
+    Ok(())
+}
+
+/// Puts the line on definitions without declared shapes behind the text, where there are any.
+fn push_undeclared(alloc: Global, text: &mut String, paths: &[String]) -> Result<(), OutOfMemory> {
+    match paths {
+        [] => {}
+        [path] => {
+            text.push_str(path)?;
+            text.push_str(": no shapes are declared for it, so its structure alone is checked\n")?;
+        }
+        _ => {
+            let digits = paths.len().to_string(alloc)?;
+            text.push_str(&digits)?;
+            text.push_str(
+                " definitions have no declared shapes, so their structure alone is checked\n",
+            )?;
+        }
+    }
+    Ok(())
+}
+
+/// The diagnostics, without those that say at one place what one before says there.
+fn without_repeats(
+    alloc: Global,
+    diagnostics: Vec<Diagnostic>,
+) -> Result<Vec<Diagnostic>, OutOfMemory> {
+    let mut kept = Vec::with_capacity(alloc, diagnostics.len())?;
+    for diagnostic in diagnostics {
+        if !is_repeated(&kept, &diagnostic) {
+            kept.push(diagnostic)?;
+        }
+    }
+    Ok(kept)
+}
+
+/// Whether one of those at the same place, which stand last, says the same.
+fn is_repeated(kept: &[Diagnostic], diagnostic: &Diagnostic) -> bool {
+    kept.iter()
+        .rev()
+        .take_while(|it| it.place == diagnostic.place && it.file == diagnostic.file)
+        .any(|it| says_the_same(it, diagnostic))
+}
+
+/// Whether two diagnostics at one place say the same.
+fn says_the_same(one: &Diagnostic, other: &Diagnostic) -> bool {
+    one.rule.id == other.rule.id
+        && one.state == other.state
+        && one.field == other.field
+        && one.message == other.message
+        && match (&one.example, &other.example) {
+            (None, None) => true,
+            (Some(one), Some(other)) => same(one, other),
+            _ => false,
+        }
+}
+
+/// The diagnostics in a format, as they go to standard output.
+fn written(
+    alloc: Global,
+    diagnostics: &[Diagnostic],
+    format: Format,
+) -> Result<String, OutOfMemory> {
+    match format {
+        Format::Text => text_lines(alloc, diagnostics),
+        Format::Json => with_break(json_text(alloc, diagnostics)?),
+        Format::Sarif => with_break(sarif_text(alloc, diagnostics)?),
+        Format::Github => github_lines(alloc, diagnostics),
+    }
+}
+
+/// The text and a line break.
+fn with_break(mut text: String) -> Result<String, OutOfMemory> {
+    text.push_str("\n")?;
+    Ok(text)
+}
