@@ -27,7 +27,7 @@ BUILDS = [TOP / "crates/asl/out/asl", TOP / "crates/asl/out/asl.by-rattle"]
 LINES = ["definition", "declared", "certificate"]
 TEXTS = [*LINES, "input", "answers"]
 ONCE = [*TEXTS, "lines", "unended", "after", "words", "stdin", "shrinks", "stdout", "memory", "seconds", "times", "status"]
-MANY = ["word", "prints", "tells"]
+MANY = ["word", "prints", "tells", "file", "folder", "link"]
 COMMON = [*TEXTS, "words", "stdin"]
 SECONDS = 120
 
@@ -63,13 +63,25 @@ class Case:
         text = b"".join(lines) + made(self.given.get("after", ""))
         return text[:-1] if "unended" in self.given else text
 
+    def files(self):
+        """Returns the lines of each further file, by its path."""
+        files = {}
+        for name, text in (it.split(" ", 1) for it in self.many["file"]):
+            files.setdefault(name, []).append(made(text))
+        return files
+
     def put_files(self, folder):
-        """Puts each text that the case gives into the file of its name, and leaves no file of another case."""
+        """Puts each text that the case gives into the file of its name, and makes its folders and links."""
         for key in TEXTS:
             if key in self.given:
                 (folder / key).write_bytes(made(self.given[key]))
-            else:
-                (folder / key).unlink(missing_ok=True)
+        for name in self.many["folder"]:
+            (folder / name).mkdir(parents=True)
+        for name, lines in self.files().items():
+            (folder / name).parent.mkdir(parents=True, exist_ok=True)
+            (folder / name).write_bytes(b"\n".join(lines))
+        for name, target in (it.split(" ", 1) for it in self.many["link"]):
+            (folder / name).symlink_to(target)
 
     def wanted(self):
         """Returns the wanted status and bytes of both streams; no bytes of an output that nobody can read."""
@@ -108,6 +120,15 @@ def all_cases():
         names.add(case.name)
         case.wanted()
     return cases
+
+
+def clear(folder):
+    """Leaves nothing of another case in the folder, but the program."""
+    for entry in os.scandir(folder):
+        if entry.is_dir(follow_symlinks=False):
+            shutil.rmtree(entry)
+        elif entry.name != "asl":
+            os.unlink(entry)
 
 
 def opened_input(case, folder):
@@ -173,6 +194,7 @@ def opened_output(case, folder):
 
 def answer(case, folder):
     """Runs the case with the program that stands in the folder; returns its status and streams."""
+    clear(folder)
     ends = [opened_input(case, folder), opened_output(case, folder)]
     has_ended = threading.Event()
     if "shrinks" in case.given:

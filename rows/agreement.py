@@ -1,0 +1,219 @@
+#!/usr/bin/env python3
+"""Holds what `asl lint` tells against what `asl verify` says, and its formats against each other.
+
+usage: python3 rows/agreement.py [--machines N] [PROGRAM ..]
+
+Without a PROGRAM, both builds of `asl` are run. The definitions are those of the samples, of all cases that have a definition
+and declared shapes (rows/*.rows), and N random machines (rows/machines.py), 2000 without --machines, the same each time. All
+of them are told by one `asl lint` of their folder, and each is given to `asl verify`:
+
+- lint tells no error of a definition or its declared shapes exactly where verify prints `yes`;
+- a log in SARIF has what the standard wants (tools/sarif);
+- the objects in JSON have the fields that docs/REFERENCE.md names, those that it says are always there in each;
+- text, JSON, SARIF and GitHub's commands tell the same diagnostics, in one order;
+- the problem matcher takes each line of the text apart as the JSON has it.
+
+The last line is 'N passed, M failed', in which N counts the definitions and the checks of formats; the exit status is 0 where
+nothing failed and something passed.
+"""
+
+import argparse
+import concurrent.futures
+import json
+import os
+import pathlib
+import re
+import subprocess
+import sys
+import tempfile
+
+from machines import Maker
+from made import made
+from run import BUILDS, ROWS, TOP, cases_of
+
+# Longer texts of cases are left out: they try limits.
+MOST_BYTES = 100000
+MATCHER = TOP / "tools/asl-problem-matcher.json"
+REFERENCE = TOP / "docs/REFERENCE.md"
+SECONDS = 300
+
+
+def of_samples():
+    """Each sample's definition and declared shapes, with its name."""
+    for folder in sorted((TOP / "samples").iterdir()):
+        for declared in sorted(folder.glob("*declared.json")):
+            definition = declared.with_name(declared.name.replace("declared", "definition"))
+            if not definition.is_file():
+                definition = declared.with_name(declared.name.replace("declared", "asl"))
+            yield f"sample {folder.name}", definition.read_bytes(), declared.read_bytes()
+
+
+def of_cases():
+    """The definition and the declared shapes of each case that has both, once."""
+    told = set()
+    for table in sorted(ROWS.glob("*.rows")):
+        for case in cases_of(table):
+            if "definition" in case.given and "declared" in case.given:
+                texts = made(case.given["definition"]), made(case.given["declared"])
+                if texts not in told and sum(map(len, texts)) <= MOST_BYTES:
+                    told.add(texts)
+                    yield f"case {case.name}", *texts
+
+
+def of_machines(count):
+    """So many random machines."""
+    for number in range(count):
+        definition, declared = Maker(number).machine()
+        yield f"machine {number}", json.dumps(definition, indent=2).encode(), json.dumps(declared).encode()
+
+
+class Folder:
+    """A folder of definitions, each with its declared shapes beside it."""
+
+    def __init__(self, path, count):
+        self.path, self.names = path, []
+        for name, definition, declared in [*of_samples(), *of_cases(), *of_machines(count)]:
+            number = f"{len(self.names):05}"
+            (path / f"{number}.asl.json").write_bytes(definition)
+            (path / f"{number}.declared.json").write_bytes(declared)
+            self.names.append(name)
+
+    def run(self, program, *words):
+        """Runs the program in the folder; returns its status and output."""
+        done = subprocess.run(
+            [program, *words], cwd=self.path, env={}, stdin=subprocess.DEVNULL, stdout=subprocess.PIPE,
+            stderr=subprocess.PIPE, timeout=SECONDS, check=False)
+        return done.returncode, done.stdout.decode(), done.stderr.decode()
+
+    def says_yes(self, program, number):
+        """Whether verify says yes to the definition of that number."""
+        return self.run(program, "verify", f"{number:05}.asl.json", f"{number:05}.declared.json") == (0, "yes\n", "")
+
+
+class Tally:
+    """What was looked at, and what was found."""
+
+    def __init__(self):
+        self.passed = self.failed = 0
+
+    def look(self, what, fault):
+        """Counts a look, and tells its fault, if it has one."""
+        self.passed += not fault
+        self.failed += bool(fault)
+        if fault:
+            print(f"FAILED {what}: {fault}", flush=True)
+
+
+def look_at_verdicts(program, folder, diagnostics, tally):
+    """Compares the errors that lint tells of each definition with the verdict on it."""
+    wrong = {it["file"].split("/")[-1].partition(".")[0] for it in diagnostics if it["severity"] == "error"}
+    with concurrent.futures.ThreadPoolExecutor(len(os.sched_getaffinity(0))) as workers:
+        verdicts = list(workers.map(lambda it: folder.says_yes(program, it), range(len(folder.names))))
+    for number, says_yes in enumerate(verdicts):
+        has_error = f"{number:05}" in wrong
+        fault = f"verify says {'yes' if says_yes else 'no'}, and lint tells {'an' if has_error else 'no'} error"
+        tally.look(folder.names[number], None if says_yes != has_error else fault)
+    print(f"{len(verdicts)} definitions, {sum(verdicts)} of them with a yes", flush=True)
+
+
+def documented_fields():
+    """The fields that the reference names in its table of fields, and of each whether it is always there."""
+    text = REFERENCE.read_text(encoding="utf-8")
+    rows = re.findall(r"^\| `(\w+)` \| (always|where there is one) \|", text, flags=re.MULTILINE)
+    return {name: when == "always" for name, when in rows}
+
+
+def fault_of_fields(diagnostics):
+    """Where the objects have other fields than those that are documented, or None."""
+    documented = documented_fields()
+    always = {it for it, is_always in documented.items() if is_always}
+    for it in diagnostics:
+        if not always <= set(it) <= set(documented):
+            return f"the fields are {sorted(it)}, and documented are {documented}"
+    unseen = set(documented) - {name for it in diagnostics for name in it}
+    return f"no diagnostic has {sorted(unseen)}" if unseen else None
+
+
+def told_in_sarif(log):
+    """What a log tells, as file, line, column, severity and rule of each result."""
+    results = json.loads(log)["runs"][0]["results"]
+    places = [it["locations"][0]["physicalLocation"] for it in results]
+    return [
+        (place["artifactLocation"]["uri"], place["region"]["startLine"], place["region"]["startColumn"], it["level"],
+         it["ruleId"])
+        for it, place in zip(results, places)
+    ]
+
+
+def told_in_commands(lines):
+    """The same of GitHub's commands, without the rule."""
+    found = re.findall(r"^::(error|warning) file=([^,]*),line=(\d+),col=(\d+),title=[^:]*::", lines, flags=re.MULTILINE)
+    return [(file, int(line), int(column), severity) for severity, file, line, column in found]
+
+
+def told_in_text(lines):
+    """The same of the lines for people, taken apart by the problem matcher."""
+    [pattern] = json.loads(MATCHER.read_text())["problemMatcher"][0]["pattern"]
+    found = [re.fullmatch(pattern["regexp"], it) for it in lines.splitlines()]
+    names = ["file", "line", "column", "severity"]
+    parts = [[it[pattern[name]] for name in names] if it else ["", "0", "0", ""] for it in found]
+    return [(file, int(line), int(column), severity) for file, line, column, severity in parts]
+
+
+def fault_of_told(told, wanted):
+    """Where two lists of what is told differ, or None."""
+    if told == wanted:
+        return None
+    differing = [pair for pair in zip(told, wanted) if pair[0] != pair[1]]
+    return f"{len(told)} are told in place of {len(wanted)}, the first that differ are {differing[:1]}"
+
+
+def look_at_formats(program, folder, diagnostics, tally):
+    """Compares the formats with each other, and each with what is said of it."""
+    told = [tuple(it[name] for name in ["file", "line", "column", "severity", "rule"]) for it in diagnostics]
+    without_rule = [it[:-1] for it in told]
+    # Paths that begin with `./` are URIs without it.
+    relative = [(file.removeprefix("./"), *rest) for file, *rest in told]
+    texts = {it: folder.run(program, "lint", ".", "--format", it)[1] for it in ["text", "sarif", "github"]}
+    checked = subprocess.run(
+        [TOP / "tools/sarif"], input=texts["sarif"], stdout=subprocess.PIPE, text=True, check=False)
+    tally.look("the log in SARIF", checked.stdout[-400:] if checked.returncode else None)
+    tally.look("the fields in JSON", fault_of_fields(diagnostics))
+    tally.look("SARIF and JSON", fault_of_told(told_in_sarif(texts["sarif"]), relative))
+    tally.look("GitHub's commands and JSON", fault_of_told(told_in_commands(texts["github"]), without_rule))
+    tally.look("text and JSON", fault_of_told(told_in_text(texts["text"]), without_rule))
+
+
+def look_at(program, folder, tally):
+    """Runs a program on the folder."""
+    print(f"== agreement on {os.path.relpath(program)}", flush=True)
+    if not program.is_file():
+        tally.look(os.path.relpath(program), "there is no such program")
+        return
+    status, output, counts = folder.run(program.resolve(), "lint", ".", "--format", "json")
+    try:
+        diagnostics = json.loads(output)
+    except ValueError:
+        tally.look("lint of all definitions", f"status {status}, {output[:200]!r}, {counts[-200:]!r}")
+        return
+    print(counts.strip().split("\n")[-1], flush=True)
+    look_at_verdicts(program.resolve(), folder, diagnostics, tally)
+    look_at_formats(program.resolve(), folder, diagnostics, tally)
+
+
+def main():
+    words = argparse.ArgumentParser(description="Holds lint against verify, and its formats against each other.")
+    words.add_argument("--machines", type=int, default=2000, help="how many random machines are made")
+    words.add_argument("programs", nargs="*", type=pathlib.Path, default=BUILDS)
+    given = words.parse_args()
+    tally = Tally()
+    with tempfile.TemporaryDirectory(prefix="asl-agreement-") as name:
+        folder = Folder(pathlib.Path(name), given.machines)
+        for program in given.programs:
+            look_at(program, folder, tally)
+    print(f"{tally.passed} passed, {tally.failed} failed")
+    return 0 if tally.passed and not tally.failed else 1
+
+
+if __name__ == "__main__":
+    sys.exit(main())
