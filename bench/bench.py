@@ -20,6 +20,9 @@ Each form is a kind of text in growing sizes; the names of all forms, or those t
 - verify-fields: a chain of states that each place a field of their own;
 - verify-nested: the nested Parallels and Maps of check-nested;
 - verify-hub: a Choice that leads to so many states, which all lead to one;
+- lint-hub: what is told of the machine of verify-hub, in which nothing is wrong;
+- lint-findings: what is told of a Choice that leads to so many states, each with a finding;
+- lint-complaints: what is told of a chain of so many states, each with a complaint;
 - run-chain: the run of a chain of Pass states over a record of 20 fields;
 - run-loop: a loop of four states (a template with Format, a Result that is placed, a Choice back), cut off after so
   many steps;
@@ -223,6 +226,23 @@ def hub(count):
     return inferred({"StartAt": "A", "States": states})
 
 
+def hub_with_findings(count):
+    """A Choice that leads to so many states, in each of which a path names nothing."""
+    texts = hub(count)
+    for at, state in enumerate(texts["definition"]["States"].values()):
+        if state["Type"] == "Pass":
+            state["OutputPath"] = f"$.missing{at}"
+    return texts
+
+
+def with_complaints(count):
+    """A chain of so many states, each with a field that it may not have."""
+    texts = inferred(chain(count))
+    for state in texts["definition"]["States"].values():
+        state["Colour"] = "red"
+    return texts
+
+
 def loop(steps):
     """Four states that follow each other for ever."""
     states = {
@@ -317,6 +337,7 @@ def long_certificate(megabytes):
 CHECK = []
 INFER = ["infer", "definition", "declared"]
 VERIFY = ["verify", "definition", "declared"]
+LINT = ["lint", "definition", "--declared", "declared"]
 CUT_OFF = ["run", "definition", "input", "answers", "--max-steps", "SIZE"]
 RUN = ["run", "definition", "input", "answers", "--max-steps", "10000"]
 LAST = [*RUN, "--order", "last"]
@@ -341,6 +362,9 @@ FORMS = {
     "verify-fields": (placing, [100, 200, 400], VERIFY, 0),
     "verify-nested": (nested, [25, 50, 100], VERIFY, 0),
     "verify-hub": (hub, [500, 1000, 2000], VERIFY, 0),
+    "lint-hub": (hub, [500, 1000, 2000], LINT, 0),
+    "lint-findings": (hub_with_findings, [2250, 4500, 9000], LINT, 1),
+    "lint-complaints": (with_complaints, [2500, 5000, 10000], LINT, 1),
     "run-chain": (lambda n: {"definition": chain(n), "input": record(20), "answers": []}, [2500, 5000, 10000], RUN, 0),
     "run-loop": (loop, [2500, 5000, 10000], CUT_OFF, 4),
     "run-growing": (growing, [1250, 2500, 5000], CUT_OFF, 4),
