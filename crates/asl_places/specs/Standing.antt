@@ -1,5 +1,5 @@
 -- Where the members of an object and the elements of a list stand in the tokens of a text.
-use Rattle.std.specs.Prelude.{◌≡◌, ℕ, ◌+◌, ◌≤◌, List, Option, Some, MatchOption, drop, slice_get}
+use Rattle.std.specs.Prelude.{◌≡◌, ◌≢◌, ℕ, ◌+◌, ◌≤◌, List, Option, Some, MatchOption, drop, slice_get}
 use Rattle.json.specs.Token.{Token, begin_object, begin_array, key}
 use Rattle.json.specs.Find.{HasValue}
 use Rattle.json.specs.Tape.{Passes}
@@ -37,6 +37,12 @@ pub record IsElement (tokens : List Token) (list element : Spot) : Type 0 where
   pub opens : slice_get tokens list.token ≡ Some begin_array
   pub leads : Leads (Passes tokens) (list.token + 1) element.token
   pub begins : HasValue (drop element.token tokens)
+
+-- ---- going over them
+
+-- what stands behind the bracket that opens the value at the spot, where that bracket opens it
+abbrev pub Opens : List Token → Token → Spot → Option ℕ → Type 0
+Opens tokens bracket spot first = MatchOption first (slice_get tokens spot.token ≢ Some bracket) (λ at. (at ≡ spot.token + 1) × (slice_get tokens spot.token ≡ Some bracket))
 
 -- no member begins at the number
 abbrev pub NoMemberAt : List Token → ℕ → Type 0

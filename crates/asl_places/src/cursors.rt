@@ -1,12 +1,12 @@
 //! Going over the members of an object and the elements of a list.
-ghost use Rattle.std.specs.Prelude.{◌≡◌, ◌≢◌, ◌<◌, ◌≤◌, ◌+◌, ℕ, List, Some, None, map, length, drop, slice_get, option_map, IfSome, OnSome, MatchOption};
+ghost use Rattle.std.specs.Prelude.{◌≡◌, ◌<◌, ◌≤◌, ℕ, List, None, map, length, drop, option_map, IfSome, MatchOption};
 ghost use Rattle.json.specs.Token.{Token, begin_array, begin_object};
 ghost use Rattle.json.specs.Json as spec;
 ghost use Rattle.json.specs.Json.{Json, value};
 ghost use Rattle.json.specs.Find.{HasValue, InItems, InMembers, NextItem, NextMember, as_array, as_object};
 ghost use Rattle.json.specs.Tape.{node_token, Linked, Passes};
 ghost use Rattle.asl_places.specs.Found.{BeginsAt, IsNamed};
-ghost use Rattle.asl_places.specs.Standing.{StepsOverElement, StepsOverMember};
+ghost use Rattle.asl_places.specs.Standing.{Opens, StepsOverElement, StepsOverMember};
 
 use crate::outline::{Member, Spot};
 use json::Node;
@@ -81,10 +81,8 @@ impl<'o, 'a> Members<'o, 'a> {
     pub(crate) fn of(nodes: &'o [Node<'a>], object: Spot) -> Option<Members<'o, 'a>>
         requires { Linked (map node_token nodes.now) 0 nodes.now }
         ensures tokens { IfSome result (λ m. m.0 ≡ map node_token nodes.now) }
-        ensures opens { MatchOption result
-            (slice_get (map node_token nodes.now) object.token ≢ Some begin_object)
-            (λ m. (m.1 ≡ object.token + 1)
-            × (slice_get (map node_token nodes.now) object.token ≡ Some begin_object)) }
+        ensures opens { Opens (map node_token nodes.now) begin_object object
+            (option_map (λ m. m.1) result) }
         ensures members { (j : Json) → BeginsAt (map node_token nodes.now) object j
             → MatchOption result (as_object j ≡ None)
             (λ m. (ms : spec.Members) × (j ≡ spec.object ms) × InMembers (drop m.1 m.0) ms) }
@@ -135,10 +133,8 @@ impl<'o, 'a> Items<'o, 'a> {
     pub(crate) fn of(nodes: &'o [Node<'a>], list: Spot) -> Option<Items<'o, 'a>>
         requires { Linked (map node_token nodes.now) 0 nodes.now }
         ensures tokens { IfSome result (λ m. m.0 ≡ map node_token nodes.now) }
-        ensures opens { MatchOption result
-            (slice_get (map node_token nodes.now) list.token ≢ Some begin_array)
-            (λ m. (m.1 ≡ list.token + 1)
-            × (slice_get (map node_token nodes.now) list.token ≡ Some begin_array)) }
+        ensures opens { Opens (map node_token nodes.now) begin_array list
+            (option_map (λ m. m.1) result) }
         ensures items { (j : Json) → BeginsAt (map node_token nodes.now) list j
             → MatchOption result (as_array j ≡ None)
             (λ m. (js : spec.Items) × (j ≡ spec.array js) × InItems (drop m.1 m.0) js) }

@@ -1,5 +1,5 @@
 //! Outlines of JSON texts.
-ghost use Rattle.std.specs.Prelude.{◌≡◌, ◌≢◌, ◌<◌, ◌≤◌, ℕ, Some, None, Err, MatchOption, IfOk, IfSome, IsSome, option_map, map, length, drop, slice_index, slice_get, List, position, ◌+◌};
+ghost use Rattle.std.specs.Prelude.{◌≡◌, ◌<◌, ℕ, None, Err, MatchOption, IfOk, IfSome, IsSome, option_map, map, length, drop, slice_index, List, position, ◌+◌};
 ghost use Rattle.json.specs.Token.{Token, begin_array, begin_object};
 ghost use Rattle.json.specs.Lex.{tokens};
 ghost use Rattle.json.specs.Json as spec;
@@ -9,7 +9,7 @@ ghost use Rattle.json.specs.Tape.{node_token, Linked};
 ghost use Rattle.json.specs.declared.tape.TheConstants.{MAX_LEN};
 ghost use Rattle.asl_places.specs.declared.outline.Spot.{Spot};
 ghost use Rattle.asl_places.specs.Found.{BeginsAt, FindsAt, IsNamed, TakesUp, TellsString, is_string};
-ghost use Rattle.asl_places.specs.Standing.{FindsMember};
+ghost use Rattle.asl_places.specs.Standing.{FindsMember, Opens};
 
 use crate::cursors::{Items, Members, behind};
 use crate::faults::fault_of;
@@ -115,10 +115,7 @@ impl<'a> Outline<'a> {
     /// The members of the object at the spot, in the author's order, where it is one.
     pub fn members(&self, object: Spot) -> Option<Members<'_, 'a>>
         ensures tokens { IfSome result (λ m. m.0 ≡ self.now.0) }
-        ensures opens { MatchOption result
-            (slice_get self.now.0 object.token ≢ Some begin_object)
-            (λ m. (m.1 ≡ object.token + 1)
-            × (slice_get self.now.0 object.token ≡ Some begin_object)) }
+        ensures opens { Opens self.now.0 begin_object object (option_map (λ m. m.1) result) }
         ensures members { (j : Json) → BeginsAt self.now.0 object j
             → MatchOption result (as_object j ≡ None)
             (λ m. (ms : spec.Members) × (j ≡ spec.object ms) × InMembers (drop m.1 m.0) ms) }
@@ -129,10 +126,7 @@ impl<'a> Outline<'a> {
     /// The elements of the list at the spot, where it is one.
     pub fn items(&self, list: Spot) -> Option<Items<'_, 'a>>
         ensures tokens { IfSome result (λ m. m.0 ≡ self.now.0) }
-        ensures opens { MatchOption result
-            (slice_get self.now.0 list.token ≢ Some begin_array)
-            (λ m. (m.1 ≡ list.token + 1)
-            × (slice_get self.now.0 list.token ≡ Some begin_array)) }
+        ensures opens { Opens self.now.0 begin_array list (option_map (λ m. m.1) result) }
         ensures items { (j : Json) → BeginsAt self.now.0 list j
             → MatchOption result (as_array j ≡ None)
             (λ m. (js : spec.Items) × (j ≡ spec.array js) × InItems (drop m.1 m.0) js) }
