@@ -1,12 +1,12 @@
 //! Checking a certificate of shapes against a machine and its declared shapes.
 //!
-//! [`check_numbered`] goes over the steps of the walk through each state ([`asl_edges::edges_of`]) and compares what
-//! flows at each edge with what stands there, by the numbers of the certificate's table; [`check`] does so for a
-//! certificate with shapes of its own. Of each name that has a broken rule the first is told, as a [`Finding`];
-//! [`find_all`] tells all of them, and of a path that may name nothing that path. A comparison that fails has an example there, a tree that flows and lacks the shape
-//! that it is compared with, and so has a path that may name nothing, a tree in which it names nothing. What is declared
-//! and the certificates, with their readers and writers, are those of [`asl_records`], which this crate shows again: who
-//! checks a certificate names no other crate for it.
+//! [`check_numbered`] goes over the steps of the walk through each state ([`asl_edges::edges_of`]) and compares what flows
+//! at each edge with what stands there, by the numbers of the certificate's table; [`check`] does so for a certificate with
+//! shapes of its own. Of each name that has a broken rule the first is told, as a [`Finding`]; [`find_all`] tells all of
+//! them, and of a path that may name nothing that path. A comparison that fails has an example there, a tree that flows and
+//! lacks the shape that it is compared with, and so has a path that may name nothing, a tree in which it names nothing. What
+//! is declared and the certificates, with their readers and writers, are those of [`asl_records`], which this crate shows
+//! again: who checks a certificate names no other crate for it.
 #![tactic(auto)]
 
 mod checker;
