@@ -1,6 +1,6 @@
 -- Which steps a walk through a state has: the destinations of its edges and what is wrong there, and the rules that are
 -- broken on the way to one.
-use Rattle.std.proofs.Common.{◌≡◌, ℕ, List, [], ◌∷◌, ◌++◌, map, Bool, true, false, codes, Option, Some, None, Result, Ok, Err, if◌then◌else◌}
+use Rattle.std.proofs.Common.{ℕ, List, [], ◌∷◌, ◌++◌, map, Bool, true, false, codes, Option, Some, None, Result, Ok, Err, if◌then◌else◌}
 use Rattle.std.specs.List.{AllByRecursion}
 use Rattle.asl_model.specs.Certificate.{StateShapes}
 use Rattle.asl_model.specs.Edges.{ToInput, ToOutput, ToEnd, ToTask, Walked, Breaks, flows_to, breaks_unless, onward, to_branches, to_child, to_end, to_next, walk, walk_catchers, walk_caught, walk_chosen, walk_default, walk_delay, walk_elements, walk_items, walk_items_result, walk_named, walk_result, walk_rule, walk_rules, walk_settled, walk_then, walk_work, with_elements_walked}

@@ -84,7 +84,7 @@ impl Standing<'_, '_> {
     ) -> Result<Option<Fault<'m>>, OutOfMemory>
         requires standing { AreStanding shapes.old self.now }
         requires flowing { edge.flowing < length shapes.old }
-        requires apart { IsEdgeApart edge.entry }
+        requires apart { IsEdgeApart edge }
         ensures told { IfOk result
             (λ told. option_to_list (option_map (fault_view (expansions shapes.old)) told)
             ≡ breaches_at (standing_view (expansions shapes.old) self.now)

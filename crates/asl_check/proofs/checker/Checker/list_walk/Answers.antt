@@ -1,7 +1,9 @@
 use Rattle.std.proofs.Common.{◌≡◌, refl, ap, ◌∙◌}
 use Rattle.asl_model.specs.Edges.{destination_shapes}
 use Rattle.asl_model.specs.Finding.{surrounded_by}
-use Rattle.asl_numbered.specs.Expansion.{expansions}
+use Rattle.asl_numbered.specs.Expansion.{expansions, shape_at}
+use Rattle.asl_edges.specs.Entry.{entry_view}
+use Rattle.asl_edges.specs.declared.found.Entry.{Entry}
 use Rattle.asl_edges.specs.View.{steps_of}
 use Rattle.asl_states.specs.Machine.{kind_view, scope_view, settings_view}
 use Rattle.asl_states.specs.Table.{table_view}
@@ -24,7 +26,13 @@ list_steps-requires-clause-standing c =
     standing_within c.args.shapes.now c.number_task.new.shapes c.edges_of.new.shapes c.number_task.ensures.keeps c.edges_of.ensures.keeps _ c.requires.within c.args.entry.now c.requires.entry _ _ c.in_ok-task.task c.in_ok-task.ensures.numbered refl refl c.end_of.ensures.within
 
 pub list_steps-requires-clause-apart : goal.list_steps-requires-clause-apart
-list_steps-requires-clause-apart c = steps_apart (expansions c.edges_of.new.shapes) c.deref-2.result _ _ _ _ (ap (steps_of (expansions c.edges_of.new.shapes)) c.deref-2.ensures.value ∙ c.in_ok-steps.ensures.walked)
+list_steps-requires-clause-apart c =
+    let b = expansions c.number_task.new.shapes in
+    let d = expansions c.edges_of.new.shapes in
+    let state = c.args.row.now.state.now in
+    let entry = c.args.entry.now in
+    let lent : Entry = record { input = entry.input; output = entry.output; branches = c.deref.result; item = entry.item } in
+    steps_apart d c.deref-2.result.now (shape_at b c.in_ok-task.task.gives) (settings_view state.settings) (kind_view state.kind) (entry_view b lent) (ap (steps_of d) c.deref-2.ensures.value ∙ c.in_ok-steps.ensures.walked)
 
 pub returns-clause-adds : goal.returns-clause-adds
 returns-clause-adds c =
