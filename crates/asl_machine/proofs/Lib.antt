@@ -1,9 +1,11 @@
 pub mod Added
 pub mod Checks
-pub mod Complaints
+pub mod Complete
+pub mod Contained
 pub mod Duplicates
 pub mod Elements
 pub mod Lookups
+pub mod Naming
 pub mod Nested
 pub mod Nesting
 pub mod Numbers
@@ -13,9 +15,13 @@ pub mod OwnFields
 pub mod OwnRules
 pub mod Rates
 pub mod Refused
+pub mod Repeated
 pub mod Rules
+pub mod Single
+pub mod Splits
 pub mod Starts
 pub mod Templates
+pub mod Told
 pub mod Troubles
 pub mod Values
 pub mod Walks

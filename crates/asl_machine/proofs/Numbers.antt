@@ -19,7 +19,7 @@ use Rattle.asl_states.specs.Machine.{state_view}
 use Rattle.asl_machine.specs.Numbered.{Holds, home_view, home_of, names_of_all, placed_in}
 use Rattle.asl_machine.specs.Built.{built_view}
 use Rattle.asl_machine.specs.View.{complaint_of}
-use Rattle.asl_machine.proofs.Complaints.{here}
+use Rattle.asl_machine.proofs.Contained.{here}
 use Rattle.asl_machine.proofs.Duplicates.{none_again, told_again, twice}
 use Rattle.asl_machine.proofs.Checks.{among_second}
 

@@ -4,4 +4,5 @@ pub mod Numbered
 pub mod Reading
 pub mod Refusal
 pub mod Rows
+pub mod Telling
 pub mod View

@@ -214,6 +214,13 @@ kind_told model.MapState place ms = map_told place ms
 
 -- ---- the rules on several fields
 
+-- whether a state goes on in one way
+abbrev pub goes_on_told : Place → Members → List Complaint
+goes_on_told place ms =
+    complaints.complain_unless
+    (not (complaints.has_proper_end ms && complaints.same_truth (complaints.is_given (codes "Next") ms) (ends_at ms)))
+    place (codes "Next") model.NextOrEnd
+
 -- those of a Task
 abbrev pub task_told : Place → List (List ℕ) → Members → List Complaint
 task_told place names ms = next_complaints place names ms ++ heartbeat_complaints place ms

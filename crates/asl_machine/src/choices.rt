@@ -38,7 +38,7 @@ pub(crate) fn read_choices<'a>(
 }
 
 /// The rules that a value spells: a list of them, not empty.
-fn read_rules(alloc: Global, value: &Value) -> Result<Vec<ChoiceRule>, DefFault>
+pub(crate) fn read_rules(alloc: Global, value: &Value) -> Result<Vec<ChoiceRule>, DefFault>
     ensures rules { IfOk result
         (λ rules. map choice_rule_view rules.items ≡ rules_among (items_in (view value.now))) }
     ensures faults { IsMisfit (model.misfits model.RulesValue (view value.now)) result }
@@ -76,7 +76,7 @@ fn read_each(alloc: Global, elements: &[Value]) -> Result<Vec<ChoiceRule>, DefFa
 
 /// The rule that a value spells.
 #[tactic(auto, using(crate::proofs::Rules::rule_spelled, crate::proofs::Rules::rule_right, crate::proofs::Rules::rule_wrong))]
-fn read_rule(alloc: Global, value: &Value) -> Result<ChoiceRule, DefFault>
+pub(crate) fn read_rule(alloc: Global, value: &Value) -> Result<ChoiceRule, DefFault>
     ensures rule { IfOk result (λ rule. option_and_then rule_of (tree_of (view value.now))
         ≡ Some (choice_rule_view rule)) }
     ensures faults { IsMisfit (model.rule_misfits (tree_of (view value.now))) result }

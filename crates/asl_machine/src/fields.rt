@@ -147,7 +147,7 @@ pub(crate) fn path_of<'a>(
 }
 
 /// The path that a value is, none where it is null.
-fn read_path_or_null(alloc: Global, value: &Value) -> Result<Option<RefPath>, DefFault>
+pub(crate) fn read_path_or_null(alloc: Global, value: &Value) -> Result<Option<RefPath>, DefFault>
     ensures path { IfOk result (λ path. path ≡ path_in (view value.now)) }
     ensures faults { IsMisfit (model.misfits model.PathOrNullValue (view value.now)) result }
 {
@@ -158,7 +158,7 @@ fn read_path_or_null(alloc: Global, value: &Value) -> Result<Option<RefPath>, De
 }
 
 /// The path that a value is.
-fn read_path(alloc: Global, value: &Value) -> Result<RefPath, DefFault>
+pub(crate) fn read_path(alloc: Global, value: &Value) -> Result<RefPath, DefFault>
     ensures path { IfOk result
         (λ path. option_and_then model_path_of (as_str (view value.now)) ≡ Some path) }
     ensures faults { IsMisfit (model.misfits model.PathValue (view value.now)) result }
@@ -247,7 +247,7 @@ pub(crate) fn template_of<'a>(
 
 /// The template that a value spells.
 #[tactic(auto, using(crate::proofs::Templates::template_spelled, crate::proofs::Templates::template_right, crate::proofs::Templates::template_wrong))]
-fn read_template(alloc: Global, value: &Value, item: bool) -> Result<Template, DefFault>
+pub(crate) fn read_template(alloc: Global, value: &Value, item: bool) -> Result<Template, DefFault>
     ensures template { IfOk result
         (λ template. option_and_then (model_template_of item) (tree_of (view value.now))
         ≡ Some (templates.view template)) }

@@ -7,23 +7,30 @@
 
 mod building;
 mod choices;
+mod complaining;
 mod field_checking;
+mod field_telling;
 mod fields;
 mod kinds;
 mod numbering;
 mod places;
 mod reading;
 mod refusals;
+mod repeating;
 mod rows;
 mod scope_reading;
+mod scope_telling;
 mod scopes;
 mod settings;
 mod state_checking;
+mod state_telling;
+mod telling;
 mod trouble_reading;
 mod value_checking;
 
 pub use asl_states::{
     Catcher, ChoiceRule, Delay, Kind, Machine, Retrier, Scope, Settings, State, Target,
 };
+pub use complaining::complaints;
 pub use reading::read;
 pub use refusals::{DefFault, DefRefusal};

@@ -19,7 +19,7 @@ use indexmap::IndexSet;
 use std::alloc::Global;
 
 /// How many states a machine may have.
-const MOST_STATES: usize = 10000;
+pub(crate) const MOST_STATES: usize = 10000;
 
 /// The states numbered so far: the names and the states by number, and where each stands.
 #[derive(Drop)]

@@ -166,7 +166,7 @@ fn read_named_state<'a>(
 }
 
 /// Checks that the name of a state isn't too long.
-fn check_name<'a>(name: &'a str) -> Result<(), Complaint<'a>>
+pub(crate) fn check_name<'a>(name: &'a str) -> Result<(), Complaint<'a>>
     ensures { IsVerdict (model.name_complaints name.now) result }
 {
     let place = Place {

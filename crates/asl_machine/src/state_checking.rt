@@ -8,7 +8,7 @@ ghost use Rattle.asl_model.specs.StandsFor as model;
 ghost use Rattle.asl_machine.specs.Rows.{type_view};
 ghost use Rattle.asl_states.specs.Machine.{choice_rule_view, target_name};
 ghost use Rattle.asl_machine.specs.Definition.{IsVerdict, place_view};
-ghost use Rattle.asl_machine.specs.Reading.{rules_of_type, fields_of, names_in, ends_at, task_told, wait_told, map_rules_told};
+ghost use Rattle.asl_machine.specs.Reading.{goes_on_told, rules_of_type, fields_of, names_in, ends_at, task_told, wait_told, map_rules_told};
 
 use crate::fields::{is_given, text_of};
 use crate::places::{Complaint, Place};
@@ -18,10 +18,10 @@ use asl_states::ChoiceRule;
 use serde_json::Value;
 
 /// What a Wait may wait for.
-const DELAYS: [&str; 4] = ["Seconds", "SecondsPath", "Timestamp", "TimestampPath"];
+pub(crate) const DELAYS: [&str; 4] = ["Seconds", "SecondsPath", "Timestamp", "TimestampPath"];
 
 /// A Map's processor and its older name.
-const PROCESSORS: [&str; 2] = ["ItemProcessor", "Iterator"];
+pub(crate) const PROCESSORS: [&str; 2] = ["ItemProcessor", "Iterator"];
 
 /// Checks the rules on several fields of a state of that type, but for its retriers and catchers. The states that it may
 /// go on to are those of `scope`.
@@ -73,7 +73,7 @@ pub(crate) fn check_rule_targets<'a>(
 }
 
 /// Checks that a rule of a Choice goes on to a state of the scope.
-fn check_rule_target<'a>(
+pub(crate) fn check_rule_target<'a>(
     place: &Place<'a>,
     rule: &ChoiceRule,
     scope: &Value,
@@ -113,8 +113,15 @@ fn check_next<'a>(place: &Place<'a>, state: &Value, scope: &Value) -> Result<(),
     ensures { IsVerdict (model.next_complaints (place_view place.now)
         (names_in scope.now) (fields_of state.now)) result }
 {
-    place.complain_unless(goes_on_once(state), "Next", DefFault::NextOrEnd)?;
+    check_goes_on(place, state)?;
     check_target(place, "Next", state, "Next", scope)
+}
+
+/// Checks that a state goes on in one way.
+pub(crate) fn check_goes_on<'a>(place: &Place<'a>, state: &Value) -> Result<(), Complaint<'a>>
+    ensures { IsVerdict (goes_on_told (place_view place.now) (fields_of state.now)) result }
+{
+    place.complain_unless(goes_on_once(state), "Next", DefFault::NextOrEnd)
 }
 
 /// Whether a state goes on in one way: it has exactly one of `Next` and `"End": true`. Of an `End` that is no truth value
@@ -164,7 +171,7 @@ fn has_state(scope: &Value, name: &str) -> bool
 }
 
 /// Checks that a heartbeat is smaller than its timeout, where both are given.
-fn check_heartbeat<'a>(place: &Place<'a>, state: &Value) -> Result<(), Complaint<'a>>
+pub(crate) fn check_heartbeat<'a>(place: &Place<'a>, state: &Value) -> Result<(), Complaint<'a>>
     ensures { IsVerdict
         (model.heartbeat_complaints (place_view place.now) (fields_of state.now)) result }
 {
@@ -189,7 +196,7 @@ fn whole_of(object: &Value, field: &str) -> Option<i64>
 }
 
 /// Checks that at most one of a Map's `ItemSelector` and its older name is there.
-fn check_selector<'a>(place: &Place<'a>, state: &Value) -> Result<(), Complaint<'a>>
+pub(crate) fn check_selector<'a>(place: &Place<'a>, state: &Value) -> Result<(), Complaint<'a>>
     ensures { IsVerdict
         (model.selector_complaints (place_view place.now) (fields_of state.now)) result }
 {
@@ -198,7 +205,7 @@ fn check_selector<'a>(place: &Place<'a>, state: &Value) -> Result<(), Complaint<
 }
 
 /// Checks that exactly one of the fields is there. None is told at `first`, several at the last of them.
-fn check_one_of<'a>(
+pub(crate) fn check_one_of<'a>(
     place: &Place<'a>,
     state: &Value,
     first: &'static str,

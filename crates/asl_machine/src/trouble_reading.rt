@@ -244,7 +244,7 @@ fn check_element<'a>(
 }
 
 /// The error names of an element, among which `States.ALL` stands alone, and in the last element.
-fn read_error_names<'a>(
+pub(crate) fn read_error_names<'a>(
     alloc: Global,
     place: &Place<'a>,
     field: &'static str,

@@ -116,7 +116,7 @@ fn check_each_text(values: &[Value]) -> Result<(), DefFault>
 }
 
 /// Checks a text.
-fn check_text(value: &Value) -> Result<(), DefFault>
+pub(crate) fn check_text(value: &Value) -> Result<(), DefFault>
     ensures { IsMisfit (model.text_misfits (view value.now)) result }
 {
     check_kind(value.is_string(), value)

@@ -1,0 +1,6 @@
+use Rattle.asl_machine.proofs.Single.{single_if}
+use Rattle.asl_machine.proofs.Told.{tells_then}
+use Rattle.asl_machine.proofs.state_telling.tell_retrier.Goals as goal
+
+pub returns : goal.returns
+returns c = tells_then c.in_ok-tell_element.ensures (c.in_ok-tell_found.ensures _ c.check_error_names.ensures (single_if _ _))
