@@ -1,0 +1,9 @@
+pub mod Adding
+pub mod Coming
+pub mod Led
+pub mod LedNames
+pub mod Marks
+pub mod Notices
+pub mod Rows
+pub mod Taken
+pub mod Unled

@@ -1,0 +1,22 @@
+//! What is odd in a machine though no rule is broken.
+//!
+//! [`notices`] lists a [`Notice`] for each oddity, state by state: what no way leads to, by the graph alone; catchers and
+//! retriers to which no error comes; and, with a certificate, what no data comes to. A [`Notice::sentence`] tells it.
+#![tactic(auto)]
+
+mod choosing;
+mod data;
+mod errors;
+mod finding;
+mod leading;
+mod marks;
+mod notice;
+mod noting;
+mod raising;
+mod reason;
+mod rows;
+mod truths;
+
+pub use finding::notices;
+pub use notice::Notice;
+pub use reason::Reason;

@@ -1,0 +1,146 @@
+//! Tests whose truth the shape of the data settles.
+
+ghost use Rattle.std.specs.Prelude.{◌<◌, ◌≤◌, length};
+
+use asl_choice::{Test, ValueKind};
+use asl_flow::{find_at, let_through_at};
+use asl_numbered::{NodeKinds, Shapes};
+use asl_path::RefPath;
+use asl_tree::OutOfMemory;
+use std::alloc::Global;
+
+/// The truth value that the test has for every tree of the shape of that number for which it has one, where that is known.
+#[cycle(settled)]
+pub(crate) fn settled_truth(
+    alloc: Global,
+    shapes: &mut Shapes,
+    test: &Test,
+    number: usize,
+) -> Result<Option<bool>, OutOfMemory>
+    requires { number < length shapes.old }
+    ensures { length shapes.old ≤ length shapes.new }
+{
+    if is_never_true(alloc, shapes, test, number)? {
+        return Ok(Some(false));
+    }
+    match test {
+        Test::And(tests) => settled_of_all(alloc, shapes, tests, number, false),
+        Test::Or(tests) => settled_of_all(alloc, shapes, tests, number, true),
+        Test::Not(part) => match settled_truth(alloc, shapes, part, number)? {
+            Some(truth) => Ok(Some(!truth)),
+            None => Ok(None),
+        },
+        Test::IsPresent { variable, wanted } => settled_presence(shapes, variable, *wanted, number),
+        Test::IsOfKind {
+            variable,
+            kind,
+            wanted,
+        } => settled_kind(shapes, variable, *kind, *wanted, number),
+        Test::Compare { .. } | Test::StringMatches { .. } => Ok(None),
+    }
+}
+
+/// Whether the shape lets no tree through for which the test is true.
+#[tactic(auto, using(crate::proofs::Lengths::longer))]
+fn is_never_true(
+    alloc: Global,
+    shapes: &mut Shapes,
+    test: &Test,
+    number: usize,
+) -> Result<bool, OutOfMemory>
+    requires { number < length shapes.old }
+    ensures { length shapes.old ≤ length shapes.new }
+{
+    match let_through_at(alloc, shapes, test, number)? {
+        Ok(through) => Ok(shapes.inhabited(through) == Some(false)),
+        Err(_) => Ok(false),
+    }
+}
+
+/// So for tests of which one with that value decides: `true` for `Or`, `false` for `And`.
+#[cycle(settled)]
+fn settled_of_all(
+    alloc: Global,
+    shapes: &mut Shapes,
+    tests: &[Test],
+    number: usize,
+    deciding: bool,
+) -> Result<Option<bool>, OutOfMemory>
+    requires { number < length shapes.old }
+    ensures { length shapes.old ≤ length shapes.new }
+{
+    let mut settled = Some(!deciding);
+    for test in tests {
+        match settled_truth(alloc, shapes, test, number)? {
+            Some(truth) if truth == deciding => return Ok(Some(deciding)),
+            Some(_) => {}
+            None => settled = None,
+        }
+    }
+    Ok(settled)
+}
+
+/// So for whether a path names something, where that is wanted or not: it is settled where the path always does.
+#[tactic(auto, using(crate::proofs::Lengths::longer))]
+fn settled_presence(
+    shapes: &mut Shapes,
+    path: &RefPath,
+    wanted: bool,
+    number: usize,
+) -> Result<Option<bool>, OutOfMemory>
+    requires { number < length shapes.old }
+    ensures { length shapes.old ≤ length shapes.new }
+{
+    match find_at(shapes, number, path)? {
+        Ok(_) => Ok(Some(wanted)),
+        Err(_) => Ok(None),
+    }
+}
+
+/// So for whether what the path names is of a kind.
+#[tactic(auto, using(crate::proofs::Lengths::longer))]
+fn settled_kind(
+    shapes: &mut Shapes,
+    path: &RefPath,
+    kind: ValueKind,
+    wanted: bool,
+    number: usize,
+) -> Result<Option<bool>, OutOfMemory>
+    requires { number < length shapes.old }
+    ensures { length shapes.old ≤ length shapes.new }
+{
+    let Ok(found) = find_at(shapes, number, path)? else {
+        return Ok(None);
+    };
+    let Some(kinds) = shapes.take_apart(found) else {
+        return Ok(None);
+    };
+    if !takes_kind(&kinds, kind) {
+        Ok(Some(!wanted))
+    } else if takes_no_other(&kinds, kind) {
+        Ok(Some(wanted))
+    } else {
+        Ok(None)
+    }
+}
+
+/// Whether trees of that kind are taken.
+fn takes_kind(kinds: &NodeKinds, kind: ValueKind) -> bool {
+    match kind {
+        ValueKind::Null => kinds.null,
+        ValueKind::Boolean => kinds.boolean,
+        ValueKind::Numeric => kinds.integer,
+        ValueKind::String => kinds.text,
+    }
+}
+
+/// Whether no trees of other kinds are taken.
+fn takes_no_other(kinds: &NodeKinds, kind: ValueKind) -> bool {
+    let is_alone = match kind {
+        ValueKind::Null => !kinds.boolean && !kinds.integer && !kinds.text,
+        ValueKind::Boolean => !kinds.null && !kinds.integer && !kinds.text,
+        ValueKind::Numeric => !kinds.null && !kinds.boolean && !kinds.text,
+        ValueKind::String => !kinds.null && !kinds.boolean && !kinds.integer,
+    };
+    is_alone && kinds.arrays.is_none() && kinds.objects.is_none()
+}
