@@ -4,8 +4,9 @@
 usage: python3 rows/agreement.py [--machines N] [PROGRAM ..]
 
 Without a PROGRAM, both builds of `asl` are run. The definitions are those of the samples, of all cases that have a definition
-and declared shapes (rows/*.rows), and N random machines (rows/machines.py), 2000 without --machines, the same each time. All
-of them are told by one `asl lint` of their folder, and each is given to `asl verify`:
+and declared shapes (rows/*.rows), and N random machines (rows/machines.py), 2000 without --machines, the same each time; with
+10000 and more the log in SARIF gets longer than is taken. All of them are told by one `asl lint` of their folder, and each is
+given to `asl verify`:
 
 - lint tells no error of a definition or its declared shapes exactly where verify prints `yes`;
 - a log in SARIF has what the standard wants (tools/sarif);
