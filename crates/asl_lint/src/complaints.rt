@@ -1,32 +1,36 @@
 //! The complaints of a definition that is refused.
-ghost use Rattle.std.specs.Prelude.{◌≡◌, IfOk};
+ghost use Rattle.std.specs.Prelude.{◌≡◌, IfOk, Some, map};
+ghost use Rattle.serde_json.specs.View.{view};
+ghost use Rattle.asl_model.specs.StandsFor as model;
+ghost use Rattle.asl_machine.specs.View.{refusal_view};
+ghost use Rattle.asl_lint.specs.Reading.{refusals_told};
+ghost use Rattle.asl_lint.specs.Told.{of_complaint, told_by};
 
 use crate::problems::Problem;
-use asl_machine::DefRefusal;
+use asl_machine::{DefRefusal, complaints};
 use asl_tree::OutOfMemory;
 use serde_json::Value;
 use std::alloc::Global;
 
-/// All that is wrong with a value as a definition, which was refused so.
-pub(crate) fn problems_of_refused(
-    alloc: Global,
-    value: &Value,
-    refusal: DefRefusal,
-) -> Result<Vec<Problem>, OutOfMemory> {
-    let mut problems = Vec::new(alloc);
-    for complaint in complaints(alloc, value, refusal)? {
-        problems.push(Problem::complaint(complaint)?)?;
-    }
+/// Every complaint of a value as a definition.
+pub(crate) fn problems_of_value(alloc: Global, value: &Value) -> Result<Vec<Problem>, OutOfMemory>
+    ensures { IfOk result (λ problems. map told_by problems.items
+        ≡ map of_complaint (model.complaints (view value.now))) }
+{
+    let refusals = complaints(alloc, value)?;
+    let problems = problems_of(alloc, refusals)?;
     Ok(problems)
 }
 
-/// The complaints of a value that was refused so.
-fn complaints(
-    alloc: Global,
-    _value: &Value,
-    refusal: DefRefusal,
-) -> Result<Vec<DefRefusal>, OutOfMemory> {
-    let mut complaints = Vec::new(alloc);
-    complaints.push(refusal)?;
-    Ok(complaints)
+/// The complaints as problems.
+fn problems_of(alloc: Global, refusals: Vec<DefRefusal>) -> Result<Vec<Problem>, OutOfMemory>
+    ensures { IfOk result (λ problems.
+        map (λ problem. Some (told_by problem)) problems.items ≡ refusals_told refusals.items) }
+{
+    let mut problems = Vec::new(alloc);
+    for refusal in refusals {
+        let problem = Problem::complaint(refusal)?;
+        problems.push(problem)?;
+    }
+    Ok(problems)
 }

@@ -1,8 +1,8 @@
 //! Places in a definition.
 use crate::nested::{NESTED, Nested};
-use crate::problems::{DoubtedPath, Kind, Problem};
+use crate::problems::{Kind, Problem};
 use crate::sources::{text_at, text_from};
-use asl_check::FindingFault;
+use asl_check::{FindingFault, MissingPath};
 use asl_machine::DefFault;
 use asl_places::{Member, Outline, Spot, States};
 use asl_tree::OutOfMemory;
@@ -10,14 +10,14 @@ use std::alloc::Global;
 
 /// A definition in which places are found.
 #[derive(Drop)]
-pub(crate) struct DefinitionPlaces<'s, 'a> {
+pub(crate) struct DefinitionPlaces<'s, 'f, 'a> {
     pub(crate) alloc: Global,
-    pub(crate) text: &'a [u8],
+    pub(crate) text: &'f [u8],
     pub(crate) outline: &'s Outline<'a>,
     pub(crate) states: &'s States<'a>,
 }
 
-impl DefinitionPlaces<'_, '_> {
+impl DefinitionPlaces<'_, '_, '_> {
     /// The byte at which a problem is told.
     pub(crate) fn byte_of(&self, problem: &Problem) -> Result<usize, OutOfMemory> {
         Ok(self.outline.offset(self.spot_of(problem)?))
@@ -173,7 +173,7 @@ impl DefinitionPlaces<'_, '_> {
         &self,
         name: &str,
         field: Option<&str>,
-        path: &Option<DoubtedPath>,
+        path: &Option<MissingPath>,
     ) -> Result<Spot, OutOfMemory> {
         let (Some(state), Some(field)) = (self.states.state(name), field) else {
             return Ok(self.of_state(name));
@@ -198,7 +198,7 @@ impl DefinitionPlaces<'_, '_> {
     }
 
     /// The path in the field's value: the text that is it, or the member of a template in which it stands.
-    fn of_path(&self, state: Member, field: &str, path: &DoubtedPath) -> Result<Spot, OutOfMemory> {
+    fn of_path(&self, state: Member, field: &str, path: &MissingPath) -> Result<Spot, OutOfMemory> {
         let Some(found) = self.outline.member(state.value, field) else {
             return Ok(state.name);
         };
@@ -234,14 +234,28 @@ impl DefinitionPlaces<'_, '_> {
 
     /// Puts the values of the members or elements to those that are still to come.
     fn push_inner(&self, value: Spot, values: &mut Vec<Spot>) -> Result<(), OutOfMemory> {
-        if let Some(mut members) = self.outline.members(value) {
-            while let Some((_, member)) = members.next() {
-                values.push(member.value)?;
-            }
-        } else if let Some(mut items) = self.outline.items(value) {
-            while let Some(item) = items.next() {
-                values.push(item)?;
-            }
+        self.push_members(value, values)?;
+        self.push_elements(value, values)
+    }
+
+    /// Puts the values of the members of an object.
+    fn push_members(&self, value: Spot, values: &mut Vec<Spot>) -> Result<(), OutOfMemory> {
+        let Some(mut members) = self.outline.members(value) else {
+            return Ok(());
+        };
+        while let Some((_, member)) = members.next() {
+            values.push(member.value)?;
+        }
+        Ok(())
+    }
+
+    /// Puts the elements of a list.
+    fn push_elements(&self, value: Spot, values: &mut Vec<Spot>) -> Result<(), OutOfMemory> {
+        let Some(mut items) = self.outline.items(value) else {
+            return Ok(());
+        };
+        while let Some(item) = items.next() {
+            values.push(item)?;
         }
         Ok(())
     }

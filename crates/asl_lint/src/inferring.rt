@@ -1,80 +1,136 @@
 //! What is wrong with a machine that is read, by the certificate that is inferred of it.
-ghost use Rattle.std.specs.Prelude.{◌≡◌, ℕ, IfOk};
+ghost use Rattle.std.specs.Prelude.{◌≡◌, ◌∷◌, [], IfOk, IfSome, map};
+ghost use Rattle.asl_model.specs.Machine.{Scope};
+ghost use Rattle.asl_states.specs.Table.{Shows, table_view};
+ghost use Rattle.asl_records.specs.Numbered.{AreWithin, numbered_view};
+ghost use Rattle.asl_records.specs.View.{declared_view};
+ghost use Rattle.asl_check.specs.Told.{listed};
+ghost use Rattle.asl_check.specs.View.{finding_view};
+ghost use Rattle.asl_lint.specs.Tells.{TellsInstead, TellsOfCertificate, TellsOfMachine};
+ghost use Rattle.asl_lint.specs.Told.{of_finding, told_by};
 
-use crate::problems::{DoubtedPath, Problem};
-use crate::warnings::add_warnings;
-use asl_check::{Finding, Verdict, check_numbered, find_all};
+use crate::problems::Problem;
+use asl_check::{Finding, Located, Verdict, check_numbered, find_all};
 use asl_infer::{InferRefusal, infer_leniently, infer_numbered};
 use asl_machine::Machine;
 use asl_records::{Declared, NumberedCertificate};
 use asl_tree::OutOfMemory;
 use std::alloc::Global;
 
-/// What is wrong with a machine under declared shapes, and what is hardly meant: the rules that are broken by the
-/// certificate that is inferred in at most `max_rounds` rounds. Where the inference tells a finding instead, the rules
-/// that are broken by the certificate of lenient rounds, or that finding where there is none or it breaks none.
-pub(crate) fn problems_of_machine(
+/// What is wrong with a machine, and the certificate that tells it, where there is one.
+#[derive(Drop)]
+pub(crate) struct Judged {
+    pub(crate) problems: Vec<Problem>,
+    pub(crate) certificate: Option<NumberedCertificate>,
+}
+
+impl Judged {
+    /// That problem alone, without a certificate.
+    fn alone(alloc: Global, problem: Problem) -> Result<Judged, OutOfMemory>
+        ensures told { IfOk result
+            (λ judged. map told_by judged.problems.items ≡ told_by problem ∷ []) }
+        ensures within { IfOk result (λ judged. IfSome judged.certificate AreWithin) }
+    {
+        let mut problems = Vec::new(alloc);
+        problems.push(problem)?;
+        Ok(Judged {
+            problems,
+            certificate: None,
+        })
+    }
+}
+
+/// What is wrong with a machine under declared shapes: each rule that the certificate breaks which is inferred in at most
+/// `max_rounds` rounds. Where the inference tells a finding instead, each rule that the certificate of lenient rounds
+/// breaks, or that finding where there is no such certificate or it breaks none. Where the shapes don't settle, that.
+pub(crate) fn judge(
     alloc: Global,
     machine: &Machine,
     declared: &Declared,
     max_rounds: u32,
-) -> Result<Vec<Problem>, OutOfMemory> {
+) -> Result<Judged, OutOfMemory>
+    ensures told { IfOk result (λ judged. (m : Scope) → Shows machine.now m
+        → TellsOfMachine max_rounds m (declared_view declared.now)
+        (map told_by judged.problems.items)) }
+    ensures within { IfOk result (λ judged. IfSome judged.certificate AreWithin) }
+{
     match infer_numbered(alloc, machine, declared, max_rounds) {
-        Ok(certificate) => problems_by(alloc, machine, declared, certificate),
+        Ok(certificate) => judge_by(alloc, machine, declared, certificate),
         Err(InferRefusal::Finding(finding)) => {
-            problems_leniently(alloc, machine, declared, max_rounds, finding)
+            judge_leniently(alloc, machine, declared, max_rounds, finding)
         }
-        Err(InferRefusal::NotSettled) => {
-            let mut problems = Vec::new(alloc);
-            problems.push(Problem::not_settled())?;
-            add_warnings(alloc, &mut problems, machine, None)?;
-            Ok(problems)
-        }
+        Err(InferRefusal::NotSettled) => Judged::alone(alloc, Problem::not_settled()),
         Err(InferRefusal::OutOfMemory) => Err(OutOfMemory),
     }
 }
 
-/// What is wrong by the certificate that is inferred.
-fn problems_by(
+/// What is wrong by a certificate.
+fn judge_by(
     alloc: Global,
     machine: &Machine,
     declared: &Declared,
     mut certificate: NumberedCertificate,
-) -> Result<Vec<Problem>, OutOfMemory> {
-    let mut problems = match check_numbered(alloc, machine, declared, &mut certificate)? {
-        Verdict::Yes => Vec::new(alloc),
-        Verdict::No(_) => broken_rules(alloc, machine, declared, &mut certificate)?,
-    };
-    add_warnings(alloc, &mut problems, machine, Some(&mut certificate))?;
-    Ok(problems)
+) -> Result<Judged, OutOfMemory>
+    requires within { AreWithin certificate }
+    ensures told { IfOk result (λ judged. (m : Scope) → Shows machine.now m
+        → TellsOfCertificate m (declared_view declared.now) (numbered_view certificate)
+        (map told_by judged.problems.items)) }
+    ensures within { IfOk result (λ judged. IfSome judged.certificate AreWithin) }
+{
+    let problems = checked_rules(alloc, machine, declared, &mut certificate)?;
+    Ok(Judged {
+        problems,
+        certificate: Some(certificate),
+    })
+}
+
+/// Every rule that the certificate breaks, by what the checker says of it.
+fn checked_rules(
+    alloc: Global,
+    machine: &Machine,
+    declared: &Declared,
+    certificate: &mut NumberedCertificate,
+) -> Result<Vec<Problem>, OutOfMemory>
+    requires within { AreWithin certificate.old }
+    ensures told { IfOk result (λ problems. (m : Scope) → Shows machine.now m
+        → TellsOfCertificate m (declared_view declared.now) (numbered_view certificate.old)
+        (map told_by problems.items)) }
+    ensures within { AreWithin certificate.new }
+{
+    let verdict = check_numbered(alloc, machine, declared, certificate)?;
+    match verdict {
+        Verdict::Yes => Ok(Vec::new(alloc)),
+        Verdict::No(first) => {
+            drop(first);
+            broken_rules(alloc, machine, declared, certificate)
+        }
+    }
 }
 
 /// What is wrong where the inference tells a finding.
-fn problems_leniently(
+fn judge_leniently(
     alloc: Global,
     machine: &Machine,
     declared: &Declared,
     max_rounds: u32,
-    told: Finding,
-) -> Result<Vec<Problem>, OutOfMemory> {
+    finding: Finding,
+) -> Result<Judged, OutOfMemory>
+    ensures told { IfOk result (λ judged. (m : Scope) → Shows machine.now m
+        → TellsInstead max_rounds m (declared_view declared.now) (finding_view finding)
+        (map told_by judged.problems.items)) }
+    ensures within { IfOk result (λ judged. IfSome judged.certificate AreWithin) }
+{
     let Some(mut certificate) = infer_leniently(alloc, machine, declared, max_rounds)? else {
-        let mut problems = only(alloc, told)?;
-        add_warnings(alloc, &mut problems, machine, None)?;
-        return Ok(problems);
+        return Judged::alone(alloc, Problem::finding(finding, None));
     };
-    let mut problems = broken_rules(alloc, machine, declared, &mut certificate)?;
+    let problems = broken_rules(alloc, machine, declared, &mut certificate)?;
     if problems.is_empty() {
-        problems = only(alloc, told)?;
+        return Judged::alone(alloc, Problem::finding(finding, None));
     }
-    add_warnings(alloc, &mut problems, machine, Some(&mut certificate))?;
-    Ok(problems)
-}
-
-/// That finding alone.
-fn only(alloc: Global, finding: Finding) -> Result<Vec<Problem>, OutOfMemory> {
-    let mut problems = Vec::new(alloc);
-    problems.push(Problem::finding(finding, None))?;
-    Ok(problems)
+    Ok(Judged {
+        problems,
+        certificate: Some(certificate),
+    })
 }
 
 /// Every rule that the certificate breaks.
@@ -83,10 +139,27 @@ fn broken_rules(
     machine: &Machine,
     declared: &Declared,
     certificate: &mut NumberedCertificate,
-) -> Result<Vec<Problem>, OutOfMemory> {
+) -> Result<Vec<Problem>, OutOfMemory>
+    requires within { AreWithin certificate.old }
+    ensures told { IfOk result (λ problems. map told_by problems.items
+        ≡ map of_finding (listed (table_view machine.now) (declared_view declared.now)
+        (numbered_view certificate.old))) }
+    ensures within { AreWithin certificate.new }
+{
+    let findings = find_all(alloc, machine, declared, certificate)?;
+    let problems = problems_of(alloc, findings)?;
+    Ok(problems)
+}
+
+/// The findings as problems.
+fn problems_of(alloc: Global, findings: Vec<Located>) -> Result<Vec<Problem>, OutOfMemory>
+    ensures { IfOk result (λ problems. map told_by problems.items
+        ≡ map (λ f. of_finding (finding_view f.finding)) findings.items) }
+{
     let mut problems = Vec::new(alloc);
-    for finding in find_all(alloc, machine, declared, certificate)? {
-        problems.push(Problem::finding(finding, None))?;
+    for located in findings {
+        let problem = Problem::finding(located.finding, located.path);
+        problems.push(problem)?;
     }
     Ok(problems)
 }

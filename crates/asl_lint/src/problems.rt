@@ -1,11 +1,11 @@
 //! What is told of the texts, before it has a place and a message.
-ghost use Rattle.std.specs.Prelude.{◌≡◌, IfOk, Some};
+ghost use Rattle.std.specs.Prelude.{◌≡◌, ◌++◌, ◌∷◌, [], IfOk, IfSome, None, Some, codes, map, option_map, string_bytes};
 ghost use Rattle.asl_check.specs.View.{finding_view};
 ghost use Rattle.asl_machine.specs.View.{refusal_view};
 ghost use Rattle.asl_records.specs.View.{complaint_view};
-ghost use Rattle.asl_lint.specs.Told.{of_complaint, of_finding, of_record, not_json, not_settled, not_whole, told_by};
+ghost use Rattle.asl_lint.specs.Told.{error, not_json, not_settled, not_whole, of_complaint, of_finding, of_record, told_by, unless_empty};
 
-use asl_check::{Finding, FindingFault};
+use asl_check::{Finding, FindingFault, MissingPath};
 use asl_diagnostics::{
     Rule, Severity, rule_of_definition, rule_of_finding, rule_of_record, rule_of_text,
     rule_of_unsettled,
@@ -21,15 +21,6 @@ pub(crate) enum Which {
     Declared,
 }
 
-/// A path that may name nothing.
-#[derive(Drop)]
-pub(crate) struct DoubtedPath {
-    /// Its text.
-    pub(crate) text: String,
-    /// In a template the name of the nearest field, without its suffix; elsewhere it is empty.
-    pub(crate) name: String,
-}
-
 /// What a problem is about, by which it gets its place and its message.
 #[derive(Drop)]
 pub(crate) enum Kind {
@@ -42,7 +33,7 @@ pub(crate) enum Kind {
     /// The declared shapes break a rule.
     Record(RecordFault),
     /// The machine breaks a rule; a path tells it, or none.
-    Finding(FindingFault, Option<DoubtedPath>),
+    Finding(FindingFault, Option<MissingPath>),
     /// The rounds of the inference don't settle.
     NotSettled,
     /// Something is hardly meant, as the sentence says; in an element of a list, counted from 0, or in none.
@@ -65,7 +56,9 @@ pub(crate) struct Problem {
 
 impl Problem {
     /// An error about a whole text or a whole machine.
-    fn whole(kind: Kind, rule: &'static Rule) -> Problem {
+    fn whole(kind: Kind, rule: &'static Rule) -> Problem
+        ensures { told_by result ≡ error rule.now.id.now None None None }
+    {
         Problem {
             kind,
             severity: Severity::Error,
@@ -93,7 +86,7 @@ impl Problem {
     pub(crate) fn not_json(which: Which) -> Result<Problem, OutOfMemory>
         ensures { IfOk result (λ problem. told_by problem ≡ not_json) }
     {
-        let rule = rule_of_text(&TreeRefusal::NotJson).ok_or(OutOfMemory)?;
+        let rule = rule_of_no_json().ok_or(OutOfMemory)?;
         Ok(Problem::whole(Kind::NotJson(which), rule))
     }
 
@@ -101,7 +94,7 @@ impl Problem {
     pub(crate) fn not_whole() -> Result<Problem, OutOfMemory>
         ensures { IfOk result (λ problem. told_by problem ≡ not_whole) }
     {
-        let rule = rule_of_text(&TreeRefusal::NotWhole).ok_or(OutOfMemory)?;
+        let rule = rule_of_not_whole().ok_or(OutOfMemory)?;
         Ok(Problem::whole(Kind::NotWhole, rule))
     }
 
@@ -114,8 +107,8 @@ impl Problem {
 
     /// A complaint of a definition. Refuses the one that there was no memory to tell.
     pub(crate) fn complaint(refusal: DefRefusal) -> Result<Problem, OutOfMemory>
-        ensures { IfOk result (λ problem. (c : Complaint) → refusal_view refusal ≡ Some c
-            → told_by problem ≡ of_complaint c) }
+        ensures { IfOk result
+            (λ problem. option_map of_complaint (refusal_view refusal) ≡ Some (told_by problem)) }
     {
         let rule = rule_of_definition(refusal.fault).ok_or(OutOfMemory)?;
         Ok(Problem {
@@ -130,8 +123,8 @@ impl Problem {
 
     /// A complaint of declared shapes. Refuses the one that there was no memory to tell.
     pub(crate) fn record(refusal: RecordRefusal) -> Result<Problem, OutOfMemory>
-        ensures { IfOk result (λ problem. (c : RecordComplaint) → complaint_view refusal ≡ Some c
-            → told_by problem ≡ of_record c) }
+        ensures { IfOk result
+            (λ problem. option_map of_record (complaint_view refusal) ≡ Some (told_by problem)) }
     {
         let rule = rule_of_record(&refusal.fault).ok_or(OutOfMemory)?;
         Ok(Problem {
@@ -145,7 +138,7 @@ impl Problem {
     }
 
     /// A broken rule of a machine, with the path that tells it, if one does.
-    pub(crate) fn finding(finding: Finding, path: Option<DoubtedPath>) -> Problem
+    pub(crate) fn finding(finding: Finding, path: Option<MissingPath>) -> Problem
         ensures { told_by result ≡ of_finding (finding_view finding) }
     {
         Problem {
@@ -164,4 +157,28 @@ fn unless_empty(text: String) -> Option<String>
     ensures { option_map string_bytes result ≡ unless_empty (string_bytes text) }
 {
     if text.is_empty() { None } else { Some(text) }
+}
+
+/// The problems with one more behind them.
+pub(crate) fn added(problems: Vec<Problem>, problem: Problem) -> Result<Vec<Problem>, OutOfMemory>
+    ensures { IfOk result (λ all. map told_by all.items
+        ≡ map told_by problems.items ++ told_by problem ∷ []) }
+{
+    let mut all = problems;
+    all.push(problem)?;
+    Ok(all)
+}
+
+/// The rule of a text that is no JSON.
+fn rule_of_no_json() -> Option<&'static Rule>
+    ensures { IfSome result (λ rule. rule.now.id.now ≡ codes "NotJson") }
+{
+    rule_of_text(&TreeRefusal::NotJson)
+}
+
+/// The rule of a text with a number that isn't whole.
+fn rule_of_not_whole() -> Option<&'static Rule>
+    ensures { IfSome result (λ rule. rule.now.id.now ≡ codes "NotWhole") }
+{
+    rule_of_text(&TreeRefusal::NotWhole)
 }

@@ -1,11 +1,19 @@
 //! What the two texts read as, or what is wrong with them.
-ghost use Rattle.std.specs.Prelude.{◌≡◌, IfOk};
-ghost use Rattle.asl_lint.specs.Reading.{IsDefinition, IsDeclaration};
+ghost use Rattle.std.specs.Prelude.{◌≡◌, ◌++◌, ◌∷◌, [], IfOk, None, map};
+ghost use Rattle.serde_json.specs.Data.{Data};
+ghost use Rattle.serde_json.specs.View.{view};
+ghost use Rattle.asl_model.specs.Json.{ReadsAsValue, tree_of};
+ghost use Rattle.asl_model.specs.Names.{Bytes};
+ghost use Rattle.asl_model.specs.Records.{HasDeclaredFault};
+ghost use Rattle.asl_model.specs.Texts.{IsNoJson};
+ghost use Rattle.asl_records.specs.Refusal.{Tells};
+ghost use Rattle.asl_lint.specs.Reading.{IsDeclaration, IsDefinition, IsValueOf};
+ghost use Rattle.asl_lint.specs.Told.{told_by};
 
-use crate::complaints::problems_of_refused;
-use crate::problems::{Problem, Which};
-use asl_machine::{DefFault, Machine};
-use asl_records::{Declared, ReadFault, read_declared};
+use crate::complaints::problems_of_value;
+use crate::problems::{Problem, Which, added};
+use asl_machine::Machine;
+use asl_records::{Declared, ReadFault, RecordRefusal, read_declared};
 use asl_tree::{OutOfMemory, TreeRefusal, read_value};
 use serde_json::Value;
 use std::alloc::Global;
@@ -31,33 +39,90 @@ pub(crate) enum Declaration {
 pub(crate) fn read_definition(alloc: Global, text: &[u8]) -> Result<Definition, OutOfMemory>
     ensures { IfOk result (IsDefinition text.now) }
 {
-    let Some(value) = json_value(alloc, text)? else {
-        let mut problems = Vec::new(alloc);
-        problems.push(Problem::not_json(Which::Definition)?)?;
-        return Ok(Definition::Refused(problems));
-    };
-    match asl_machine::read(alloc, &value) {
-        Ok(machine) => Ok(Definition::Machine(machine)),
-        Err(refusal) => match refusal.fault {
-            DefFault::OutOfMemory => Err(OutOfMemory),
-            _ => Ok(Definition::Refused(problems_of_refused(alloc, &value, refusal)?)),
-        },
+    let value = json_value(alloc, text)?;
+    match value {
+        Some(value) => definition_of(alloc, &value),
+        None => no_definition(alloc),
     }
+}
+
+/// What is told of a definition that is no JSON.
+fn no_definition(alloc: Global) -> Result<Definition, OutOfMemory>
+    ensures { (text : Bytes) → IsNoJson text → IfOk result (IsDefinition text) }
+{
+    let problem = Problem::not_json(Which::Definition)?;
+    let problems = added(Vec::new(alloc), problem)?;
+    Ok(Definition::Refused(problems))
+}
+
+/// The definition that a value is.
+fn definition_of(alloc: Global, value: &Value) -> Result<Definition, OutOfMemory>
+    ensures { (text : Bytes) → ReadsAsValue text (view value.now) → IfOk result (IsDefinition text) }
+{
+    match asl_machine::read(alloc, value) {
+        Ok(machine) => Ok(Definition::Machine(machine)),
+        Err(_) => refused_value(alloc, value),
+    }
+}
+
+/// What is wrong with a value that isn't read as a machine. Where nothing is, there was no memory to read it.
+fn refused_value(alloc: Global, value: &Value) -> Result<Definition, OutOfMemory>
+    ensures { (text : Bytes) → ReadsAsValue text (view value.now) → IfOk result (IsDefinition text) }
+{
+    let problems = problems_of_value(alloc, value)?;
+    if problems.is_empty() {
+        return Err(OutOfMemory);
+    }
+    Ok(Definition::Refused(problems))
 }
 
 /// The declared shapes that a text is.
 pub(crate) fn read_declaration(alloc: Global, text: &[u8]) -> Result<Declaration, OutOfMemory>
     ensures { IfOk result (IsDeclaration text.now) }
 {
-    let Some(value) = json_value(alloc, text)? else {
-        return Ok(Declaration::Refused(Problem::not_json(Which::Declared)?));
-    };
+    let value = json_value(alloc, text)?;
+    match value {
+        Some(value) => declaration_of(alloc, value),
+        None => no_declaration(),
+    }
+}
+
+/// What is told of declared shapes that are no JSON.
+fn no_declaration() -> Result<Declaration, OutOfMemory>
+    ensures { (text : Bytes) → IsNoJson text → IfOk result (IsDeclaration text) }
+{
+    let problem = Problem::not_json(Which::Declared)?;
+    Ok(Declaration::Refused(problem))
+}
+
+/// The declared shapes that a value is.
+fn declaration_of(alloc: Global, value: Value) -> Result<Declaration, OutOfMemory>
+    ensures { (text : Bytes) → ReadsAsValue text (view value) → IfOk result (IsDeclaration text) }
+{
     match read_declared(alloc, value) {
         Ok(declared) => Ok(Declaration::Declared(declared)),
-        Err(ReadFault::NotWhole) => Ok(Declaration::Refused(Problem::not_whole()?)),
-        Err(ReadFault::Record(refusal)) => Ok(Declaration::Refused(Problem::record(refusal)?)),
+        Err(ReadFault::NotWhole) => not_whole_declaration(),
+        Err(ReadFault::Record(refusal)) => refused_declaration(refusal),
         Err(ReadFault::OutOfMemory) => Err(OutOfMemory),
     }
+}
+
+/// What is told of declared shapes with a number that isn't whole.
+fn not_whole_declaration() -> Result<Declaration, OutOfMemory>
+    ensures { (text : Bytes) (v : Data) → ReadsAsValue text v → tree_of v ≡ None
+        → IfOk result (IsDeclaration text) }
+{
+    let problem = Problem::not_whole()?;
+    Ok(Declaration::Refused(problem))
+}
+
+/// What is told of declared shapes that are refused so.
+fn refused_declaration(refusal: RecordRefusal) -> Result<Declaration, OutOfMemory>
+    ensures { (text : Bytes) (v : Data) → ReadsAsValue text v → Tells refusal (HasDeclaredFault v)
+        → IfOk result (IsDeclaration text) }
+{
+    let problem = Problem::record(refusal)?;
+    Ok(Declaration::Refused(problem))
 }
 
 /// The JSON value that a text is, if it is one.

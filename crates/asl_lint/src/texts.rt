@@ -1,57 +1,178 @@
-//! Problems of two texts, or of one.
-use crate::inferring::problems_of_machine;
-use crate::problems::Problem;
+//! What is told of two texts, or of one.
+ghost use Rattle.std.specs.Prelude.{◌≡◌, ℕ, IfOk, map, option_map};
+ghost use Rattle.asl_model.specs.Machine.{Scope};
+ghost use Rattle.asl_model.specs.Names.{Bytes};
+ghost use Rattle.asl_states.specs.Table.{Shows};
+ghost use Rattle.asl_records.specs.View.{declared_view};
+ghost use Rattle.asl_tool.specs.Verifying.{ReadsInto};
+ghost use Rattle.asl_lint.specs.Reading.{IsDeclaration};
+ghost use Rattle.asl_lint.specs.Tells.{TellsOfBoth, TellsOfDefinition, TellsOfMachine, TellsOfOne, TellsOfTexts};
+ghost use Rattle.asl_lint.specs.Told.{errors_of, told_by};
+
+use crate::inferring::judge;
+use crate::problems::{Problem, added};
 use crate::reading::{Declaration, Definition, read_declaration, read_definition};
 use crate::warnings::add_warnings;
 use asl_machine::Machine;
+use asl_records::{Declared, NumberedCertificate};
 use asl_tree::OutOfMemory;
 use std::alloc::Global;
 
-/// What is told of a definition, and of declared shapes where there are any.
+/// What is wrong with texts; and the machine, where the definition reads, with the certificate by which it was judged,
+/// where there is one.
+#[derive(Drop)]
+struct Found {
+    problems: Vec<Problem>,
+    machine: Option<Machine>,
+    certificate: Option<NumberedCertificate>,
+}
+
+impl Found {
+    /// What is wrong where there is no machine.
+    fn refused(problems: Vec<Problem>) -> Found
+        ensures { result.problems ≡ problems }
+    {
+        Found {
+            problems,
+            machine: None,
+            certificate: None,
+        }
+    }
+}
+
+/// What is told of a definition, and of declared shapes where they are given: what is wrong, and then what is hardly
+/// meant.
 pub(crate) fn problems_of_texts(
     alloc: Global,
     definition: &[u8],
     declared: Option<&[u8]>,
     max_rounds: u32,
-) -> Result<Vec<Problem>, OutOfMemory> {
+) -> Result<Vec<Problem>, OutOfMemory>
+    ensures { IfOk result (λ problems. TellsOfTexts max_rounds definition.now
+        (option_map (λ text. text.now) declared.entry) (errors_of problems.items)) }
+{
+    let found = find(alloc, definition, declared, max_rounds)?;
+    let problems = with_warnings(alloc, found)?;
+    Ok(problems)
+}
+
+/// What is wrong, and behind it what is hardly meant.
+fn with_warnings(alloc: Global, found: Found) -> Result<Vec<Problem>, OutOfMemory>
+    ensures { IfOk result (λ problems. errors_of problems.items ≡ errors_of found.problems.items) }
+{
+    let mut problems = found.problems;
+    let mut certificate = found.certificate;
+    if let Some(machine) = &found.machine {
+        add_warnings(alloc, &mut problems, machine, certificate.as_mut())?;
+    }
+    Ok(problems)
+}
+
+/// What is wrong with a definition, and with declared shapes where they are given.
+fn find(
+    alloc: Global,
+    definition: &[u8],
+    declared: Option<&[u8]>,
+    max_rounds: u32,
+) -> Result<Found, OutOfMemory>
+    ensures { IfOk result (λ found. TellsOfTexts max_rounds definition.now
+        (option_map (λ text. text.now) declared.entry) (map told_by found.problems.items)) }
+{
     match declared {
-        None => problems_of_definition(alloc, definition),
-        Some(declared) => problems_of_both(alloc, definition, declared, max_rounds),
+        None => find_in_one(alloc, definition),
+        Some(declared) => find_in_both(alloc, definition, declared, max_rounds),
     }
 }
 
-/// What is told of a definition alone.
-fn problems_of_definition(alloc: Global, definition: &[u8]) -> Result<Vec<Problem>, OutOfMemory> {
-    match read_definition(alloc, definition)? {
-        Definition::Machine(machine) => oddities_of(alloc, &machine),
-        Definition::Refused(problems) => Ok(problems),
+/// What is wrong with a definition alone.
+fn find_in_one(alloc: Global, definition: &[u8]) -> Result<Found, OutOfMemory>
+    ensures { IfOk result
+        (λ found. TellsOfOne definition.now (map told_by found.problems.items)) }
+{
+    let read = read_definition(alloc, definition)?;
+    match read {
+        Definition::Machine(machine) => Ok(Found {
+            problems: Vec::new(alloc),
+            machine: Some(machine),
+            certificate: None,
+        }),
+        Definition::Refused(problems) => Ok(Found::refused(problems)),
     }
 }
 
-/// What is told of a definition and of declared shapes.
-fn problems_of_both(
+/// What is wrong with a definition and with declared shapes.
+fn find_in_both(
     alloc: Global,
     definition: &[u8],
     declared: &[u8],
     max_rounds: u32,
-) -> Result<Vec<Problem>, OutOfMemory> {
+) -> Result<Found, OutOfMemory>
+    ensures { IfOk result (λ found. TellsOfBoth max_rounds definition.now declared.now
+        (map told_by found.problems.items)) }
+{
+    let read = read_definition(alloc, definition)?;
     let declaration = read_declaration(alloc, declared)?;
-    let mut problems = match (read_definition(alloc, definition)?, &declaration) {
-        (Definition::Refused(problems), _) => problems,
-        (Definition::Machine(machine), Declaration::Declared(declared)) => {
-            return problems_of_machine(alloc, &machine, declared, max_rounds);
-        }
-        (Definition::Machine(machine), Declaration::Refused(_)) => oddities_of(alloc, &machine)?,
-    };
-    if let Declaration::Refused(problem) = declaration {
-        problems.push(problem)?;
+    match read {
+        Definition::Machine(machine) => find_in_machine(alloc, machine, declaration, max_rounds),
+        Definition::Refused(problems) => find_behind(problems, declaration),
     }
-    Ok(problems)
 }
 
-/// What is hardly meant in a machine.
-fn oddities_of(alloc: Global, machine: &Machine) -> Result<Vec<Problem>, OutOfMemory> {
-    let mut problems = Vec::new(alloc);
-    add_warnings(alloc, &mut problems, machine, None)?;
-    Ok(problems)
+/// What is wrong with declared shapes, and with a machine under them.
+fn find_in_machine(
+    alloc: Global,
+    machine: Machine,
+    declaration: Declaration,
+    max_rounds: u32,
+) -> Result<Found, OutOfMemory>
+    ensures { IfOk result (λ found. (definition declared : Bytes) → ReadsInto definition machine
+        → IsDeclaration declared declaration
+        → TellsOfBoth max_rounds definition declared (map told_by found.problems.items)) }
+{
+    match declaration {
+        Declaration::Declared(declared) => find_under(alloc, machine, &declared, max_rounds),
+        Declaration::Refused(problem) => {
+            let problems = added(Vec::new(alloc), problem)?;
+            Ok(Found {
+                problems,
+                machine: Some(machine),
+                certificate: None,
+            })
+        }
+    }
+}
+
+/// What is wrong with a machine under declared shapes.
+fn find_under(
+    alloc: Global,
+    machine: Machine,
+    declared: &Declared,
+    max_rounds: u32,
+) -> Result<Found, OutOfMemory>
+    ensures { IfOk result (λ found. (m : Scope) → Shows machine m
+        → TellsOfMachine max_rounds m (declared_view declared.now)
+        (map told_by found.problems.items)) }
+{
+    let judged = judge(alloc, &machine, declared, max_rounds)?;
+    Ok(Found {
+        problems: judged.problems,
+        machine: Some(machine),
+        certificate: judged.certificate,
+    })
+}
+
+/// What is wrong with declared shapes, behind what is wrong with the definition.
+fn find_behind(problems: Vec<Problem>, declaration: Declaration) -> Result<Found, OutOfMemory>
+    ensures { (max_rounds : ℕ) → IfOk result (λ found. (definition declared : Bytes)
+        → TellsOfDefinition definition (map told_by problems.items)
+        → IsDeclaration declared declaration
+        → TellsOfBoth max_rounds definition declared (map told_by found.problems.items)) }
+{
+    match declaration {
+        Declaration::Declared(_) => Ok(Found::refused(problems)),
+        Declaration::Refused(problem) => {
+            let all = added(problems, problem)?;
+            Ok(Found::refused(all))
+        }
+    }
 }

@@ -1,0 +1,25 @@
+-- What is found in texts, by what they read as.
+use Rattle.std.proofs.Common.{◌≡◌, ℕ, List, [], ◌∷◌, ◌++◌, sym, subst}
+use Rattle.asl_model.specs.Machine.{Scope}
+use Rattle.asl_model.specs.Names.{Bytes}
+use Rattle.asl_model.specs.Texts.{ReadsAsDeclared}
+use Rattle.asl_states.specs.Table.{Shows}
+use Rattle.asl_states.specs.declared.machine.Machine.{Machine}
+use Rattle.asl_records.specs.View.{declared_view}
+use Rattle.asl_records.specs.declared.records.Declared.{Declared}
+use Rattle.asl_tool.specs.Verifying.{ReadsInto}
+use Rattle.asl_lint.specs.Tells.{TellsOfBoth, TellsOfDeclared, TellsOfDefinition, TellsOfMachine, both_read, declared_reads, definition_reads, neither_reads}
+use Rattle.asl_lint.specs.Told.{Told}
+
+module _ (rounds : ℕ) (definition declared : Bytes) where
+  pub read_both : (machine : Machine) (shapes : Declared) (told : List Told) → ReadsInto definition machine → ReadsAsDeclared declared (declared_view shapes) → ((m : Scope) → Shows machine m → TellsOfMachine rounds m (declared_view shapes) told) → TellsOfBoth rounds definition declared told
+  read_both machine shapes told r d t = both_read r.reads d (t r.definition r.shown)
+
+  pub read_one : (machine : Machine) (last : Told) (told : List Told) → ReadsInto definition machine → TellsOfDeclared declared last → told ≡ last ∷ [] → TellsOfBoth rounds definition declared told
+  read_one machine last told r t is = subst (TellsOfBoth rounds definition declared) (sym is) (definition_reads r.reads t)
+
+  pub read_other : (shapes : Declared) (told : List Told) → TellsOfDefinition definition told → ReadsAsDeclared declared (declared_view shapes) → TellsOfBoth rounds definition declared told
+  read_other shapes told t d = declared_reads t d
+
+  pub read_none : (last : Told) (front told : List Told) → TellsOfDefinition definition front → TellsOfDeclared declared last → told ≡ front ++ last ∷ [] → TellsOfBoth rounds definition declared told
+  read_none last front told t u is = subst (TellsOfBoth rounds definition declared) (sym is) (neither_reads t u)

@@ -1,0 +1,10 @@
+pub mod AllErrors
+pub mod Broken
+pub mod Errors
+pub mod Found
+pub mod Lists
+pub mod OneAnswer
+pub mod Outcomes
+pub mod Promises
+pub mod Refusals
+pub mod Warned

@@ -1,0 +1,32 @@
+use Rattle.std.proofs.Common.{[], ◌∷◌, IfSome, map, sym, ap, ◌∙◌, subst}
+use Rattle.std.proofs.lemmas.Result.{IfOk-weaker}
+use Rattle.asl_model.specs.Numbering.{table_of}
+use Rattle.asl_states.specs.Table.{table_view}
+use Rattle.asl_records.specs.Numbered.{numbered_view}
+use Rattle.asl_records.specs.View.{declared_view}
+use Rattle.asl_check.specs.View.{finding_view}
+use Rattle.asl_infer.specs.Lenient.{IsInferredLeniently}
+use Rattle.asl_lint.specs.Told.{told_by}
+use Rattle.asl_lint.proofs.Broken.{alone_by, leniently_by}
+use Rattle.asl_lint.proofs.Refusals.{some_there}
+use Rattle.asl_lint.proofs.inferring.judge_leniently.Goals as goal
+
+pub returns-in_default-clause-told : goal.returns-in_default-clause-told
+returns-in_default-clause-told c =
+    IfOk-weaker c.alone.result _ _ (λ judged told. λ m shown.
+    alone_by c.args.max_rounds m (declared_view c.args.declared.now) (finding_view c.args.finding) (map told_by judged.problems.items) (told ∙ ap (λ t. t ∷ []) c.finding.ensures))
+    c.alone.ensures.told
+
+pub returns-then-is_empty-clause-told : goal.returns-then-is_empty-clause-told
+returns-then-is_empty-clause-told c =
+    IfOk-weaker c.alone-then-is_empty.result _ _ (λ judged told. λ m shown.
+    alone_by c.args.max_rounds m (declared_view c.args.declared.now) (finding_view c.args.finding) (map told_by judged.problems.items) (told ∙ ap (λ t. t ∷ []) c.finding-then-is_empty.ensures))
+    c.alone-then-is_empty.ensures.told
+
+pub returns-clause-told : goal.returns-clause-told
+returns-clause-told c = λ m shown.
+    let shapes = declared_view c.args.declared.now in
+    let problems = c.in_ok-problems.problems in
+    let inferred = subst (λ o. IfSome o (λ certificate. IsInferredLeniently (table_of m) shapes c.args.max_rounds (numbered_view certificate))) c.in-Some.is (c.in_ok-certificate.ensures.inferred m shown) in
+    leniently_by (table_view c.args.machine.now) m shapes (numbered_view c.in-Some.certificate) shown.table c.args.max_rounds (finding_view c.args.finding) problems.items
+    inferred c.in_ok-problems.ensures.told (some_there problems.items _ problems.ok.0 (sym c.is_empty.ensures ∙ c.if-is_empty.false))

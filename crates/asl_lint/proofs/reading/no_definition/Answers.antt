@@ -1,0 +1,9 @@
+use Rattle.std.proofs.Common.{[], ◌∷◌, ◌++◌, map, sym, ap, ◌∙◌, subst}
+use Rattle.asl_lint.specs.Tells.{TellsOfDefinition, definition_no_json}
+use Rattle.asl_lint.specs.Told.{told_by}
+use Rattle.asl_lint.proofs.reading.no_definition.Goals as goal
+
+pub returns : goal.returns
+returns c = λ text none.
+    let alone = c.in_ok-problems.ensures ∙ ap (λ ps. map told_by ps ++ told_by c.in_ok-problem.problem ∷ []) c.new.ensures.items in
+    subst (TellsOfDefinition text) (sym (alone ∙ ap (λ t. t ∷ []) c.in_ok-problem.ensures)) (definition_no_json none)

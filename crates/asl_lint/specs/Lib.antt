@@ -1,0 +1,4 @@
+pub mod Linted
+pub mod Reading
+pub mod Tells
+pub mod Told
