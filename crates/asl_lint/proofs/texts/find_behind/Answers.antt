@@ -10,8 +10,8 @@ returns-in-Declared c = λ rounds definition declared told d.
     let shapes = subst (IsDeclaration declared) c.in-Declared.is d in
     subst (λ ps. TellsOfBoth rounds definition declared (map told_by ps.items)) (sym c.refused.ensures) (declared_reads told shapes)
 
-pub returns-in_ok-all-in-Refused : goal.returns-in_ok-all-in-Refused
-returns-in_ok-all-in-Refused c = λ rounds definition declared told d.
+pub returns : goal.returns
+returns c = λ rounds definition declared told d.
     let last = subst (IsDeclaration declared) c.in-Refused.is d in
     let all = c.in_ok-all-in-Refused.all.items in
     subst (λ ps. TellsOfBoth rounds definition declared (map told_by ps.items)) (sym c.refused-in-Refused.ensures)
