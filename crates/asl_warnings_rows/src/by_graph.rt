@@ -47,6 +47,14 @@ fn of_task(rt: &impl Abort, alloc: Global, retry: &str, catch: &str) -> String {
     told_by_graph(rt, alloc, &definition)
 }
 
+/// What is told behind the line on E, to which no way leads where no catcher names it.
+fn behind_the_end(told: &str) -> &str {
+    match told.strip_prefix("E : nothing leads to this state\n") {
+        Some(rest) => rest,
+        None => told,
+    }
+}
+
 #[test]
 fn retriers_and_catchers_of_a_task(rt: HostRuntime) {
     let vectors = [
@@ -83,13 +91,7 @@ fn retriers_and_catchers_of_a_task(rt: HostRuntime) {
     ];
     for (retry, catch, wanted) in vectors {
         let told = of_task(&rt, rt.alloc(), retry, catch);
-        let found = match told
-            .as_str()
-            .strip_prefix("E : nothing leads to this state\n")
-        {
-            Some(rest) => rest,
-            None => told.as_str(),
-        };
+        let found = behind_the_end(&told);
         assert_eq!(rt; found, wanted, "of {retry} and {catch}");
     }
 }
