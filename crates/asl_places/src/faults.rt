@@ -1,117 +1,253 @@
-//! Where a text that is no JSON breaks.
-use asl_tree::OutOfMemory;
-use json::{MAX_DEPTH, Reader, Scratch, Token};
-use std::alloc::Global;
+//! Where and why a text that is no JSON breaks.
+ghost use Rattle.std.specs.Prelude.{◌≡◌, ◌<◌, ◌≤◌, IfErr, IfSome, length};
 
-/// What stands open around a token.
+use crate::lexemes::{behind_number, behind_string, behind_word};
+
+/// Where a text can't go on as JSON, and why.
+#[derive(Clone, Copy, Debug, Drop, PartialEq, Eq)]
+pub struct Fault {
+    /// The byte that can't stand where it does, or the text's end. A word, an escape and a leading zero are told where
+    /// they begin.
+    pub byte: usize,
+    pub kind: FaultKind,
+}
+
+/// Why a text can't go on.
+#[derive(Clone, Copy, Debug, Drop, PartialEq, Eq)]
+pub enum FaultKind {
+    /// Something else is wanted.
+    Wanted(Wanted),
+    /// Letters stand outside a string that are none of `true`, `false` and `null`.
+    Word,
+    /// A number has a zero in front of other digits.
+    LeadingZero,
+    /// A string goes on in the next line.
+    LineBreak,
+    /// A string has another control character.
+    Control,
+    /// A string has an escape that there isn't.
+    Escape,
+    /// A string has half of a surrogate pair.
+    Surrogate,
+    /// The text ends within a string.
+    OpenString,
+    /// The text nests deeper than [`MAX_DEPTH`].
+    TooDeep,
+    /// The text begins with a byte order mark.
+    ByteOrderMark,
+}
+
+/// What may come next.
+#[derive(Clone, Copy, Debug, Drop, PartialEq, Eq)]
+pub enum Wanted {
+    Value,
+    ValueOrBracket,
+    Name,
+    NameOrBrace,
+    Colon,
+    CommaOrBrace,
+    CommaOrBracket,
+    Digit,
+    /// The end of the text.
+    Nothing,
+}
+
+/// How many objects and lists may stand in one another.
+pub const MAX_DEPTH: usize = 127;
+
+/// What stands open around a value.
 #[derive(Clone, Copy, Drop)]
 enum Bracket {
     Object,
     List,
 }
 
-/// What may come next.
-#[derive(Clone, Copy, Drop)]
-enum Wanted {
-    Value,
-    ElementOrEnd,
-    NameOrEnd,
-    Nothing,
-}
-
 /// How far a text is JSON.
 #[derive(Drop)]
 struct Nesting {
-    open: Vec<Bracket>,
+    open: [Bracket; MAX_DEPTH],
+    depth: usize,
     wanted: Wanted,
 }
 
-/// The byte at which the first token begins that can't stand where it does, or the text's end where none is such.
-pub(crate) fn fault_of(alloc: Global, text: &str) -> Result<usize, OutOfMemory> {
-    let mut scratch = Scratch::new(alloc);
-    let mut reader = Reader::new(text, &mut scratch)?;
+/// Where the text can't go on as JSON. There is no such place where it is JSON and nests no deeper than [`MAX_DEPTH`].
+pub fn fault_in(text: &str) -> Option<Fault>
+    ensures { IfSome result (λ fault. fault.byte ≤ length text.now) }
+{
+    let bytes = text.as_bytes();
+    if bytes.starts_with(b"\xef\xbb\xbf") {
+        return Some(Fault::at(0, FaultKind::ByteOrderMark));
+    }
     let mut nesting = Nesting {
-        open: Vec::new(alloc),
+        open: [Bracket::Object; MAX_DEPTH],
+        depth: 0,
         wanted: Wanted::Value,
     };
-    let mut offset = reader.offset();
-    while let Some(token) = reader.next() {
-        if !nesting.takes(token)? {
-            return Ok(offset);
+    let mut next = 0;
+    for at in 0..bytes.len() {
+        if at < next || matches!(bytes[at], b' ' | b'\t' | b'\n' | b'\r') {
+            continue;
         }
-        offset = reader.offset();
+        match nesting.passes(bytes, at) {
+            Ok(behind) => next = behind,
+            Err(fault) => return Some(fault),
+        }
     }
-    Ok(text.len())
+    match nesting.wanted {
+        Wanted::Nothing => None,
+        wanted => Some(Fault::wanted(bytes.len(), wanted)),
+    }
+}
+
+impl Fault {
+    /// A fault at that byte.
+    pub(crate) fn at(byte: usize, kind: FaultKind) -> Fault
+        ensures { result.byte ≡ byte }
+    {
+        Fault { byte, kind }
+    }
+
+    /// At that byte something else is wanted.
+    pub(crate) fn wanted(byte: usize, wanted: Wanted) -> Fault
+        ensures { result.byte ≡ byte }
+    {
+        Fault::at(byte, FaultKind::Wanted(wanted))
+    }
 }
 
 impl Nesting {
-    /// Whether the token may stand here; if so it is passed.
-    fn takes(&mut self, token: Token<'_>) -> Result<bool, OutOfMemory> {
-        match token {
-            Token::BeginObject => self.opens(Bracket::Object),
-            Token::BeginArray => self.opens(Bracket::List),
-            Token::EndObject => Ok(self.closes(Bracket::Object)),
-            Token::EndArray => Ok(self.closes(Bracket::List)),
-            Token::Key(_) => Ok(self.names()),
-            Token::String(_) | Token::Number(_) | Token::Bool(_) | Token::Null => {
-                Ok(self.passes_a_value())
-            }
-            Token::Bad => Ok(false),
+    /// Passes what begins at the byte. The answer is the byte behind it.
+    fn passes(&mut self, text: &[u8], at: usize) -> Result<usize, Fault>
+        requires { at < length text.now }
+        ensures { IfErr result (λ fault. fault.byte ≤ length text.now) }
+    {
+        match text[at] {
+            b'{' => self.opens(Bracket::Object, at)?,
+            b'[' => self.opens(Bracket::List, at)?,
+            b'}' => self.closes(Bracket::Object, at)?,
+            b']' => self.closes(Bracket::List, at)?,
+            b',' => self.goes_on(at)?,
+            b':' => self.names(at)?,
+            b'"' => return self.takes_string(text, at),
+            _ => return self.takes_scalar(text, at),
         }
+        Ok(at + 1)
     }
 
-    /// An opening bracket.
-    fn opens(&mut self, bracket: Bracket) -> Result<bool, OutOfMemory> {
-        if !self.may_begin() || self.open.len() >= MAX_DEPTH {
-            return Ok(false);
+    /// Passes an opening bracket.
+    fn opens(&mut self, bracket: Bracket, at: usize) -> Result<(), Fault>
+        ensures { IfErr result (λ fault. fault.byte ≡ at) }
+    {
+        if !self.wants_value() {
+            return Err(self.fault(at));
         }
-        self.open.push(bracket)?;
+        if self.depth >= MAX_DEPTH {
+            return Err(Fault::at(at, FaultKind::TooDeep));
+        }
+        self.open[self.depth] = bracket;
+        self.depth += 1;
         self.wanted = match bracket {
-            Bracket::Object => Wanted::NameOrEnd,
-            Bracket::List => Wanted::ElementOrEnd,
+            Bracket::Object => Wanted::NameOrBrace,
+            Bracket::List => Wanted::ValueOrBracket,
         };
-        Ok(true)
+        Ok(())
     }
 
-    /// A closing bracket.
-    fn closes(&mut self, bracket: Bracket) -> bool {
+    /// Passes a closing bracket.
+    fn closes(&mut self, bracket: Bracket, at: usize) -> Result<(), Fault>
+        ensures { IfErr result (λ fault. fault.byte ≡ at) }
+    {
         let may = match bracket {
-            Bracket::Object => matches!(self.wanted, Wanted::NameOrEnd),
-            Bracket::List => matches!(self.wanted, Wanted::ElementOrEnd),
+            Bracket::Object => matches!(self.wanted, Wanted::NameOrBrace | Wanted::CommaOrBrace),
+            Bracket::List => matches!(self.wanted, Wanted::ValueOrBracket | Wanted::CommaOrBracket),
         };
-        if may {
-            drop(self.open.pop());
-            self.value_ended();
+        if !may {
+            return Err(self.fault(at));
         }
-        may
+        self.depth = self.depth.saturating_sub(1);
+        self.ends_value();
+        Ok(())
     }
 
-    /// A member's name.
-    fn names(&mut self) -> bool {
-        let may = matches!(self.wanted, Wanted::NameOrEnd);
-        if may {
-            self.wanted = Wanted::Value;
+    /// Passes a comma.
+    fn goes_on(&mut self, at: usize) -> Result<(), Fault>
+        ensures { IfErr result (λ fault. fault.byte ≡ at) }
+    {
+        self.wanted = match self.wanted {
+            Wanted::CommaOrBrace => Wanted::Name,
+            Wanted::CommaOrBracket => Wanted::Value,
+            _ => return Err(self.fault(at)),
+        };
+        Ok(())
+    }
+
+    /// Passes a colon.
+    fn names(&mut self, at: usize) -> Result<(), Fault>
+        ensures { IfErr result (λ fault. fault.byte ≡ at) }
+    {
+        if self.wanted != Wanted::Colon {
+            return Err(self.fault(at));
         }
-        may
+        self.wanted = Wanted::Value;
+        Ok(())
     }
 
-    /// A value of one token.
-    fn passes_a_value(&mut self) -> bool {
-        let may = self.may_begin();
-        if may {
-            self.value_ended();
+    /// Passes a name or a string.
+    fn takes_string(&mut self, text: &[u8], at: usize) -> Result<usize, Fault>
+        requires { at < length text.now }
+        ensures { IfErr result (λ fault. fault.byte ≤ length text.now) }
+    {
+        let is_name = matches!(self.wanted, Wanted::Name | Wanted::NameOrBrace);
+        if !is_name && !self.wants_value() {
+            return Err(self.fault(at));
         }
-        may
+        let behind = behind_string(text, at)?;
+        if is_name {
+            self.wanted = Wanted::Colon;
+        } else {
+            self.ends_value();
+        }
+        Ok(behind)
     }
 
-    fn may_begin(&self) -> bool {
-        matches!(self.wanted, Wanted::Value | Wanted::ElementOrEnd)
+    /// Passes a number or a word.
+    fn takes_scalar(&mut self, text: &[u8], at: usize) -> Result<usize, Fault>
+        requires { at < length text.now }
+        ensures { IfErr result (λ fault. fault.byte ≤ length text.now) }
+    {
+        if !self.wants_value() {
+            return Err(self.fault(at));
+        }
+        let behind = match text[at] {
+            b'-' | b'0'..=b'9' => behind_number(text, at)?,
+            b'a'..=b'z' | b'A'..=b'Z' => behind_word(text, at)?,
+            _ => return Err(self.fault(at)),
+        };
+        self.ends_value();
+        Ok(behind)
     }
 
-    fn value_ended(&mut self) {
-        self.wanted = match self.open.last() {
-            Some(Bracket::Object) => Wanted::NameOrEnd,
-            Some(Bracket::List) => Wanted::ElementOrEnd,
+    /// What is wanted doesn't begin at the byte.
+    fn fault(&self, at: usize) -> Fault
+        ensures { result.byte ≡ at }
+    {
+        Fault::wanted(at, self.wanted)
+    }
+
+    /// Whether a value may come next.
+    fn wants_value(&self) -> bool {
+        matches!(self.wanted, Wanted::Value | Wanted::ValueOrBracket)
+    }
+
+    /// What may come behind a value.
+    fn ends_value(&mut self) {
+        let around = match self.depth {
+            0 => None,
+            depth => self.open.get(depth - 1).copied(),
+        };
+        self.wanted = match around {
+            Some(Bracket::Object) => Wanted::CommaOrBrace,
+            Some(Bracket::List) => Wanted::CommaOrBracket,
             None => Wanted::Nothing,
         };
     }

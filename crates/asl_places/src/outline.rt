@@ -12,7 +12,6 @@ ghost use Rattle.asl_places.specs.Found.{BeginsAt, FindsAt, IsNamed, TakesUp, Te
 ghost use Rattle.asl_places.specs.Standing.{FindsMember, Opens};
 
 use crate::cursors::{Items, Members, behind};
-use crate::faults::fault_of;
 use asl_tree::OutOfMemory;
 use json::{Error, Node, Reader, Scratch, Tape};
 use std::alloc::Global;
@@ -55,9 +54,8 @@ impl<'a> Model for Outline<'a> {
 /// Why a text has no outline.
 #[derive(Debug, Drop)]
 pub enum OutlineRefusal {
-    /// The text is no JSON (RFC 8259), or nests deeper than 128. The byte is where the first token begins that can't
-    /// stand there, or the text's end where it breaks off.
-    NotJson(usize),
+    /// The text is no JSON (RFC 8259), or nests deeper than 128.
+    NotJson,
     /// The text is longer than an outline may be: 4 GiB less 256 bytes.
     TooLong,
     /// An allocation was refused.
@@ -83,8 +81,7 @@ impl<'a> Outline<'a> {
     ) -> Result<Outline<'a>, OutlineRefusal>
         ensures tokens { IfOk result (λ o. o.0 ≡ tokens text.now) }
         ensures json { IfOk result (λ _. IsSome (document text.now)) }
-        ensures no_json { (byte : ℕ) → result ≡ Err (OutlineRefusal.NotJson byte)
-            → document text.now ≡ None }
+        ensures no_json { result ≡ Err OutlineRefusal.NotJson → document text.now ≡ None }
         ensures too_long { result ≡ Err OutlineRefusal.TooLong → MAX_LEN < length text.now }
     {
         let offsets = offsets_of(alloc, text, scratch)?;
@@ -92,9 +89,7 @@ impl<'a> Outline<'a> {
             Ok(tape) => Ok(Outline { tape, offsets }),
             Err(Error::TooLong) => Err(OutlineRefusal::TooLong),
             Err(Error::OutOfMemory) => Err(OutlineRefusal::OutOfMemory),
-            Err(Error::Invalid | Error::DuplicateKey) => {
-                Err(OutlineRefusal::NotJson(fault_of(alloc, text)?))
-            }
+            Err(Error::Invalid | Error::DuplicateKey) => Err(OutlineRefusal::NotJson),
         }
     }
 

@@ -129,8 +129,9 @@ fn first_of(found: Option<Member>, state: Member) -> Member
     }
 }
 
-/// The members of the object at the spot, of a repeated name the last. Any other value has none.
-fn members_by_name<'a>(
+/// The members of the object at the spot, of a repeated name the last. Any other value has none. Refuses only where an
+/// allocation was refused.
+pub fn members_by_name<'a>(
     alloc: Global,
     outline: &Outline<'a>,
     object: Spot,

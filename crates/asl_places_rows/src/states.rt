@@ -1,5 +1,5 @@
 //! The states of a definition, and the places of what is told of them.
-use asl_places::{Outline, Place, States, place_at};
+use asl_places::{Outline, Place, Places, States};
 use json::Scratch;
 use std::alloc::Global;
 use std::process::Abort;
@@ -32,7 +32,8 @@ fn told(
         (Some(field), None) => outline.field_or_name(state, field),
         _ => state.name,
     };
-    Some(place_at(DEFINITION.as_bytes(), outline.offset(spot)))
+    let places = Places::of(alloc, DEFINITION.as_bytes()).expect(rt, "memory");
+    Some(places.place_at(outline.offset(spot)))
 }
 
 #[test]
