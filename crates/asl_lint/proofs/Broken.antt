@@ -7,8 +7,8 @@ use Rattle.asl_model.specs.Machine.{Scope}
 use Rattle.asl_model.specs.Numbering.{Table, table_of}
 use Rattle.asl_model.specs.Verdict.{IsRight, Rejected}
 use Rattle.asl_check.specs.Told.{AreFirst, first_of, listed}
-use Rattle.asl_infer.specs.Lenient.{IsInferredLeniently}
-use Rattle.asl_lint.specs.Tells.{AreBroken, TellsInstead, TellsOfCertificate, alone, leniently, rejected}
+use Rattle.asl_infer.specs.Lenient.{IsInferredLeniently, NeverSettlesLeniently}
+use Rattle.asl_lint.specs.Tells.{AreBroken, TellsInstead, TellsOfCertificate, leniently, rejected, unbroken, unsettled_leniently}
 use Rattle.asl_lint.specs.Told.{Told, of_finding, told_by}
 use Rattle.asl_lint.specs.declared.problems.Problem.{Problem}
 
@@ -41,6 +41,16 @@ module _ (table : Table) (machine : Scope) (shapes : Declared) (certified : Cert
       map_none [] e = refl
       map_none (p ∷ ps) e = absurd (cc)
 
--- that finding alone
-pub alone_by : (rounds : ℕ) (machine : Scope) (shapes : Declared) (found : Finding) (told : List Told) → told ≡ of_finding found ∷ [] → TellsInstead rounds machine shapes found told
-alone_by rounds machine shapes found told is = subst (TellsInstead rounds machine shapes found) (sym is) alone
+  -- that finding, where no rule is broken
+  pub unbroken_by : (rounds : ℕ) (found : Finding) (told : List Told) → IsInferredLeniently (table_of machine) shapes rounds certified → [] ≡ map of_finding (listed table shapes certified) → told ≡ of_finding found ∷ [] → TellsInstead rounds machine shapes found told
+  unbroken_by rounds found told inferred none only =
+      subst (TellsInstead rounds machine shapes found) (sym only)
+      (unbroken inferred (none_mapped (listed (table_of machine) shapes certified) (none ∙ ap (λ t. map of_finding (listed t shapes certified)) is)))
+    where
+      none_mapped : (fs : List Finding) → [] ≡ map of_finding fs → fs ≡ []
+      none_mapped [] e = refl
+      none_mapped (f ∷ fs) e = absurd (cc)
+
+-- that finding, where the lenient rounds don't settle
+pub unsettled_by : (rounds : ℕ) (machine : Scope) (shapes : Declared) (found : Finding) (told : List Told) → NeverSettlesLeniently (table_of machine) shapes rounds → told ≡ of_finding found ∷ [] → TellsInstead rounds machine shapes found told
+unsettled_by rounds machine shapes found told never only = subst (TellsInstead rounds machine shapes found) (sym only) (unsettled_leniently never)

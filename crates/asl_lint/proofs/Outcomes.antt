@@ -18,7 +18,7 @@ use Rattle.asl_tool.specs.Verifying.{MachineReads}
 use Rattle.asl_lint.specs.Linted as faulty
 use Rattle.asl_lint.specs.Linted.{IsFaulty}
 use Rattle.asl_lint.specs.Tells as tells
-use Rattle.asl_lint.specs.Tells.{AreBroken, TellsOfBoth, TellsOfDeclared, TellsOfDefinition, TellsOfMachine, TellsOfOne, TellsOfCertificate, TellsInstead, accepted, rejected, leniently, alone, inferred, stopped, unsettled, both_read, definition_reads, declared_reads, neither_reads, alone_reads, alone_refused}
+use Rattle.asl_lint.specs.Tells.{AreBroken, TellsOfBoth, TellsOfDeclared, TellsOfDefinition, TellsOfMachine, TellsOfOne, TellsOfCertificate, TellsInstead, accepted, rejected, leniently, unsettled_leniently, unbroken, inferred, stopped, unsettled, both_read, definition_reads, declared_reads, neither_reads, alone_reads, alone_refused}
 use Rattle.asl_lint.specs.Told.{Told, of_complaint, of_finding}
 use Rattle.asl_lint.proofs.OneAnswer.{inferred_once, nothing_told, settles}
 
@@ -95,7 +95,8 @@ module _ (rounds : ℕ) (definition declared : Bytes) (machine : Scope) (shapes 
 
   some_instead : (found : Finding) (told : List Told) → TellsInstead rounds machine shapes found told → told ≡ [] → ⊥
   some_instead found told (leniently {certified = certified} i b) e = some_told machine shapes certified told b e
-  some_instead found told alone e = absurd (cc)
+  some_instead found told (unsettled_leniently never) e = absurd (cc)
+  some_instead found told (unbroken i none) e = absurd (cc)
 
   yes : (told : List Told) → TellsOfMachine rounds machine shapes told → told ≡ [] → IsVerdictOnInferred rounds definition declared Accepted
   yes told (inferred i t) e = yes_by _ told i t e

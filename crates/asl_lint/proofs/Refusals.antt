@@ -1,7 +1,7 @@
 -- What is told of refusals, and the names of the rules of texts.
-use Rattle.std.proofs.Common.{◌≡◌, ◌==◌, ℕ, List, [], ◌∷◌, ◌++◌, length, map, false, Option, Some, None, IfSome, option_map, codes, refl, sym, ap, ◌∙◌, subst}
+use Rattle.std.proofs.Common.{◌≡◌, ◌==◌, ℕ, List, [], ◌∷◌, ◌++◌, length, map, false, true, Option, Some, None, IfSome, option_map, codes, refl, sym, ap, ◌∙◌, subst}
 use Rattle.std.specs.Borrow.{Bor}
-use Rattle.std.proofs.lemmas.Bool.{eqb-false}
+use Rattle.std.proofs.lemmas.Bool.{eqb-false, eqb-true}
 use Rattle.std.proofs.lemmas.List.{append_cancel_left, append_cancel_right}
 use Rattle.serde_json.specs.Data.{Data}
 use Rattle.asl_model.specs.Json.{ReadsAsValue}
@@ -63,6 +63,13 @@ if_named (Some rule) name line = named (Some rule) rule name refl line
 pub some_there : {A : Type 0} (xs : List A) (many : ℕ) → many ≡ length xs → (many == 0) ≡ false → xs ≡ [] → ⊥
 some_there [] many is some none = eqb-false many 0 some is
 some_there (x ∷ xs) many is some none = absurd (cc)
+
+-- none are there where they are none
+pub none_there : {A : Type 0} (xs : List A) (many : ℕ) → many ≡ length xs → (many == 0) ≡ true → xs ≡ []
+none_there [] many is none = refl
+none_there (x ∷ xs) many is none =
+    let zero : many ≡ 0 = eqb-true many 0 none in
+    absurd (cc)
 
 -- complaints of a value are told of its text
 pub refused_by : (text : Bytes) (v : Data) (problems : List Problem) → ReadsAsValue text v → map told_by problems ≡ map of_complaint (complaints v) → (problems ≡ [] → ⊥) → TellsOfDefinition text (map told_by problems)

@@ -14,7 +14,7 @@ use Rattle.asl_model.specs.Verdict.{Accepted, IsRight, Rejected}
 use Rattle.asl_drafts.specs.Drafts.{IsInferred, IsTold, NeverSettles}
 use Rattle.asl_check.specs.Told.{listed}
 use Rattle.asl_infer.specs.Inferring.{IsOfMachine, certified_shapes}
-use Rattle.asl_infer.specs.Lenient.{IsInferredLeniently}
+use Rattle.asl_infer.specs.Lenient.{IsInferredLeniently, NeverSettlesLeniently}
 use Rattle.asl_lint.specs.Told.{Told, not_json, not_settled, not_whole, of_complaint, of_finding, of_record}
 
 -- of a text that reads as no machine: it is no JSON, or each complaint of its value as a definition
@@ -42,13 +42,17 @@ pub data TellsOfCertificate (machine : Scope) (shapes : Declared) (certified : C
     rejected : {findings : List Finding} {told : List Told} → IsRight machine shapes certified (Rejected findings)
         → AreBroken machine shapes certified told → TellsOfCertificate machine shapes certified told
 
--- of a machine where the rounds tell a finding instead: each rule that the certificate of lenient rounds breaks, or that
--- finding
+-- of a machine where the rounds tell a finding instead: each rule that the certificate of lenient rounds breaks; or that
+-- finding, where they come to no certificate, or to one that breaks none
 pub data TellsInstead (rounds : ℕ) (machine : Scope) (shapes : Declared) (found : Finding) : List Told → Type 0 where
   leniently : {certified : Certificate} {told : List Told}
       → IsInferredLeniently (table_of machine) shapes rounds certified
       → AreBroken machine shapes certified told → TellsInstead rounds machine shapes found told
-  alone : TellsInstead rounds machine shapes found (of_finding found ∷ [])
+  unsettled_leniently : NeverSettlesLeniently (table_of machine) shapes rounds
+      → TellsInstead rounds machine shapes found (of_finding found ∷ [])
+  unbroken : {certified : Certificate} → IsInferredLeniently (table_of machine) shapes rounds certified
+      → listed (table_of machine) shapes certified ≡ []
+      → TellsInstead rounds machine shapes found (of_finding found ∷ [])
 
 -- of a machine and declared shapes, for so many rounds
 pub data TellsOfMachine (rounds : ℕ) (machine : Scope) (shapes : Declared) : List Told → Type 0 where
