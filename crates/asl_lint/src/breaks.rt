@@ -1,102 +1,97 @@
 //! Where and why a text is no JSON, or has a number that isn't whole.
-use crate::sources::Outlined;
+use asl_places::{FaultKind, fault_in};
 use asl_tree::OutOfMemory;
 use json::{Reader, Scratch, Token};
-use serde_json::{Error, Value};
+use serde_json::Value;
 use std::alloc::Global;
 
-/// Why a text is no JSON: a byte that is no UTF-8, or the error of the reader of values.
-pub(crate) enum Break {
-    NoUtf8,
-    Error(Error),
-    None,
+/// Where a text that is no JSON breaks, and why.
+#[derive(Clone, Copy, Drop)]
+pub(crate) struct Break {
+    /// The byte at which it breaks, or its end.
+    pub(crate) byte: usize,
+    pub(crate) reason: Reason,
 }
 
 /// Why a text is no JSON.
+#[derive(Clone, Copy, Drop)]
+pub(crate) enum Reason {
+    /// Its bytes are no UTF-8.
+    NoUtf8,
+    /// It can't go on.
+    Fault(FaultKind),
+    /// A number in it is larger than any reader takes.
+    TooLarge,
+}
+
+/// Where a text that is no JSON breaks. Refuses only where an allocation was refused.
 pub(crate) fn break_of(alloc: Global, text: &[u8]) -> Result<Break, OutOfMemory> {
-    let Ok(text) = str::from_utf8(text) else {
-        return Ok(Break::NoUtf8);
-    };
-    match Value::from_str(alloc, text) {
-        Ok(_) => Ok(Break::None),
-        Err(error) if error.is_memory() => Err(OutOfMemory),
-        Err(error) => Ok(Break::Error(error)),
+    match str::from_utf8(text) {
+        Ok(text) => break_in(alloc, text),
+        Err(error) => Ok(Break {
+            byte: error.valid_up_to(),
+            reason: Reason::NoUtf8,
+        }),
     }
 }
 
-/// The byte where a text that is no JSON breaks: where its outline does, or, of a text that has one, where the reader of
-/// values stops, which refuses numbers that are too large and texts that nest too deep.
-pub(crate) fn byte_of_break(
-    alloc: Global,
-    text: &[u8],
-    outlined: &Outlined<'_>,
-) -> Result<usize, OutOfMemory> {
-    match outlined {
-        Outlined::Broken(byte) => Ok(*byte),
-        Outlined::Json(_) => match break_of(alloc, text)? {
-            Break::Error(error) => {
-                let behind = byte_at(text, error.line(), error.column());
-                Ok(start_of_number(text, behind))
-            }
-            Break::NoUtf8 | Break::None => Ok(0),
-        },
+/// Where a text in UTF-8 that is no JSON breaks: where it can't go on, or at a number, if it is of the right form.
+fn break_in(alloc: Global, text: &str) -> Result<Break, OutOfMemory> {
+    match fault_in(text) {
+        Some(fault) => Ok(Break {
+            byte: fault.byte,
+            reason: Reason::Fault(fault.kind),
+        }),
+        None => Ok(Break {
+            byte: first_number(alloc, text, Odd::TooLarge)?,
+            reason: Reason::TooLarge,
+        }),
     }
-}
-
-/// The byte in that column of that line, both counted from 1, the column in bytes.
-fn byte_at(text: &[u8], line: usize, column: usize) -> usize {
-    let mut left = line.saturating_sub(1);
-    let mut start = 0;
-    for at in 0..text.len() {
-        if left == 0 {
-            break;
-        }
-        if text[at] == b'\n' {
-            left -= 1;
-            start = at + 1;
-        }
-    }
-    start.saturating_add(column.saturating_sub(1))
-}
-
-/// The byte at which the number begins that ends in front of that one; that one itself where none does.
-fn start_of_number(text: &[u8], end: usize) -> usize {
-    let mut start = end.min(text.len());
-    for _ in 0..text.len() {
-        if start == 0 || !is_in_number(text[start - 1]) {
-            break;
-        }
-        start -= 1;
-    }
-    start
-}
-
-/// Whether the byte may stand in a number.
-fn is_in_number(byte: u8) -> bool {
-    byte.is_ascii_digit() || matches!(byte, b'+' | b'-' | b'.' | b'e' | b'E')
 }
 
 /// The byte at which the first number begins that isn't a whole one of 64 bits; 0 where there is none.
 pub(crate) fn first_fraction(alloc: Global, text: &[u8]) -> Result<usize, OutOfMemory> {
-    let Ok(text) = str::from_utf8(text) else {
-        return Ok(0);
-    };
+    match str::from_utf8(text) {
+        Ok(text) => first_number(alloc, text, Odd::NotWhole),
+        Err(_) => Ok(0),
+    }
+}
+
+/// What is odd about a number.
+#[derive(Clone, Copy, Drop)]
+enum Odd {
+    /// It isn't a whole one of 64 bits, by its spelling.
+    NotWhole,
+    /// It is larger than any reader takes.
+    TooLarge,
+}
+
+/// The byte at which the first number begins that is odd so; 0 where there is none.
+fn first_number(alloc: Global, text: &str, odd: Odd) -> Result<usize, OutOfMemory> {
     let mut scratch = Scratch::new(alloc);
     let mut reader = Reader::new(text, &mut scratch)?;
     let mut offset = reader.offset();
     while let Some(token) = reader.next() {
-        if is_fraction(token) {
-            return Ok(offset);
+        if let Token::Number(digits) = token {
+            if odd.is_said_of(alloc, digits)? {
+                return Ok(offset);
+            }
         }
         offset = reader.offset();
     }
     Ok(0)
 }
 
-/// Whether the token is a number that isn't a whole one of 64 bits, by its spelling.
-fn is_fraction(token: Token<'_>) -> bool {
-    match token {
-        Token::Number(text) => text == "-0" || text.parse::<i64>().is_err(),
-        _ => false,
+impl Odd {
+    /// Whether a number that is written so is odd so.
+    fn is_said_of(self, alloc: Global, digits: &str) -> Result<bool, OutOfMemory> {
+        match self {
+            Odd::NotWhole => Ok(digits == "-0" || digits.parse::<i64>().is_err()),
+            Odd::TooLarge => match Value::from_str(alloc, digits) {
+                Ok(_) => Ok(false),
+                Err(error) if error.is_memory() => Err(OutOfMemory),
+                Err(_) => Ok(true),
+            },
+        }
     }
 }

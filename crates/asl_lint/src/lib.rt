@@ -8,6 +8,7 @@ mod breaks;
 mod complaints;
 mod declared_places;
 mod definition_places;
+mod index;
 mod inferring;
 mod linting;
 mod messages;
@@ -16,6 +17,7 @@ mod problems;
 mod reading;
 mod sources;
 mod telling;
+mod templates;
 mod texts;
 mod warnings;
 

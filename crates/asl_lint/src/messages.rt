@@ -1,11 +1,14 @@
 //! What is wrong, in a sentence without a period.
-use crate::breaks::{Break, break_of};
+use crate::breaks::{Break, Reason, break_of};
 use crate::problems::{Kind, Problem};
-use crate::sources::{string_at, text_from};
+use crate::sources::{string_at, text_at, text_from};
+use crate::templates::refusal_of;
 use asl_check::FindingFault;
 use asl_diagnostics::Rule;
 use asl_machine::DefFault;
+use asl_places::{FaultKind, Wanted};
 use asl_records::RecordFault;
+use asl_template::SpellingRefusal;
 use asl_tree::OutOfMemory;
 use std::alloc::Global;
 
@@ -19,6 +22,9 @@ pub(crate) fn message_of(
     let field = field_of(problem);
     match &problem.kind {
         Kind::NotJson(_) => about_break(alloc, text),
+        Kind::Complaint(DefFault::BadTemplate) => {
+            about_template(alloc, problem.rule, text, offset)
+        }
         Kind::Complaint(fault) => about_complaint(alloc, *fault, problem, text_from(text, offset)),
         Kind::Record(RecordFault::MissingField) => about_absence(alloc, field),
         Kind::Record(RecordFault::UnknownField) => about_unknown(alloc, field),
@@ -61,16 +67,48 @@ fn without_period(text: &str) -> &str {
 
 /// About a text that is no JSON.
 fn about_break(alloc: Global, text: &[u8]) -> Result<String, OutOfMemory> {
-    match break_of(alloc, text)? {
-        Break::Error(error) => {
-            let told = format!(in alloc; "{error}")?;
-            match told.split_once(" at line ") {
-                Some((words, _)) => sentence(alloc, words),
-                None => Ok(told),
-            }
+    let found = break_of(alloc, text)?;
+    match found.reason {
+        Reason::NoUtf8 => sentence(alloc, "The text isn't UTF-8 here"),
+        Reason::TooLarge => sentence(alloc, "The number is too large"),
+        Reason::Fault(FaultKind::Wanted(wanted)) if found.byte < text.len() => {
+            Ok(format!(in alloc; "{} is wanted here", words_of(wanted))?)
         }
-        Break::NoUtf8 => sentence(alloc, "invalid UTF-8"),
-        Break::None => sentence(alloc, "invalid JSON"),
+        Reason::Fault(FaultKind::Wanted(wanted)) => {
+            Ok(format!(in alloc; "{} is wanted where the text ends", words_of(wanted))?)
+        }
+        Reason::Fault(kind) => sentence(alloc, sentence_of(kind)),
+    }
+}
+
+/// What is wanted, in words.
+fn words_of(wanted: Wanted) -> &'static str {
+    match wanted {
+        Wanted::Value => "A value",
+        Wanted::ValueOrBracket => "A value or `]`",
+        Wanted::Name => "A name in double quotes",
+        Wanted::NameOrBrace => "A name in double quotes or `}`",
+        Wanted::Colon => "`:`",
+        Wanted::CommaOrBrace => "`,` or `}`",
+        Wanted::CommaOrBracket => "`,` or `]`",
+        Wanted::Digit => "A digit",
+        Wanted::Nothing => "The end of the text",
+    }
+}
+
+/// Why a text can't go on as JSON where nothing else is wanted.
+fn sentence_of(kind: FaultKind) -> &'static str {
+    match kind {
+        FaultKind::Wanted(_) => "Something else is wanted here",
+        FaultKind::Word => "A word outside of strings is none of `true`, `false` and `null`",
+        FaultKind::LeadingZero => "A number has a zero in front of other digits",
+        FaultKind::LineBreak => "A string isn't closed on its line",
+        FaultKind::Control => "A string has a control character that isn't written as an escape",
+        FaultKind::Escape => "There is no such escape in a string",
+        FaultKind::Surrogate => "A string has half of a surrogate pair",
+        FaultKind::OpenString => "The text ends within a string",
+        FaultKind::TooDeep => "Arrays and objects nest deeper than 127 levels",
+        FaultKind::ByteOrderMark => "The text begins with a byte order mark",
     }
 }
 
@@ -86,7 +124,14 @@ fn about_complaint(
         DefFault::MissingField => about_absence(alloc, field),
         DefFault::UnknownField => about_unknown(alloc, field),
         DefFault::LeftOut => about_left_out(alloc, field),
-        DefFault::NoSuchState => about_name(alloc, problem.rule, text),
+        DefFault::NoSuchState => about_string(
+            alloc,
+            problem.rule,
+            text,
+            "is the name of no state of this scope",
+        ),
+        DefFault::UnknownType => about_string(alloc, problem.rule, text, "is no type of state"),
+        DefFault::BadPath => about_string(alloc, problem.rule, text, "is no reference path"),
         DefFault::WrongKind => sentence(
             alloc,
             "The value is of another kind than the field wants or out of its range, or the field may not stand \
@@ -113,11 +158,69 @@ fn about_left_out(alloc: Global, field: &str) -> Result<String, OutOfMemory> {
     )?)
 }
 
-/// About a name of no state, where the text goes on with it.
-fn about_name(alloc: Global, rule: &Rule, text: &[u8]) -> Result<String, OutOfMemory> {
-    match string_at(text).and_then(|name| str::from_utf8(name).ok()) {
-        Some(name) => Ok(format!(in alloc; "{name} is the name of no state of this scope")?),
+/// About a string with which the text goes on, and what it isn't; or what the rule says, where it goes on otherwise.
+fn about_string(
+    alloc: Global,
+    rule: &Rule,
+    text: &[u8],
+    isnt: &str,
+) -> Result<String, OutOfMemory> {
+    match string_at(text).and_then(|string| str::from_utf8(string).ok()) {
+        Some(string) => {
+            let shown = shortened(alloc, string)?;
+            Ok(format!(in alloc; "{shown} {isnt}")?)
+        }
         None => general(alloc, rule),
+    }
+}
+
+/// How many characters of a string are told.
+const MOST_CHARACTERS: usize = 60;
+
+/// The string with its quotes, cut where it has more characters than are told.
+fn shortened(alloc: Global, string: &str) -> Result<String, OutOfMemory> {
+    if string.chars().nth(MOST_CHARACTERS + 2).is_none() {
+        return sentence(alloc, string);
+    }
+    let mut shown = String::new(alloc);
+    for character in string.chars().take(MOST_CHARACTERS + 1) {
+        shown.push(character)?;
+    }
+    shown.push_str("\"..")?;
+    Ok(shown)
+}
+
+/// About a template, at whose place a path or a call stands that can't be read, or the template itself.
+fn about_template(
+    alloc: Global,
+    rule: &Rule,
+    text: &[u8],
+    offset: usize,
+) -> Result<String, OutOfMemory> {
+    if !is_named_as_path(text, offset) {
+        return general(alloc, rule);
+    }
+    let text = text_from(text, offset);
+    let Some(said) = text_at(alloc, text)? else {
+        return sentence(
+            alloc,
+            "The value of a field whose name ends in `.$` is no text",
+        );
+    };
+    let isnt = match refusal_of(alloc, &said, true)? {
+        Some(SpellingRefusal::BadPath) => "is no reference path",
+        Some(SpellingRefusal::BadIntrinsic) => "is no call of an intrinsic function that is read",
+        _ => "goes into the context object, which isn't read here",
+    };
+    about_string(alloc, rule, text, isnt)
+}
+
+/// Whether a value begins at the byte that has a name in front which ends in `.$`.
+fn is_named_as_path(text: &[u8], offset: usize) -> bool {
+    let before = text[..offset.min(text.len())].trim_ascii_end();
+    match before.strip_suffix(b":") {
+        Some(name) => name.trim_ascii_end().ends_with(b".$\""),
+        None => false,
     }
 }
 

@@ -4,11 +4,11 @@ use asl_tree::{OutOfMemory, Tree, TreeRefusal, read};
 use json::Scratch;
 use std::alloc::Global;
 
-/// A text's outline, or the byte where the text breaks that has none.
+/// A text's outline. A text that is no JSON, or is too long for one, has none.
 #[derive(Drop)]
 pub(crate) enum Outlined<'a> {
     Json(Outline<'a>),
-    Broken(usize),
+    None,
 }
 
 impl<'a> Outlined<'a> {
@@ -18,14 +18,12 @@ impl<'a> Outlined<'a> {
         text: &'a [u8],
         scratch: &'a mut Scratch,
     ) -> Result<Outlined<'a>, OutOfMemory> {
-        let text = match str::from_utf8(text) {
-            Ok(text) => text,
-            Err(error) => return Ok(Outlined::Broken(error.valid_up_to())),
+        let Ok(text) = str::from_utf8(text) else {
+            return Ok(Outlined::None);
         };
         match Outline::read(alloc, text, scratch) {
             Ok(outline) => Ok(Outlined::Json(outline)),
-            Err(OutlineRefusal::NotJson(byte)) => Ok(Outlined::Broken(byte)),
-            Err(OutlineRefusal::TooLong) => Ok(Outlined::Broken(0)),
+            Err(OutlineRefusal::NotJson | OutlineRefusal::TooLong) => Ok(Outlined::None),
             Err(OutlineRefusal::OutOfMemory) => Err(OutOfMemory),
         }
     }

@@ -2,15 +2,16 @@
 ghost use Rattle.std.specs.Prelude.{◌≡◌, IfOk, map};
 ghost use Rattle.asl_lint.specs.Told.{told_by, told_of};
 
-use crate::breaks::{byte_of_break, first_fraction};
+use crate::breaks::{break_of, first_fraction};
 use crate::declared_places::spot_in_declared;
 use crate::definition_places::DefinitionPlaces;
+use crate::index::Index;
 use crate::linting::File;
 use crate::messages::message_of;
 use crate::problems::{Kind, Problem, Which};
 use crate::sources::Outlined;
 use asl_diagnostics::Diagnostic;
-use asl_places::{States, place_at};
+use asl_places::{Places, States};
 use asl_tree::OutOfMemory;
 use json::Scratch;
 use std::alloc::Global;
@@ -34,22 +35,25 @@ pub(crate) fn diagnostics_of<'f>(
     let states = states_of(alloc, &outlined)?;
     let subject = Subject {
         file: definition,
-        outlined: &outlined,
-        places: places_in(alloc, definition.text, &outlined, &states),
+        places: Places::of(alloc, definition.text)?,
+        index: index_of(alloc, &outlined, definition.text)?,
+        states: &states,
     };
     tell_in(alloc, &subject, declared, problems)
 }
 
-/// The definition as it is outlined.
+/// One of the two files, with what is found in it.
 #[derive(Drop)]
 struct Subject<'s, 'f, 'a> {
     file: File<'f>,
-    outlined: &'s Outlined<'a>,
-    /// There are none in a text without an outline.
-    places: Option<DefinitionPlaces<'s, 'f, 'a>>,
+    places: Places<'f>,
+    /// There is none of a text without an outline.
+    index: Option<Index<'s, 'a>>,
+    /// The states of a definition that is JSON.
+    states: &'s Option<States<'a>>,
 }
 
-/// The problems as diagnostics, in their order, with the definition as it is outlined.
+/// The problems as diagnostics, in their order, with what is found in the definition.
 fn tell_in(
     alloc: Global,
     definition: &Subject<'_, '_, '_>,
@@ -59,23 +63,19 @@ fn tell_in(
     ensures { IfOk result
         (λ diagnostics. map told_of diagnostics.items ≡ map told_by problems.items) }
 {
-    let is_asked = some_in_declared(&problems);
+    let text = match some_in_declared(&problems) {
+        true => declared.text,
+        false => &[],
+    };
     let mut scratch = Scratch::new(alloc);
-    let outlined = outline_where(alloc, is_asked, declared.text, &mut scratch)?;
-    tell_each(alloc, definition, declared, &outlined, problems)
-}
-
-/// The outline of a text where it is asked for.
-fn outline_where<'a>(
-    alloc: Global,
-    is_asked: bool,
-    text: &'a [u8],
-    scratch: &'a mut Scratch,
-) -> Result<Outlined<'a>, OutOfMemory> {
-    if !is_asked {
-        return Ok(Outlined::Broken(0));
-    }
-    Outlined::read(alloc, text, scratch)
+    let outlined = Outlined::read(alloc, text, &mut scratch)?;
+    let subject = Subject {
+        file: declared,
+        places: Places::of(alloc, text)?,
+        index: index_of(alloc, &outlined, text)?,
+        states: &None,
+    };
+    tell_each(alloc, definition, &subject, problems)
 }
 
 /// Whether one of the problems stands in the declared shapes.
@@ -92,34 +92,27 @@ fn states_of<'a>(
 ) -> Result<Option<States<'a>>, OutOfMemory> {
     match outlined {
         Outlined::Json(outline) => Ok(Some(States::read(alloc, outline)?)),
-        Outlined::Broken(_) => Ok(None),
+        Outlined::None => Ok(None),
     }
 }
 
-/// The places in an outlined definition.
-fn places_in<'s, 'f, 'a>(
+/// The index of an outlined text.
+fn index_of<'s, 'a>(
     alloc: Global,
-    text: &'f [u8],
     outlined: &'s Outlined<'a>,
-    states: &'s Option<States<'a>>,
-) -> Option<DefinitionPlaces<'s, 'f, 'a>> {
-    match (outlined, states) {
-        (Outlined::Json(outline), Some(states)) => Some(DefinitionPlaces {
-            alloc,
-            text,
-            outline,
-            states,
-        }),
-        _ => None,
+    text: &[u8],
+) -> Result<Option<Index<'s, 'a>>, OutOfMemory> {
+    match outlined {
+        Outlined::Json(outline) => Ok(Some(Index::read(alloc, outline, text.len())?)),
+        Outlined::None => Ok(None),
     }
 }
 
-/// The problems as diagnostics, in their order, with both texts as they are outlined.
+/// The problems as diagnostics, in their order, with what is found in both texts.
 fn tell_each(
     alloc: Global,
     definition: &Subject<'_, '_, '_>,
-    declared: File<'_>,
-    outlined: &Outlined<'_>,
+    declared: &Subject<'_, '_, '_>,
     problems: Vec<Problem>,
 ) -> Result<Vec<Diagnostic>, OutOfMemory>
     ensures { IfOk result
@@ -127,7 +120,7 @@ fn tell_each(
 {
     let mut diagnostics = Vec::new(alloc);
     for problem in problems {
-        let told = tell(alloc, definition, declared, outlined, problem)?;
+        let told = tell(alloc, definition, declared, problem)?;
         diagnostics.push(told)?;
     }
     Ok(diagnostics)
@@ -137,67 +130,74 @@ fn tell_each(
 fn tell(
     alloc: Global,
     definition: &Subject<'_, '_, '_>,
-    declared: File<'_>,
-    outlined: &Outlined<'_>,
+    declared: &Subject<'_, '_, '_>,
     problem: Problem,
 ) -> Result<Diagnostic, OutOfMemory>
     ensures { IfOk result (λ diagnostic. told_of diagnostic ≡ told_by problem) }
 {
     match problem.which() {
-        Which::Definition => tell_in_definition(alloc, definition, problem),
-        Which::Declared => tell_in_declared(alloc, declared, outlined, problem),
+        Which::Definition => {
+            let offset = byte_in_definition(alloc, definition, &problem)?;
+            tell_at(alloc, definition, offset, problem)
+        }
+        Which::Declared => {
+            let offset = byte_in_declared(alloc, declared, &problem)?;
+            tell_at(alloc, declared, offset, problem)
+        }
     }
 }
 
-/// A problem of the definition as a diagnostic.
-fn tell_in_definition(
+/// The byte of the definition at which a problem stands.
+fn byte_in_definition(
     alloc: Global,
     definition: &Subject<'_, '_, '_>,
-    problem: Problem,
-) -> Result<Diagnostic, OutOfMemory>
-    ensures { IfOk result (λ diagnostic. told_of diagnostic ≡ told_by problem) }
-{
+    problem: &Problem,
+) -> Result<usize, OutOfMemory> {
     let text = definition.file.text;
-    let offset = match (&problem.kind, &definition.places) {
-        (Kind::NotJson(_), _) => byte_of_break(alloc, text, definition.outlined)?,
-        (_, Some(places)) => places.byte_of(&problem)?,
-        (_, None) => 0,
-    };
-    tell_at(alloc, definition.file, offset, problem)
+    match (&problem.kind, &definition.index, definition.states) {
+        (Kind::NotJson(_), _, _) => Ok(break_of(alloc, text)?.byte),
+        (_, Some(index), Some(states)) => {
+            let places = DefinitionPlaces {
+                alloc,
+                text,
+                index,
+                states,
+            };
+            places.byte_of(problem)
+        }
+        _ => Ok(0),
+    }
 }
 
-/// A problem of the declared shapes as a diagnostic.
-fn tell_in_declared(
+/// The byte of the declared shapes at which a problem stands.
+fn byte_in_declared(
     alloc: Global,
-    declared: File<'_>,
-    outlined: &Outlined<'_>,
-    problem: Problem,
-) -> Result<Diagnostic, OutOfMemory>
-    ensures { IfOk result (λ diagnostic. told_of diagnostic ≡ told_by problem) }
-{
-    let offset = match (&problem.kind, outlined) {
-        (Kind::NotJson(_), _) => byte_of_break(alloc, declared.text, outlined)?,
-        (Kind::NotWhole, _) => first_fraction(alloc, declared.text)?,
-        (_, Outlined::Json(outline)) => outline.offset(spot_in_declared(outline, &problem)),
-        (_, Outlined::Broken(_)) => 0,
-    };
-    tell_at(alloc, declared, offset, problem)
+    declared: &Subject<'_, '_, '_>,
+    problem: &Problem,
+) -> Result<usize, OutOfMemory> {
+    let text = declared.file.text;
+    match (&problem.kind, &declared.index) {
+        (Kind::NotJson(_), _) => Ok(break_of(alloc, text)?.byte),
+        (Kind::NotWhole, _) => first_fraction(alloc, text),
+        (_, Some(index)) => Ok(index.offset(spot_in_declared(index, problem))),
+        (_, None) => Ok(0),
+    }
 }
 
 /// A problem that stands at a byte of a file as a diagnostic.
 fn tell_at(
     alloc: Global,
-    file: File<'_>,
+    subject: &Subject<'_, '_, '_>,
     offset: usize,
     problem: Problem,
 ) -> Result<Diagnostic, OutOfMemory>
     ensures { IfOk result (λ diagnostic. told_of diagnostic ≡ told_by problem) }
 {
-    let message = message_of(alloc, &problem, file.text, offset)?;
-    let path = String::from_str(alloc, file.path)?;
+    let message = message_of(alloc, &problem, subject.file.text, offset)?;
+    let path = String::from_str(alloc, subject.file.path)?;
     Ok(Diagnostic {
         file: path,
-        place: place_at(file.text, offset),
+        place: subject.places.place_at(offset),
         severity: problem.severity,
         rule: problem.rule,
         state: problem.state,

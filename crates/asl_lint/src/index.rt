@@ -1,0 +1,197 @@
+//! Members and elements, found without going through the large objects and lists in which they stand.
+use asl_places::{Member, Outline, Spot, members_by_name};
+use asl_tree::OutOfMemory;
+use std::alloc::Global;
+use std::collections::BTreeMap;
+
+/// How many members or elements make an object or a list large.
+const LARGE: usize = 32;
+
+/// An outlined text, with the members of its large objects by name and the elements of its large lists in turn.
+#[derive(Drop)]
+pub(crate) struct Index<'s, 'a> {
+    pub(crate) outline: &'s Outline<'a>,
+    /// By the token with which the object begins.
+    objects: BTreeMap<usize, BTreeMap<&'a str, Member>>,
+    /// By the token with which the list begins.
+    lists: BTreeMap<usize, LargeList<'a>>,
+}
+
+/// The elements of a large list, and of each name of a member the value in the first object among them that has it.
+#[derive(Drop)]
+struct LargeList<'a> {
+    elements: Vec<Spot>,
+    values: BTreeMap<&'a str, Spot>,
+}
+
+impl<'s, 'a> Index<'s, 'a> {
+    /// The index of an outlined text of so many bytes. Refuses only where an allocation was refused.
+    pub(crate) fn read(
+        alloc: Global,
+        outline: &'s Outline<'a>,
+        bytes: usize,
+    ) -> Result<Index<'s, 'a>, OutOfMemory> {
+        let mut index = Index {
+            outline,
+            objects: BTreeMap::new(alloc),
+            lists: BTreeMap::new(alloc),
+        };
+        // Each token has a byte of the text at least.
+        for token in 0..bytes {
+            index.add(alloc, Spot { token })?;
+        }
+        Ok(index)
+    }
+
+    /// Adds the object or the list that begins at the spot, where it is a large one.
+    fn add(&mut self, alloc: Global, spot: Spot) -> Result<(), OutOfMemory> {
+        if self.has_many_members(spot) {
+            let members = members_by_name(alloc, self.outline, spot)?;
+            drop(self.objects.insert(spot.token, members)?);
+        }
+        if self.has_many_elements(spot) {
+            let list = LargeList::read(alloc, self.outline, spot)?;
+            drop(self.lists.insert(spot.token, list)?);
+        }
+        Ok(())
+    }
+
+    fn has_many_members(&self, object: Spot) -> bool {
+        let Some(mut members) = self.outline.members(object) else {
+            return false;
+        };
+        for _ in 0..LARGE {
+            if members.next().is_none() {
+                return false;
+            }
+        }
+        true
+    }
+
+    fn has_many_elements(&self, list: Spot) -> bool {
+        let Some(mut elements) = self.outline.items(list) else {
+            return false;
+        };
+        for _ in 0..LARGE {
+            if elements.next().is_none() {
+                return false;
+            }
+        }
+        true
+    }
+
+    /// The text's own value.
+    pub(crate) fn root(&self) -> Spot {
+        self.outline.root()
+    }
+
+    /// The first byte of a value or a name.
+    pub(crate) fn offset(&self, spot: Spot) -> usize {
+        self.outline.offset(spot)
+    }
+
+    /// The member of that name of the object at the spot; of a repeated name the last.
+    pub(crate) fn member(&self, object: Spot, name: &str) -> Option<Member> {
+        match self.objects.get(&object.token) {
+            Some(members) => members.get(name).copied(),
+            None => self.outline.member(object, name),
+        }
+    }
+
+    /// The element at that index of the list at the spot, counted from 0.
+    pub(crate) fn element(&self, list: Spot, index: usize) -> Option<Spot> {
+        match self.lists.get(&list.token) {
+            Some(list) => list.elements.get(index).copied(),
+            None => self.outline.element(list, index),
+        }
+    }
+
+    /// The value of that name in the first object of a list that has it, or in the value itself, where it is no list.
+    pub(crate) fn first_with(&self, whole: Spot, name: &str) -> Option<Spot> {
+        if let Some(list) = self.lists.get(&whole.token) {
+            return list.values.get(name).copied();
+        }
+        let Some(mut elements) = self.outline.items(whole) else {
+            return Some(self.member(whole, name)?.value);
+        };
+        while let Some(element) = elements.next() {
+            if let Some(found) = self.member(element, name) {
+                return Some(found.value);
+            }
+        }
+        None
+    }
+
+    /// The first object of a list that has no member of that name, or the value itself, where it is such an object.
+    pub(crate) fn first_without(&self, whole: Spot, name: &str) -> Option<Spot> {
+        let Some(mut elements) = self.outline.items(whole) else {
+            return self.lacks(whole, name).then_some(whole);
+        };
+        while let Some(element) = elements.next() {
+            if self.lacks(element, name) {
+                return Some(element);
+            }
+        }
+        None
+    }
+
+    /// Whether the value is an object without a member of that name.
+    fn lacks(&self, value: Spot, name: &str) -> bool {
+        self.outline.members(value).is_some() && self.member(value, name).is_none()
+    }
+
+    /// The value of a state's field, or the state's name where the state has no such field.
+    pub(crate) fn field_or_name(&self, state: Member, field: &str) -> Spot {
+        match self.objects.get(&state.value.token) {
+            Some(members) => members.get(field).map_or(state.name, |found| found.value),
+            None => self.outline.field_or_name(state, field),
+        }
+    }
+}
+
+impl<'a> LargeList<'a> {
+    /// The list at the spot.
+    fn read(
+        alloc: Global,
+        outline: &Outline<'a>,
+        list: Spot,
+    ) -> Result<LargeList<'a>, OutOfMemory> {
+        let mut elements = Vec::new(alloc);
+        push_elements(outline, list, &mut elements)?;
+        let mut values = BTreeMap::new(alloc);
+        for element in elements.iter().rev() {
+            insert_members(outline, *element, &mut values)?;
+        }
+        Ok(LargeList { elements, values })
+    }
+}
+
+/// Puts the values of the object's members under their names, in place of those that are there.
+fn insert_members<'a>(
+    outline: &Outline<'a>,
+    object: Spot,
+    values: &mut BTreeMap<&'a str, Spot>,
+) -> Result<(), OutOfMemory> {
+    let Some(mut members) = outline.members(object) else {
+        return Ok(());
+    };
+    while let Some((name, member)) = members.next() {
+        drop(values.insert(name, member.value)?);
+    }
+    Ok(())
+}
+
+/// Puts the elements of the list at the spot behind the others. Any other value has none.
+pub(crate) fn push_elements(
+    outline: &Outline<'_>,
+    list: Spot,
+    spots: &mut Vec<Spot>,
+) -> Result<(), OutOfMemory> {
+    let Some(mut elements) = outline.items(list) else {
+        return Ok(());
+    };
+    while let Some(element) = elements.next() {
+        spots.push(element)?;
+    }
+    Ok(())
+}
