@@ -1,4 +1,10 @@
 //! Shapes in which objects may have other fields.
+ghost use Rattle.std.specs.Prelude.{◌≡◌, IfOk, IsTrue};
+ghost use Rattle.asl_model.specs.Shape.{Inside};
+ghost use Rattle.asl_shape.specs.Kinds.{arrays_view, objects_view, owned_arrays_view, owned_objects_view};
+ghost use Rattle.asl_shape.specs.Properness.{is_proper, are_proper, arrays_proper, fields_proper, objects_proper};
+ghost use Rattle.asl_shape.specs.View.{view, shapes_view, fields_view};
+ghost use Rattle.asl_samples.specs.Opened as model;
 
 use asl_shape::{
     Arrays, Field, Objects, OwnedArrays, OwnedKinds, OwnedObjects, Shape, of_kinds, take_apart,
@@ -10,7 +16,11 @@ use std::collections::BTreeMap;
 /// The shape that is like `shape`, but that each object, at any depth, may have fields that aren't mentioned. Every tree
 /// that has the one has the other. Refuses only where an allocation was refused.
 #[cycle(opened)]
-pub fn opened(alloc: Global, shape: &Shape) -> Result<Shape, OutOfMemory> {
+pub fn opened(alloc: Global, shape: &Shape) -> Result<Shape, OutOfMemory>
+    ensures as_defined { IfOk result (λ s. view s ≡ model.opened (view shape.now)) }
+    ensures proper { IfOk result (λ s. IsTrue (is_proper s)) }
+    ensures inside { IfOk result (λ s. Inside (view shape.now) (view s)) }
+{
     match take_apart(shape) {
         None => Ok(Shape::Any),
         Some(kinds) => {
@@ -32,7 +42,11 @@ pub fn opened(alloc: Global, shape: &Shape) -> Result<Shape, OutOfMemory> {
 fn opened_arrays(
     alloc: Global,
     arrays: Option<Arrays<'_>>,
-) -> Result<Option<OwnedArrays>, OutOfMemory> {
+) -> Result<Option<OwnedArrays>, OutOfMemory>
+    ensures as_defined { IfOk result
+        (λ owned. owned_arrays_view owned ≡ model.opened_arrays (arrays_view arrays.entry)) }
+    ensures proper { IfOk result (λ owned. IsTrue (arrays_proper owned)) }
+{
     match arrays {
         None => Ok(None),
         Some(Arrays { first, rest }) => Ok(Some(OwnedArrays {
@@ -47,7 +61,11 @@ fn opened_arrays(
 fn opened_objects(
     alloc: Global,
     objects: Option<Objects<'_>>,
-) -> Result<Option<OwnedObjects>, OutOfMemory> {
+) -> Result<Option<OwnedObjects>, OutOfMemory>
+    ensures as_defined { IfOk result
+        (λ owned. owned_objects_view owned ≡ model.opened_objects (objects_view objects.entry)) }
+    ensures proper { IfOk result (λ owned. IsTrue (objects_proper owned)) }
+{
     match objects {
         None => Ok(None),
         Some(Objects { fields, .. }) => Ok(Some(OwnedObjects {
@@ -59,7 +77,11 @@ fn opened_objects(
 
 /// The same of each of the shapes.
 #[cycle(opened)]
-fn opened_each(alloc: Global, shapes: &[Shape]) -> Result<Vec<Shape>, OutOfMemory> {
+fn opened_each(alloc: Global, shapes: &[Shape]) -> Result<Vec<Shape>, OutOfMemory>
+    ensures as_defined { IfOk result
+        (λ v. shapes_view v.items ≡ model.opened_each (shapes_view shapes.now)) }
+    ensures proper { IfOk result (λ v. IsTrue (are_proper v.items)) }
+{
     let mut each = Vec::with_capacity(alloc, shapes.len())?;
     for shape in shapes {
         each.push(opened(alloc, shape)?)?;
@@ -72,7 +94,11 @@ fn opened_each(alloc: Global, shapes: &[Shape]) -> Result<Vec<Shape>, OutOfMemor
 fn opened_fields(
     alloc: Global,
     fields: &BTreeMap<String, Field>,
-) -> Result<BTreeMap<String, Field>, OutOfMemory> {
+) -> Result<BTreeMap<String, Field>, OutOfMemory>
+    ensures as_defined { IfOk result
+        (λ m. fields_view m.entries ≡ model.opened_fields (fields_view fields.now.entries)) }
+    ensures proper { IfOk result (λ m. IsTrue (fields_proper m.entries)) }
+{
     let mut each = BTreeMap::new(alloc);
     for (name, field) in fields.iter() {
         let key = name.clone()?;

@@ -1,0 +1,3 @@
+pub mod OpenedShapes
+pub mod Entries
+pub mod Joined
