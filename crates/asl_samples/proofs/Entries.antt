@@ -1,8 +1,7 @@
 -- Entries of tasks that take and give any tree, put one after another into a map.
 use Rattle.std.proofs.Common.{◌≡◌, ◌<◌, ◌+◌, ℕ, List, [], ◌∷◌, map, Bool, true, false, Option, Some, None, String, Global, string_bytes, string_cmp, refl, sym, ap, ◌∙◌, subst, arith, Ordering, Less, Equal, Greater, ◌⊎◌, inl, inr, eqb, ◌≢◌}
 use Rattle.std.specs.BTreeMap.{insert_entry}
-use Rattle.std.specs.Cmp.Lexicographic.{slice_cmp}
-use Rattle.std.specs.Ordering.{nat_cmp, match_ordering}
+use Rattle.std.specs.Ordering.{match_ordering}
 use Rattle.std.specs.Prelude.{IsTrue, is_some, bytes_eq, if◌then◌else◌}
 use Rattle.std.proofs.lemmas.Bool.{false≢true}
 use Rattle.std.proofs.lemmas.Bool.Decides.{eqb_tells}

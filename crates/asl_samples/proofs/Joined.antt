@@ -1,5 +1,5 @@
--- Each sample has the shape that samples have in common.
-use Rattle.std.proofs.Common.{List, [], ◌∷◌}
+-- Each sample has the shape that samples have in common; how that one is found by number.
+use Rattle.std.proofs.Common.{◌≡◌, ◌<◌, ℕ, List, [], ◌∷◌, map, length, sym, ap, ◌∙◌, subst, arith}
 use Rattle.std.specs.List.{All}
 use Rattle.std.proofs.lemmas.List.Elements.{All-cons, All-nil}
 use Rattle.asl_model.specs.Shape.{Shape, Has, Inside}
@@ -8,6 +8,11 @@ use Rattle.asl_model.specs.ShapeOrder.{join}
 use Rattle.asl_model.specs.Tree.{Tree}
 use Rattle.asl_model.proofs.ShapeJoin.{join_above}
 use Rattle.asl_model.proofs.ShapeTemplate.{literal-has_itself}
+use Rattle.asl_tree.specs.View.{view}
+use Rattle.asl_tree.specs.declared.Tree as code
+use Rattle.asl_numbered.specs.declared.node.Node.{Node}
+use Rattle.asl_numbered.specs.Expansion.{expansions, Keeps}
+use Rattle.asl_numbered.proofs.Expansions.{as_many, keeps_longer}
 use Rattle.asl_samples.specs.Samples.{joined_with}
 
 -- the shape itself is inside
@@ -16,8 +21,28 @@ joined-inside s [] v h = h
 joined-inside s (t ∷ ts) v h = joined-inside (join s (literal t)) ts v (join_above.left s (literal t) v h)
 
 -- and so are the trees
-pub joined-has : (s : Shape) (ts : List Tree) → All (Has (joined_with s ts)) ts
+joined-has : (s : Shape) (ts : List Tree) → All (Has (joined_with s ts)) ts
 joined-has s [] = All-nil (Has s)
 joined-has s (t ∷ ts) =
     let first = joined-inside (join s (literal t)) ts t (join_above.right s (literal t) t (literal-has_itself t)) in
     All-cons (Has (joined_with s (t ∷ ts))) t ts first (joined-has (join s (literal t)) ts)
+
+-- so do all trees, of which the shape of the first is the beginning
+common-has : (t : Tree) (ts : List Tree) → All (Has (joined_with (literal t) ts)) (t ∷ ts)
+common-has t ts =
+    All-cons (Has (joined_with (literal t) ts)) t ts (joined-inside (literal t) ts t (literal-has_itself t)) (joined-has (literal t) ts)
+
+-- the samples have the shape that was found
+pub samples-have : (samples others : List code.Tree) (first : code.Tree) (s : Shape) → samples ≡ first ∷ others → s ≡ joined_with (literal (view first)) (map view others) → All (Has s) (map view samples)
+samples-have samples others first s all is =
+    let whole = ap (map view) all in
+    subst (λ r. All (Has r) (map view samples)) (sym is) (subst (λ ts. All (Has (joined_with (literal (view first)) (map view others))) ts) (sym whole) (common-has (view first) (map view others)))
+
+-- a number that was in the table still is
+pub still-within : (old new : List Node) (n : ℕ) → Keeps (expansions old) (expansions new) → n < length old → n < length new
+still-within old new n keeps within = omega (arith, within, as_many old, as_many new, keeps_longer (expansions old) (expansions new) keeps)
+
+-- one sample more is joined
+pub joined-more : (whole s r : Shape) (now left : List code.Tree) (t : code.Tree) → whole ≡ joined_with s (map view now) → now ≡ t ∷ left → r ≡ join s (literal (view t)) → whole ≡ joined_with r (map view left)
+joined-more whole s r now left t so_far split is =
+    so_far ∙ ap (λ ts. joined_with s (map view ts)) split ∙ ap (λ other. joined_with other (map view left)) (sym is)

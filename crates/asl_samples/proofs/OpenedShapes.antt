@@ -1,5 +1,5 @@
 -- A shape is inside the one whose objects may have other fields; how that one is built part by part.
-use Rattle.std.proofs.Common.{◌≡◌, ℕ, List, [], ◌∷◌, ◌++◌, map, Bool, true, false, ◌&&◌, ◌||◌, Option, Some, None, String, Global, string_bytes, string_cmp, refl, sym, ap, ◌∙◌, subst, Ordering, Less, Equal, Greater}
+use Rattle.std.proofs.Common.{◌≡◌, ℕ, List, [], ◌∷◌, ◌++◌, map, Bool, true, ◌||◌, Option, Some, None, String, Global, string_bytes, string_cmp, refl, sym, ap, ◌∙◌, subst, Ordering, Less, Equal, Greater}
 use Rattle.std.specs.BTreeMap.{insert_entry}
 use Rattle.std.specs.Cmp.Lexicographic.{slice_cmp}
 use Rattle.std.specs.List.Sorted.{IsStrictlySortedBy}
@@ -9,9 +9,9 @@ use Rattle.std.specs.Prelude.{IfOk, IsTrue, Result, Ok, Err}
 use Rattle.std.proofs.lemmas.Bool.{and_parts, and_from, false≢true}
 use Rattle.std.proofs.lemmas.List.{map-append}
 use Rattle.asl_model.specs.Tree.{Tree, Null, Boolean, Integer, Text, Array, Object, Trees, NoTrees, AndTree, Fields, field_named}
-use Rattle.asl_model.specs.Shape.{Shape, Any, OfKinds, Arrays, WithoutArrays, ArraysOf, Objects, WithoutObjects, ObjectsOf, Shapes, NoShapes, AndShape, FieldShapes, NoFieldShapes, AndFieldShape, Has, Inside, has, arrays_have, objects_have, elements_have, each_element, fields_have, there_and, all_mentioned}
+use Rattle.asl_model.specs.Shape.{Shape, Any, OfKinds, Arrays, WithoutArrays, ArraysOf, Objects, WithoutObjects, ObjectsOf, Shapes, NoShapes, AndShape, FieldShapes, NoFieldShapes, AndFieldShape, Inside, has, arrays_have, objects_have, elements_have, each_element, fields_have, there_and, all_mentioned}
 use Rattle.asl_tree.specs.declared.OutOfMemory.{OutOfMemory}
-use Rattle.asl_shape.specs.View.{view, shapes_view, shapes_of, fields_view}
+use Rattle.asl_shape.specs.View.{view, shapes_of, fields_view}
 use Rattle.asl_shape.specs.declared.shape.Shape as code
 use Rattle.asl_shape.specs.declared.shape.Field.{Field}
 use Rattle.asl_shape.proofs.Copies.{field_copied}

@@ -5,7 +5,7 @@ ghost use Rattle.asl_model.specs.Shape.{Has};
 ghost use Rattle.asl_model.specs.ShapeFlow.{literal};
 ghost use Rattle.asl_model.specs.ShapeOrder.{join};
 ghost use Rattle.asl_numbered.specs.Expansion.{expansions, shape_at};
-ghost use Rattle.asl_numbered.specs.Joins.{Shows};
+ghost use Rattle.asl_flow.specs.Numbers.{Shows};
 ghost use Rattle.asl_shape.specs.Properness.{is_proper};
 ghost use Rattle.asl_shape.specs.View.{view};
 ghost use Rattle.asl_tree.specs.View as trees;
@@ -32,7 +32,8 @@ pub fn shape_of(alloc: Global, samples: &[Tree]) -> Result<Option<Shape>, OutOfM
     };
     let mut shapes = Shapes::new(alloc);
     let number = joined(alloc, &mut shapes, first, others)?;
-    shapes.expand(number)
+    let shape = expanded(&shapes, number)?;
+    Ok(Some(shape))
 }
 
 /// The number of the join of what the first sample is with what each of the others is.
@@ -42,7 +43,7 @@ fn joined(
     first: &Tree,
     others: &[Tree],
 ) -> Result<usize, OutOfMemory>
-    ensures { IfOk result (Shows (expansions shapes.new)
+    ensures { IfOk result (Shows shapes.new
         (model.joined_with (literal (trees.view first.now)) (map trees.view others.now))) }
 {
     let mut number = literal_shape_at(alloc, shapes, first)?;
@@ -60,10 +61,20 @@ fn joined_with(
     sample: &Tree,
 ) -> Result<usize, OutOfMemory>
     requires { number < length shapes.old }
-    ensures { IfOk result (Shows (expansions shapes.new)
+    ensures { IfOk result (Shows shapes.new
         (join (shape_at (expansions shapes.old) number) (literal (trees.view sample.now)))) }
 {
     let own = literal_shape_at(alloc, shapes, sample)?;
     let joined = shapes.join(number, own)?;
     Ok(joined.unwrap())
+}
+
+/// The shape of that number.
+fn expanded(shapes: &Shapes, number: usize) -> Result<Shape, OutOfMemory>
+    requires { number < length shapes.now }
+    ensures shape { IfOk result (λ s. view s ≡ shape_at (expansions shapes.now) number) }
+    ensures proper { IfOk result (λ s. IsTrue (is_proper s)) }
+{
+    let shape = shapes.expand(number)?;
+    Ok(shape.unwrap())
 }
