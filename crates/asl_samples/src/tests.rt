@@ -1,6 +1,7 @@
 //! Tests: shapes and texts written by hand.
 use crate::{declared_text, opened, shape_of, shape_text};
-use asl_shape::{Shape, has, write};
+use asl_records::read_declared;
+use asl_shape::{Shape, has, same, write};
 use asl_tree::{Tree, read, read_value, to_text};
 use std::alloc::Global;
 use std::test::Fail;
@@ -166,7 +167,7 @@ fn objects_are_opened_at_any_depth(rt: HostRuntime) -> Result<(), Fail> {
     assert!(rt; has(&open, &other));
     for kept in [Shape::Any, Shape::Never, Shape::Text] {
         let open = opened(alloc, &kept)?;
-        assert!(rt; asl_shape::same(&open, &kept));
+        assert!(rt; same(&open, &kept));
     }
     Ok(())
 }
@@ -235,6 +236,24 @@ fn tasks_of_all_scopes_are_declared(rt: HostRuntime) -> Result<(), Fail> {
   }
 }"#
     );
+    Ok(())
+}
+
+#[test]
+fn what_is_declared_reads_back(rt: HostRuntime) -> Result<(), Fail> {
+    let alloc = rt.alloc();
+    let text = begun(alloc, NESTED)?;
+    let Ok(declared) = read_declared(alloc, read_value(alloc, text.as_bytes())?) else {
+        return Err(Fail::from("no declared shapes"));
+    };
+    assert!(rt; same(&declared.input, &Shape::Any));
+    assert_eq!(rt; declared.tasks.len(), 3);
+    for name in ["Ask", "Do \"it\"", "Zip"] {
+        let task = declared.task(name).ok_or("a task")?;
+        assert!(rt; same(&task.takes, &Shape::Any));
+        assert!(rt; same(&task.gives, &Shape::Any));
+    }
+    assert!(rt; declared.task("Idle").is_none());
     Ok(())
 }
 
