@@ -1,5 +1,12 @@
 //! What comes to the states of a machine under a certificate.
 
+ghost use Rattle.std.specs.Prelude.{◌≡◌, ◌<◌, length, map, IfOk, IfSome, OnOk, option_map, option_to_list};
+ghost use Rattle.asl_numbered.specs.Expansion.{expansions, Keeps};
+ghost use Rattle.asl_records.specs.Numbered.{numbered_view, AreEntriesBelow, AreWithin};
+ghost use Rattle.asl_ways.specs.Adding.{Adds, AreBelow};
+ghost use Rattle.asl_ways.specs.Coming.{all_coming, coming, leaves_certified, starts};
+ghost use Rattle.asl_ways.specs.Given.{given_in, given_of};
+
 use crate::exits::Exit;
 use crate::leaving::Walker;
 use asl_numbered::Shapes;
@@ -39,7 +46,18 @@ pub fn arrivals(
     machine: &Machine,
     declared: &Declared,
     certificate: &mut NumberedCertificate,
-) -> Result<Vec<Arrival>, OutOfMemory> {
+) -> Result<Vec<Arrival>, OutOfMemory>
+    requires within { AreWithin certificate.old }
+    ensures all { IfOk result
+        (λ all. map (coming (expansions certificate.new.shapes)) all.items
+        ≡ all_coming (given_of machine.now declared.now certificate.old)) }
+    ensures below { IfOk result (λ all. AreBelow (length certificate.new.shapes) all.items) }
+    ensures same { numbered_view certificate.new ≡ numbered_view certificate.old }
+    ensures within { AreWithin certificate.new }
+    ensures keeps { Keeps (expansions certificate.old.shapes) (expansions certificate.new.shapes) }
+    ensures output { certificate.new.output ≡ certificate.old.output }
+    ensures states { certificate.new.states ≡ certificate.old.states }
+{
     let walker = Walker {
         alloc,
         machine,
@@ -51,19 +69,48 @@ pub fn arrivals(
 
 impl Walker<'_> {
     /// All that comes to states.
-    fn arrivals(&self, shapes: &mut Shapes) -> Result<Vec<Arrival>, OutOfMemory> {
+    fn arrivals(&self, shapes: &mut Shapes) -> Result<Vec<Arrival>, OutOfMemory>
+        requires states { AreEntriesBelow (length shapes.old) self.now.states.now.entries }
+        ensures all { IfOk result
+            (λ all. map (coming (expansions shapes.new)) all.items
+            ≡ all_coming (given_in (expansions shapes.old) self.now)) }
+        ensures below { IfOk result (λ all. AreBelow (length shapes.new) all.items) }
+        ensures keeps { Keeps (expansions shapes.old) (expansions shapes.new) }
+    {
         let mut arrivals = Vec::new(self.alloc);
-        if let Some(arrival) = self.start(shapes)? {
-            arrivals.push(arrival)?;
-        }
+        self.push_start(shapes, &mut arrivals)?;
         for number in 0..self.machine.states() {
             self.push_certified(shapes, &mut arrivals, number)?;
         }
         Ok(arrivals)
     }
 
+    /// Adds the machine's input, if it comes to a state.
+    fn push_start(
+        &self,
+        shapes: &mut Shapes,
+        arrivals: &mut Vec<Arrival>,
+    ) -> Result<(), OutOfMemory>
+        ensures adds { OnOk result
+            (Adds (expansions shapes.new) arrivals.old.items arrivals.new.items
+            (starts (given_in (expansions shapes.old) self.now))) }
+        ensures keeps { Keeps (expansions shapes.old) (expansions shapes.new) }
+    {
+        if let Some(arrival) = self.start(shapes)? {
+            arrivals.push(arrival)?;
+        }
+        Ok(())
+    }
+
     /// The machine's input, which comes to its start state; none where it has no states.
-    pub(crate) fn start(&self, shapes: &mut Shapes) -> Result<Option<Arrival>, OutOfMemory> {
+    pub(crate) fn start(&self, shapes: &mut Shapes) -> Result<Option<Arrival>, OutOfMemory>
+        ensures start { IfOk result
+            (λ start. option_to_list (option_map (coming (expansions shapes.new)) start)
+            ≡ starts (given_in (expansions shapes.old) self.now)) }
+        ensures below { IfOk result
+            (λ start. IfSome start (λ arrival. arrival.shape < length shapes.new)) }
+        ensures keeps { Keeps (expansions shapes.old) (expansions shapes.new) }
+    {
         let shape = shapes.add(&self.declared.input)?;
         match self.machine.scope_of(0) {
             Some(scope) => Ok(Some(Arrival {
@@ -81,16 +128,16 @@ impl Walker<'_> {
         shapes: &mut Shapes,
         arrivals: &mut Vec<Arrival>,
         number: usize,
-    ) -> Result<(), OutOfMemory> {
-        match self.certified_input(number) {
-            Some(input) => self.push_leaving(shapes, arrivals, number, input),
+    ) -> Result<(), OutOfMemory>
+        requires states { AreEntriesBelow (length shapes.old) self.now.states.now.entries }
+        ensures adds { OnOk result
+            (Adds (expansions shapes.new) arrivals.old.items arrivals.new.items
+            (leaves_certified (given_in (expansions shapes.old) self.now) number)) }
+        ensures keeps { Keeps (expansions shapes.old) (expansions shapes.new) }
+    {
+        match self.row(number) {
+            Some(row) => self.push_row(shapes, arrivals, number, &row, row.entry.input),
             None => Ok(()),
         }
-    }
-
-    /// The number of the certified input of the state of that number, if there is an entry for it.
-    fn certified_input(&self, number: usize) -> Option<usize> {
-        let name = self.machine.name(number)?;
-        Some(self.states.get(name)?.input)
     }
 }

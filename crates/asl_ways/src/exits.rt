@@ -1,4 +1,9 @@
-//! The exits of a state for others, as they come along the walk through it.
+//! The exits of a state for others, along the walk through it.
+
+ghost use Rattle.std.specs.Prelude.{◌≡◌, ◌<◌, ◌+◌, ◌-◌, List, if◌then◌else◌};
+ghost use Rattle.asl_model.specs.Shape.{Shape};
+ghost use Rattle.asl_edges.specs.View.{step_view};
+ghost use Rattle.asl_ways.specs.Exits.{exit_at, none_passed, passed_on, turned, IsPassedWithin};
 
 use asl_edges::{Destination, Step};
 
@@ -19,21 +24,23 @@ pub enum Exit {
     Items,
 }
 
-/// How many turns a walk has passed: shapes that flow into a state, and rules that are broken, each of which stands for
-/// one exit where a walk has several. A choice rule and a catcher each take one turn.
+/// How many turns of exits a walk has passed: each choice rule, each catcher and each branch takes one, whether a shape
+/// flows into a state there or a rule is broken.
 #[derive(Clone, Copy, Drop)]
 pub(crate) struct Passed {
-    /// All turns.
+    /// All of them.
     turns: usize,
-    /// Those at `Catch`.
+    /// Those of catchers.
     catchers: usize,
-    /// Those at `Branches`.
+    /// Those of branches.
     branches: usize,
 }
 
 impl Passed {
-    /// None yet.
-    pub(crate) fn none() -> Passed {
+    /// Nothing was passed.
+    pub(crate) fn none() -> Passed
+        ensures { result ≡ none_passed }
+    {
         Passed {
             turns: 0,
             catchers: 0,
@@ -41,8 +48,10 @@ impl Passed {
         }
     }
 
-    /// The exit at which a shape flows into a state next, by the edge's field.
-    pub(crate) fn exit(&self, field: &str) -> Exit {
+    /// The exit by which a shape flows into a state next, at that field.
+    pub(crate) fn exit(&self, field: &str) -> Exit
+        ensures { result ≡ exit_at self.now field.now }
+    {
         match field {
             "Next" => Exit::Next,
             "Choices" => Exit::Rule(self.turns),
@@ -53,24 +62,37 @@ impl Passed {
         }
     }
 
-    /// The step is passed.
-    pub(crate) fn pass(&mut self, step: &Step) {
+    /// What was passed once the step is, too.
+    pub(crate) fn on(self, step: &Step) -> Passed
+        requires { IsPassedWithin (usize.MAX - 1) self }
+        ensures { (table : List Shape) → result ≡ passed_on self (step_view table step.now) }
+    {
         match *step {
             Step::Flows(edge) => match edge.destination {
-                Destination::Input(_) => self.turn(edge.field),
-                Destination::Output | Destination::End | Destination::Task => (),
+                Destination::Input(_) => self.turned(edge.field),
+                Destination::Output | Destination::End | Destination::Task => self,
             },
-            Step::Breaks(broken) => self.turn(broken.field),
+            Step::Breaks(broken) => self.turned(broken.field),
         }
     }
 
-    /// A turn at that field is passed.
-    fn turn(&mut self, field: &str) {
-        self.turns += 1;
-        match field {
-            "Catch" => self.catchers += 1,
-            "Branches" => self.branches += 1,
-            _ => (),
+    /// What was passed once a turn at that field is, too.
+    fn turned(self, field: &str) -> Passed
+        requires { IsPassedWithin (usize.MAX - 1) self }
+        ensures { result ≡ turned self field.now }
+    {
+        Passed {
+            turns: self.turns + 1,
+            catchers: counted(self.catchers, field == "Catch"),
+            branches: counted(self.branches, field == "Branches"),
         }
     }
+}
+
+/// One more, if the test holds.
+fn counted(count: usize, holds: bool) -> usize
+    requires { count < usize.MAX }
+    ensures { result ≡ (if holds then count + 1 else count) }
+{
+    if holds { count + 1 } else { count }
 }

@@ -1,5 +1,9 @@
 //! The visits so far of a search.
 
+ghost use Rattle.std.specs.Prelude.{◌≡◌, ◌≤◌, length, IfOk, IsTrue};
+ghost use Rattle.asl_numbered.specs.Expansion.{expansions};
+ghost use Rattle.asl_ways.specs.Noted.{AreNoted, IsInsideOne};
+
 use crate::arrivals::Arrival;
 use crate::visits::Visit;
 use asl_numbered::Shapes;
@@ -15,11 +19,25 @@ pub(crate) struct Search {
     shapes_at: Vec<Vec<usize>>,
     /// How many visits there may be.
     most: usize,
+    ghost noted: { AreNoted visits.items shapes_at.items },
+    ghost few: { length visits.items ≤ most },
 }
 
 impl Search {
+    ghost use Rattle.std.specs.Prelude.{◌≡◌, ◌<◌, [], ◌∷◌, ◌++◌, length, map, IfOk, IsTrue, OnOk, Some, slice_get, false, true};
+    ghost use Rattle.asl_model.specs.Shape.{inhabited};
+    ghost use Rattle.asl_numbered.specs.Expansion.{expansions, shape_at};
+    ghost use Rattle.asl_ways.specs.Adding.{AreBelow};
+    ghost use Rattle.asl_ways.specs.Coming.{coming};
+    ghost use Rattle.asl_ways.specs.Noted.{is_visited};
+    ghost use Rattle.asl_ways.specs.Seeking.{Visits};
+    ghost use Rattle.asl_ways.specs.Visits.{IsTakenIn};
+
     /// No visits, of a machine with so many states.
-    pub(crate) fn new(alloc: Global, states: usize, most: usize) -> Result<Search, OutOfMemory> {
+    pub(crate) fn new(alloc: Global, states: usize, most: usize) -> Result<Search, OutOfMemory>
+        ensures none { IfOk result (λ search. search.visits.items ≡ []) }
+        ensures most { IfOk result (λ search. search.most ≡ most) }
+    {
         let mut shapes_at = Vec::new(alloc);
         for _ in 0..states {
             shapes_at.push(Vec::new(alloc))?;
@@ -32,12 +50,16 @@ impl Search {
     }
 
     /// The visit of that number.
-    pub(crate) fn nth(&self, place: usize) -> Option<Visit> {
+    pub(crate) fn nth(&self, place: usize) -> Option<Visit>
+        ensures { result ≡ slice_get self.now.visits.items place }
+    {
         self.visits.get(place).copied()
     }
 
     /// All visits.
-    pub(crate) fn into_visits(self) -> Vec<Visit> {
+    pub(crate) fn into_visits(self) -> Vec<Visit>
+        ensures { result.items ≡ self.visits.items }
+    {
         self.visits
     }
 
@@ -47,7 +69,13 @@ impl Search {
         shapes: &mut Shapes,
         arrivals: &[Arrival],
         before: usize,
-    ) -> Result<(), OutOfMemory> {
+    ) -> Result<(), OutOfMemory>
+        requires below { AreBelow (length shapes.old) arrivals.now }
+        ensures visits { OnOk result
+            (Visits (expansions shapes.old) self.old self.new
+            (map (coming (expansions shapes.old)) arrivals.now) (Some before)) }
+        ensures unchanged { shapes.new ≡ shapes.old }
+    {
         for arrival in arrivals {
             self.visit(shapes, *arrival, Some(before))?;
         }
@@ -61,20 +89,64 @@ impl Search {
         shapes: &mut Shapes,
         arrival: Arrival,
         before: Option<usize>,
-    ) -> Result<(), OutOfMemory> {
-        if self.visits.len() >= self.most
-            || shapes.inhabited(arrival.shape) != Some(true)
-            || self.was_there(shapes, &arrival)?
-        {
-            return Ok(());
+    ) -> Result<(), OutOfMemory>
+        requires below { arrival.shape < length shapes.old }
+        ensures visits { OnOk result
+            (Visits (expansions shapes.old) self.old self.new
+            (coming (expansions shapes.old) arrival ∷ []) before) }
+        ensures unchanged { shapes.new ≡ shapes.old }
+    {
+        if self.is_wanted(shapes, &arrival)? {
+            self.push(Visit { arrival, before })
+        } else {
+            Ok(())
         }
-        self.note(&arrival)?;
-        self.visits.push(Visit { arrival, before })?;
-        Ok(())
+    }
+
+    /// Whether what comes is to be a visit.
+    fn is_wanted(&self, shapes: &mut Shapes, arrival: &Arrival) -> Result<bool, OutOfMemory>
+        requires below { arrival.now.shape < length shapes.old }
+        ensures room { IfOk result
+            (λ wanted. IsTrue wanted → length self.now.visits.items < self.now.most) }
+        ensures inhabited { IfOk result (λ wanted. IsTrue wanted
+            → inhabited (shape_at (expansions shapes.old) arrival.now.shape) ≡ true) }
+        ensures taken_in { IfOk result
+            (λ wanted. wanted ≡ false → length self.now.visits.items < self.now.most
+            → inhabited (shape_at (expansions shapes.old) arrival.now.shape) ≡ true
+            → IsTakenIn (expansions shapes.old) self.now.visits.items
+            (coming (expansions shapes.old) arrival.now)) }
+        ensures unchanged { shapes.new ≡ shapes.old }
+    {
+        if self.visits.len() >= self.most {
+            return Ok(false);
+        }
+        match shapes.inhabited(arrival.shape) {
+            Some(true) => {
+                let there = self.was_there(shapes, arrival)?;
+                Ok(!there)
+            }
+            Some(false) | None => Ok(false),
+        }
+    }
+
+    /// Adds a visit, where there is room for one.
+    fn push(&mut self, visit: Visit) -> Result<(), OutOfMemory>
+        requires room { length self.old.visits.items < self.old.most }
+        ensures visits { OnOk result
+            (self.new.visits.items ≡ self.old.visits.items ++ visit ∷ []) }
+        ensures most { self.new.most ≡ self.old.most }
+    {
+        self.visits.push(visit)?;
+        self.note(&visit.arrival)
     }
 
     /// Whether the shape of what comes is inside that of a visit of the state.
-    fn was_there(&self, shapes: &mut Shapes, arrival: &Arrival) -> Result<bool, OutOfMemory> {
+    fn was_there(&self, shapes: &mut Shapes, arrival: &Arrival) -> Result<bool, OutOfMemory>
+        ensures there { IfOk result (λ there. IsTrue there
+            → IsTakenIn (expansions shapes.old) self.now.visits.items
+            (coming (expansions shapes.old) arrival.now)) }
+        ensures unchanged { shapes.new ≡ shapes.old }
+    {
         match self.shapes_at.get(arrival.state) {
             Some(outer) => is_inside_one(shapes, arrival.shape, outer),
             None => Ok(false),
@@ -82,7 +154,11 @@ impl Search {
     }
 
     /// Notes the shape of a visit at its state.
-    fn note(&mut self, arrival: &Arrival) -> Result<(), OutOfMemory> {
+    fn note(&mut self, arrival: &Arrival) -> Result<(), OutOfMemory>
+        requires visited { is_visited self.old.visits.items arrival.now.state arrival.now.shape ≡ true }
+        ensures visits { self.new.visits ≡ self.old.visits }
+        ensures most { self.new.most ≡ self.old.most }
+    {
         match self.shapes_at.get_mut(arrival.state) {
             Some(numbers) => {
                 numbers.push(arrival.shape)?;
@@ -94,7 +170,11 @@ impl Search {
 }
 
 /// Whether the shape of that number is inside one of those.
-fn is_inside_one(shapes: &mut Shapes, inner: usize, outer: &[usize]) -> Result<bool, OutOfMemory> {
+fn is_inside_one(shapes: &mut Shapes, inner: usize, outer: &[usize]) -> Result<bool, OutOfMemory>
+    ensures inside { IfOk result (λ inside. IsTrue inside
+        → IsInsideOne (expansions shapes.old) inner outer.now) }
+    ensures unchanged { shapes.new ≡ shapes.old }
+{
     for number in outer {
         if shapes.sub(inner, *number)? == Some(true) {
             return Ok(true);

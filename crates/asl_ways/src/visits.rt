@@ -1,5 +1,13 @@
 //! The visits of states on the ways from a machine's start.
 
+ghost use Rattle.std.specs.Prelude.{◌≡◌, ◌<◌, ◌≤◌, length, IfOk, OnOk, None, Some};
+ghost use Rattle.asl_numbered.specs.Expansion.{expansions, shape_at, Keeps};
+ghost use Rattle.asl_records.specs.Numbered.{numbered_view, AreEntriesBelow, AreWithin};
+ghost use Rattle.asl_ways.specs.Coming.{leaves, starts};
+ghost use Rattle.asl_ways.specs.Given.{given_in, given_of};
+ghost use Rattle.asl_ways.specs.Seeking.{Visits};
+ghost use Rattle.asl_ways.specs.Visits.{AreAll, AreVisits, AreVisitsBelow};
+
 use crate::arrivals::Arrival;
 use crate::leaving::Walker;
 use crate::search::Search;
@@ -32,7 +40,24 @@ pub fn visits(
     declared: &Declared,
     certificate: &mut NumberedCertificate,
     most: usize,
-) -> Result<Vec<Visit>, OutOfMemory> {
+) -> Result<Vec<Visit>, OutOfMemory>
+    requires within { AreWithin certificate.old }
+    ensures visits { IfOk result
+        (λ visits. AreVisits (expansions certificate.new.shapes)
+        (given_of machine.now declared.now certificate.old) visits.items) }
+    ensures all { IfOk result
+        (λ visits. length visits.items < most
+        → AreAll (expansions certificate.new.shapes)
+        (given_of machine.now declared.now certificate.old) visits.items) }
+    ensures at_most { IfOk result (λ visits. length visits.items ≤ most) }
+    ensures below { IfOk result
+        (λ visits. AreVisitsBelow (length certificate.new.shapes) visits.items) }
+    ensures same { numbered_view certificate.new ≡ numbered_view certificate.old }
+    ensures within { AreWithin certificate.new }
+    ensures keeps { Keeps (expansions certificate.old.shapes) (expansions certificate.new.shapes) }
+    ensures output { certificate.new.output ≡ certificate.old.output }
+    ensures states { certificate.new.states ≡ certificate.old.states }
+{
     let walker = Walker {
         alloc,
         machine,
@@ -44,11 +69,22 @@ pub fn visits(
 
 impl Walker<'_> {
     /// The visits of states, at most so many.
-    fn visits(&self, shapes: &mut Shapes, most: usize) -> Result<Vec<Visit>, OutOfMemory> {
+    fn visits(&self, shapes: &mut Shapes, most: usize) -> Result<Vec<Visit>, OutOfMemory>
+        requires states { AreEntriesBelow (length shapes.old) self.now.states.now.entries }
+        ensures visits { IfOk result
+            (λ visits. AreVisits (expansions shapes.new)
+            (given_in (expansions shapes.old) self.now) visits.items) }
+        ensures all { IfOk result
+            (λ visits. length visits.items < most
+            → AreAll (expansions shapes.new)
+            (given_in (expansions shapes.old) self.now) visits.items) }
+        ensures at_most { IfOk result (λ visits. length visits.items ≤ most) }
+        ensures below { IfOk result
+            (λ visits. AreVisitsBelow (length shapes.new) visits.items) }
+        ensures keeps { Keeps (expansions shapes.old) (expansions shapes.new) }
+    {
         let mut search = Search::new(self.alloc, self.machine.states(), most)?;
-        if let Some(arrival) = self.start(shapes)? {
-            search.visit(shapes, arrival, None)?;
-        }
+        self.visit_start(shapes, &mut search)?;
         for place in 0..most {
             let Some(visit) = search.nth(place) else {
                 return Ok(search.into_visits());
@@ -58,14 +94,35 @@ impl Walker<'_> {
         Ok(search.into_visits())
     }
 
-    /// Adds the visits to which the visit of that number leads.
+    /// Adds the visit of the machine's start, if its input comes to a state.
+    fn visit_start(&self, shapes: &mut Shapes, search: &mut Search) -> Result<(), OutOfMemory>
+        ensures visits { OnOk result
+            (Visits (expansions shapes.new) search.old search.new
+            (starts (given_in (expansions shapes.old) self.now)) None) }
+        ensures keeps { Keeps (expansions shapes.old) (expansions shapes.new) }
+    {
+        match self.start(shapes)? {
+            Some(arrival) => search.visit(shapes, arrival, None),
+            None => Ok(()),
+        }
+    }
+
+    /// Adds the visits to which the visit of that number leads, of what comes so.
     fn visit_onward(
         &self,
         shapes: &mut Shapes,
         search: &mut Search,
         place: usize,
         arrival: &Arrival,
-    ) -> Result<(), OutOfMemory> {
+    ) -> Result<(), OutOfMemory>
+        requires states { AreEntriesBelow (length shapes.old) self.now.states.now.entries }
+        requires below { arrival.now.shape < length shapes.old }
+        ensures visits { OnOk result
+            (Visits (expansions shapes.new) search.old search.new
+            (leaves (given_in (expansions shapes.old) self.now) arrival.now.state
+            (shape_at (expansions shapes.old) arrival.now.shape)) (Some place)) }
+        ensures keeps { Keeps (expansions shapes.old) (expansions shapes.new) }
+    {
         let mut arrivals = Vec::new(self.alloc);
         self.push_leaving(shapes, &mut arrivals, arrival.state, arrival.shape)?;
         search.visit_all(shapes, &arrivals, place)

@@ -1,0 +1,104 @@
+-- Visits that are added to a search.
+use Rattle.std.proofs.Common.{◌≡◌, ◌<◌, ◌≤◌, ◌⊎◌, inl, inr, ℕ, List, [], ◌∷◌, ◌++◌, length, Option, Some, None, Contains, Bool, true, false, refl, sym, ap, ◌∙◌, subst, append_assoc, arith, length-append}
+use Rattle.std.proofs.lemmas.Bool.{false≢true}
+use Rattle.std.proofs.lemmas.List.{append-nil}
+use Rattle.std.proofs.lemmas.List.Elements.{Contains-append_left, Contains-append_right, Contains-append_cases, Contains-push}
+use Rattle.asl_model.specs.Shape.{Shape, Inside, inhabited}
+use Rattle.asl_numbered.specs.Expansion.{shape_at}
+use Rattle.asl_ways.specs.Coming.{Coming, coming}
+use Rattle.asl_ways.specs.Seeking.{IsOf, Visits}
+use Rattle.asl_ways.specs.Visits.{AreTakenIn, IsTakenIn}
+use Rattle.asl_ways.specs.declared.arrivals.Arrival.{Arrival}
+use Rattle.asl_ways.specs.declared.search.Search.{Search}
+use Rattle.asl_ways.specs.declared.visits.Visit.{Visit}
+use Rattle.asl_ways.proofs.Places.{no_element, only_element}
+
+-- ---- what is taken in
+
+module _ (table : List Shape) where
+  -- among more visits
+  pub taken_more : (visits added : List Visit) (x : Coming) → IsTakenIn table visits x → IsTakenIn table (visits ++ added) x
+  taken_more visits added x taken = record {
+    visit = taken.visit;
+    stands = Contains-append_left visits added taken.visit taken.stands;
+    state = taken.state;
+    inside = taken.inside;
+  }
+
+  pub all_more : (visits added now : List Visit) (all : List Coming) → now ≡ visits ++ added → AreTakenIn table visits all → AreTakenIn table now all
+  all_more visits added now all is taken x has some = subst (λ vs. IsTakenIn table vs x) (sym is) (taken_more visits added x (taken x has some))
+
+  -- one that is taken in itself
+  pub taken_one : (visits : List Visit) (y : Coming) → (inhabited y.shape ≡ true → IsTakenIn table visits y) → AreTakenIn table visits (y ∷ [])
+  taken_one visits y taken x has some =
+      let is = only_element y x has in
+      subst (IsTakenIn table visits) is (taken (ap (λ z. inhabited z.shape) is ∙ some))
+
+-- ---- visits
+
+module _ (table : List Shape) (before : Option ℕ) where
+  -- none is added
+  pub visits_none : (a : Search) (all : List Coming) → (length a.visits.items < a.most → AreTakenIn table a.visits.items all) → Visits table a a all before
+  visits_none a all taken = record {
+    added = [];
+    whole = sym (append-nil a.visits.items);
+    most = refl;
+    each = λ visit has. absurd (no_element visit has);
+    taken_in = taken;
+  }
+
+  -- nothing comes
+  pub visits_of_none : (a : Search) → Visits table a a [] before
+  visits_of_none a = visits_none a [] (λ room x has. absurd (no_element x has))
+
+  -- one is added
+  pub visits_one : (a b : Search) (arrival : Arrival) → b.visits.items ≡ a.visits.items ++ record { arrival = arrival; before = before } ∷ [] → b.most ≡ a.most → inhabited (shape_at table arrival.shape) ≡ true → arrival.shape < length table → Visits table a b (coming table arrival ∷ []) before
+  visits_one a b arrival whole most some below = record {
+    added = visit ∷ [];
+    whole = whole;
+    most = most;
+    each = λ v has. subst (IsOf table all before) (only_element visit v has) itself;
+    taken_in = λ room. taken_one table b.visits.items (coming table arrival) (λ there. record {
+      visit = visit;
+      stands = subst (λ vs. Contains vs visit) (sym whole) (Contains-push a.visits.items visit);
+      state = refl;
+      inside = λ t has. has;
+    });
+  }
+    where
+      visit : Visit
+      visit = record { arrival = arrival; before = before }
+
+      all : List Coming
+      all = coming table arrival ∷ []
+
+      itself : IsOf table all before visit
+      itself = record { behind = refl; comes = Contains-push [] (coming table arrival); inhabited = some; below = below }
+
+  -- some are added, and then others
+  pub visits_then : (a b c : Search) (xs ys : List Coming) → Visits table a b xs before → Visits table b c ys before → Visits table a c (xs ++ ys) before
+  visits_then a b c xs ys first second = record {
+    added = first.added ++ second.added;
+    whole = second.whole ∙ ap (λ vs. vs ++ second.added) first.whole ∙ append_assoc a.visits.items first.added second.added;
+    most = second.most ∙ first.most;
+    each = λ visit has. by visit (Contains-append_cases first.added second.added visit has);
+    taken_in = λ room x has some. taken room x some (Contains-append_cases xs ys x has);
+  }
+    where
+      by : (visit : Visit) → Contains first.added visit ⊎ Contains second.added visit → IsOf table (xs ++ ys) before visit
+      by visit (inl has) =
+          let of = first.each visit has in
+          record { behind = of.behind; comes = Contains-append_left xs ys _ of.comes; inhabited = of.inhabited; below = of.below }
+      by visit (inr has) =
+          let of = second.each visit has in
+          record { behind = of.behind; comes = Contains-append_right xs ys _ of.comes; inhabited = of.inhabited; below = of.below }
+
+      sooner : length c.visits.items < c.most → length b.visits.items < b.most
+      sooner room =
+          let longer = ap length second.whole ∙ length-append b.visits.items second.added in
+          let same = second.most in
+          omega (arith, room, longer, same)
+
+      taken : length c.visits.items < c.most → (x : Coming) → inhabited x.shape ≡ true → Contains xs x ⊎ Contains ys x → IsTakenIn table c.visits.items x
+      taken room x some (inl has) = all_more table b.visits.items second.added c.visits.items xs second.whole (first.taken_in (sooner room)) x has some
+      taken room x some (inr has) = second.taken_in room x has some

@@ -1,0 +1,5 @@
+pub mod Found
+pub mod Noted
+pub mod Places
+pub mod Sought
+pub mod Ways
