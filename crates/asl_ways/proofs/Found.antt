@@ -1,16 +1,15 @@
 -- Visits that are added to a search.
-use Rattle.std.proofs.Common.{◌≡◌, ◌<◌, ◌≤◌, ◌⊎◌, inl, inr, ℕ, List, [], ◌∷◌, ◌++◌, length, Option, Some, None, Contains, Bool, true, false, refl, sym, ap, ◌∙◌, subst, append_assoc, arith, length-append}
-use Rattle.std.proofs.lemmas.Bool.{false≢true}
+use Rattle.std.proofs.Common.{◌≡◌, ◌<◌, ◌⊎◌, inl, inr, ℕ, List, [], ◌∷◌, ◌++◌, length, Option, Contains, true, refl, sym, ap, ◌∙◌, subst, append_assoc, arith, length-append}
 use Rattle.std.proofs.lemmas.List.{append-nil}
 use Rattle.std.proofs.lemmas.List.Elements.{Contains-append_left, Contains-append_right, Contains-append_cases, Contains-push}
-use Rattle.asl_model.specs.Shape.{Shape, Inside, inhabited}
+use Rattle.asl_model.specs.Shape.{Shape, inhabited}
 use Rattle.asl_numbered.specs.Expansion.{shape_at}
 use Rattle.asl_ways.specs.Coming.{Coming, coming}
 use Rattle.asl_ways.specs.Seeking.{IsOf, Visits}
 use Rattle.asl_ways.specs.Visits.{AreTakenIn, IsTakenIn}
-use Rattle.asl_ways.specs.declared.arrivals.Arrival.{Arrival}
+use Rattle.asl_ways.specs.declared.arriving.Arrival.{Arrival}
 use Rattle.asl_ways.specs.declared.search.Search.{Search}
-use Rattle.asl_ways.specs.declared.visits.Visit.{Visit}
+use Rattle.asl_ways.specs.declared.visiting.Visit.{Visit}
 use Rattle.asl_ways.proofs.Places.{no_element, only_element}
 
 -- ---- what is taken in
@@ -102,3 +101,8 @@ module _ (table : List Shape) (before : Option ℕ) where
       taken : length c.visits.items < c.most → (x : Coming) → inhabited x.shape ≡ true → Contains xs x ⊎ Contains ys x → IsTakenIn table c.visits.items x
       taken room x some (inl has) = all_more table b.visits.items second.added c.visits.items xs second.whole (first.taken_in (sooner room)) x has some
       taken room x some (inr has) = second.taken_in room x has some
+
+-- ---- told otherwise, in the same table
+
+pub visits_told : (t u : List Shape) (a b : Search) (all now : List Coming) (before : Option ℕ) → u ≡ t → all ≡ now → Visits t a b all before → Visits u a b now before
+visits_told t u a b all now before same is visits = subst (λ s. Visits s a b now before) (sym same) (subst (λ cs. Visits t a b cs before) is visits)

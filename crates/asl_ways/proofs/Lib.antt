@@ -1,5 +1,11 @@
+pub mod Added
+pub mod Along
+pub mod Certified
 pub mod Found
 pub mod Noted
+pub mod Passing
 pub mod Places
+pub mod Rows
 pub mod Sought
+pub mod Walking
 pub mod Ways

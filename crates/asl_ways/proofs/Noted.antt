@@ -1,5 +1,5 @@
 -- States and shapes that are noted of visits.
-use Rattle.std.proofs.Common.{◌≡◌, ◌<◌, ℕ, List, [], ◌∷◌, ◌++◌, length, slice_get, Bool, true, false, if◌then◌else◌, ◌&&◌, ◌||◌, nat_eq, Some, None, Contains, Vec, Global, refl, sym, ap, ◌∙◌, subst, arith, eq-eqb}
+use Rattle.std.proofs.Common.{◌≡◌, ℕ, List, [], ◌∷◌, ◌++◌, slice_get, Bool, true, false, if◌then◌else◌, ◌&&◌, ◌||◌, nat_eq, Some, Contains, Vec, Global, refl, sym, ap, subst, arith, eq-eqb}
 use Rattle.std.proofs.lemmas.Bool.{false≢true, eqb-true}
 use Rattle.std.proofs.lemmas.List.Elements.{Contains-append_right}
 use Rattle.asl_model.specs.Shape.{Shape, Inside}
@@ -7,8 +7,8 @@ use Rattle.asl_numbered.specs.Expansion.{shape_at}
 use Rattle.asl_ways.specs.Coming.{coming}
 use Rattle.asl_ways.specs.Noted.{is_visited, is_with, AreNoted, IsInsideOne}
 use Rattle.asl_ways.specs.Visits.{IsTakenIn}
-use Rattle.asl_ways.specs.declared.arrivals.Arrival.{Arrival}
-use Rattle.asl_ways.specs.declared.visits.Visit.{Visit}
+use Rattle.asl_ways.specs.declared.arriving.Arrival.{Arrival}
+use Rattle.asl_ways.specs.declared.visiting.Visit.{Visit}
 use Rattle.asl_ways.proofs.Places.{no_element}
 
 -- ---- a visit of a state with a shape

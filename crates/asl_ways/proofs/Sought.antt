@@ -1,12 +1,11 @@
 -- What a search has found, once the first of its visits are gone on from.
-use Rattle.std.proofs.Common.{◌≡◌, ◌<◌, ◌≤◌, ◌+◌, ◌⊎◌, inl, inr, ℕ, List, [], ◌++◌, length, slice_get, Option, Some, None, Contains, Bool, true, false, refl, sym, ap, ◌∙◌, subst, arith, length-append}
+use Rattle.std.proofs.Common.{◌≡◌, ◌<◌, ◌≤◌, ◌+◌, ◌⊎◌, inl, inr, ℕ, List, [], ◌++◌, length, slice_get, get_or, Option, Some, None, Contains, Bool, true, false, refl, sym, ap, ◌∙◌, subst, arith, length-append}
 use borrow.Author.Tests.{ltb-true, ltb-false}
 use Rattle.std.specs.Prelude.{IfSome, nat_lt}
-use Rattle.std.specs.List.{All}
 use Rattle.std.proofs.lemmas.List.Elements.{All-append, All-contains, All-weaker, Contains-get_or}
-use Rattle.std.proofs.lemmas.Option.{slice_get-get_or, slice_get_within}
-use Rattle.asl_model.proofs.RunOptions.{some_inj}
-use Rattle.asl_model.specs.Shape.{Shape, Inside, inhabited}
+use Rattle.std.proofs.lemmas.Option.{slice_get-get_or, slice_get_cases, slice_get_within}
+use Rattle.asl_model.proofs.RunOptions.{none_some, some_inj}
+use Rattle.asl_model.specs.Shape.{Shape, Inside}
 use Rattle.asl_numbered.specs.Expansion.{shape_at, Keeps}
 use Rattle.asl_numbered.proofs.Expansions.{keeps_longer, kept_shape}
 use Rattle.asl_ways.specs.Coming.{Coming, coming, leaves, starts}
@@ -14,7 +13,7 @@ use Rattle.asl_ways.specs.Given.{Given}
 use Rattle.asl_ways.specs.Seeking.{IsOf, Visits}
 use Rattle.asl_ways.specs.Visits.{comes_next, leaves_visit, leaves_where, AreAll, AreTakenIn, AreVisits, AreVisitsBelow, IsNoLater, IsTakenIn, IsVisit}
 use Rattle.asl_ways.specs.declared.search.Search.{Search}
-use Rattle.asl_ways.specs.declared.visits.Visit.{Visit}
+use Rattle.asl_ways.specs.declared.visiting.Visit.{Visit}
 use Rattle.asl_ways.proofs.Found.{all_more}
 use Rattle.asl_ways.proofs.Places.{contains_at, front_at, front_or_behind, place_of}
 
@@ -217,7 +216,41 @@ pub sought_all : (table : List Shape) (given : Given) (visits : List Visit) (mos
 sought_all table given visits most first all are room = record {
   start = are.start room;
   onward = λ visit has.
-    let at = place_of visits visit has in
-    let within = slice_get_within visits at.0 visit at.1 in
-    are.onward at.0 visit (omega (arith, all, within)) at.1 room;
+      let at = place_of visits visit has in
+      let within = slice_get_within visits at.0 visit at.1 in
+      are.onward at.0 visit (omega (arith, all, within)) at.1 room;
 }
+
+-- one visit further, in a table that has grown
+pub sought_step : (a b : List Shape) (given : Given) (x y : Search) (first : ℕ) (own : Visit) → Keeps a b → slice_get x.visits.items first ≡ Some own → AreSought a given x.visits.items x.most first → Visits b x y (leaves_visit a given own) (Some first) → AreSought b given y.visits.items y.most (first + 1)
+sought_step a b given x y first own keeps stands are adds =
+    let same = leaves_kept a b keeps given x.visits.items are.below own (contains_at x.visits.items first own stands) in
+    sought_on b given x y first own stands (sought_kept a b keeps given x.visits.items are.below x.most first are) (subst (λ all. Visits b x y all (Some first)) (sym same) adds)
+
+-- no visit stands at the place
+pub none_at : {X : Type 0} (xs : List X) (k : ℕ) → slice_get xs k ≡ None → length xs ≤ k
+none_at {X} xs k none = by (slice_get_cases xs k).1
+  where
+    by : ((x : X) × (k < length xs) × (slice_get xs k ≡ Some x) × (get_or xs k x ≡ x)) ⊎ ((length xs ≤ k) × (slice_get xs k ≡ None)) → length xs ≤ k
+    by (inl has) = none_some (sym none ∙ has.2)
+    by (inr past) = past.0
+
+-- the shape of the visit at a place is in the table
+pub visit_within : (table : List Shape) (given : Given) (visits : List Visit) (most first place : ℕ) (visit : Visit) → slice_get visits place ≡ Some visit → AreSought table given visits most first → visit.arrival.shape < length table
+visit_within table given visits most first place visit stands are = All-contains (λ v. v.arrival.shape < length table) visits visit are.below (contains_at visits place visit stands)
+
+-- What is told of visits once the search ends.
+pub record Ends (table : List Shape) (given : Given) (visits : List Visit) (most : ℕ) : Type 0 where
+  pub found : AreVisits table given visits
+  pub all : length visits < most → AreAll table given visits
+  pub few : length visits ≤ most
+  pub below : AreVisitsBelow (length table) visits
+
+pub sought_ends : (table : List Shape) (given : Given) (search : Search) (visits : List Visit) (most first : ℕ) → search.most ≡ most → visits ≡ search.visits.items → length search.visits.items ≤ first → AreSought table given search.visits.items search.most first → Ends table given visits most
+sought_ends table given search visits most first same is all are =
+    subst (Ends table given visits) same (subst (λ vs. Ends table given vs search.most) (sym is) (record {
+      found = are.found;
+      all = sought_all table given search.visits.items search.most first all are;
+      few = search.few;
+      below = are.below;
+    }))

@@ -1,11 +1,11 @@
 -- Ways that are gone back from their ends.
 use Rattle.std.proofs.Common.{◌≡◌, ◌<◌, ◌≤◌, ◌+◌, ℕ, List, [], ◌∷◌, ◌++◌, length, reverse, Option, Some, None, Bool, true, false, slice_get, if◌then◌else◌, refl, sym, ap, ◌∙◌, subst, append_assoc, arith, length-append}
-use Rattle.std.proofs.lemmas.List.{append-nil, reverse-append, length-reverse}
+use Rattle.std.proofs.lemmas.List.{append-nil, reverse-append}
 use Rattle.std.specs.Prelude.{nat_lt}
 use borrow.Author.Tests.{ltb-true}
 use Rattle.asl_model.proofs.RunOptions.{some_inj}
 use Rattle.asl_ways.specs.Way.{before_at, before_visit, in_front_of, IsWay, begins, goes_on}
-use Rattle.asl_ways.specs.declared.visits.Visit.{Visit}
+use Rattle.asl_ways.specs.declared.visiting.Visit.{Visit}
 
 -- one before stands in front
 before_in_front : (visits : List Visit) (place before : ℕ) → before_at visits place ≡ Some before → before < place

@@ -3,7 +3,7 @@ use Rattle.std.specs.Prelude.{◌≡◌, ◌<◌, ◌++◌, ℕ, List, length, m
 use Rattle.std.specs.List.{All}
 use Rattle.asl_model.specs.Shape.{Shape}
 use Rattle.asl_ways.specs.Coming.{Coming, coming}
-use Rattle.asl_ways.specs.declared.arrivals.Arrival.{Arrival}
+use Rattle.asl_ways.specs.declared.arriving.Arrival.{Arrival}
 
 -- their shapes are those of numbers below that bound
 abbrev pub AreBelow : ℕ → List Arrival → Type 0

@@ -8,8 +8,8 @@ use Rattle.asl_model.specs.Shape.{Shape}
 use Rattle.asl_numbered.specs.Expansion.{shape_at}
 use Rattle.asl_ways.specs.Exits.{exit_at, none_passed, passed_on}
 use Rattle.asl_ways.specs.Given.{Given, Row, row_at}
-use Rattle.asl_ways.specs.declared.arrivals.Arrival.{Arrival}
-use Rattle.asl_ways.specs.declared.arrivals.Origin.{Origin}
+use Rattle.asl_ways.specs.declared.arriving.Arrival.{Arrival}
+use Rattle.asl_ways.specs.declared.arriving.Origin.{Origin}
 use Rattle.asl_ways.specs.declared.exits.Exit.{Exit}
 use Rattle.asl_ways.specs.declared.exits.Passed.{Passed}
 

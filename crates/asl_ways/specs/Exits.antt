@@ -1,5 +1,5 @@
 -- The exits of a state for others, along the walk through it.
-use Rattle.std.specs.Prelude.{ℕ, ◌+◌, ◌≤◌, List, codes, bytes_eq, if◌then◌else◌}
+use Rattle.std.specs.Prelude.{◌+◌, codes, bytes_eq, if◌then◌else◌}
 use Rattle.asl_model.specs.Edges.{Destination, ToInput, ToOutput, ToEnd, ToTask, Walked, Flows, Breaks}
 use Rattle.asl_model.specs.Names.{FieldName}
 use Rattle.asl_ways.specs.declared.exits.Exit.{Exit}
@@ -38,9 +38,3 @@ passed_to passed field ToTask = passed
 abbrev pub passed_on : Passed → Walked → Passed
 passed_on passed (Flows edge) = passed_to passed edge.field edge.destination
 passed_on passed (Breaks breach) = turned passed breach.field
-
--- no more than that was passed
-pub record IsPassedWithin (bound : ℕ) (passed : Passed) : Type 0 where
-  pub turns : passed.turns ≤ bound
-  pub catchers : passed.catchers ≤ bound
-  pub branches : passed.branches ≤ bound

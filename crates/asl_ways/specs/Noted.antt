@@ -3,7 +3,7 @@ use Rattle.std.specs.Prelude.{◌≡◌, ◌∷◌, ℕ, List, [], Bool, false, 
 use Rattle.std.specs.declared.alloc.Global.{Global}
 use Rattle.asl_model.specs.Shape.{Shape, Inside}
 use Rattle.asl_numbered.specs.Expansion.{shape_at}
-use Rattle.asl_ways.specs.declared.visits.Visit.{Visit}
+use Rattle.asl_ways.specs.declared.visiting.Visit.{Visit}
 
 -- a visit is one of the state of that number, with the shape of that number
 abbrev pub is_with : ℕ → ℕ → Visit → Bool

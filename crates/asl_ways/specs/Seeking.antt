@@ -5,7 +5,7 @@ use Rattle.asl_numbered.specs.Expansion.{shape_at}
 use Rattle.asl_ways.specs.Coming.{Coming, coming}
 use Rattle.asl_ways.specs.Visits.{AreTakenIn}
 use Rattle.asl_ways.specs.declared.search.Search.{Search}
-use Rattle.asl_ways.specs.declared.visits.Visit.{Visit}
+use Rattle.asl_ways.specs.declared.visiting.Visit.{Visit}
 
 -- a visit of what comes, behind that one
 pub record IsOf (table : List Shape) (all : List Coming) (before : Option ℕ) (visit : Visit) : Type 0 where

@@ -5,7 +5,7 @@ use Rattle.asl_model.specs.Shape.{Shape, Inside, inhabited}
 use Rattle.asl_numbered.specs.Expansion.{shape_at}
 use Rattle.asl_ways.specs.Coming.{Coming, coming, leaves, starts}
 use Rattle.asl_ways.specs.Given.{Given}
-use Rattle.asl_ways.specs.declared.visits.Visit.{Visit}
+use Rattle.asl_ways.specs.declared.visiting.Visit.{Visit}
 
 -- what leaves the state of a visit for others, where what comes to it has the visit's own shape
 abbrev pub leaves_visit : List Shape → Given → Visit → List Coming

@@ -1,6 +1,6 @@
 -- The way that ends in a visit.
 use Rattle.std.specs.Prelude.{◌≡◌, ℕ, List, [], ◌∷◌, ◌++◌, Option, Some, None, slice_get, if◌then◌else◌, nat_lt}
-use Rattle.asl_ways.specs.declared.visits.Visit.{Visit}
+use Rattle.asl_ways.specs.declared.visiting.Visit.{Visit}
 
 -- that number, if it is that of a visit in front
 abbrev pub in_front_of : ℕ → Option ℕ → Option ℕ

@@ -1,9 +1,9 @@
 //! The exits of a state for others, along the walk through it.
 
-ghost use Rattle.std.specs.Prelude.{◌≡◌, ◌<◌, ◌+◌, ◌-◌, List, if◌then◌else◌};
+ghost use Rattle.std.specs.Prelude.{◌≡◌, ◌<◌, ◌+◌, List, if◌then◌else◌};
 ghost use Rattle.asl_model.specs.Shape.{Shape};
 ghost use Rattle.asl_edges.specs.View.{step_view};
-ghost use Rattle.asl_ways.specs.Exits.{exit_at, none_passed, passed_on, turned, IsPassedWithin};
+ghost use Rattle.asl_ways.specs.Exits.{exit_at, none_passed, passed_on, turned};
 
 use asl_edges::{Destination, Step};
 
@@ -64,7 +64,9 @@ impl Passed {
 
     /// What was passed once the step is, too.
     pub(crate) fn on(self, step: &Step) -> Passed
-        requires { IsPassedWithin (usize.MAX - 1) self }
+        requires turns { self.turns < usize.MAX }
+        requires catchers { self.catchers < usize.MAX }
+        requires branches { self.branches < usize.MAX }
         ensures { (table : List Shape) → result ≡ passed_on self (step_view table step.now) }
     {
         match *step {
@@ -78,7 +80,9 @@ impl Passed {
 
     /// What was passed once a turn at that field is, too.
     fn turned(self, field: &str) -> Passed
-        requires { IsPassedWithin (usize.MAX - 1) self }
+        requires turns { self.turns < usize.MAX }
+        requires catchers { self.catchers < usize.MAX }
+        requires branches { self.branches < usize.MAX }
         ensures { result ≡ turned self field.now }
     {
         Passed {

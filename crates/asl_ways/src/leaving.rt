@@ -1,11 +1,11 @@
 //! What leaves a state for others.
 
 ghost use Rattle.std.specs.Prelude.{◌≡◌, ◌<◌, ◌++◌, ℕ, List, length, IfOk, IfSome, OnOk, option_map, option_to_list};
-ghost use Rattle.asl_model.specs.Certificate.{gives_of};
+ghost use Rattle.asl_model.specs.Certificate.{gives_of, under};
 ghost use Rattle.asl_model.specs.Shape as model;
 ghost use Rattle.asl_numbered.specs.Expansion.{expansions, shape_at, Keeps};
 ghost use Rattle.asl_states.specs.Table.{table_view};
-ghost use Rattle.asl_records.specs.Numbered.{AreEntriesBelow, AreNumbersBelow};
+ghost use Rattle.asl_records.specs.Numbered.{numbers_view, AreEntriesBelow, AreNumbersBelow};
 ghost use Rattle.asl_records.specs.View.{declared_view};
 ghost use Rattle.asl_edges.specs.View.{edge_view, step_view, steps_of, AreStepsBelow, IsStepBelow};
 ghost use Rattle.asl_ways.specs.Adding.{Adds};
@@ -13,7 +13,7 @@ ghost use Rattle.asl_ways.specs.Coming.{coming, comes_along, comes_at, leaves, l
 ghost use Rattle.asl_ways.specs.Exits.{none_passed};
 ghost use Rattle.asl_ways.specs.Given.{given_in, row_at, row_view};
 
-use crate::arrivals::{Arrival, Origin};
+use crate::arriving::{Arrival, Origin};
 use crate::exits::Passed;
 use asl_edges::{Destination, Edge, Entry, Step, edges_of};
 use asl_numbered::Shapes;
@@ -51,8 +51,19 @@ impl<'w> Walker<'w> {
     {
         let name = self.machine.name(number)?;
         let state = self.machine.state(number)?;
-        let entry = self.states.get(name)?;
+        let entry = self.entry(name)?;
         Some(Row { name, state, entry })
+    }
+
+    /// What is certified of the state of that name.
+    fn entry(&self, name: &str) -> Option<&'w StateNumbers>
+        ensures seen { (table : List model.Shape)
+            → option_map (λ entry. numbers_view table entry.now) result
+            ≡ under name.now (given_in table self.now).states }
+        ensures below { (bound : ℕ) → AreEntriesBelow bound self.now.states.now.entries
+            → IfSome result (λ entry. AreNumbersBelow bound entry.now) }
+    {
+        self.states.get(name)
     }
 
     /// Adds what leaves the state of that number for others, where what comes to it has the shape of that number, in the
@@ -108,11 +119,7 @@ impl<'w> Walker<'w> {
 }
 
 /// The number of what the task of that name gives; one that isn't declared gives every tree.
-fn number_given(
-    shapes: &mut Shapes,
-    declared: &Declared,
-    name: &str,
-) -> Result<usize, OutOfMemory>
+fn number_given(shapes: &mut Shapes, declared: &Declared, name: &str) -> Result<usize, OutOfMemory>
     ensures within { IfOk result (λ gives. gives < length shapes.new) }
     ensures gives { IfOk result (λ gives. shape_at (expansions shapes.new) gives
         ≡ gives_of (declared_view declared.now) name.now) }
@@ -144,7 +151,10 @@ fn push_arrivals(
 }
 
 /// Adds an arrival, if there is one.
-fn push_if_any(arrivals: &mut Vec<Arrival>, arrival: Option<Arrival>) -> Result<(), OutOfMemory>
+pub(crate) fn push_if_any(
+    arrivals: &mut Vec<Arrival>,
+    arrival: Option<Arrival>,
+) -> Result<(), OutOfMemory>
     ensures { OnOk result
         (arrivals.new.items ≡ arrivals.old.items ++ option_to_list arrival) }
 {

@@ -6,14 +6,14 @@
 //! ends in one of them.
 #![tactic(auto)]
 
-mod arrivals;
+mod arriving;
 mod exits;
 mod leaving;
 mod search;
-mod visits;
+mod visiting;
 mod way;
 
-pub use arrivals::{Arrival, Origin, arrivals};
+pub use arriving::{Arrival, Origin, arrivals};
 pub use exits::Exit;
-pub use visits::{Visit, visits};
+pub use visiting::{Visit, visits};
 pub use way::way_to;

@@ -4,8 +4,8 @@ ghost use Rattle.std.specs.Prelude.{◌≡◌, ◌≤◌, length, IfOk, IsTrue};
 ghost use Rattle.asl_numbered.specs.Expansion.{expansions};
 ghost use Rattle.asl_ways.specs.Noted.{AreNoted, IsInsideOne};
 
-use crate::arrivals::Arrival;
-use crate::visits::Visit;
+use crate::arriving::Arrival;
+use crate::visiting::Visit;
 use asl_numbered::Shapes;
 use asl_tree::OutOfMemory;
 use std::alloc::Global;

@@ -3,7 +3,7 @@
 ghost use Rattle.std.specs.Prelude.{◌≡◌, ◌+◌, ◌≤◌, length, IfOk};
 ghost use Rattle.asl_ways.specs.Way.{before_at, IsWay};
 
-use crate::visits::Visit;
+use crate::visiting::Visit;
 use asl_tree::OutOfMemory;
 use std::alloc::Global;
 

@@ -1,6 +1,6 @@
-use Rattle.std.proofs.Common.{◌≡◌, ◌≤◌, ◌+◌, length, ap, ◌++◌, ◌∷◌, [], sym, ◌∙◌, subst}
+use Rattle.std.proofs.Common.{◌≤◌, ◌+◌, length, ap, ◌++◌, ◌∷◌, [], sym, ◌∙◌, subst}
 use Rattle.asl_ways.proofs.Ways.{back_at_last, back_further, way_gone, way_many}
-use Rattle.asl_ways.specs.Way.{before_at, IsWay}
+use Rattle.asl_ways.specs.Way.{IsWay}
 use Rattle.asl_ways.proofs.way.way_to.Goals as goal
 
 pub loop-before-init : goal.loop-before-init

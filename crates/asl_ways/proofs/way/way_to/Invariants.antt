@@ -1,4 +1,3 @@
-use Rattle.std.proofs.Common.{◌<◌}
 use Rattle.asl_ways.proofs.Ways.{GoesBack}
 use Rattle.asl_ways.proofs.way.way_to.Given as goal
 

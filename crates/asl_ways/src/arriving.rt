@@ -8,7 +8,7 @@ ghost use Rattle.asl_ways.specs.Coming.{all_coming, coming, leaves_certified, st
 ghost use Rattle.asl_ways.specs.Given.{given_in, given_of};
 
 use crate::exits::Exit;
-use crate::leaving::Walker;
+use crate::leaving::{Walker, push_if_any};
 use asl_numbered::Shapes;
 use asl_records::{Declared, NumberedCertificate};
 use asl_states::Machine;
@@ -79,7 +79,8 @@ impl Walker<'_> {
     {
         let mut arrivals = Vec::new(self.alloc);
         self.push_start(shapes, &mut arrivals)?;
-        for number in 0..self.machine.states() {
+        let count = self.machine.states();
+        for number in 0..count {
             self.push_certified(shapes, &mut arrivals, number)?;
         }
         Ok(arrivals)
@@ -96,10 +97,8 @@ impl Walker<'_> {
             (starts (given_in (expansions shapes.old) self.now))) }
         ensures keeps { Keeps (expansions shapes.old) (expansions shapes.new) }
     {
-        if let Some(arrival) = self.start(shapes)? {
-            arrivals.push(arrival)?;
-        }
-        Ok(())
+        let start = self.start(shapes)?;
+        push_if_any(arrivals, start)
     }
 
     /// The machine's input, which comes to its start state; none where it has no states.

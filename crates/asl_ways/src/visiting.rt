@@ -8,7 +8,7 @@ ghost use Rattle.asl_ways.specs.Given.{given_in, given_of};
 ghost use Rattle.asl_ways.specs.Seeking.{Visits};
 ghost use Rattle.asl_ways.specs.Visits.{AreAll, AreVisits, AreVisitsBelow};
 
-use crate::arrivals::Arrival;
+use crate::arriving::Arrival;
 use crate::leaving::Walker;
 use crate::search::Search;
 use asl_numbered::Shapes;
@@ -101,7 +101,8 @@ impl Walker<'_> {
             (starts (given_in (expansions shapes.old) self.now)) None) }
         ensures keeps { Keeps (expansions shapes.old) (expansions shapes.new) }
     {
-        match self.start(shapes)? {
+        let start = self.start(shapes)?;
+        match start {
             Some(arrival) => search.visit(shapes, arrival, None),
             None => Ok(()),
         }

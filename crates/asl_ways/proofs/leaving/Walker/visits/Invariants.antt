@@ -1,0 +1,12 @@
+use Rattle.std.proofs.Common.{◌≡◌}
+use Rattle.asl_numbered.specs.Expansion.{expansions, Keeps}
+use Rattle.asl_ways.specs.Given.{given_in}
+use Rattle.asl_ways.proofs.Sought.{AreSought}
+use Rattle.asl_ways.proofs.leaving.Walker.visits.Given as goal
+
+abbrev pub invariant-loop-place : goal.invariant-loop-place
+invariant-loop-place l = record {
+  most : l.search.most ≡ l.most;
+  keeps : Keeps (expansions l.fn.shapes) (expansions l.shapes);
+  sought : AreSought (expansions l.shapes) (given_in (expansions l.fn.shapes) l.self) l.search.visits.items l.search.most l.place;
+}
