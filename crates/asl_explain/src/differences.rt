@@ -1,0 +1,287 @@
+//! Where one shape isn't within another.
+
+use crate::words::{noted, quoted};
+use asl_numbered::{NodeArrays, NodeKinds, NodeObjects, Shapes};
+use asl_tree::OutOfMemory;
+use std::alloc::Global;
+
+/// How many levels are gone down to the place.
+const MOST_LEVELS: usize = 64;
+
+/// A part of two shapes: a field or an element.
+#[derive(Drop)]
+struct Part {
+    /// How a path goes to it.
+    step: String,
+    /// The number of its shape in the first.
+    inner: usize,
+    /// The number of its shape in the second.
+    outer: usize,
+}
+
+/// In words where a value of the first shape may lack the second, and what is wanted there: the place as a path, and what
+/// may be so there. `who` is what wants the second shape.
+pub(crate) fn difference(
+    alloc: Global,
+    shapes: &mut Shapes,
+    inner: usize,
+    outer: usize,
+    who: &str,
+) -> Result<String, OutOfMemory> {
+    let mut place = String::from_str(alloc, "$")?;
+    let mut pair = (inner, outer);
+    for _ in 0..MOST_LEVELS {
+        if let Some(lack) = lack_between(alloc, shapes, pair.0, pair.1, who)? {
+            place.push_str(&lack)?;
+            return Ok(place);
+        }
+        let parts = parts_between(alloc, shapes, pair.0, pair.1)?;
+        let Some(part) = first_apart(shapes, parts)? else {
+            break;
+        };
+        place.push_str(&part.step)?;
+        pair = (part.inner, part.outer);
+    }
+    let wanted = noted(alloc, shapes, pair.1)?;
+    place.push_str(&format!(in alloc; " may not be what {who} wants, {wanted}")?)?;
+    Ok(place)
+}
+
+/// What a value of the first shape may lack of the second on its first level, if it may lack something there.
+fn lack_between(
+    alloc: Global,
+    shapes: &Shapes,
+    inner: usize,
+    outer: usize,
+    who: &str,
+) -> Result<Option<String>, OutOfMemory> {
+    let Some(wanted) = shapes.take_apart(outer) else {
+        return Ok(None);
+    };
+    match shapes.take_apart(inner) {
+        Some(kinds) if has_other_kind(&kinds, &wanted) => {
+            Ok(Some(other_kind(alloc, shapes, inner, outer, who)?))
+        }
+        None => Ok(Some(other_kind(alloc, shapes, inner, outer, who)?)),
+        Some(kinds) => lack_of_parts(alloc, shapes, &kinds, &wanted, who),
+    }
+}
+
+/// Whether there are values of the first kinds that are of none of the second.
+fn has_other_kind(kinds: &NodeKinds, wanted: &NodeKinds) -> bool {
+    kinds.null && !wanted.null
+        || kinds.boolean && !wanted.boolean
+        || kinds.integer && !wanted.integer
+        || kinds.text && !wanted.text
+        || kinds.arrays.is_some() && wanted.arrays.is_none()
+        || kinds.objects.is_some() && wanted.objects.is_none()
+}
+
+/// That a value may be of another kind.
+fn other_kind(
+    alloc: Global,
+    shapes: &Shapes,
+    inner: usize,
+    outer: usize,
+    who: &str,
+) -> Result<String, OutOfMemory> {
+    let is = noted(alloc, shapes, inner)?;
+    let wanted = noted(alloc, shapes, outer)?;
+    Ok(format!(in alloc; " is {is}, and {who} takes {wanted}")?)
+}
+
+/// What lists or objects may lack on their first level.
+fn lack_of_parts(
+    alloc: Global,
+    shapes: &Shapes,
+    kinds: &NodeKinds,
+    wanted: &NodeKinds,
+    who: &str,
+) -> Result<Option<String>, OutOfMemory> {
+    if let (Some(objects), Some(others)) = (&kinds.objects, &wanted.objects) {
+        if let Some(lack) = lack_of_object(alloc, shapes, objects, others, who)? {
+            return Ok(Some(lack));
+        }
+    }
+    match (&kinds.arrays, &wanted.arrays) {
+        (Some(lists), Some(others)) => lack_of_list(alloc, shapes, lists, others, who),
+        _ => Ok(None),
+    }
+}
+
+/// What an object may lack on its first level.
+fn lack_of_object(
+    alloc: Global,
+    shapes: &Shapes,
+    objects: &NodeObjects,
+    wanted: &NodeObjects,
+    who: &str,
+) -> Result<Option<String>, OutOfMemory> {
+    if let Some(lack) = absent_field(alloc, objects, wanted, who)? {
+        return Ok(Some(lack));
+    }
+    if wanted.extra {
+        return Ok(None);
+    }
+    if let Some(lack) = unwanted_field(alloc, shapes, objects, wanted, who)? {
+        return Ok(Some(lack));
+    }
+    if objects.extra {
+        let lack = format!(in alloc; " may have other fields, and {who} takes none")?;
+        return Ok(Some(lack));
+    }
+    Ok(None)
+}
+
+/// The first field that is wanted and may be absent.
+fn absent_field(
+    alloc: Global,
+    objects: &NodeObjects,
+    wanted: &NodeObjects,
+    who: &str,
+) -> Result<Option<String>, OutOfMemory> {
+    for (name, field) in wanted.fields.iter() {
+        if field.needed && !is_sure(objects, name) {
+            let told = quoted(alloc, name)?;
+            let lack = format!(in alloc; " may have no field {told}, and {who} needs it")?;
+            return Ok(Some(lack));
+        }
+    }
+    Ok(None)
+}
+
+/// Whether each of the objects has the field.
+fn is_sure(objects: &NodeObjects, name: &str) -> bool {
+    match objects.fields.get(name) {
+        Some(field) => field.needed,
+        None => false,
+    }
+}
+
+/// The first field that may be there and isn't taken.
+fn unwanted_field(
+    alloc: Global,
+    shapes: &Shapes,
+    objects: &NodeObjects,
+    wanted: &NodeObjects,
+    who: &str,
+) -> Result<Option<String>, OutOfMemory> {
+    for (name, field) in objects.fields.iter() {
+        if wanted.fields.get(name.as_str()).is_none()
+            && shapes.inhabited(field.shape) == Some(true)
+        {
+            let told = quoted(alloc, name)?;
+            let lack = format!(in alloc; " may have a field {told}, and {who} takes none of that name")?;
+            return Ok(Some(lack));
+        }
+    }
+    Ok(None)
+}
+
+/// What a list may lack in length.
+fn lack_of_list(
+    alloc: Global,
+    shapes: &Shapes,
+    lists: &NodeArrays,
+    wanted: &NodeArrays,
+    who: &str,
+) -> Result<Option<String>, OutOfMemory> {
+    let many = wanted.first.len();
+    if lists.first.len() < many {
+        let lack = format!(in alloc; " may have fewer than {many} elements, and {who} needs them")?;
+        return Ok(Some(lack));
+    }
+    let may_be_longer =
+        lists.first.len() > many || shapes.inhabited(lists.rest) == Some(true);
+    if may_be_longer && shapes.inhabited(wanted.rest) == Some(false) {
+        let lack = format!(in alloc; " may have more than {many} elements, and {who} takes no more")?;
+        return Ok(Some(lack));
+    }
+    Ok(None)
+}
+
+/// The parts of which both shapes say something.
+fn parts_between(
+    alloc: Global,
+    shapes: &Shapes,
+    inner: usize,
+    outer: usize,
+) -> Result<Vec<Part>, OutOfMemory> {
+    let mut parts = Vec::new(alloc);
+    let (Some(kinds), Some(wanted)) = (shapes.take_apart(inner), shapes.take_apart(outer)) else {
+        return Ok(parts);
+    };
+    if let (Some(objects), Some(others)) = (&kinds.objects, &wanted.objects) {
+        push_fields(alloc, &mut parts, objects, others)?;
+    }
+    if let (Some(lists), Some(others)) = (&kinds.arrays, &wanted.arrays) {
+        push_elements(alloc, &mut parts, lists, others)?;
+    }
+    Ok(parts)
+}
+
+/// Adds the fields that both mention.
+fn push_fields(
+    alloc: Global,
+    parts: &mut Vec<Part>,
+    objects: &NodeObjects,
+    wanted: &NodeObjects,
+) -> Result<(), OutOfMemory> {
+    for (name, field) in objects.fields.iter() {
+        if let Some(other) = wanted.fields.get(name.as_str()) {
+            parts.push(Part {
+                step: step_to(alloc, name)?,
+                inner: field.shape,
+                outer: other.shape,
+            })?;
+        }
+    }
+    Ok(())
+}
+
+/// How a path goes to a field: behind a dot where the name is a word.
+fn step_to(alloc: Global, name: &str) -> Result<String, OutOfMemory> {
+    if !name.is_empty() && name.bytes().all(is_in_word) {
+        return Ok(format!(in alloc; ".{name}")?);
+    }
+    let told = quoted(alloc, name)?;
+    Ok(format!(in alloc; "[{told}]")?)
+}
+
+/// Whether the byte may stand in a word.
+fn is_in_word(byte: u8) -> bool {
+    byte.is_ascii_alphanumeric() || byte == b'_'
+}
+
+/// Adds the elements at each place, and those behind.
+fn push_elements(
+    alloc: Global,
+    parts: &mut Vec<Part>,
+    lists: &NodeArrays,
+    wanted: &NodeArrays,
+) -> Result<(), OutOfMemory> {
+    for (place, inner) in lists.first.iter().enumerate() {
+        let outer = wanted.first.get(place).copied().unwrap_or(wanted.rest);
+        parts.push(Part {
+            step: format!(in alloc; "[{place}]")?,
+            inner: *inner,
+            outer,
+        })?;
+    }
+    parts.push(Part {
+        step: String::from_str(alloc, "[..]")?,
+        inner: lists.rest,
+        outer: wanted.rest,
+    })?;
+    Ok(())
+}
+
+/// The first part whose first shape isn't within its second.
+fn first_apart(shapes: &mut Shapes, parts: Vec<Part>) -> Result<Option<Part>, OutOfMemory> {
+    for part in parts {
+        if shapes.sub(part.inner, part.outer)? == Some(false) {
+            return Ok(Some(part));
+        }
+    }
+    Ok(None)
+}

@@ -1,0 +1,205 @@
+//! From texts to explanations.
+
+ghost use Rattle.std.specs.Prelude.{◌≡◌, ◌↔◌, IfErr, IfOk, None};
+ghost use Rattle.asl_model.specs.Verdict.{Accepted};
+ghost use Rattle.asl_tool.specs.Inferred.{InferFaultStands};
+ghost use Rattle.asl_tool.specs.VerifiedInference.{IsVerdictOnInferred};
+ghost use Rattle.asl_explain.specs.declared.explaining.Explained as explained;
+
+use crate::subject::{Explainer, Flows, Subject};
+use crate::telling::push_alone;
+use asl_check::{Finding, Located, Verdict, find_all};
+use asl_infer::infer_leniently;
+use asl_records::NumberedCertificate;
+use asl_tool::{RunFault, Verified, verify_inferred};
+use asl_tree::OutOfMemory;
+use std::alloc::Global;
+
+/// What is explained.
+#[derive(Drop)]
+pub enum Explained {
+    /// Every rule holds: there is nothing to explain.
+    Nothing,
+    /// Each finding in some lines, with an empty line between two of them.
+    Findings(String),
+    /// What is known of a state, in some lines.
+    State(String),
+    /// No state has the name that is asked for.
+    NoSuchState,
+    /// Some shape still changed in the last round, so that nothing is known of the data.
+    NotSettled,
+}
+
+/// Explains each broken rule of a definition under declared shapes, both given as JSON texts, or what is known of one state.
+///
+/// Without the name of a state there is nothing to explain exactly where [`verify_inferred`] says yes. Otherwise each rule is
+/// told that the certificate breaks which is inferred leniently in at most `max_rounds` rounds, or, where there is none, what
+/// [`verify_inferred`] tells: the line of the finding, what is known of the data with which it arises, the shortest way by
+/// which such data comes there, other origins from which it doesn't arise, an example, and what usually helps. With a name
+/// it is told what comes to the state of that name, its shapes, and its findings.
+///
+/// Refused as by [`verify_inferred`].
+pub fn explain_texts(
+    alloc: Global,
+    definition: &[u8],
+    declared: &[u8],
+    state: Option<&str>,
+    max_rounds: u32,
+) -> Result<Explained, RunFault> {
+    let verified = verify_inferred(alloc, definition, declared, max_rounds)?;
+    let texts = Texts {
+        definition,
+        declared,
+        max_rounds,
+    };
+    match state {
+        Some(name) => told_or_fault(texts.explain_state(alloc, name)),
+        None => explain_verified(alloc, &texts, verified),
+    }
+}
+
+/// Explains what is told of two texts.
+fn explain_verified(
+    alloc: Global,
+    texts: &Texts<'_>,
+    verified: Verified,
+) -> Result<Explained, RunFault> {
+    match verified {
+        Verified::Verdict(Verdict::Yes) => Ok(Explained::Nothing),
+        Verified::Verdict(Verdict::No(findings)) => {
+            told_or_fault(texts.explain_findings(alloc, findings))
+        }
+        Verified::Finding(finding) => told_or_fault(texts.explain_finding(alloc, finding)),
+        Verified::NotSettled => Ok(Explained::NotSettled),
+    }
+}
+
+/// What is explained, or that memory ran out.
+fn told_or_fault(told: Result<Explained, OutOfMemory>) -> Result<Explained, RunFault> {
+    match told {
+        Ok(explained) => Ok(explained),
+        Err(_) => Err(RunFault::OutOfMemory),
+    }
+}
+
+/// Two texts that were read before, and how many rounds are taken at most.
+#[derive(Clone, Copy, Drop)]
+struct Texts<'t> {
+    definition: &'t [u8],
+    declared: &'t [u8],
+    max_rounds: u32,
+}
+
+/// What is known of a machine by a certificate that is inferred leniently.
+#[derive(Drop)]
+struct Known {
+    certificate: NumberedCertificate,
+    flows: Flows,
+    findings: Vec<Located>,
+}
+
+impl Known {
+    /// What is known of a machine under declared shapes; nothing where the shapes don't settle.
+    fn find(
+        alloc: Global,
+        subject: &Subject,
+        max_rounds: u32,
+    ) -> Result<Option<Known>, OutOfMemory> {
+        let machine = &subject.machine;
+        let declared = &subject.declared;
+        let Some(mut certificate) = infer_leniently(alloc, machine, declared, max_rounds)? else {
+            return Ok(None);
+        };
+        let findings = find_all(alloc, machine, declared, &mut certificate)?;
+        let flows = Flows::find(alloc, subject, &mut certificate)?;
+        Ok(Some(Known {
+            certificate,
+            flows,
+            findings,
+        }))
+    }
+}
+
+impl Texts<'_> {
+    /// Explains this one finding, or all that are known, if there are some.
+    fn explain_finding(&self, alloc: Global, finding: Finding) -> Result<Explained, OutOfMemory> {
+        let mut findings = Vec::new(alloc);
+        findings.push(finding)?;
+        self.explain_findings(alloc, findings)
+    }
+
+    /// Explains these findings, or all that are known, if there are some.
+    fn explain_findings(
+        &self,
+        alloc: Global,
+        findings: Vec<Finding>,
+    ) -> Result<Explained, OutOfMemory> {
+        let subject = Subject::read(alloc, self.definition, self.declared)?;
+        let text = match Known::find(alloc, &subject, self.max_rounds)? {
+            Some(known) => explain_known(alloc, &subject, known, findings)?,
+            None => lines_of(alloc, findings)?,
+        };
+        Ok(Explained::Findings(text))
+    }
+
+    /// Tells what is known of the state of that name.
+    fn explain_state(&self, alloc: Global, name: &str) -> Result<Explained, OutOfMemory> {
+        let subject = Subject::read(alloc, self.definition, self.declared)?;
+        let Some(state) = subject.machine.state_named(name) else {
+            return Ok(Explained::NoSuchState);
+        };
+        let Some(mut known) = Known::find(alloc, &subject, self.max_rounds)? else {
+            return Ok(Explained::NotSettled);
+        };
+        let explainer = Explainer {
+            alloc,
+            machine: &subject.machine,
+            declared: &subject.declared,
+            states: &known.certificate.states,
+            flows: &known.flows,
+        };
+        let shapes = &mut known.certificate.shapes;
+        let text = explainer.about_state(shapes, &known.findings, state)?;
+        Ok(Explained::State(text))
+    }
+}
+
+/// Explains all that is known, or these findings where that is nothing.
+fn explain_known(
+    alloc: Global,
+    subject: &Subject,
+    mut known: Known,
+    findings: Vec<Finding>,
+) -> Result<String, OutOfMemory> {
+    if known.findings.is_empty() {
+        return lines_of(alloc, findings);
+    }
+    let explainer = Explainer {
+        alloc,
+        machine: &subject.machine,
+        declared: &subject.declared,
+        states: &known.certificate.states,
+        flows: &known.flows,
+    };
+    let mut text = String::new(alloc);
+    for located in &known.findings {
+        if !text.is_empty() {
+            text.push_str("\n")?;
+        }
+        explainer.push_finding(&mut known.certificate.shapes, &mut text, located)?;
+    }
+    Ok(text)
+}
+
+/// These findings, of which nothing else is known.
+fn lines_of(alloc: Global, findings: Vec<Finding>) -> Result<String, OutOfMemory> {
+    let mut text = String::new(alloc);
+    for finding in findings {
+        let located = Located {
+            finding,
+            path: None,
+        };
+        push_alone(alloc, &mut text, &located)?;
+    }
+    Ok(text)
+}

@@ -1,0 +1,46 @@
+//! The line that says what is wrong.
+
+use crate::words::quoted;
+use asl_check::{FindingFault, Located};
+use asl_diagnostics::rule_of_finding;
+use asl_tree::OutOfMemory;
+use std::alloc::Global;
+
+/// The state's name, the field, the fault, and what it says in a sentence.
+pub(crate) fn head_of(alloc: Global, located: &Located) -> Result<String, OutOfMemory> {
+    let state = quoted(alloc, &located.finding.state)?;
+    let told = told_in_short(alloc, located)?;
+    Ok(format!(in alloc; "{state} {told}")?)
+}
+
+/// The field, the fault, and what it says in a sentence.
+pub(crate) fn told_in_short(alloc: Global, located: &Located) -> Result<String, OutOfMemory> {
+    let finding = &located.finding;
+    let field = finding.field.as_str();
+    let fault = finding.fault.name();
+    let sentence = sentence_of(alloc, located)?;
+    Ok(format!(in alloc; "{field} {fault}: {sentence}")?)
+}
+
+/// What the finding says, with the path or the field where it is about one.
+fn sentence_of(alloc: Global, located: &Located) -> Result<String, OutOfMemory> {
+    let finding = &located.finding;
+    match (finding.fault, &located.path) {
+        (FindingFault::PathMayBeMissing, Some(path)) => {
+            Ok(format!(in alloc; "{} may name nothing.", path.text)?)
+        }
+        (FindingFault::WrongKind, _) => sentence_on_kind(alloc, finding.field.as_str()),
+        (fault, _) => Ok(String::from_str(alloc, rule_of_finding(fault).short)?),
+    }
+}
+
+/// That a path may name a value of another kind than its field wants.
+fn sentence_on_kind(alloc: Global, field: &str) -> Result<String, OutOfMemory> {
+    let words = match field {
+        "ItemsPath" => "what the path names may be no list.",
+        "SecondsPath" => "what the path names may be no whole number.",
+        "TimestampPath" => "what the path names may be no text.",
+        _ => "what the path names may be of another kind than is wanted here.",
+    };
+    Ok(String::from_str(alloc, words)?)
+}

@@ -1,0 +1,24 @@
+//! Explanations for people: why a rule is broken, by which way data comes there, and what usually helps; or what is known of
+//! one state.
+//!
+//! [`explain_texts`] takes a definition and declared shapes as texts. There is nothing to explain exactly where
+//! [`asl_tool::verify_inferred`] says yes.
+#![tactic(auto)]
+
+mod by_state;
+mod causes;
+mod differences;
+mod explaining;
+mod heads;
+mod helping;
+mod lookups;
+mod origins;
+mod state_text;
+mod stops;
+mod subject;
+mod telling;
+mod there;
+mod walking;
+mod words;
+
+pub use explaining::{Explained, explain_texts};

@@ -1,0 +1,58 @@
+//! What is looked up in a machine, in declared shapes and in a certificate.
+
+use crate::subject::Explainer;
+use asl_numbered::Shapes;
+use asl_shape::Shape;
+use asl_states::{Kind, State};
+use asl_tree::OutOfMemory;
+
+impl<'m> Explainer<'m> {
+    /// The state of that name.
+    pub(crate) fn state_named(&self, name: &str) -> Option<&'m State> {
+        self.machine.state(self.machine.state_named(name)?)
+    }
+
+    /// The number of the shape of the state's input under the certificate.
+    pub(crate) fn input_of(&self, state: usize) -> Option<usize> {
+        let entry = self.states.get(self.machine.name(state)?)?;
+        Some(entry.input)
+    }
+
+    /// The number of what the task of that name gives; one that isn't declared gives every tree.
+    pub(crate) fn given_by(
+        &self,
+        shapes: &mut Shapes,
+        name: &str,
+    ) -> Result<usize, OutOfMemory> {
+        match self.declared.task(name) {
+            Some(task) => shapes.add(&task.gives),
+            None => shapes.add(&Shape::Any),
+        }
+    }
+
+    /// The number of what the task of that name takes; one that isn't declared takes every tree.
+    pub(crate) fn taken_by(
+        &self,
+        shapes: &mut Shapes,
+        name: &str,
+    ) -> Result<usize, OutOfMemory> {
+        match self.declared.task(name) {
+            Some(task) => shapes.add(&task.takes),
+            None => shapes.add(&Shape::Any),
+        }
+    }
+}
+
+/// The type of a state, as a definition spells it.
+pub(crate) fn type_of(kind: &Kind) -> &'static str {
+    match kind {
+        Kind::Pass { .. } => "Pass",
+        Kind::Task { .. } => "Task",
+        Kind::Choice { .. } => "Choice",
+        Kind::Wait { .. } => "Wait",
+        Kind::Succeed => "Succeed",
+        Kind::Fail { .. } => "Fail",
+        Kind::Parallel { .. } => "Parallel",
+        Kind::Map { .. } => "Map",
+    }
+}

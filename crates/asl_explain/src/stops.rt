@@ -1,0 +1,161 @@
+//! Where a path may stop, and why.
+
+use crate::words::quoted;
+use asl_flow::DoubtfulPath;
+use asl_numbered::{NodeKinds, NodeObjects, Shapes};
+use asl_path::{Segment, print};
+use asl_tree::OutOfMemory;
+use std::alloc::Global;
+
+/// A value beyond which a path may name nothing.
+#[derive(Drop)]
+pub(crate) struct Stop {
+    /// The number of its shape.
+    pub(crate) shape: usize,
+    /// The text of the path up to it, which is `$` for the whole.
+    pub(crate) front: String,
+    /// The text of the path up to what may be absent.
+    pub(crate) absent: String,
+    /// Why it may be absent, in words that go on behind the shape.
+    pub(crate) why: String,
+    /// Whether what may be absent is a field.
+    pub(crate) is_field: bool,
+}
+
+/// Where a path may stop that may name nothing; none where it has no such segment.
+pub(crate) fn stop_of(
+    alloc: Global,
+    shapes: &Shapes,
+    path: &DoubtfulPath,
+) -> Result<Option<Stop>, OutOfMemory> {
+    let Some(segment) = path.path.segments().get(path.segment) else {
+        return Ok(None);
+    };
+    let text = print(alloc, path.path)?;
+    let mut shape = path.shape;
+    let mut end = 1;
+    for passed in path.path.segments().iter().take(path.segment) {
+        shape = part_of(shapes, shape, passed).unwrap_or(shape);
+        end = end_of(&text, end, passed);
+    }
+    Ok(Some(Stop {
+        shape,
+        front: front_of(alloc, &text, end)?,
+        absent: front_of(alloc, &text, end_of(&text, end, segment))?,
+        why: why_absent(alloc, shapes, shape, segment)?,
+        is_field: matches!(segment, Segment::Name(_)),
+    }))
+}
+
+/// The number of the shape of what a segment names in a value of that shape.
+fn part_of(shapes: &Shapes, number: usize, segment: &Segment) -> Option<usize> {
+    let kinds = shapes.take_apart(number)?;
+    match segment {
+        Segment::Name(name) => Some(kinds.objects?.fields.get(name)?.shape),
+        Segment::Index(index) => kinds.arrays?.first.get(*index as usize).copied(),
+    }
+}
+
+/// The byte behind a segment that begins at that byte of a printed path.
+fn end_of(text: &str, start: usize, segment: &Segment) -> usize {
+    let length = match segment {
+        Segment::Name(name) if text.as_bytes().get(start) == Some(&b'.') => {
+            name.len().saturating_add(1)
+        }
+        // A name in brackets has a quote, too, on each side.
+        Segment::Name(name) => name.len().saturating_add(4),
+        Segment::Index(index) => digits_in(*index).saturating_add(2),
+    };
+    start.saturating_add(length)
+}
+
+/// How many digits the number has.
+fn digits_in(number: u32) -> usize {
+    let mut digits = 1;
+    let mut rest = number / 10;
+    for _ in 0..10 {
+        if rest == 0 {
+            break;
+        }
+        rest /= 10;
+        digits += 1;
+    }
+    digits
+}
+
+/// The text up to that byte.
+fn front_of(alloc: Global, text: &str, end: usize) -> Result<String, OutOfMemory> {
+    Ok(String::from_str(alloc, text.get(..end).unwrap_or(text))?)
+}
+
+/// Why a segment may name nothing in a value of that shape.
+fn why_absent(
+    alloc: Global,
+    shapes: &Shapes,
+    number: usize,
+    segment: &Segment,
+) -> Result<String, OutOfMemory> {
+    match (segment, shapes.take_apart(number)) {
+        (Segment::Name(name), Some(kinds)) => why_no_field(alloc, &kinds, name),
+        (Segment::Name(name), None) => {
+            let name = quoted(alloc, name)?;
+            Ok(format!(in alloc; ", and nothing says that it has a field {name}")?)
+        }
+        (Segment::Index(index), Some(kinds)) => why_no_element(alloc, shapes, &kinds, *index),
+        (Segment::Index(index), None) => {
+            Ok(format!(in alloc; ", and nothing says that it has an element [{index}]")?)
+        }
+    }
+}
+
+/// Why a field may be absent from a value of these kinds.
+fn why_no_field(alloc: Global, kinds: &NodeKinds, name: &str) -> Result<String, OutOfMemory> {
+    let told = quoted(alloc, name)?;
+    match &kinds.objects {
+        Some(_) if has_simple(kinds) || kinds.arrays.is_some() => {
+            Ok(format!(in alloc; ", and only an object has a field {told}")?)
+        }
+        Some(objects) => why_not_in(alloc, objects, name, &told),
+        None => Ok(format!(in alloc; ", which has no field {told}")?),
+    }
+}
+
+/// Why a field may be absent from an object; `told` is its name as it is told.
+fn why_not_in(
+    alloc: Global,
+    objects: &NodeObjects,
+    name: &str,
+    told: &str,
+) -> Result<String, OutOfMemory> {
+    match objects.fields.get(name) {
+        Some(_) => Ok(format!(in alloc; ", where the field {told} may be absent")?),
+        None if objects.extra => {
+            Ok(format!(in alloc; ", and nothing says that it has a field {told}")?)
+        }
+        None => Ok(format!(in alloc; ", without a field {told}")?),
+    }
+}
+
+/// Why an element may be absent from a value of these kinds.
+fn why_no_element(
+    alloc: Global,
+    shapes: &Shapes,
+    kinds: &NodeKinds,
+    index: u32,
+) -> Result<String, OutOfMemory> {
+    match &kinds.arrays {
+        Some(_) if has_simple(kinds) || kinds.objects.is_some() => {
+            Ok(format!(in alloc; ", and only a list has an element [{index}]")?)
+        }
+        Some(lists) if shapes.inhabited(lists.rest) == Some(true) => {
+            Ok(format!(in alloc; ", and the list may be too short for an element [{index}]")?)
+        }
+        Some(_) => Ok(format!(in alloc; ", and the list is too short for an element [{index}]")?),
+        None => Ok(format!(in alloc; ", which has no element [{index}]")?),
+    }
+}
+
+/// Whether there are values among these kinds that are neither lists nor objects.
+fn has_simple(kinds: &NodeKinds) -> bool {
+    kinds.null || kinds.boolean || kinds.integer || kinds.text
+}

@@ -1,0 +1,110 @@
+//! What is explained.
+
+use crate::by_state::ByState;
+use asl_machine::Machine;
+use asl_records::{Declared, NumberedCertificate, StateNumbers, read_declared};
+use asl_tree::{OutOfMemory, read_value};
+use asl_ways::{Arrival, Visit, arrivals, visits};
+use std::alloc::Global;
+use std::collections::BTreeMap;
+
+/// A machine and its declared shapes.
+#[derive(Drop)]
+pub(crate) struct Subject {
+    pub(crate) machine: Machine,
+    pub(crate) declared: Declared,
+}
+
+impl Subject {
+    /// What two texts read as that were read before, so that memory alone can refuse them now.
+    pub(crate) fn read(
+        alloc: Global,
+        definition: &[u8],
+        declared: &[u8],
+    ) -> Result<Subject, OutOfMemory> {
+        let machine = machine_of(alloc, definition)?;
+        let declared = declared_of(alloc, declared)?;
+        Ok(Subject { machine, declared })
+    }
+}
+
+/// The machine that a definition is which was read before.
+fn machine_of(alloc: Global, text: &[u8]) -> Result<Machine, OutOfMemory> {
+    let value = read_value(alloc, text).map_err(|_| OutOfMemory)?;
+    asl_machine::read(alloc, &value).map_err(|_| OutOfMemory)
+}
+
+/// The declared shapes that a text is which was read before.
+fn declared_of(alloc: Global, text: &[u8]) -> Result<Declared, OutOfMemory> {
+    let value = read_value(alloc, text).map_err(|_| OutOfMemory)?;
+    read_declared(alloc, value).map_err(|_| OutOfMemory)
+}
+
+/// How data goes through a machine: its ways from the start, and all that comes to each state.
+#[derive(Drop)]
+pub(crate) struct Flows {
+    pub(crate) visits: Vec<Visit>,
+    pub(crate) arrivals: Vec<Arrival>,
+    visits_by_state: ByState,
+    arrivals_by_state: ByState,
+}
+
+impl Flows {
+    /// The flows of a machine under a certificate. Further shapes may stand in its table afterwards.
+    pub(crate) fn find(
+        alloc: Global,
+        subject: &Subject,
+        certificate: &mut NumberedCertificate,
+    ) -> Result<Flows, OutOfMemory> {
+        let machine = &subject.machine;
+        let most = machine.states().saturating_mul(4).saturating_add(1000);
+        let visits = visits(alloc, machine, &subject.declared, certificate, most)?;
+        let arrivals = arrivals(alloc, machine, &subject.declared, certificate)?;
+        let visits_by_state = by_visited(alloc, machine.states(), &visits)?;
+        let arrivals_by_state = by_reached(alloc, machine.states(), &arrivals)?;
+        Ok(Flows {
+            visits,
+            arrivals,
+            visits_by_state,
+            arrivals_by_state,
+        })
+    }
+
+    /// The numbers of the visits of a state, shortest ways first.
+    pub(crate) fn visits_of(&self, state: usize) -> &[usize] {
+        self.visits_by_state.of(state)
+    }
+
+    /// The numbers of the arrivals at a state.
+    pub(crate) fn arrivals_at(&self, state: usize) -> &[usize] {
+        self.arrivals_by_state.of(state)
+    }
+}
+
+/// The numbers of the visits by their states.
+fn by_visited(alloc: Global, states: usize, visits: &[Visit]) -> Result<ByState, OutOfMemory> {
+    let mut numbers = ByState::new(alloc, states)?;
+    for (number, visit) in visits.iter().enumerate() {
+        numbers.add(visit.arrival.state, number)?;
+    }
+    Ok(numbers)
+}
+
+/// The numbers of the arrivals by their states.
+fn by_reached(alloc: Global, states: usize, arrivals: &[Arrival]) -> Result<ByState, OutOfMemory> {
+    let mut numbers = ByState::new(alloc, states)?;
+    for (number, arrival) in arrivals.iter().enumerate() {
+        numbers.add(arrival.state, number)?;
+    }
+    Ok(numbers)
+}
+
+/// A machine under declared shapes, with the flows under a certificate and with that one's entries.
+#[derive(Clone, Copy, Drop)]
+pub(crate) struct Explainer<'m> {
+    pub(crate) alloc: Global,
+    pub(crate) machine: &'m Machine,
+    pub(crate) declared: &'m Declared,
+    pub(crate) states: &'m BTreeMap<String, StateNumbers>,
+    pub(crate) flows: &'m Flows,
+}

@@ -1,0 +1,199 @@
+//! The explanation of one finding, in lines.
+
+use crate::causes::Cause;
+use crate::heads::head_of;
+use crate::subject::Explainer;
+use crate::words::{example_text, noted, push_line};
+use asl_check::{FindingFault, Located};
+use asl_diagnostics::rule_of_finding;
+use asl_edges::Step;
+use asl_numbered::Shapes;
+use asl_path::{RefPath, print};
+use asl_tree::{OutOfMemory, Tree};
+use asl_ways::Arrival;
+use std::alloc::Global;
+
+/// How many other origins are told.
+const MOST_OTHERS: usize = 2;
+
+/// How many arrivals are looked at for them.
+const MOST_WALKS: usize = 100;
+
+impl<'m> Explainer<'m> {
+    /// Puts down what is wrong, what is known there, by which way it comes so, an example, and what usually helps.
+    pub(crate) fn push_finding(
+        &self,
+        shapes: &mut Shapes,
+        text: &mut String,
+        located: &Located,
+    ) -> Result<(), OutOfMemory> {
+        text.push_str(&head_of(self.alloc, located)?)?;
+        text.push_str("\n")?;
+        let cause = self.cause_of(shapes, located)?;
+        let others = match &cause {
+            Some(cause) => self.push_cause(shapes, text, located, cause)?,
+            None => 0,
+        };
+        push_example(self.alloc, text, "For example: ", &located.finding.example)?;
+        let help = self.help_for(shapes, located, cause.as_ref(), others > 0)?;
+        push_line(text, "What helps: ", &help)
+    }
+
+    /// Puts down what is known of the data with which the rule is broken, and where it comes from. Answers how many origins
+    /// are told from which data comes with which it isn't broken.
+    fn push_cause(
+        &self,
+        shapes: &mut Shapes,
+        text: &mut String,
+        located: &Located,
+        cause: &Cause<'m>,
+    ) -> Result<usize, OutOfMemory> {
+        self.push_there(shapes, text, cause)?;
+        if let FindingFault::NoDefault = located.finding.fault {
+            let tree = self.unchosen(shapes, cause)?;
+            push_example(self.alloc, text, "No rule is true for this, for example: ", &tree)?;
+            return Ok(0);
+        }
+        let way = self.way_text(cause.way)?;
+        push_line(text, "It comes so from: ", &way)?;
+        self.push_others(shapes, text, located, cause)
+    }
+
+    /// Puts down the first origins from which data comes with which the rule isn't broken, and answers how many.
+    fn push_others(
+        &self,
+        shapes: &mut Shapes,
+        text: &mut String,
+        located: &Located,
+        cause: &Cause<'m>,
+    ) -> Result<usize, OutOfMemory> {
+        let mut told = 0;
+        for number in self.flows.arrivals_at(cause.state).iter().take(MOST_WALKS) {
+            if told == MOST_OTHERS {
+                break;
+            }
+            if let Some(arrival) = self.flows.arrivals.get(*number) {
+                if self.is_other(shapes, located, arrival)? {
+                    self.push_other(shapes, text, arrival, cause)?;
+                    told += 1;
+                }
+            }
+        }
+        Ok(told)
+    }
+
+    /// Whether data comes there with which the rule isn't broken.
+    fn is_other(
+        &self,
+        shapes: &mut Shapes,
+        located: &Located,
+        arrival: &Arrival,
+    ) -> Result<bool, OutOfMemory> {
+        if shapes.inhabited(arrival.shape) != Some(true) {
+            return Ok(false);
+        }
+        let step = self.broken_step(shapes, located, arrival.state, arrival.shape)?;
+        Ok(step.is_none())
+    }
+
+    /// Puts down an origin from which data comes with which the rule isn't broken.
+    fn push_other(
+        &self,
+        shapes: &mut Shapes,
+        text: &mut String,
+        arrival: &Arrival,
+        cause: &Cause<'m>,
+    ) -> Result<(), OutOfMemory> {
+        let origin = self.arrival_text(arrival)?;
+        let told = self.told_of_other(shapes, arrival, &cause.step)?;
+        let line = format!(in self.alloc; "From {origin} {told}")?;
+        push_line(text, "", &line)
+    }
+
+    /// What there is of data with which the rule isn't broken: what the path names, where that is easily told, or the input.
+    fn told_of_other(
+        &self,
+        shapes: &mut Shapes,
+        arrival: &Arrival,
+        step: &Step<'m>,
+    ) -> Result<String, OutOfMemory> {
+        let Step::Breaks(broken) = step else {
+            let is = noted(self.alloc, shapes, arrival.shape)?;
+            return Ok(format!(in self.alloc; "it fits: the input is {is}")?);
+        };
+        if let Some(path) = broken.path {
+            if let Some(named) = self.named_at_arrival(shapes, arrival, broken.field, path.path)? {
+                let path = print(self.alloc, path.path)?;
+                let is = noted(self.alloc, shapes, named)?;
+                return Ok(format!(in self.alloc; "it is there: {path} is {is}")?);
+            }
+        }
+        let is = noted(self.alloc, shapes, arrival.shape)?;
+        Ok(format!(in self.alloc; "it doesn't arise: the input is {is}")?)
+    }
+
+    /// The number of the shape of what a path of that field names in what comes to the state; none where that isn't looked up
+    /// in its input.
+    fn named_at_arrival(
+        &self,
+        shapes: &mut Shapes,
+        arrival: &Arrival,
+        field: &str,
+        path: &RefPath,
+    ) -> Result<Option<usize>, OutOfMemory> {
+        match field {
+            "InputPath" => self.named_in(shapes, arrival.shape, path),
+            "Parameters" => match self.taken_at(shapes, arrival)? {
+                Some(taken) => self.named_in(shapes, taken, path),
+                None => Ok(None),
+            },
+            "Choices" | "ItemsPath" | "SecondsPath" | "TimestampPath" => {
+                match self.effective_of(shapes, arrival.state, arrival.shape)? {
+                    Some(effective) => self.named_in(shapes, effective, path),
+                    None => Ok(None),
+                }
+            }
+            _ => Ok(None),
+        }
+    }
+
+    /// The number of the shape of what `InputPath` names in what comes to the state, where it is sure to name something.
+    fn taken_at(
+        &self,
+        shapes: &mut Shapes,
+        arrival: &Arrival,
+    ) -> Result<Option<usize>, OutOfMemory> {
+        match self.machine.state(arrival.state) {
+            Some(state) => match &state.settings.input_path {
+                Some(path) => self.named_in(shapes, arrival.shape, path),
+                None => Ok(None),
+            },
+            None => Ok(None),
+        }
+    }
+}
+
+/// Puts down a finding of which nothing else is known, with what generally helps.
+pub(crate) fn push_alone(
+    alloc: Global,
+    text: &mut String,
+    located: &Located,
+) -> Result<(), OutOfMemory> {
+    text.push_str(&head_of(alloc, located)?)?;
+    text.push_str("\n")?;
+    push_example(alloc, text, "For example: ", &located.finding.example)?;
+    push_line(text, "What helps: ", rule_of_finding(located.finding.fault).help)
+}
+
+/// Puts down an example, if there is one.
+fn push_example(
+    alloc: Global,
+    text: &mut String,
+    label: &str,
+    example: &Option<Tree>,
+) -> Result<(), OutOfMemory> {
+    match example {
+        Some(tree) => push_line(text, label, &example_text(alloc, tree)?),
+        None => Ok(()),
+    }
+}

@@ -1,0 +1,237 @@
+//! What is known of the data with which a rule is broken.
+
+use crate::causes::Cause;
+use crate::differences::difference;
+use crate::stops::{Stop, stop_of};
+use crate::subject::Explainer;
+use crate::words::{noted, push_line};
+use asl_check::{FindingFault, Located};
+use asl_choice::holds;
+use asl_edges::{Broken, Edge, Step};
+use asl_flow::{DoubtfulPath, effective_at, find_at};
+use asl_numbered::Shapes;
+use asl_path::{RefPath, print};
+use asl_states::{ChoiceRule, Delay, Kind, State};
+use asl_tree::{OutOfMemory, Tree};
+
+/// What stands in front of what is known.
+const THERE: &str = "What is there: ";
+
+impl Explainer<'_> {
+    /// Puts down what is known where the rule is broken.
+    pub(crate) fn push_there(
+        &self,
+        shapes: &mut Shapes,
+        text: &mut String,
+        cause: &Cause,
+    ) -> Result<(), OutOfMemory> {
+        match &cause.step {
+            Step::Breaks(broken) => self.push_broken(shapes, text, cause, broken),
+            Step::Flows(edge) => self.push_payload(shapes, text, cause, edge),
+        }
+    }
+
+    /// Puts down what is known of a broken rule.
+    fn push_broken(
+        &self,
+        shapes: &mut Shapes,
+        text: &mut String,
+        cause: &Cause,
+        broken: &Broken,
+    ) -> Result<(), OutOfMemory> {
+        match (broken.fault, &broken.path) {
+            (FindingFault::PathMayBeMissing, Some(path)) => {
+                self.push_stop(shapes, text, broken.field, path)
+            }
+            (FindingFault::WrongKind, _) => self.push_named(shapes, text, cause, broken.field),
+            (FindingFault::ResultMayNotFit, _) => self.push_whole(shapes, text, "the input", cause.input),
+            _ => self.push_effective(shapes, text, cause),
+        }
+    }
+
+    /// Puts down the value beyond which the path may name nothing, and the whole that it is looked up in.
+    fn push_stop(
+        &self,
+        shapes: &Shapes,
+        text: &mut String,
+        field: &str,
+        path: &DoubtfulPath,
+    ) -> Result<(), OutOfMemory> {
+        let Some(stop) = stop_of(self.alloc, shapes, path)? else {
+            return Ok(());
+        };
+        let is = noted(self.alloc, shapes, stop.shape)?;
+        let whole = whole_of(field);
+        if path.segment == 0 {
+            let told = format!(in self.alloc; "{whole} is {is}{}", stop.why)?;
+            return push_line(text, THERE, &told);
+        }
+        let told = format!(in self.alloc; "{} is {is}{}", stop.front, stop.why)?;
+        push_line(text, THERE, &told)?;
+        let is = noted(self.alloc, shapes, path.shape)?;
+        let told = format!(in self.alloc; "{whole}, {is}")?;
+        push_line(text, "It is looked up in: ", &told)
+    }
+
+    /// Puts down a whole value.
+    fn push_whole(
+        &self,
+        shapes: &Shapes,
+        text: &mut String,
+        whole: &str,
+        number: usize,
+    ) -> Result<(), OutOfMemory> {
+        let is = noted(self.alloc, shapes, number)?;
+        let told = format!(in self.alloc; "{whole} is {is}")?;
+        push_line(text, THERE, &told)
+    }
+
+    /// Puts down the effective input, or the input where it isn't sure that there is one.
+    fn push_effective(
+        &self,
+        shapes: &mut Shapes,
+        text: &mut String,
+        cause: &Cause,
+    ) -> Result<(), OutOfMemory> {
+        match self.effective_of(shapes, cause.state, cause.input)? {
+            Some(number) => self.push_whole(shapes, text, "the effective input", number),
+            None => self.push_whole(shapes, text, "the input", cause.input),
+        }
+    }
+
+    /// The number of the shape of the state's effective input for an input of that number; none where a rule is broken in
+    /// front of it, or where no tree has the input.
+    pub(crate) fn effective_of(
+        &self,
+        shapes: &mut Shapes,
+        state: usize,
+        input: usize,
+    ) -> Result<Option<usize>, OutOfMemory> {
+        if shapes.inhabited(input) != Some(true) {
+            return Ok(None);
+        }
+        let Some(state) = self.machine.state(state) else {
+            return Ok(None);
+        };
+        let flow = effective_at(self.alloc, shapes, &state.settings, input)?;
+        Ok(flow.ok())
+    }
+
+    /// Puts down what the path of that field names.
+    fn push_named(
+        &self,
+        shapes: &mut Shapes,
+        text: &mut String,
+        cause: &Cause,
+        field: &str,
+    ) -> Result<(), OutOfMemory> {
+        let Some(path) = self.machine.state(cause.state).and_then(path_in) else {
+            return Ok(());
+        };
+        let Some(effective) = self.effective_of(shapes, cause.state, cause.input)? else {
+            return Ok(());
+        };
+        if let Some(named) = self.named_in(shapes, effective, path)? {
+            let path = print(self.alloc, path)?;
+            let is = noted(self.alloc, shapes, named)?;
+            let told = format!(in self.alloc; "{path} is {is}, and {field} {}", wanted_at(field))?;
+            push_line(text, THERE, &told)?;
+        }
+        Ok(())
+    }
+
+    /// The number of the shape of what a path names in each value of a shape; none where it may name nothing.
+    pub(crate) fn named_in(
+        &self,
+        shapes: &mut Shapes,
+        number: usize,
+        path: &RefPath,
+    ) -> Result<Option<usize>, OutOfMemory> {
+        if shapes.inhabited(number) != Some(true) {
+            return Ok(None);
+        }
+        Ok(find_at(shapes, number, path)?.ok())
+    }
+
+    /// Puts down a payload, what the task takes, and where the one isn't within the other.
+    fn push_payload(
+        &self,
+        shapes: &mut Shapes,
+        text: &mut String,
+        cause: &Cause,
+        edge: &Edge,
+    ) -> Result<(), OutOfMemory> {
+        self.push_whole(shapes, text, "the payload", edge.flowing)?;
+        let Some(name) = self.machine.name(cause.state) else {
+            return Ok(());
+        };
+        let takes = self.taken_by(shapes, name)?;
+        let wanted = noted(self.alloc, shapes, takes)?;
+        push_line(text, "What the task takes: ", &wanted)?;
+        let apart = difference(self.alloc, shapes, edge.flowing, takes, "the task")?;
+        push_line(text, "Where it doesn't fit: ", &apart)
+    }
+
+    /// A tree for which no rule of a Choice is true, where the first example of what comes to it is one.
+    pub(crate) fn unchosen(
+        &self,
+        shapes: &mut Shapes,
+        cause: &Cause,
+    ) -> Result<Option<Tree>, OutOfMemory> {
+        let Some(Kind::Choice { choices, .. }) = self.kind_of(cause.state) else {
+            return Ok(None);
+        };
+        let Some(effective) = self.effective_of(shapes, cause.state, cause.input)? else {
+            return Ok(None);
+        };
+        match shapes.example(self.alloc, effective)? {
+            Some(tree) if choices.iter().all(|rule| is_false(rule, &tree)) => Ok(Some(tree)),
+            Some(_) | None => Ok(None),
+        }
+    }
+
+    /// The type of the state of that number.
+    fn kind_of(&self, state: usize) -> Option<&Kind> {
+        Some(&self.machine.state(state)?.kind)
+    }
+}
+
+/// Whether the rule is false of the tree.
+fn is_false(rule: &ChoiceRule, tree: &Tree) -> bool {
+    match holds(&rule.test, tree) {
+        Ok(holds) => !holds,
+        Err(_) => false,
+    }
+}
+
+/// The path of a state that has to name a value of some kind.
+fn path_in(state: &State) -> Option<&RefPath> {
+    match &state.kind {
+        Kind::Map { items_path, .. } => Some(items_path),
+        Kind::Wait {
+            delay: Delay::SecondsPath(path) | Delay::TimestampPath(path),
+        } => Some(path),
+        _ => None,
+    }
+}
+
+/// What a field wants its path to name.
+fn wanted_at(field: &str) -> &'static str {
+    match field {
+        "ItemsPath" => "needs a list",
+        "SecondsPath" => "needs a whole number",
+        "TimestampPath" => "needs a text",
+        _ => "needs another kind",
+    }
+}
+
+/// What the paths of a field are looked up in.
+pub(crate) fn whole_of(field: &str) -> &'static str {
+    match field {
+        "InputPath" | "Parameters" => "the input",
+        "ResultSelector" => "the result",
+        "OutputPath" => "what is left of the state",
+        "ItemSelector" => "what the path goes into",
+        _ => "the effective input",
+    }
+}
