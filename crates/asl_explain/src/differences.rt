@@ -171,7 +171,9 @@ fn unwanted_field(
             && shapes.inhabited(field.shape) == Some(true)
         {
             let told = quoted(alloc, name)?;
-            let lack = format!(in alloc; " may have a field {told}, and {who} takes none of that name")?;
+            let lack = format!(in alloc;
+                " may have a field {told}, and {who} takes none of that name"
+            )?;
             return Ok(Some(lack));
         }
     }
@@ -191,10 +193,11 @@ fn lack_of_list(
         let lack = format!(in alloc; " may have fewer than {many} elements, and {who} needs them")?;
         return Ok(Some(lack));
     }
-    let may_be_longer =
-        lists.first.len() > many || shapes.inhabited(lists.rest) == Some(true);
+    let may_be_longer = lists.first.len() > many || shapes.inhabited(lists.rest) == Some(true);
     if may_be_longer && shapes.inhabited(wanted.rest) == Some(false) {
-        let lack = format!(in alloc; " may have more than {many} elements, and {who} takes no more")?;
+        let lack = format!(in alloc;
+            " may have more than {many} elements, and {who} takes no more"
+        )?;
         return Ok(Some(lack));
     }
     Ok(None)

@@ -1,6 +1,6 @@
 //! The line that says what is wrong.
 
-use crate::words::quoted;
+use crate::words::{cut, quoted};
 use asl_check::{FindingFault, Located};
 use asl_diagnostics::rule_of_finding;
 use asl_tree::OutOfMemory;
@@ -27,7 +27,8 @@ fn sentence_of(alloc: Global, located: &Located) -> Result<String, OutOfMemory> 
     let finding = &located.finding;
     match (finding.fault, &located.path) {
         (FindingFault::PathMayBeMissing, Some(path)) => {
-            Ok(format!(in alloc; "{} may name nothing.", path.text)?)
+            let path = cut(alloc, &path.text)?;
+            Ok(format!(in alloc; "{path} may name nothing.")?)
         }
         (FindingFault::WrongKind, _) => sentence_on_kind(alloc, finding.field.as_str()),
         (fault, _) => Ok(String::from_str(alloc, rule_of_finding(fault).short)?),
@@ -37,10 +38,10 @@ fn sentence_of(alloc: Global, located: &Located) -> Result<String, OutOfMemory> 
 /// That a path may name a value of another kind than its field wants.
 fn sentence_on_kind(alloc: Global, field: &str) -> Result<String, OutOfMemory> {
     let words = match field {
-        "ItemsPath" => "what the path names may be no list.",
-        "SecondsPath" => "what the path names may be no whole number.",
-        "TimestampPath" => "what the path names may be no text.",
-        _ => "what the path names may be of another kind than is wanted here.",
+        "ItemsPath" => "What the path names may be no list.",
+        "SecondsPath" => "What the path names may be no whole number.",
+        "TimestampPath" => "What the path names may be no text.",
+        _ => "What the path names may be of another kind than is wanted here.",
     };
     Ok(String::from_str(alloc, words)?)
 }

@@ -4,6 +4,7 @@ use crate::causes::{Cause, Way};
 use crate::lookups::type_of;
 use crate::stops::{Stop, stop_of};
 use crate::subject::Explainer;
+use crate::there::whole_of;
 use crate::words::quoted;
 use asl_check::{FindingFault, Located};
 use asl_diagnostics::rule_of_finding;
@@ -26,13 +27,14 @@ impl Explainer<'_> {
             FindingFault::TaskUndeclared => self.help_to_declare(&finding.state),
             FindingFault::TaskUnknown => self.help_to_remove(&finding.state),
             FindingFault::NoDefault => self.sentence(
-                "a Default, if only to a Fail; or, where the last rule is true whenever no other is, its Next as the \
-                Default in its place.",
+                "Add a Default, if only to a Fail; or, where the last rule is true whenever no other is, make its \
+                Next the Default in its place.",
             ),
             FindingFault::PathMayBeMissing => {
                 self.help_with_path(shapes, finding.fault, cause, on_some_way)
             }
             FindingFault::ResultMayNotFit => self.help_to_place(&finding.field),
+            FindingFault::WrongKind => self.help_with_kind(&finding.field),
             fault => self.general(fault),
         }
     }
@@ -52,7 +54,7 @@ impl Explainer<'_> {
         let name = quoted(self.alloc, name)?;
         let entry = "{\"takes\": true, \"gives\": true}";
         Ok(format!(in self.alloc;
-            "an entry among the declared \"tasks\": {name}: {entry}, with shapes in place of true, which stands for anything."
+            "Add an entry to the declared \"tasks\": {name}: {entry}, with shapes in place of true, the shape of anything."
         )?)
     }
 
@@ -62,11 +64,11 @@ impl Explainer<'_> {
             Some(state) => {
                 let kind = type_of(&state.kind);
                 Ok(format!(in self.alloc;
-                    "take the entry out of \"tasks\": the state of this name is a {kind}, and only a Task has one."
+                    "Take the entry out of \"tasks\": the state of this name is a {kind}, and only a Task has one."
                 )?)
             }
             None => self.sentence(
-                "correct the name in \"tasks\" to that of a Task state, or take the entry out: no state has this name.",
+                "Correct the name in \"tasks\" to that of a Task state, or take the entry out: no state has this name.",
             ),
         }
     }
@@ -78,7 +80,7 @@ impl Explainer<'_> {
             _ => "the result",
         };
         Ok(format!(in self.alloc;
-            "place {result} under a name at the top of an input that is always an object, as in \"$.result\"; on a longer \
+            "Place {result} under a name at the top of an input that is always an object, as in \"$.result\"; on a longer \
             path each part in front of the last has to be an object wherever it is there. \"$\" replaces the whole input, null \
             keeps it and drops {result}."
         )?)
@@ -95,11 +97,13 @@ impl Explainer<'_> {
         let Some(cause) = cause else {
             return self.general(fault);
         };
-        let Step::Breaks(Broken {
-            field,
-            path: Some(path),
-            ..
-        }) = cause.step
+        let Step::Breaks(
+            Broken {
+                field,
+                path: Some(path),
+                ..
+            },
+        ) = cause.step
         else {
             return self.general(fault);
         };
@@ -113,8 +117,8 @@ impl Explainer<'_> {
     /// To see that an element is there.
     fn help_with_element(&self, stop: &Stop) -> Result<String, OutOfMemory> {
         Ok(format!(in self.alloc;
-            "go over the list with a Map, or see that {} is always so long; where it comes from the input or from a task, \
-            \"prefixItems\" declares the elements that are always there.",
+            "See that {} is always a list that is long enough: \"prefixItems\" with \"minItems\" declares the elements that are \
+            always there. A Map goes over all elements, however many.",
             stop.front
         )?)
     }
@@ -127,35 +131,72 @@ impl Explainer<'_> {
         cause: &Cause,
         on_some_way: bool,
     ) -> Result<String, OutOfMemory> {
-        let absent = &stop.absent;
-        match field {
-            "ResultSelector" => self.help_with_result(cause, absent),
-            "Choices" if !on_some_way => Ok(format!(in self.alloc;
-                "in the rule test it first, by an And with {absent} IsPresent in front; or {}.",
-                self.help_to_have(cause, absent)?
-            )?),
-            _ if on_some_way => Ok(format!(in self.alloc;
-                "set {absent} on that way, too, for example by a Pass with Result and ResultPath; or test it with IsPresent in a \
-                Choice in front, and come here by that rule alone."
-            )?),
-            _ => Ok(format!(in self.alloc;
-                "{}; or test it with IsPresent in a Choice in front, and come here by that rule alone.",
-                self.help_to_have(cause, absent)?
-            )?),
+        let mut text = self.help_to_have(field, &stop.absent, cause, on_some_way)?;
+        if stop.is_narrowed {
+            text.push_str(self.words_on_test(field, cause))?;
         }
+        text.push_str(".")?;
+        if stop.is_anything {
+            text.push_str(&format!(in self.alloc;
+                " As long as {} may be anything, IsPresent doesn't make sure of its fields.",
+                stop.front
+            )?)?;
+        }
+        Ok(text)
     }
 
     /// To have a field on every way.
-    fn help_to_have(&self, cause: &Cause, absent: &str) -> Result<String, OutOfMemory> {
+    fn help_to_have(
+        &self,
+        field: &str,
+        absent: &str,
+        cause: &Cause,
+        on_some_way: bool,
+    ) -> Result<String, OutOfMemory> {
+        if self.own_result(cause.state, field).is_some() {
+            return self.help_with_result(absent, cause);
+        }
+        let is_direct = self.goes_into_input(cause.state, field);
+        let whole = whole_of(field);
+        if on_some_way && is_direct {
+            return Ok(format!(in self.alloc;
+                "Set {absent} on that way, too, for example by a Pass with Result and ResultPath"
+            )?);
+        }
+        if on_some_way {
+            return Ok(format!(in self.alloc; "See that {whole} has {absent} on that way, too")?);
+        }
         if self.is_at_start(cause) {
             return Ok(format!(in self.alloc;
-                "declare {absent} as required in \"input\", if it is always given"
+                "See that {whole} has {absent}; if the machine's input always has it, say so in the declared \"input\""
             )?);
         }
         Ok(format!(in self.alloc;
-            "set {absent} in a state in front, keep it where a state in front drops it, or declare it as required where it comes \
-            from the input or from a task"
+            "See that {whole} has {absent}: set it in a state in front, keep it where a state in front drops it, or declare it \
+            as required where it comes from the machine's input or from a task that always gives it"
         )?)
+    }
+
+    /// How to test for a field.
+    fn words_on_test(&self, field: &str, cause: &Cause) -> &'static str {
+        if self.own_result(cause.state, field).is_some() {
+            return "; or do without it here, and test for it by IsPresent in a Choice behind";
+        }
+        match field {
+            "Choices" => "; or test for it first in the rule, by an And with IsPresent in front",
+            _ =>
+                "; or test for it by IsPresent in a Choice in front, and come here by that rule alone",
+        }
+    }
+
+    /// To have a field in a result.
+    fn help_with_result(&self, absent: &str, cause: &Cause) -> Result<String, OutOfMemory> {
+        match self.machine.state(cause.state) {
+            Some(state) if matches!(state.kind, Kind::Task { .. }) => Ok(format!(in self.alloc;
+                "If the task always gives {absent}, say so in its declared \"gives\""
+            )?),
+            _ => Ok(format!(in self.alloc; "See that the result has {absent}")?),
+        }
     }
 
     /// Whether the data is the machine's input as it is given.
@@ -169,16 +210,22 @@ impl Explainer<'_> {
         }
     }
 
-    /// To have a field in a result.
-    fn help_with_result(&self, cause: &Cause, absent: &str) -> Result<String, OutOfMemory> {
-        match self.machine.state(cause.state) {
-            Some(state) if matches!(state.kind, Kind::Task { .. }) => Ok(format!(in self.alloc;
-                "declare {absent} as required in what the task \"gives\", if it always gives it; or leave it out of ResultSelector, \
-                and test it with IsPresent in a Choice behind."
-            )?),
-            _ => Ok(format!(in self.alloc;
-                "see that the result has {absent}; or leave it out of ResultSelector, and test it with IsPresent in a Choice behind."
-            )?),
-        }
+    /// To have a value of the right kind.
+    fn help_with_kind(&self, field: &str) -> Result<String, OutOfMemory> {
+        let (wanted, test) = match field {
+            "SecondsPath" => (
+                "whole number",
+                "; or let only numbers come here, by IsNumeric in a Choice in front",
+            ),
+            "TimestampPath" => (
+                "text",
+                "; or let only texts come here, by IsString in a Choice in front",
+            ),
+            _ => ("list", ""),
+        };
+        Ok(format!(in self.alloc;
+            "Let {field} name a {wanted}: where it is always one, say so in what is declared of the machine's input or of the task \
+            that it comes from{test}."
+        )?)
     }
 }

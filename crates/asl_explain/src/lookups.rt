@@ -19,11 +19,7 @@ impl<'m> Explainer<'m> {
     }
 
     /// The number of what the task of that name gives; one that isn't declared gives every tree.
-    pub(crate) fn given_by(
-        &self,
-        shapes: &mut Shapes,
-        name: &str,
-    ) -> Result<usize, OutOfMemory> {
+    pub(crate) fn given_by(&self, shapes: &mut Shapes, name: &str) -> Result<usize, OutOfMemory> {
         match self.declared.task(name) {
             Some(task) => shapes.add(&task.gives),
             None => shapes.add(&Shape::Any),
@@ -31,11 +27,7 @@ impl<'m> Explainer<'m> {
     }
 
     /// The number of what the task of that name takes; one that isn't declared takes every tree.
-    pub(crate) fn taken_by(
-        &self,
-        shapes: &mut Shapes,
-        name: &str,
-    ) -> Result<usize, OutOfMemory> {
+    pub(crate) fn taken_by(&self, shapes: &mut Shapes, name: &str) -> Result<usize, OutOfMemory> {
         match self.declared.task(name) {
             Some(task) => shapes.add(&task.takes),
             None => shapes.add(&Shape::Any),

@@ -1,9 +1,9 @@
 //! Where a path may stop, and why.
 
-use crate::words::quoted;
+use crate::words::{cut, quoted};
 use asl_flow::DoubtfulPath;
 use asl_numbered::{NodeKinds, NodeObjects, Shapes};
-use asl_path::{Segment, print};
+use asl_path::{RefPath, Segment, print};
 use asl_tree::OutOfMemory;
 use std::alloc::Global;
 
@@ -20,6 +20,10 @@ pub(crate) struct Stop {
     pub(crate) why: String,
     /// Whether what may be absent is a field.
     pub(crate) is_field: bool,
+    /// Whether the value may be anything.
+    pub(crate) is_anything: bool,
+    /// Whether a test by `IsPresent` makes sure that the path names something.
+    pub(crate) is_narrowed: bool,
 }
 
 /// Where a path may stop that may name nothing; none where it has no such segment.
@@ -31,29 +35,71 @@ pub(crate) fn stop_of(
     let Some(segment) = path.path.segments().get(path.segment) else {
         return Ok(None);
     };
-    let text = print(alloc, path.path)?;
-    let mut shape = path.shape;
-    let mut end = 1;
-    for passed in path.path.segments().iter().take(path.segment) {
-        shape = part_of(shapes, shape, passed).unwrap_or(shape);
-        end = end_of(&text, end, passed);
-    }
+    let shape = part_at(shapes, path.shape, path.path, path.segment);
     Ok(Some(Stop {
         shape,
-        front: front_of(alloc, &text, end)?,
-        absent: front_of(alloc, &text, end_of(&text, end, segment))?,
+        front: front_of(alloc, path.path, path.segment)?,
+        absent: front_of(alloc, path.path, path.segment.saturating_add(1))?,
         why: why_absent(alloc, shapes, shape, segment)?,
         is_field: matches!(segment, Segment::Name(_)),
+        is_anything: shapes.take_apart(shape).is_none(),
+        is_narrowed: is_narrowed(shapes, path.shape, path.path),
     }))
 }
 
-/// The number of the shape of what a segment names in a value of that shape.
+/// The number of the shape of what the first segments of a path name in a value of that shape, as far as that is known.
+pub(crate) fn part_at(shapes: &Shapes, number: usize, path: &RefPath, many: usize) -> usize {
+    let mut part = number;
+    for segment in path.segments().iter().take(many) {
+        part = part_of(shapes, part, segment).unwrap_or(part);
+    }
+    part
+}
+
+/// The number of the shape of what a segment names in a value of that shape, where the shape mentions it.
 fn part_of(shapes: &Shapes, number: usize, segment: &Segment) -> Option<usize> {
     let kinds = shapes.take_apart(number)?;
     match segment {
-        Segment::Name(name) => Some(kinds.objects?.fields.get(name)?.shape),
+        Segment::Name(name) => Some(kinds.objects?.fields.get(name.as_str())?.shape),
         Segment::Index(index) => kinds.arrays?.first.get(*index as usize).copied(),
     }
+}
+
+/// Whether a test by `IsPresent` narrows a value of that shape so that the path is sure to name something: each segment goes
+/// into an object or a list, and each but the last to a part that the shape mentions.
+fn is_narrowed(shapes: &Shapes, number: usize, path: &RefPath) -> bool {
+    let mut part = Some(number);
+    for segment in path.segments() {
+        let Some(number) = part else {
+            return false;
+        };
+        if !goes_into(shapes, number, segment) {
+            return false;
+        }
+        part = part_of(shapes, number, segment);
+    }
+    true
+}
+
+/// Whether `IsPresent` makes sure that a segment names something in a value of that shape.
+fn goes_into(shapes: &Shapes, number: usize, segment: &Segment) -> bool {
+    match segment {
+        Segment::Name(_) => match shapes.take_apart(number) {
+            Some(kinds) => kinds.objects.is_some(),
+            None => false,
+        },
+        Segment::Index(_) => part_of(shapes, number, segment).is_some(),
+    }
+}
+
+/// The text of the first segments of a path.
+pub(crate) fn front_of(alloc: Global, path: &RefPath, many: usize) -> Result<String, OutOfMemory> {
+    let text = print(alloc, path)?;
+    let mut end = 1;
+    for segment in path.segments().iter().take(many) {
+        end = end_of(&text, end, segment);
+    }
+    cut(alloc, text.get(..end).unwrap_or(&text))
 }
 
 /// The byte behind a segment that begins at that byte of a printed path.
@@ -71,21 +117,16 @@ fn end_of(text: &str, start: usize, segment: &Segment) -> usize {
 
 /// How many digits the number has.
 fn digits_in(number: u32) -> usize {
-    let mut digits = 1;
+    let mut digits: usize = 1;
     let mut rest = number / 10;
     for _ in 0..10 {
         if rest == 0 {
             break;
         }
         rest /= 10;
-        digits += 1;
+        digits = digits.saturating_add(1);
     }
     digits
-}
-
-/// The text up to that byte.
-fn front_of(alloc: Global, text: &str, end: usize) -> Result<String, OutOfMemory> {
-    Ok(String::from_str(alloc, text.get(..end).unwrap_or(text))?)
 }
 
 /// Why a segment may name nothing in a value of that shape.
@@ -156,6 +197,6 @@ fn why_no_element(
 }
 
 /// Whether there are values among these kinds that are neither lists nor objects.
-fn has_simple(kinds: &NodeKinds) -> bool {
+pub(crate) fn has_simple(kinds: &NodeKinds) -> bool {
     kinds.null || kinds.boolean || kinds.integer || kinds.text
 }

@@ -34,7 +34,6 @@ impl<'m> Explainer<'m> {
             Some(cause) => self.push_cause(shapes, text, located, cause)?,
             None => 0,
         };
-        push_example(self.alloc, text, "For example: ", &located.finding.example)?;
         let help = self.help_for(shapes, located, cause.as_ref(), others > 0)?;
         push_line(text, "What helps: ", &help)
     }
@@ -51,7 +50,26 @@ impl<'m> Explainer<'m> {
         self.push_there(shapes, text, cause)?;
         if let FindingFault::NoDefault = located.finding.fault {
             let tree = self.unchosen(shapes, cause)?;
-            push_example(self.alloc, text, "No rule is true for this, for example: ", &tree)?;
+            push_example(self.alloc, text, "For example, no rule is true of: ", &tree)?;
+            return Ok(0);
+        }
+        let others = self.push_origins(shapes, text, located, cause)?;
+        let example = self.example_of(shapes, cause)?;
+        push_example(self.alloc, text, "For example: ", &example)?;
+        Ok(others)
+    }
+
+    /// Puts down where the data comes from with which the rule is broken, and other origins, where there are some. Answers how
+    /// many of these.
+    fn push_origins(
+        &self,
+        shapes: &mut Shapes,
+        text: &mut String,
+        located: &Located,
+        cause: &Cause<'m>,
+    ) -> Result<usize, OutOfMemory> {
+        if let Some(result) = self.own_result(cause.state, &located.finding.field) {
+            push_line(text, "It comes so from: ", result)?;
             return Ok(0);
         }
         let way = self.way_text(cause.way)?;
@@ -143,7 +161,7 @@ impl<'m> Explainer<'m> {
     ) -> Result<Option<usize>, OutOfMemory> {
         match field {
             "InputPath" => self.named_in(shapes, arrival.shape, path),
-            "Parameters" => match self.taken_at(shapes, arrival)? {
+            "Parameters" => match self.taken_of(shapes, arrival.state, arrival.shape)? {
                 Some(taken) => self.named_in(shapes, taken, path),
                 None => Ok(None),
             },
@@ -154,21 +172,6 @@ impl<'m> Explainer<'m> {
                 }
             }
             _ => Ok(None),
-        }
-    }
-
-    /// The number of the shape of what `InputPath` names in what comes to the state, where it is sure to name something.
-    fn taken_at(
-        &self,
-        shapes: &mut Shapes,
-        arrival: &Arrival,
-    ) -> Result<Option<usize>, OutOfMemory> {
-        match self.machine.state(arrival.state) {
-            Some(state) => match &state.settings.input_path {
-                Some(path) => self.named_in(shapes, arrival.shape, path),
-                None => Ok(None),
-            },
-            None => Ok(None),
         }
     }
 }
@@ -182,7 +185,11 @@ pub(crate) fn push_alone(
     text.push_str(&head_of(alloc, located)?)?;
     text.push_str("\n")?;
     push_example(alloc, text, "For example: ", &located.finding.example)?;
-    push_line(text, "What helps: ", rule_of_finding(located.finding.fault).help)
+    push_line(
+        text,
+        "What helps: ",
+        rule_of_finding(located.finding.fault).help,
+    )
 }
 
 /// Puts down an example, if there is one.

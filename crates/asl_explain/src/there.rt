@@ -8,7 +8,7 @@ use crate::words::{noted, push_line};
 use asl_check::{FindingFault, Located};
 use asl_choice::holds;
 use asl_edges::{Broken, Edge, Step};
-use asl_flow::{DoubtfulPath, effective_at, find_at};
+use asl_flow::{DoubtfulPath, effective_at, find_at, missing_at};
 use asl_numbered::Shapes;
 use asl_path::{RefPath, print};
 use asl_states::{ChoiceRule, Delay, Kind, State};
@@ -44,7 +44,15 @@ impl Explainer<'_> {
                 self.push_stop(shapes, text, broken.field, path)
             }
             (FindingFault::WrongKind, _) => self.push_named(shapes, text, cause, broken.field),
-            (FindingFault::ResultMayNotFit, _) => self.push_whole(shapes, text, "the input", cause.input),
+            (FindingFault::ResultMayNotFit, _) => {
+                match self.misfit_text(shapes, cause, broken.field)? {
+                    Some(told) => push_line(text, THERE, &told),
+                    None => self.push_whole(shapes, text, "the input", cause.input),
+                }
+            }
+            (FindingFault::IntrinsicMayFail, _) => {
+                self.push_called(shapes, text, cause, broken.field)
+            }
             _ => self.push_effective(shapes, text, cause),
         }
     }
@@ -84,6 +92,49 @@ impl Explainer<'_> {
         let is = noted(self.alloc, shapes, number)?;
         let told = format!(in self.alloc; "{whole} is {is}")?;
         push_line(text, THERE, &told)
+    }
+
+    /// Puts down what the calls in a template of that field are made on.
+    fn push_called(
+        &self,
+        shapes: &mut Shapes,
+        text: &mut String,
+        cause: &Cause,
+        field: &str,
+    ) -> Result<(), OutOfMemory> {
+        match (
+            field,
+            self.machine.state(cause.state),
+            self.machine.name(cause.state),
+        ) {
+            ("Parameters", _, _) => match self.taken_of(shapes, cause.state, cause.input)? {
+                Some(taken) => self.push_whole(shapes, text, whole_of(field), taken),
+                None => Ok(()),
+            },
+            ("ResultSelector", Some(state), Some(name))
+                if matches!(state.kind, Kind::Task { .. }) => {
+                let gives = self.given_by(shapes, name)?;
+                self.push_whole(shapes, text, whole_of(field), gives)
+            }
+            ("ResultSelector", _, _) => Ok(()),
+            _ => self.push_effective(shapes, text, cause),
+        }
+    }
+
+    /// The number of the shape of what `InputPath` names in an input of that number, where it is sure to name something.
+    pub(crate) fn taken_of(
+        &self,
+        shapes: &mut Shapes,
+        state: usize,
+        input: usize,
+    ) -> Result<Option<usize>, OutOfMemory> {
+        match self.machine.state(state) {
+            Some(state) => match &state.settings.input_path {
+                Some(path) => self.named_in(shapes, input, path),
+                None => Ok(None),
+            },
+            None => Ok(None),
+        }
     }
 
     /// Puts down the effective input, or the input where it isn't sure that there is one.
@@ -172,6 +223,43 @@ impl Explainer<'_> {
         push_line(text, "Where it doesn't fit: ", &apart)
     }
 
+    /// A tree that shows the rule to be broken with this data: one in which the path names nothing, or a payload that the task
+    /// doesn't take; none where the rule is broken in another way.
+    pub(crate) fn example_of(
+        &self,
+        shapes: &mut Shapes,
+        cause: &Cause,
+    ) -> Result<Option<Tree>, OutOfMemory> {
+        match &cause.step {
+            Step::Breaks(
+                Broken {
+                    path: Some(path),
+                    ..
+                },
+            ) => self.example_without(shapes, path),
+            Step::Breaks(_) => Ok(None),
+            Step::Flows(edge) => match self.machine.name(cause.state) {
+                Some(name) => {
+                    let takes = self.taken_by(shapes, name)?;
+                    shapes.outside(self.alloc, edge.flowing, takes)
+                }
+                None => Ok(None),
+            },
+        }
+    }
+
+    /// A tree in which a path that may name nothing does so.
+    fn example_without(
+        &self,
+        shapes: &mut Shapes,
+        path: &DoubtfulPath,
+    ) -> Result<Option<Tree>, OutOfMemory> {
+        if shapes.inhabited(path.shape) != Some(true) {
+            return Ok(None);
+        }
+        missing_at(self.alloc, shapes, path.shape, path.path)
+    }
+
     /// A tree for which no rule of a Choice is true, where the first example of what comes to it is one.
     pub(crate) fn unchosen(
         &self,
@@ -230,7 +318,7 @@ pub(crate) fn whole_of(field: &str) -> &'static str {
     match field {
         "InputPath" | "Parameters" => "the input",
         "ResultSelector" => "the result",
-        "OutputPath" => "what is left of the state",
+        "OutputPath" => "the output before OutputPath",
         "ItemSelector" => "what the path goes into",
         _ => "the effective input",
     }

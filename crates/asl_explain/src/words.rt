@@ -5,8 +5,8 @@ use asl_numbered::Shapes;
 use asl_tree::{OutOfMemory, Tree, to_text};
 use std::alloc::Global;
 
-/// How many characters of an example are told.
-const EXAMPLE_CHARACTERS: usize = 200;
+/// How many characters of an example or of a path are told.
+const MOST_CHARACTERS: usize = 200;
 
 /// How much is told of a shape.
 const LIMITS: Limits = Limits { depth: 3, width: 6 };
@@ -27,18 +27,23 @@ pub(crate) fn noted(alloc: Global, shapes: &Shapes, number: usize) -> Result<Str
     note(alloc, shapes, number, LIMITS)
 }
 
-/// A tree as compact JSON; of a long one the first characters, and how many there are.
+/// A tree as compact JSON, cut where it is long.
 pub(crate) fn example_text(alloc: Global, tree: &Tree) -> Result<String, OutOfMemory> {
     let text = to_text(alloc, tree)?;
+    cut(alloc, &text)
+}
+
+/// The text; of a long one the first characters, and how many there are.
+pub(crate) fn cut(alloc: Global, text: &str) -> Result<String, OutOfMemory> {
     let many = text.chars().count();
-    if many <= EXAMPLE_CHARACTERS {
-        return Ok(text);
+    if many <= MOST_CHARACTERS {
+        return Ok(String::from_str(alloc, text)?);
     }
     let mut front = String::new(alloc);
-    for character in text.chars().take(EXAMPLE_CHARACTERS) {
+    for character in text.chars().take(MOST_CHARACTERS) {
         front.push(character)?;
     }
-    Ok(format!(in alloc; "{front}.. ({many} characters)")?)
+    Ok(format!(in alloc; "{front}… ({many} characters)")?)
 }
 
 /// Puts a line behind the text: two blanks, a label, and what it tells.
