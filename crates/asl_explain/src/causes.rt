@@ -1,6 +1,7 @@
 //! By which way data comes to a state with which a rule is broken.
 
 use crate::subject::Explainer;
+use crate::walking::Walks;
 use asl_check::{FindingFault, Located};
 use asl_edges::Step;
 use asl_numbered::Shapes;
@@ -38,6 +39,7 @@ impl<'m> Explainer<'m> {
     pub(crate) fn cause_of(
         &self,
         shapes: &mut Shapes,
+        walks: &mut Walks<'m>,
         located: &Located,
     ) -> Result<Option<Cause<'m>>, OutOfMemory> {
         let Some(state) = self.machine.state_named(&located.finding.state) else {
@@ -46,26 +48,27 @@ impl<'m> Explainer<'m> {
         if !is_about_data(located.finding.fault) {
             return Ok(None);
         }
-        if let Some(cause) = self.visited_cause(shapes, located, state)? {
+        if let Some(cause) = self.visited_cause(shapes, walks, located, state)? {
             return Ok(Some(cause));
         }
-        if let Some(cause) = self.arriving_cause(shapes, located, state)? {
+        if let Some(cause) = self.arriving_cause(shapes, walks, located, state)? {
             return Ok(Some(cause));
         }
-        self.joined_cause(shapes, located, state)
+        self.joined_cause(shapes, walks, located, state)
     }
 
     /// The first visit of the state with whose data the rule is broken.
     fn visited_cause(
         &self,
         shapes: &mut Shapes,
+        walks: &mut Walks<'m>,
         located: &Located,
         state: usize,
     ) -> Result<Option<Cause<'m>>, OutOfMemory> {
         for number in self.flows.visits_of(state).iter().take(MOST_WALKS) {
             if let Some(visit) = self.flows.visits.get(*number) {
                 let (input, way) = (visit.arrival.shape, Way::Visit(*number));
-                let cause = self.cause_with(shapes, located, state, input, way)?;
+                let cause = self.cause_with(shapes, walks, located, state, input, way)?;
                 if cause.is_some() {
                     return Ok(cause);
                 }
@@ -78,13 +81,14 @@ impl<'m> Explainer<'m> {
     fn arriving_cause(
         &self,
         shapes: &mut Shapes,
+        walks: &mut Walks<'m>,
         located: &Located,
         state: usize,
     ) -> Result<Option<Cause<'m>>, OutOfMemory> {
         for number in self.flows.arrivals_at(state).iter().take(MOST_WALKS) {
             if let Some(arrival) = self.flows.arrivals.get(*number) {
                 let way = Way::Arrival(*number);
-                let cause = self.cause_with(shapes, located, state, arrival.shape, way)?;
+                let cause = self.cause_with(shapes, walks, located, state, arrival.shape, way)?;
                 if cause.is_some() {
                     return Ok(cause);
                 }
@@ -97,11 +101,12 @@ impl<'m> Explainer<'m> {
     fn joined_cause(
         &self,
         shapes: &mut Shapes,
+        walks: &mut Walks<'m>,
         located: &Located,
         state: usize,
     ) -> Result<Option<Cause<'m>>, OutOfMemory> {
         match self.input_of(state) {
-            Some(input) => self.cause_with(shapes, located, state, input, Way::Together),
+            Some(input) => self.cause_with(shapes, walks, located, state, input, Way::Together),
             None => Ok(None),
         }
     }
@@ -110,12 +115,13 @@ impl<'m> Explainer<'m> {
     fn cause_with(
         &self,
         shapes: &mut Shapes,
+        walks: &mut Walks<'m>,
         located: &Located,
         state: usize,
         input: usize,
         way: Way,
     ) -> Result<Option<Cause<'m>>, OutOfMemory> {
-        match self.broken_step(shapes, located, state, input)? {
+        match self.broken_step(shapes, walks, located, state, input)? {
             Some(step) => Ok(Some(Cause {
                 state,
                 input,

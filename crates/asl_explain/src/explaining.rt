@@ -8,6 +8,7 @@ ghost use Rattle.asl_explain.specs.declared.explaining.Explained as explained;
 
 use crate::subject::{Explainer, Flows, Subject};
 use crate::telling::push_alone;
+use crate::walking::Walks;
 use asl_check::{Finding, Located, Verdict, find_all};
 use asl_infer::infer_leniently;
 use asl_records::NumberedCertificate;
@@ -182,11 +183,13 @@ fn explain_known(
         flows: &known.flows,
     };
     let mut text = String::new(alloc);
+    let mut walks = Walks::new(alloc);
     for located in &known.findings {
         if !text.is_empty() {
             text.push_str("\n")?;
         }
-        explainer.push_finding(&mut known.certificate.shapes, &mut text, located)?;
+        let shapes = &mut known.certificate.shapes;
+        explainer.push_finding(shapes, &mut walks, &mut text, located)?;
     }
     Ok(text)
 }

@@ -4,7 +4,6 @@ use crate::causes::{Cause, Way};
 use crate::lookups::type_of;
 use crate::stops::{Stop, stop_of};
 use crate::subject::Explainer;
-use crate::there::whole_of;
 use crate::words::quoted;
 use asl_check::{FindingFault, Located};
 use asl_diagnostics::rule_of_finding;
@@ -17,7 +16,7 @@ impl Explainer<'_> {
     /// What usually helps against a finding; `on_some_way` says that there is another way on which the rule isn't broken.
     pub(crate) fn help_for(
         &self,
-        shapes: &Shapes,
+        shapes: &mut Shapes,
         located: &Located,
         cause: Option<&Cause>,
         on_some_way: bool,
@@ -89,7 +88,7 @@ impl Explainer<'_> {
     /// To see that what a path names is there.
     fn help_with_path(
         &self,
-        shapes: &Shapes,
+        shapes: &mut Shapes,
         fault: FindingFault,
         cause: Option<&Cause>,
         on_some_way: bool,
@@ -107,19 +106,23 @@ impl Explainer<'_> {
         else {
             return self.general(fault);
         };
+        let whole = self.whole_at(shapes, cause, field, path.shape)?;
         match stop_of(self.alloc, shapes, &path)? {
-            Some(stop) if !stop.is_field => self.help_with_element(&stop),
-            Some(stop) => self.help_with_field(field, &stop, cause, on_some_way),
+            Some(stop) if !stop.is_field => self.help_with_element(whole, &stop),
+            Some(stop) => self.help_with_field(field, whole, &stop, cause, on_some_way),
             None => self.general(fault),
         }
     }
 
     /// To see that an element is there.
-    fn help_with_element(&self, stop: &Stop) -> Result<String, OutOfMemory> {
+    fn help_with_element(&self, whole: &str, stop: &Stop) -> Result<String, OutOfMemory> {
+        let list = match stop.front.as_str() {
+            "$" => whole,
+            front => front,
+        };
         Ok(format!(in self.alloc;
-            "See that {} is always a list that is long enough: \"prefixItems\" with \"minItems\" declares the elements that are \
-            always there. A Map goes over all elements, however many.",
-            stop.front
+            "See that {list} is always a list that is long enough: \"prefixItems\" with \"minItems\" declares the elements that are \
+            always there. A Map goes over all elements, however many."
         )?)
     }
 
@@ -127,11 +130,12 @@ impl Explainer<'_> {
     fn help_with_field(
         &self,
         field: &str,
+        whole: &str,
         stop: &Stop,
         cause: &Cause,
         on_some_way: bool,
     ) -> Result<String, OutOfMemory> {
-        let mut text = self.help_to_have(field, &stop.absent, cause, on_some_way)?;
+        let mut text = self.help_to_have(field, whole, &stop.absent, cause, on_some_way)?;
         if stop.is_narrowed {
             text.push_str(self.words_on_test(field, cause))?;
         }
@@ -149,6 +153,7 @@ impl Explainer<'_> {
     fn help_to_have(
         &self,
         field: &str,
+        whole: &str,
         absent: &str,
         cause: &Cause,
         on_some_way: bool,
@@ -157,7 +162,6 @@ impl Explainer<'_> {
             return self.help_with_result(absent, cause);
         }
         let is_direct = self.goes_into_input(cause.state, field);
-        let whole = whole_of(field);
         if on_some_way && is_direct {
             return Ok(format!(in self.alloc;
                 "Set {absent} on that way, too, for example by a Pass with Result and ResultPath"

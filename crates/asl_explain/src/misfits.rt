@@ -1,11 +1,11 @@
 //! Where a result may not fit.
 
 use crate::causes::Cause;
-use crate::stops::{front_of, has_simple, part_at};
+use crate::stops::{front_of, part_at};
 use crate::subject::Explainer;
 use crate::words::{counted, noted, quoted};
 use asl_flow::{PutRefusal, put_at};
-use asl_numbered::{NodeKinds, Shapes};
+use asl_numbered::Shapes;
 use asl_path::{RefPath, Segment};
 use asl_shape::Shape;
 use asl_states::Settings;
@@ -99,51 +99,38 @@ fn misfit_words(
     input: usize,
     misfit: &Misfit,
 ) -> Result<String, OutOfMemory> {
-    let number = part_at(shapes, input, misfit.path, misfit.segment);
-    let is = noted(alloc, shapes, number)?;
     let value = match misfit.segment {
         0 => String::from_str(alloc, "the input")?,
         many => front_of(alloc, misfit.path, many)?,
     };
-    let path = front_of(alloc, misfit.path, misfit.path.segments().len())?;
-    let who = match misfit.catcher {
+    let is = match part_at(shapes, input, misfit.path, misfit.segment) {
+        Some(part) => noted(alloc, shapes, part)?,
+        None => String::from_str(alloc, "any")?,
+    };
+    let why = match misfit.path.segments().get(misfit.segment) {
+        Some(segment) => why_misfit(alloc, segment)?,
+        None => String::new(alloc),
+    };
+    let owner = match misfit.catcher {
         Some(catcher) => format!(in alloc;
             "the ResultPath of catcher {}",
             counted(alloc, catcher)?
         )?,
         None => String::from_str(alloc, "ResultPath")?,
     };
-    let why = match misfit.path.segments().get(misfit.segment) {
-        Some(segment) => why_misfit(alloc, shapes.take_apart(number), segment)?,
-        None => String::new(alloc),
-    };
-    Ok(format!(in alloc; "{value} is {is}{why}; {who} is {path}")?)
+    let path = front_of(alloc, misfit.path, misfit.path.segments().len())?;
+    Ok(format!(in alloc; "{value} is {is}{why}; {owner} is {path}")?)
 }
 
-/// Why a segment may not fit in a value of these kinds, or of any.
-fn why_misfit(
-    alloc: Global,
-    kinds: Option<NodeKinds>,
-    segment: &Segment,
-) -> Result<String, OutOfMemory> {
+/// What a segment needs to fit.
+fn why_misfit(alloc: Global, segment: &Segment) -> Result<String, OutOfMemory> {
     match segment {
         Segment::Name(name) => {
             let name = quoted(alloc, name)?;
-            if may_be_no_object(kinds) {
-                return Ok(format!(in alloc; ", and only an object takes a field {name}")?);
-            }
-            Ok(format!(in alloc; ", and nothing says that a field {name} in it is an object")?)
+            Ok(format!(in alloc; ", and only an object takes a field {name}")?)
         }
         Segment::Index(index) => Ok(format!(in alloc;
             ", and only a list that is long enough takes an element [{index}]"
         )?),
-    }
-}
-
-/// Whether there are values of these kinds, or of any, that are no objects.
-fn may_be_no_object(kinds: Option<NodeKinds>) -> bool {
-    match kinds {
-        Some(kinds) => has_simple(&kinds) || kinds.arrays.is_some(),
-        None => true,
     }
 }

@@ -4,7 +4,7 @@ use crate::causes::Way;
 use crate::subject::Explainer;
 use crate::words::{counted, quoted};
 use asl_tree::OutOfMemory;
-use asl_ways::{Arrival, Exit, Origin, way_to};
+use asl_ways::{Arrival, Exit, Origin, Visit, way_to};
 use std::alloc::Global;
 
 /// How many steps of a long way are told at its beginning, and how many at its end.
@@ -26,31 +26,48 @@ impl Explainer<'_> {
         }
     }
 
-    /// The way that ends with the visit of that number: each state with the exit that is taken, but for `Next`.
+    /// The way that ends with the visit of that number: each state with the exit that is taken, but for `Next`; of many only
+    /// the first and the last, with the count of those between.
     fn visited_text(&self, last: usize) -> Result<String, OutOfMemory> {
-        let Some(visit) = self.flows.visits.get(last) else {
-            return Ok(String::new(self.alloc));
-        };
-        if visit.arrival.origin.is_none() {
-            return self.arrival_text(&visit.arrival);
-        }
-        let mut steps = self.origins_before(last)?;
-        steps.push(self.state_text(visit.arrival.state)?)?;
-        joined_steps(self.alloc, &steps)
-    }
-
-    /// The origins on the way that ends with the visit of that number.
-    fn origins_before(&self, last: usize) -> Result<Vec<String>, OutOfMemory> {
         let numbers = way_to(self.alloc, &self.flows.visits, last)?;
-        let mut origins = Vec::new(self.alloc);
-        for number in &numbers {
+        let mut text = String::new(self.alloc);
+        for (place, number) in numbers.iter().enumerate() {
             if let Some(visit) = self.flows.visits.get(*number) {
-                if let Some(origin) = visit.arrival.origin {
-                    origins.push(self.origin_text(origin)?)?;
-                }
+                let is_last = place.saturating_add(1) == numbers.len();
+                self.push_visit(&mut text, visit, place, numbers.len(), is_last)?;
             }
         }
-        Ok(origins)
+        Ok(text)
+    }
+
+    /// Puts down the state in front of the visit, which is the one of that place of so many on a way, and the visited state
+    /// itself where the way ends with it.
+    fn push_visit(
+        &self,
+        text: &mut String,
+        visit: &Visit,
+        place: usize,
+        many: usize,
+        is_last: bool,
+    ) -> Result<(), OutOfMemory> {
+        let Some(origin) = visit.arrival.origin else {
+            return if is_last {
+                push_step(text, &self.arrival_text(&visit.arrival)?)
+            } else {
+                Ok(())
+            };
+        };
+        let step = place.saturating_sub(1);
+        if is_told(step, many) {
+            push_step(text, &self.origin_text(origin)?)?;
+        } else if step == STEPS_AT_END {
+            let left_out = many.saturating_sub(2 * STEPS_AT_END);
+            push_step(text, &format!(in self.alloc; ".. {left_out} states ..")?)?;
+        }
+        if is_last {
+            push_step(text, &self.state_text(visit.arrival.state)?)?;
+        }
+        Ok(())
     }
 
     /// Where an arrival comes from.
@@ -95,27 +112,16 @@ fn numbered(alloc: Global, exit: &str, number: usize) -> Result<String, OutOfMem
     Ok(format!(in alloc; " ({exit} {number})")?)
 }
 
-/// The steps with arrows between them; of many only the first and the last, with the count of those between.
-fn joined_steps(alloc: Global, steps: &[String]) -> Result<String, OutOfMemory> {
-    let mut text = String::new(alloc);
-    let left_out = steps.len().saturating_sub(2 * STEPS_AT_END);
-    for (number, step) in steps.iter().enumerate() {
-        let behind = steps.len().saturating_sub(number);
-        if left_out < 2 || number < STEPS_AT_END || behind <= STEPS_AT_END {
-            push_arrow(&mut text)?;
-            text.push_str(step)?;
-        } else if number == STEPS_AT_END {
-            push_arrow(&mut text)?;
-            text.push_str(&format!(in alloc; ".. {left_out} states ..")?)?;
-        }
-    }
-    Ok(text)
+/// Whether the step of that number is told on a way of so many.
+fn is_told(step: usize, many: usize) -> bool {
+    many <= 2 * STEPS_AT_END + 1 || step < STEPS_AT_END || many.saturating_sub(step) <= STEPS_AT_END
 }
 
-/// Puts an arrow behind a step that is there.
-fn push_arrow(text: &mut String) -> Result<(), OutOfMemory> {
+/// Puts a step behind those that are there, with an arrow between.
+fn push_step(text: &mut String, step: &str) -> Result<(), OutOfMemory> {
     if !text.is_empty() {
         text.push_str(" -> ")?;
     }
+    text.push_str(step)?;
     Ok(())
 }

@@ -35,7 +35,9 @@ pub(crate) fn stop_of(
     let Some(segment) = path.path.segments().get(path.segment) else {
         return Ok(None);
     };
-    let shape = part_at(shapes, path.shape, path.path, path.segment);
+    let Some(shape) = part_at(shapes, path.shape, path.path, path.segment) else {
+        return Ok(None);
+    };
     Ok(Some(Stop {
         shape,
         front: front_of(alloc, path.path, path.segment)?,
@@ -47,13 +49,18 @@ pub(crate) fn stop_of(
     }))
 }
 
-/// The number of the shape of what the first segments of a path name in a value of that shape, as far as that is known.
-pub(crate) fn part_at(shapes: &Shapes, number: usize, path: &RefPath, many: usize) -> usize {
+/// The number of the shape of what the first segments of a path name in a value of that shape, where that is mentioned.
+pub(crate) fn part_at(
+    shapes: &Shapes,
+    number: usize,
+    path: &RefPath,
+    many: usize,
+) -> Option<usize> {
     let mut part = number;
     for segment in path.segments().iter().take(many) {
-        part = part_of(shapes, part, segment).unwrap_or(part);
+        part = part_of(shapes, part, segment)?;
     }
-    part
+    Some(part)
 }
 
 /// The number of the shape of what a segment names in a value of that shape, where the shape mentions it.
@@ -197,6 +204,6 @@ fn why_no_element(
 }
 
 /// Whether there are values among these kinds that are neither lists nor objects.
-pub(crate) fn has_simple(kinds: &NodeKinds) -> bool {
+fn has_simple(kinds: &NodeKinds) -> bool {
     kinds.null || kinds.boolean || kinds.integer || kinds.text
 }

@@ -3,6 +3,7 @@
 use crate::causes::Cause;
 use crate::heads::head_of;
 use crate::subject::Explainer;
+use crate::walking::Walks;
 use crate::words::{example_text, noted, push_line};
 use asl_check::{FindingFault, Located};
 use asl_diagnostics::rule_of_finding;
@@ -24,14 +25,15 @@ impl<'m> Explainer<'m> {
     pub(crate) fn push_finding(
         &self,
         shapes: &mut Shapes,
+        walks: &mut Walks<'m>,
         text: &mut String,
         located: &Located,
     ) -> Result<(), OutOfMemory> {
         text.push_str(&head_of(self.alloc, located)?)?;
         text.push_str("\n")?;
-        let cause = self.cause_of(shapes, located)?;
+        let cause = self.cause_of(shapes, walks, located)?;
         let others = match &cause {
-            Some(cause) => self.push_cause(shapes, text, located, cause)?,
+            Some(cause) => self.push_cause(shapes, walks, text, located, cause)?,
             None => 0,
         };
         let help = self.help_for(shapes, located, cause.as_ref(), others > 0)?;
@@ -43,6 +45,7 @@ impl<'m> Explainer<'m> {
     fn push_cause(
         &self,
         shapes: &mut Shapes,
+        walks: &mut Walks<'m>,
         text: &mut String,
         located: &Located,
         cause: &Cause<'m>,
@@ -53,7 +56,7 @@ impl<'m> Explainer<'m> {
             push_example(self.alloc, text, "For example, no rule is true of: ", &tree)?;
             return Ok(0);
         }
-        let others = self.push_origins(shapes, text, located, cause)?;
+        let others = self.push_origins(shapes, walks, text, located, cause)?;
         let example = self.example_of(shapes, cause)?;
         push_example(self.alloc, text, "For example: ", &example)?;
         Ok(others)
@@ -64,6 +67,7 @@ impl<'m> Explainer<'m> {
     fn push_origins(
         &self,
         shapes: &mut Shapes,
+        walks: &mut Walks<'m>,
         text: &mut String,
         located: &Located,
         cause: &Cause<'m>,
@@ -74,13 +78,14 @@ impl<'m> Explainer<'m> {
         }
         let way = self.way_text(cause.way)?;
         push_line(text, "It comes so from: ", &way)?;
-        self.push_others(shapes, text, located, cause)
+        self.push_others(shapes, walks, text, located, cause)
     }
 
     /// Puts down the first origins from which data comes with which the rule isn't broken, and answers how many.
     fn push_others(
         &self,
         shapes: &mut Shapes,
+        walks: &mut Walks<'m>,
         text: &mut String,
         located: &Located,
         cause: &Cause<'m>,
@@ -91,7 +96,7 @@ impl<'m> Explainer<'m> {
                 break;
             }
             if let Some(arrival) = self.flows.arrivals.get(*number) {
-                if self.is_other(shapes, located, arrival)? {
+                if self.is_other(shapes, walks, located, arrival)? {
                     self.push_other(shapes, text, arrival, cause)?;
                     told += 1;
                 }
@@ -104,13 +109,14 @@ impl<'m> Explainer<'m> {
     fn is_other(
         &self,
         shapes: &mut Shapes,
+        walks: &mut Walks<'m>,
         located: &Located,
         arrival: &Arrival,
     ) -> Result<bool, OutOfMemory> {
         if shapes.inhabited(arrival.shape) != Some(true) {
             return Ok(false);
         }
-        let step = self.broken_step(shapes, located, arrival.state, arrival.shape)?;
+        let step = self.broken_step(shapes, walks, located, arrival.state, arrival.shape)?;
         Ok(step.is_none())
     }
 

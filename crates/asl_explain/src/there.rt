@@ -41,7 +41,7 @@ impl Explainer<'_> {
     ) -> Result<(), OutOfMemory> {
         match (broken.fault, &broken.path) {
             (FindingFault::PathMayBeMissing, Some(path)) => {
-                self.push_stop(shapes, text, broken.field, path)
+                self.push_stop(shapes, text, cause, broken.field, path)
             }
             (FindingFault::WrongKind, _) => self.push_named(shapes, text, cause, broken.field),
             (FindingFault::ResultMayNotFit, _) => {
@@ -60,8 +60,9 @@ impl Explainer<'_> {
     /// Puts down the value beyond which the path may name nothing, and the whole that it is looked up in.
     fn push_stop(
         &self,
-        shapes: &Shapes,
+        shapes: &mut Shapes,
         text: &mut String,
+        cause: &Cause,
         field: &str,
         path: &DoubtfulPath,
     ) -> Result<(), OutOfMemory> {
@@ -69,7 +70,7 @@ impl Explainer<'_> {
             return Ok(());
         };
         let is = noted(self.alloc, shapes, stop.shape)?;
-        let whole = whole_of(field);
+        let whole = self.whole_at(shapes, cause, field, path.shape)?;
         if path.segment == 0 {
             let told = format!(in self.alloc; "{whole} is {is}{}", stop.why)?;
             return push_line(text, THERE, &told);
@@ -79,6 +80,24 @@ impl Explainer<'_> {
         let is = noted(self.alloc, shapes, path.shape)?;
         let told = format!(in self.alloc; "{whole}, {is}")?;
         push_line(text, "It is looked up in: ", &told)
+    }
+
+    /// What a path of that field is looked up in, which has the shape of that number: of a Map's ItemSelector the effective
+    /// input or the item.
+    pub(crate) fn whole_at(
+        &self,
+        shapes: &mut Shapes,
+        cause: &Cause,
+        field: &str,
+        number: usize,
+    ) -> Result<&'static str, OutOfMemory> {
+        if field != "ItemSelector" {
+            return Ok(whole_of(field));
+        }
+        match self.effective_of(shapes, cause.state, cause.input)? {
+            Some(effective) if effective == number => Ok("the effective input"),
+            Some(_) | None => Ok("the item"),
+        }
     }
 
     /// Puts down a whole value.
@@ -314,12 +333,11 @@ fn wanted_at(field: &str) -> &'static str {
 }
 
 /// What the paths of a field are looked up in.
-pub(crate) fn whole_of(field: &str) -> &'static str {
+fn whole_of(field: &str) -> &'static str {
     match field {
         "InputPath" | "Parameters" => "the input",
         "ResultSelector" => "the result",
         "OutputPath" => "the output before OutputPath",
-        "ItemSelector" => "what the path goes into",
         _ => "the effective input",
     }
 }

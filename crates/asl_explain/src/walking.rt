@@ -6,10 +6,61 @@ use asl_edges::{Broken, Destination, Edge, Entry, Step, edges_of};
 use asl_numbered::Shapes;
 use asl_path::print;
 use asl_tree::OutOfMemory;
+use std::alloc::Global;
+
+/// The walks through one state that were taken so far. The findings of a state stand behind each other.
+#[derive(Drop)]
+pub(crate) struct Walks<'m> {
+    /// The number of the state.
+    state: usize,
+    walks: Vec<Walked<'m>>,
+}
+
+/// A walk through a state.
+#[derive(Drop)]
+struct Walked<'m> {
+    /// The number of the input.
+    input: usize,
+    steps: Vec<Step<'m>>,
+}
+
+impl<'m> Walks<'m> {
+    /// None were taken.
+    pub(crate) fn new(alloc: Global) -> Walks<'m> {
+        Walks {
+            state: 0,
+            walks: Vec::new(alloc),
+        }
+    }
+
+    /// Turns to the state of that number. Those through another one are forgotten.
+    fn turn_to(&mut self, state: usize) {
+        if self.state != state {
+            self.walks.clear();
+            self.state = state;
+        }
+    }
+
+    /// The steps with an input of that number, where it was taken.
+    fn steps_with(&self, input: usize) -> Option<&[Step<'m>]> {
+        for walked in &self.walks {
+            if walked.input == input {
+                return Some(&walked.steps);
+            }
+        }
+        None
+    }
+
+    /// Keeps the steps with an input of that number.
+    fn keep(&mut self, input: usize, steps: Vec<Step<'m>>) -> Result<(), OutOfMemory> {
+        self.walks.push(Walked { input, steps })?;
+        Ok(())
+    }
+}
 
 impl<'m> Explainer<'m> {
     /// The steps of the walk through the state of that number with an input of that number; none where no tree has it.
-    pub(crate) fn steps(
+    fn steps(
         &self,
         shapes: &mut Shapes,
         state: usize,
@@ -38,12 +89,30 @@ impl<'m> Explainer<'m> {
     pub(crate) fn broken_step(
         &self,
         shapes: &mut Shapes,
+        walks: &mut Walks<'m>,
         located: &Located,
         state: usize,
         input: usize,
     ) -> Result<Option<Step<'m>>, OutOfMemory> {
-        let steps = self.steps(shapes, state, input)?;
-        for step in &steps {
+        walks.turn_to(state);
+        if walks.steps_with(input).is_none() {
+            let steps = self.steps(shapes, state, input)?;
+            walks.keep(input, steps)?;
+        }
+        match walks.steps_with(input) {
+            Some(steps) => self.broken_in(shapes, located, steps),
+            None => Ok(None),
+        }
+    }
+
+    /// The first of the steps at which the rule of a finding is broken, if there is one.
+    fn broken_in(
+        &self,
+        shapes: &mut Shapes,
+        located: &Located,
+        steps: &[Step<'m>],
+    ) -> Result<Option<Step<'m>>, OutOfMemory> {
+        for step in steps {
             if self.breaks(shapes, located, step)? {
                 return Ok(Some(*step));
             }
