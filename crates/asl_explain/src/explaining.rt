@@ -1,10 +1,13 @@
 //! From texts to explanations.
 
-ghost use Rattle.std.specs.Prelude.{◌≡◌, ◌↔◌, IfErr, IfOk, None};
+ghost use Rattle.std.specs.Prelude.{◌≡◌, ◌≢◌, ◌↔◌, IfErr, IfOk, None, Ok};
 ghost use Rattle.asl_model.specs.Verdict.{Accepted};
 ghost use Rattle.asl_tool.specs.Inferred.{InferFaultStands};
 ghost use Rattle.asl_tool.specs.VerifiedInference.{IsVerdictOnInferred};
-ghost use Rattle.asl_explain.specs.declared.explaining.Explained as explained;
+ghost use Rattle.asl_check.specs.declared.verdicts.Verdict.TheVariants as checked;
+ghost use Rattle.asl_tool.specs.declared.inferring.Verified.TheVariants as outcomes;
+ghost use Rattle.asl_tool.specs.declared.refusals.RunFault.TheVariants as faults;
+ghost use Rattle.asl_explain.specs.declared.explaining.Explained.TheVariants as answers;
 
 use crate::subject::{Explainer, Flows, Subject};
 use crate::telling::push_alone;
@@ -46,7 +49,11 @@ pub fn explain_texts(
     declared: &[u8],
     state: Option<&str>,
     max_rounds: u32,
-) -> Result<Explained, RunFault> {
+) -> Result<Explained, RunFault>
+    ensures exactly { state.entry ≡ None → IfOk result (λ told. (told ≡ answers.Nothing)
+        ↔ IsVerdictOnInferred max_rounds definition.now declared.now Accepted) }
+    ensures refused { IfErr result (InferFaultStands definition.now declared.now) }
+{
     let verified = verify_inferred(alloc, definition, declared, max_rounds)?;
     let texts = Texts {
         definition,
@@ -64,7 +71,11 @@ fn explain_verified(
     alloc: Global,
     texts: &Texts<'_>,
     verified: Verified,
-) -> Result<Explained, RunFault> {
+) -> Result<Explained, RunFault>
+    ensures exactly { IfOk result (λ told. (told ≡ answers.Nothing)
+        ↔ (verified ≡ outcomes.Verdict checked.Yes)) }
+    ensures refused { IfErr result (λ fault. fault ≡ faults.OutOfMemory) }
+{
     match verified {
         Verified::Verdict(Verdict::Yes) => Ok(Explained::Nothing),
         Verified::Verdict(Verdict::No(findings)) => {
@@ -76,7 +87,10 @@ fn explain_verified(
 }
 
 /// What is explained, or that memory ran out.
-fn told_or_fault(told: Result<Explained, OutOfMemory>) -> Result<Explained, RunFault> {
+fn told_or_fault(told: Result<Explained, OutOfMemory>) -> Result<Explained, RunFault>
+    ensures told { IfOk result (λ explained. told ≡ Ok explained) }
+    ensures refused { IfErr result (λ fault. fault ≡ faults.OutOfMemory) }
+{
     match told {
         Ok(explained) => Ok(explained),
         Err(_) => Err(RunFault::OutOfMemory),
@@ -123,7 +137,9 @@ impl Known {
 
 impl Texts<'_> {
     /// Explains this one finding, or all that are known, if there are some.
-    fn explain_finding(&self, alloc: Global, finding: Finding) -> Result<Explained, OutOfMemory> {
+    fn explain_finding(&self, alloc: Global, finding: Finding) -> Result<Explained, OutOfMemory>
+        ensures { IfOk result (λ told. told ≢ answers.Nothing) }
+    {
         let mut findings = Vec::new(alloc);
         findings.push(finding)?;
         self.explain_findings(alloc, findings)
@@ -134,7 +150,9 @@ impl Texts<'_> {
         &self,
         alloc: Global,
         findings: Vec<Finding>,
-    ) -> Result<Explained, OutOfMemory> {
+    ) -> Result<Explained, OutOfMemory>
+        ensures { IfOk result (λ told. told ≢ answers.Nothing) }
+    {
         let subject = Subject::read(alloc, self.definition, self.declared)?;
         let text = match Known::find(alloc, &subject, self.max_rounds)? {
             Some(known) => explain_known(alloc, &subject, known, findings)?,

@@ -1,5 +1,7 @@
 //! What is looked up in a machine, in declared shapes and in a certificate.
 
+ghost use Rattle.std.specs.Prelude.{◌<◌, IfOk, length};
+
 use crate::subject::Explainer;
 use asl_numbered::Shapes;
 use asl_shape::Shape;
@@ -19,7 +21,10 @@ impl<'m> Explainer<'m> {
     }
 
     /// The number of what the task of that name gives; one that isn't declared gives every tree.
-    pub(crate) fn given_by(&self, shapes: &mut Shapes, name: &str) -> Result<usize, OutOfMemory> {
+    #[tactic(auto, using(crate::proofs::Lengths::numbered))]
+    pub(crate) fn given_by(&self, shapes: &mut Shapes, name: &str) -> Result<usize, OutOfMemory>
+        ensures { IfOk result (λ number. number < length shapes.new) }
+    {
         match self.declared.task(name) {
             Some(task) => shapes.add(&task.gives),
             None => shapes.add(&Shape::Any),

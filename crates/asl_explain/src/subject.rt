@@ -1,5 +1,7 @@
 //! What is explained.
 
+ghost use Rattle.asl_records.specs.Numbered.{AreWithin};
+
 use crate::by_state::ByState;
 use asl_machine::Machine;
 use asl_records::{Declared, NumberedCertificate, StateNumbers, read_declared};
@@ -55,7 +57,9 @@ impl Flows {
         alloc: Global,
         subject: &Subject,
         certificate: &mut NumberedCertificate,
-    ) -> Result<Flows, OutOfMemory> {
+    ) -> Result<Flows, OutOfMemory>
+        requires { AreWithin certificate.old }
+    {
         let machine = &subject.machine;
         let most = machine.states().saturating_mul(4).saturating_add(1000);
         let visits = visits(alloc, machine, &subject.declared, certificate, most)?;

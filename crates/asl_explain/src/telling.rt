@@ -90,7 +90,7 @@ impl<'m> Explainer<'m> {
         located: &Located,
         cause: &Cause<'m>,
     ) -> Result<usize, OutOfMemory> {
-        let mut told = 0;
+        let mut told: usize = 0;
         for number in self.flows.arrivals_at(cause.state).iter().take(MOST_WALKS) {
             if told == MOST_OTHERS {
                 break;
@@ -98,7 +98,7 @@ impl<'m> Explainer<'m> {
             if let Some(arrival) = self.flows.arrivals.get(*number) {
                 if self.is_other(shapes, walks, located, arrival)? {
                     self.push_other(shapes, text, arrival, cause)?;
-                    told += 1;
+                    told = told.saturating_add(1);
                 }
             }
         }

@@ -1,10 +1,15 @@
 //! Walks through a state with a given input, and the rules that are broken on them.
 
+ghost use Rattle.std.specs.Prelude.{◌<◌, IfOk, IfSome, IsTrue, length};
+ghost use Rattle.asl_edges.specs.Entry.{IsEntryBelow};
+ghost use Rattle.asl_numbered.specs.Expansion.{AreBelow};
+
 use crate::subject::Explainer;
 use asl_check::Located;
 use asl_edges::{Broken, Destination, Edge, Entry, Step, edges_of};
 use asl_numbered::Shapes;
 use asl_path::print;
+use asl_records::StateNumbers;
 use asl_tree::OutOfMemory;
 use std::alloc::Global;
 
@@ -75,13 +80,10 @@ impl<'m> Explainer<'m> {
             return Ok(none);
         };
         let gives = self.given_by(shapes, name)?;
-        let entry = Entry {
-            input,
-            output: numbers.output,
-            branches: &numbers.branches,
-            item: numbers.item,
-        };
-        edges_of(self.alloc, shapes, walked, entry, gives)
+        match entry_with(shapes, numbers, input) {
+            Some(entry) => edges_of(self.alloc, shapes, walked, entry, gives),
+            None => Ok(none),
+        }
     }
 
     /// The step at which the rule of a finding is broken on the walk through the state of that number with an input of that
@@ -168,4 +170,39 @@ impl<'m> Explainer<'m> {
             Destination::Input(_) | Destination::Output | Destination::End => Ok(false),
         }
     }
+}
+
+/// The certified shapes of a state with an input of that number in place of theirs; none where one of them isn't in the table.
+fn entry_with<'e>(
+    shapes: &Shapes,
+    numbers: &'e StateNumbers,
+    input: usize,
+) -> Option<Entry<'e>>
+    ensures { IfSome result (IsEntryBelow (length shapes.now)) }
+{
+    let many = shapes.len();
+    if input >= many || numbers.output >= many || !are_below(many, &numbers.branches) {
+        return None;
+    }
+    match numbers.item {
+        Some(item) if item >= many => None,
+        item => Some(Entry {
+            input,
+            output: numbers.output,
+            branches: &numbers.branches,
+            item,
+        }),
+    }
+}
+
+/// Whether each of the numbers is below that bound.
+fn are_below(bound: usize, numbers: &[usize]) -> bool
+    ensures { IsTrue result → AreBelow bound numbers.now }
+{
+    for number in numbers {
+        if *number >= bound {
+            return false;
+        }
+    }
+    true
 }
