@@ -1,6 +1,6 @@
 //! Walks through a state with a given input, and the rules that are broken on them.
 
-ghost use Rattle.std.specs.Prelude.{◌<◌, IfOk, IfSome, IsTrue, length};
+ghost use Rattle.std.specs.Prelude.{◌↔◌, IfSome, IsTrue, length};
 ghost use Rattle.asl_edges.specs.Entry.{IsEntryBelow};
 ghost use Rattle.asl_numbered.specs.Expansion.{AreBelow};
 
@@ -197,7 +197,7 @@ fn entry_with<'e>(
 
 /// Whether each of the numbers is below that bound.
 fn are_below(bound: usize, numbers: &[usize]) -> bool
-    ensures { IsTrue result → AreBelow bound numbers.now }
+    ensures { IsTrue result ↔ AreBelow bound numbers.now }
 {
     for number in numbers {
         if *number >= bound {
