@@ -9,6 +9,7 @@ ghost use Rattle.asl_tool.specs.declared.inferring.Verified.TheVariants as outco
 ghost use Rattle.asl_tool.specs.declared.refusals.RunFault.TheVariants as faults;
 ghost use Rattle.asl_explain.specs.declared.explaining.Explained.TheVariants as answers;
 
+use crate::heads::is_repeated;
 use crate::subject::{Explainer, Flows, Subject};
 use crate::telling::push_alone;
 use crate::walking::Walks;
@@ -202,7 +203,10 @@ fn explain_known(
     };
     let mut text = String::new(alloc);
     let mut walks = Walks::new(alloc);
-    for located in &known.findings {
+    for (number, located) in known.findings.iter().enumerate() {
+        if is_repeated(&known.findings, number) {
+            continue;
+        }
         if !text.is_empty() {
             text.push_str("\n")?;
         }

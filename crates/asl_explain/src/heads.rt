@@ -45,3 +45,35 @@ fn sentence_on_kind(alloc: Global, field: &str) -> Result<String, OutOfMemory> {
     };
     Ok(String::from_str(alloc, words)?)
 }
+
+/// Whether the finding of that number is told in the same words as one in front of it. The findings of a state stand behind
+/// each other.
+pub(crate) fn is_repeated(findings: &[Located], number: usize) -> bool {
+    let (Some(located), Some(front)) = (findings.get(number), findings.get(..number)) else {
+        return false;
+    };
+    for other in front.iter().rev() {
+        if other.finding.state.as_str() != located.finding.state.as_str() {
+            return false;
+        }
+        if is_told_alike(other, located) {
+            return true;
+        }
+    }
+    false
+}
+
+/// Whether two findings of a state are told in the same words.
+fn is_told_alike(first: &Located, second: &Located) -> bool {
+    first.finding.fault.name() == second.finding.fault.name()
+        && first.finding.field.as_str() == second.finding.field.as_str()
+        && text_of(first) == text_of(second)
+}
+
+/// The text of the path that a finding is about, empty where it is about none.
+fn text_of(located: &Located) -> &str {
+    match &located.path {
+        Some(path) => &path.text,
+        None => "",
+    }
+}

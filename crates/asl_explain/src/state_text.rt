@@ -1,6 +1,6 @@
 //! What is known of one state, in lines.
 
-use crate::heads::told_in_short;
+use crate::heads::{is_repeated, told_in_short};
 use crate::lookups::type_of;
 use crate::subject::Explainer;
 use crate::words::{counted, noted};
@@ -181,8 +181,8 @@ impl Explainer<'_> {
         findings: &[Located],
         name: &str,
     ) -> Result<(), OutOfMemory> {
-        for located in findings {
-            if located.finding.state.as_str() == name {
+        for (number, located) in findings.iter().enumerate() {
+            if located.finding.state.as_str() == name && !is_repeated(findings, number) {
                 push_row(text, "finding", &told_in_short(self.alloc, located)?)?;
             }
         }

@@ -173,11 +173,7 @@ impl<'m> Explainer<'m> {
 }
 
 /// The certified shapes of a state with an input of that number in place of theirs; none where one of them isn't in the table.
-fn entry_with<'e>(
-    shapes: &Shapes,
-    numbers: &'e StateNumbers,
-    input: usize,
-) -> Option<Entry<'e>>
+fn entry_with<'e>(shapes: &Shapes, numbers: &'e StateNumbers, input: usize) -> Option<Entry<'e>>
     ensures { IfSome result (IsEntryBelow (length shapes.now)) }
 {
     let many = shapes.len();
