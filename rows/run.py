@@ -27,9 +27,11 @@ BUILDS = [TOP / "crates/asl/out/asl", TOP / "crates/asl/out/asl.by-rattle"]
 LINES = ["definition", "declared", "certificate"]
 TEXTS = [*LINES, "input", "answers"]
 ONCE = [*TEXTS, "lines", "unended", "after", "words", "stdin", "shrinks", "stdout", "memory", "seconds", "times", "status"]
-MANY = ["word", "prints", "tells", "file", "folder", "link"]
+MANY = ["word", "prints", "tells", "file", "folder", "link", "enters"]
 COMMON = [*TEXTS, "words", "stdin"]
 SECONDS = 120
+# How many bytes a write of what is entered beside files has.
+PIECE = 4096
 
 
 class Case:
@@ -62,6 +64,10 @@ class Case:
         lines = [made(self.given[key]) + b"\n" for key in LINES[:count]]
         text = b"".join(lines) + made(self.given.get("after", ""))
         return text[:-1] if "unended" in self.given else text
+
+    def entered(self):
+        """Returns the bytes of standard input, where the case gives files beside it."""
+        return b"\n".join(made(it) for it in self.many["enters"])
 
     def files(self):
         """Returns the lines of each further file, by its path."""
@@ -135,6 +141,7 @@ def opened_input(case, folder):
     """Returns what stands at the program's standard input, or None for a closed one."""
     kind, _, name = case.given.get("stdin", "lines").partition(" ")
     if kind == "closed":
+        case.put_files(folder)
         return None
     if kind == "folder":
         return os.open(folder, os.O_RDONLY)
@@ -142,7 +149,7 @@ def opened_input(case, folder):
         return os.open(TOP / name, os.O_RDONLY)
     if kind == "files":
         case.put_files(folder)
-        return os.open(os.devnull, os.O_RDONLY)
+        return piped(case.entered(), PIECE) if case.many["enters"] else os.open(os.devnull, os.O_RDONLY)
     if kind == "pipe":
         return piped(case.text(), int(name))
     if kind != "lines":

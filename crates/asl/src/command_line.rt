@@ -1,8 +1,13 @@
 //! What the command line asks for, read by `clap`.
 
+use crate::commands::{
+    ANSWERS, CERTIFICATE, DECLARED, DECLARED_FILE, DEFINITION, DENY_WARNINGS, FILE, FILES, FORMAT,
+    INPUT, MAX_STEPS, NUMBERED, OPEN, ORDER, SAMPLE, SHELL, STATE, command_named, program,
+};
+use crate::files::is_input;
 use asl_tool::Pick;
 use clap::error::ErrorKind;
-use clap::{Arg, ArgAction, ArgMatches, Command, Error, value_parser};
+use clap::{ArgMatches, Error};
 use std::alloc::{AllocError, Global};
 use std::rt::Env;
 use std::{env, io};
@@ -22,6 +27,14 @@ pub(crate) enum Request<'a> {
     Run(RunRequest<'a>),
     /// To tell all that is wrong with definitions.
     Lint(LintRequest<'a>),
+    /// To explain findings, or what comes to a state.
+    Explain(ExplainRequest<'a>),
+    /// To declare shapes for the definition in this file.
+    Declare(&'a str),
+    /// To tell the shape of samples.
+    Shape(ShapeRequest<'a>),
+    /// To print the completions for a shell.
+    Complete(Shell),
 }
 
 /// The names of the files with the three texts.
@@ -82,45 +95,36 @@ pub(crate) enum Format {
     Github,
 }
 
-/// What stands below the help of the program.
-const AFTER_HELP: &str = "\
-Without a command, the definition, the declared shapes and the certificate are taken as three lines
-of standard input, and checked.";
+/// What is explained, of the texts in these files.
+#[derive(Drop)]
+pub(crate) struct ExplainRequest<'a> {
+    pub(crate) files: MachineFiles<'a>,
+    /// The state that is asked about, in place of the findings.
+    pub(crate) state: Option<&'a str>,
+}
 
-/// What stands below the help of the command `lint`.
-const AFTER_LINT_HELP: &str = "\
-Without --declared the shapes that are declared for NAME.asl.json or NAME.json are taken from the file
-NAME.declared.json beside it. Where there is none, only the structure of the definition is checked.";
+/// Which samples have a shape, and what it says of objects.
+#[derive(Drop)]
+pub(crate) struct ShapeRequest<'a> {
+    /// Files, at least one.
+    pub(crate) names: Vec<&'a str>,
+    /// Whether objects may have other fields than the samples have.
+    pub(crate) is_open: bool,
+}
 
-const DEFINITION: &str = "DEFINITION";
+/// A shell that completes the words of a command line.
+#[derive(Clone, Copy)]
+pub(crate) enum Shell {
+    Bash,
+    Zsh,
+    Fish,
+}
 
-const DECLARED: &str = "DECLARED";
+/// What is told where several files are standard input.
+const SEVERAL_INPUTS: &str = "\
+'-', which is standard input, can be given for one file only
 
-const CERTIFICATE: &str = "CERTIFICATE";
-
-const INPUT: &str = "INPUT";
-
-const ANSWERS: &str = "ANSWERS";
-
-/// The option for a list of shapes.
-const NUMBERED: &str = "numbered";
-
-/// The option with the file of the declared shapes.
-const DECLARED_FILE: &str = "declared";
-
-const ORDER: &str = "order";
-
-const ORDERS: [&str; 2] = ["first", "last"];
-
-const MAX_STEPS: &str = "max-steps";
-
-const FILE: &str = "FILE";
-
-const FORMAT: &str = "format";
-
-const FORMATS: [&str; 4] = ["text", "json", "sarif", "github"];
-
-const DENY_WARNINGS: &str = "deny-warnings";
+  tip: './-' is a file of that name";
 
 /// The words of the command line, with the program's own name in front.
 ///
@@ -130,44 +134,91 @@ pub(crate) fn words<R: Env + AllocGlobal>(rt: &R) -> Result<Vec<String>, Error> 
         Ok(words) => Ok(words.collect(rt.alloc())?),
         Err(error) if error.kind() == io::ErrorKind::OutOfMemory => Err(Error::from(AllocError)),
         Err(_) => {
-            let mut command = command(rt.alloc())?;
+            let mut program = program(rt.alloc())?;
             let fault = "invalid UTF-8 was detected in one or more arguments";
-            Err(command.error(ErrorKind::InvalidValue, fault)?)
+            Err(program.error(ErrorKind::InvalidValue, fault)?)
         }
     }
 }
 
 /// What these words ask for.
 ///
-/// Refused: as clap does, a request for help included; OutOfMemory.
+/// Refused: as clap does, a request for help or the version included; where several files are standard input;
+/// OutOfMemory.
 pub(crate) fn asked<'a>(alloc: Global, words: &'a [String]) -> Result<Request<'a>, Error> {
-    let matches = command(alloc)?.try_get_matches_from(words)?;
-    if let Some(given) = matches.subcommand_matches("check") {
-        return Ok(Request::CheckFiles(TextFiles {
-            definition: file_named(given, DEFINITION),
-            declared: file_named(given, DECLARED),
-            certificate: file_named(given, CERTIFICATE),
-        }));
-    }
-    if let Some(given) = matches.subcommand_matches("infer") {
-        return Ok(Request::Infer(InferRequest {
-            files: machine_files(given),
-            numbered: given.get_flag(NUMBERED),
-        }));
-    }
-    if let Some(given) = matches.subcommand_matches("verify") {
-        return Ok(Request::Verify(machine_files(given)));
-    }
-    if let Some(given) = matches.subcommand_matches("run") {
-        return Ok(Request::Run(run_request(given)));
-    }
-    match matches.subcommand_matches("lint") {
-        Some(given) => Ok(Request::Lint(lint_request(alloc, given)?)),
+    let matches = program(alloc)?.try_get_matches_from(words)?;
+    match matches.subcommand() {
+        Some((name, given)) => {
+            look_at_inputs(alloc, name, given)?;
+            Ok(request_of(alloc, name, given)?)
+        }
         None => Ok(Request::CheckInput),
     }
 }
 
-/// The files that the arguments of the commands `infer` and `verify` name.
+/// Refused: in clap's form where several of a command's files are standard input; OutOfMemory.
+fn look_at_inputs(alloc: Global, name: &str, given: &ArgMatches<'_>) -> Result<(), Error> {
+    if inputs(given) > 1 {
+        if let Some(mut command) = command_named(alloc, name)? {
+            return Err(command.error(ErrorKind::ArgumentConflict, SEVERAL_INPUTS)?);
+        }
+    }
+    Ok(())
+}
+
+/// How many of a command's files are standard input.
+fn inputs(given: &ArgMatches<'_>) -> usize {
+    FILES
+        .iter()
+        .map(|argument| inputs_among(given.get_strs(argument).unwrap_or(&[])))
+        .fold(0, usize::saturating_add)
+}
+
+/// How many of these names are that of standard input.
+fn inputs_among(names: &[&str]) -> usize {
+    names.iter().filter(|name| is_input(name)).count()
+}
+
+/// What the arguments of the command of that name ask for. A name of no command asks for what no command does.
+///
+/// Refused: OutOfMemory.
+fn request_of<'a>(
+    alloc: Global,
+    name: &str,
+    given: &ArgMatches<'a>,
+) -> Result<Request<'a>, AllocError> {
+    Ok(match name {
+        "check" => Request::CheckFiles(text_files(given)),
+        "infer" => Request::Infer(infer_request(given)),
+        "verify" => Request::Verify(machine_files(given)),
+        "run" => Request::Run(run_request(given)),
+        "lint" => Request::Lint(lint_request(alloc, given)?),
+        "explain" => Request::Explain(explain_request(given)),
+        "declare" => Request::Declare(file_named(given, DEFINITION)),
+        "shape" => Request::Shape(shape_request(alloc, given)?),
+        "completions" => Request::Complete(shell_of(given)),
+        _ => Request::CheckInput,
+    })
+}
+
+/// The files that the arguments of the command `check` name.
+fn text_files<'a>(given: &ArgMatches<'a>) -> TextFiles<'a> {
+    TextFiles {
+        definition: file_named(given, DEFINITION),
+        declared: file_named(given, DECLARED),
+        certificate: file_named(given, CERTIFICATE),
+    }
+}
+
+/// What the arguments of the command `infer` ask for.
+fn infer_request<'a>(given: &ArgMatches<'a>) -> InferRequest<'a> {
+    InferRequest {
+        files: machine_files(given),
+        numbered: given.get_flag(NUMBERED),
+    }
+}
+
+/// The files that the arguments of the commands `infer`, `verify` and `explain` name.
 fn machine_files<'a>(given: &ArgMatches<'a>) -> MachineFiles<'a> {
     MachineFiles {
         definition: file_named(given, DEFINITION),
@@ -207,6 +258,36 @@ fn lint_request<'a>(alloc: Global, given: &ArgMatches<'a>) -> Result<LintRequest
     })
 }
 
+/// What the arguments of the command `explain` ask for.
+fn explain_request<'a>(given: &ArgMatches<'a>) -> ExplainRequest<'a> {
+    ExplainRequest {
+        files: machine_files(given),
+        state: given.get_str(STATE),
+    }
+}
+
+/// What the arguments of the command `shape` ask for.
+///
+/// Refused: OutOfMemory.
+fn shape_request<'a>(
+    alloc: Global,
+    given: &ArgMatches<'a>,
+) -> Result<ShapeRequest<'a>, AllocError> {
+    Ok(ShapeRequest {
+        names: files_named(alloc, given, SAMPLE)?,
+        is_open: given.get_flag(OPEN),
+    })
+}
+
+/// The shell that the argument of the command `completions` names. It is required, so it has a value.
+fn shell_of(given: &ArgMatches<'_>) -> Shell {
+    match given.get_str(SHELL) {
+        Some("zsh") => Shell::Zsh,
+        Some("fish") => Shell::Fish,
+        _ => Shell::Bash,
+    }
+}
+
 /// The names that clap found for an argument that may have several.
 ///
 /// Refused: OutOfMemory.
@@ -223,123 +304,4 @@ fn files_named<'a>(
 /// The file name that clap found for an argument. It asks for each, so the empty name, which no file has, isn't met.
 fn file_named<'a>(matches: &ArgMatches<'a>, argument: &str) -> &'a str {
     matches.get_str(argument).unwrap_or("")
-}
-
-/// The command line of the program.
-fn command<'a>(alloc: Global) -> Result<Command<'a>, AllocError> {
-    Command::new(alloc, "asl")
-        .about("Check the data flow of workflows in Amazon States Language, and run them")
-        .after_help(AFTER_HELP)
-        .subcommand(check_command(alloc)?)?
-        .subcommand(infer_command(alloc)?)?
-        .subcommand(verify_command(alloc)?)?
-        .subcommand(run_command(alloc)?)?
-        .subcommand(lint_command(alloc)?)
-}
-
-/// The command `check`.
-fn check_command<'a>(alloc: Global) -> Result<Command<'a>, AllocError> {
-    Command::new(alloc, "check")
-        .about("Check a certificate of shapes and print the verdict")
-        .arg(definition(alloc))?
-        .arg(declared(alloc))?
-        .arg(file(alloc, CERTIFICATE, "File with the certificate"))
-}
-
-/// The command `infer`.
-fn infer_command<'a>(alloc: Global) -> Result<Command<'a>, AllocError> {
-    Command::new(alloc, "infer")
-        .about("Infer a certificate of shapes and print it")
-        .arg(definition(alloc))?
-        .arg(declared(alloc))?
-        .arg(
-            Arg::new(alloc, NUMBERED)
-                .long(NUMBERED)
-                .action(ArgAction::SetTrue)
-                .help("List each compound shape once, and refer to it by its number"),
-        )
-}
-
-/// The command `verify`.
-fn verify_command<'a>(alloc: Global) -> Result<Command<'a>, AllocError> {
-    Command::new(alloc, "verify")
-        .about("Infer a certificate of shapes, check it and print the verdict")
-        .arg(definition(alloc))?
-        .arg(declared(alloc))
-}
-
-/// The command `run`.
-fn run_command<'a>(alloc: Global) -> Result<Command<'a>, AllocError> {
-    Command::new(alloc, "run")
-        .about("Run a state machine and print its trace")
-        .arg(definition(alloc))?
-        .arg(file(alloc, INPUT, "File with the input"))?
-        .arg(file(alloc, ANSWERS, "File with the answers of the tasks"))?
-        .arg(option(alloc, DECLARED_FILE, "FILE").help(
-            "File with the declared shapes, which the input and the answers must have",
-        ))?
-        .arg(
-            option(alloc, ORDER, "ORDER")
-                .value_parser(ORDERS.as_slice())
-                .default_value("first")
-                .help("Which of several places takes its turn"),
-        )?
-        .arg(
-            option(alloc, MAX_STEPS, "N")
-                .value_parser(value_parser!(u64).range(0..=10000))
-                .default_value("1000")
-                .help("How many events the run may take, at most 10000"),
-        )
-}
-
-/// The command `lint`.
-fn lint_command<'a>(alloc: Global) -> Result<Command<'a>, AllocError> {
-    Command::new(alloc, "lint")
-        .about("Tell all that is wrong with definitions, and where")
-        .after_help(AFTER_LINT_HELP)
-        .arg(
-            Arg::new(alloc, FILE)
-                .required(true)
-                .num_args(1..)
-                .help("Definitions, and folders with definitions *.asl.json"),
-        )?
-        .arg(option(alloc, DECLARED_FILE, "FILE").help(
-            "File with the declared shapes of all of them",
-        ))?
-        .arg(
-            option(alloc, FORMAT, "FORMAT")
-                .value_parser(FORMATS.as_slice())
-                .default_value("text")
-                .help("How it is told"),
-        )?
-        .arg(
-            Arg::new(alloc, DENY_WARNINGS)
-                .long(DENY_WARNINGS)
-                .action(ArgAction::SetTrue)
-                .help("Exit with status 1 for warnings, too"),
-        )
-}
-
-/// The file with the definition.
-fn definition<'a>(alloc: Global) -> Arg<'a> {
-    file(
-        alloc,
-        DEFINITION,
-        "File with the definition of the state machine",
-    )
-}
-
-/// The file with the declared shapes.
-fn declared<'a>(alloc: Global) -> Arg<'a> {
-    file(alloc, DECLARED, "File with the declared shapes")
-}
-
-/// A file name that has to be given.
-fn file<'a>(alloc: Global, name: &'a str, help: &'a str) -> Arg<'a> {
-    Arg::new(alloc, name).required(true).help(help)
-}
-
-/// An option with a value.
-fn option<'a>(alloc: Global, name: &'a str, value: &'a str) -> Arg<'a> {
-    Arg::new(alloc, name).long(name).value_name(value)
 }

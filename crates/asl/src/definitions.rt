@@ -1,6 +1,6 @@
 //! Which definitions are meant by the names of files and folders.
 
-use crate::files::Unread;
+use crate::files::{Unread, is_input};
 use crate::reports::Report;
 use asl_tree::OutOfMemory;
 use std::fs::{self, DirEntry, FileType};
@@ -33,7 +33,7 @@ pub(crate) fn definition_paths<R: Files + AllocGlobal + Clone + Drop>(
         folders: Vec::new(rt.alloc()),
     };
     for name in names {
-        if is_folder(rt, name) {
+        if !is_input(name) && is_folder(rt, name) {
             add_folder(rt, name, &mut found, report)?;
         } else {
             found.paths.push(String::from_str(rt.alloc(), name)?)?;
@@ -46,10 +46,7 @@ pub(crate) fn definition_paths<R: Files + AllocGlobal + Clone + Drop>(
 
 /// Whether the name is that of a folder, or of a link to one.
 fn is_folder<R: Files>(rt: &R, name: &str) -> bool {
-    match fs::metadata(rt, name) {
-        Ok(metadata) => metadata.is_dir(),
-        Err(_) => false,
-    }
+    fs::metadata(rt, name).is_ok_and(|metadata| metadata.is_dir())
 }
 
 /// Adds the definitions below a folder.

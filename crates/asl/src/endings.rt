@@ -1,6 +1,7 @@
 //! How the program ends: the line on standard error and the exit status.
 
 use asl_tool::{Closing, RunFault, closing};
+use asl_tree::OutOfMemory;
 use clap::Error;
 use clap::error::ErrorKind;
 
@@ -12,8 +13,32 @@ pub(crate) fn finish<R: Eprint + AllocGlobal>(rt: &R, end: &Closing) -> u8 {
     }
 }
 
-/// Prints what clap says of a refused command line to standard error, or the help that was asked for to standard output,
-/// and gives the exit status. Want of memory and help that can't be written end as they do elsewhere.
+/// Ends a command with what it came to, or with its fault, as [`finish`] does.
+pub(crate) fn finish_with<R: Eprint + AllocGlobal>(rt: &R, ended: Result<Closing, RunFault>) -> u8 {
+    match ended {
+        Ok(end) => finish(rt, &end),
+        Err(fault) => finish(rt, &Closing::Fault(fault)),
+    }
+}
+
+/// Gives the exit status of a command that tells it, or ends with its fault, as [`finish`] does.
+pub(crate) fn end<R: Eprint + AllocGlobal>(rt: &R, ended: Result<u8, RunFault>) -> u8 {
+    match ended {
+        Ok(status) => status,
+        Err(fault) => finish(rt, &Closing::Fault(fault)),
+    }
+}
+
+/// What was made, or that there was no memory to make it.
+pub(crate) fn or_out_of_memory<T>(made: Result<T, OutOfMemory>) -> Result<T, RunFault> {
+    match made {
+        Ok(made) => Ok(made),
+        Err(_) => Err(RunFault::OutOfMemory),
+    }
+}
+
+/// Prints what clap says of a refused command line to standard error, or the help or version that was asked for to
+/// standard output, and gives the exit status. Want of memory and help that can't be written end as they do elsewhere.
 pub(crate) fn refuse<R: Print + Eprint + AllocGlobal>(rt: &R, error: &Error) -> u8 {
     if error.kind() == ErrorKind::OutOfMemory {
         return finish(rt, &Closing::Fault(RunFault::OutOfMemory));

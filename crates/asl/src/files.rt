@@ -38,12 +38,27 @@ impl Unread {
     }
 }
 
-/// All bytes of a file.
+/// The name that stands for standard input.
+const INPUT: &str = "-";
+
+/// Whether that name of a file stands for standard input.
+pub(crate) fn is_input(name: &str) -> bool {
+    name == INPUT
+}
+
+/// All bytes of a file, or of standard input.
 ///
 /// Refused: Read where it can't be opened or read; TooLong; OutOfMemory.
-pub(crate) fn file_text<R: Files + AllocGlobal>(rt: &R, name: &str) -> Result<Vec<u8>, RunFault> {
-    let mut source = file_source(rt, name)?;
-    read_text(rt.alloc(), &mut source)
+pub(crate) fn file_text<R: Files + Input + AllocGlobal>(
+    rt: &R,
+    name: &str,
+) -> Result<Vec<u8>, RunFault> {
+    if is_input(name) {
+        input_text(rt)
+    } else {
+        let mut source = file_source(rt, name)?;
+        read_text(rt.alloc(), &mut source)
+    }
 }
 
 /// The bytes of a file, which is opened and not read yet.
@@ -56,13 +71,33 @@ pub(crate) fn file_source<R: Files>(rt: &R, name: &str) -> Result<FromRead<R::Fi
     }
 }
 
-/// All bytes of a file, or why they can't be read.
-pub(crate) fn text_or_why<R: Files + AllocGlobal>(rt: &R, name: &str) -> Result<Vec<u8>, Unread> {
-    match fs::open(rt, name) {
-        Ok(file) => match read_text(rt.alloc(), &mut FromRead::new(file)) {
-            Ok(text) => Ok(text),
-            Err(fault) => Err(Unread::Fault(fault)),
-        },
-        Err(error) => Err(Unread::Failed(error)),
+/// All bytes of standard input.
+///
+/// Refused: Read where it can't be read; TooLong; OutOfMemory.
+fn input_text<R: Input + AllocGlobal>(rt: &R) -> Result<Vec<u8>, RunFault> {
+    read_text(rt.alloc(), &mut input_source(rt))
+}
+
+/// The bytes of standard input, of which none is read yet.
+pub(crate) fn input_source<R: Input>(rt: &R) -> FromRead<R::Reader> {
+    FromRead::new(rt.reader())
+}
+
+/// All bytes of a file, or of standard input, or why they can't be read.
+pub(crate) fn text_or_why<R: Files + Input + AllocGlobal>(
+    rt: &R,
+    name: &str,
+) -> Result<Vec<u8>, Unread> {
+    let text = if is_input(name) {
+        input_text(rt)
+    } else {
+        match fs::open(rt, name) {
+            Ok(file) => read_text(rt.alloc(), &mut FromRead::new(file)),
+            Err(error) => return Err(Unread::Failed(error)),
+        }
+    };
+    match text {
+        Ok(text) => Ok(text),
+        Err(fault) => Err(Unread::Fault(fault)),
     }
 }

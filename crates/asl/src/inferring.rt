@@ -1,9 +1,9 @@
 //! From files to an inferred certificate, or to the verdict on it, on standard output.
 
 use crate::command_line::{InferRequest, MachineFiles};
-use crate::endings::finish;
+use crate::endings::finish_with;
 use crate::files::file_text;
-use crate::printing::{print_text, print_verdict};
+use crate::printing::{print_line, print_verdict};
 use asl_tool::{
     Closing, Finding, Inferred, RunFault, Verdict, Verified, infer_texts, verify_inferred,
 };
@@ -13,28 +13,20 @@ use std::rt::Files;
 pub(crate) const ROUNDS: u32 = 4096;
 
 /// Infers a certificate of the texts in two files, writes it to standard output, and gives the exit status.
-pub(crate) fn infer_files<R: Files + Print + Eprint + AllocGlobal>(
+pub(crate) fn infer_files<R: Files + Input + Print + Eprint + AllocGlobal>(
     rt: &R,
     request: &InferRequest<'_>,
 ) -> u8 {
-    finish(rt, &closing_of(infer_on(rt, request)))
+    finish_with(rt, infer_on(rt, request))
 }
 
 /// Infers a certificate of the texts in two files, checks it, writes the verdict to standard output, and gives the exit
 /// status.
-pub(crate) fn verify_files<R: Files + Print + Eprint + AllocGlobal>(
+pub(crate) fn verify_files<R: Files + Input + Print + Eprint + AllocGlobal>(
     rt: &R,
     files: &MachineFiles<'_>,
 ) -> u8 {
-    finish(rt, &closing_of(verify_on(rt, files)))
-}
-
-/// What a command ends with, also where it fails.
-fn closing_of(ended: Result<Closing, RunFault>) -> Closing {
-    match ended {
-        Ok(closing) => closing,
-        Err(fault) => Closing::Fault(fault),
-    }
+    finish_with(rt, verify_on(rt, files))
 }
 
 /// The inference on the texts in two files, whose certificate is written to standard output with a line break, or its
@@ -42,7 +34,7 @@ fn closing_of(ended: Result<Closing, RunFault>) -> Closing {
 ///
 /// Refused: Read for a file that can't be opened or read, TooLong for one that is too long, the first of them; Text for
 /// a refused text; Write; OutOfMemory.
-fn infer_on<R: Files + Print + AllocGlobal>(
+fn infer_on<R: Files + Input + Print + AllocGlobal>(
     rt: &R,
     request: &InferRequest<'_>,
 ) -> Result<Closing, RunFault> {
@@ -60,7 +52,7 @@ fn infer_on<R: Files + Print + AllocGlobal>(
 /// inference, where it has a finding. Both files are read, the definition first, before a text is looked at.
 ///
 /// Refused as by [`infer_on`].
-fn verify_on<R: Files + Print + AllocGlobal>(
+fn verify_on<R: Files + Input + Print + AllocGlobal>(
     rt: &R,
     files: &MachineFiles<'_>,
 ) -> Result<Closing, RunFault> {
@@ -74,12 +66,8 @@ fn verify_on<R: Files + Print + AllocGlobal>(
 }
 
 /// Writes the text of a certificate and a line break to standard output.
-fn tell_certificate<R: Print>(rt: &R, mut text: String) -> Result<Closing, RunFault> {
-    match text.push_str("\n") {
-        Ok(()) => {}
-        Err(_) => return Err(RunFault::OutOfMemory),
-    }
-    print_text(rt, &text)?;
+fn tell_certificate<R: Print>(rt: &R, text: String) -> Result<Closing, RunFault> {
+    print_line(rt, text)?;
     Ok(Closing::Certificate)
 }
 

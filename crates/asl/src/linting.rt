@@ -3,7 +3,7 @@
 use crate::command_line::LintRequest;
 use crate::definitions::definition_paths;
 use crate::endings::finish;
-use crate::files::text_or_why;
+use crate::files::{is_input, text_or_why};
 use crate::inferring::ROUNDS;
 use crate::printing::print_text;
 use crate::reports::{Report, Told};
@@ -15,7 +15,7 @@ use std::rt::Files;
 
 /// Checks definitions, writes what is wrong with them to standard output, and gives the exit status. What couldn't be looked
 /// at, and the count of what was told, go to standard error.
-pub(crate) fn lint_files<R: Files + Print + Eprint + AllocGlobal + Clone + Drop>(
+pub(crate) fn lint_files<R: Files + Input + Print + Eprint + AllocGlobal + Clone + Drop>(
     rt: &R,
     request: &LintRequest<'_>,
 ) -> u8 {
@@ -40,7 +40,7 @@ fn tell<R: Print + Eprint + AllocGlobal>(rt: &R, told: &Told) -> u8 {
 /// What is told of the definitions that are asked for, which are read and checked one after the other.
 ///
 /// Refused: OutOfMemory.
-fn lint_on<R: Files + AllocGlobal + Clone + Drop>(
+fn lint_on<R: Files + Input + AllocGlobal + Clone + Drop>(
     rt: &R,
     request: &LintRequest<'_>,
 ) -> Result<Told, OutOfMemory> {
@@ -54,7 +54,7 @@ fn lint_on<R: Files + AllocGlobal + Clone + Drop>(
 }
 
 /// Checks each definition under the shapes in one file; its structure alone, where that file can't be read.
-fn lint_under<R: Files + AllocGlobal>(
+fn lint_under<R: Files + Input + AllocGlobal>(
     rt: &R,
     paths: &[String],
     declared: &str,
@@ -73,7 +73,7 @@ fn lint_under<R: Files + AllocGlobal>(
 
 /// Checks each definition under the shapes in the file beside it; its structure alone, where there is none, or it can't be
 /// read.
-fn lint_each<R: Files + AllocGlobal>(
+fn lint_each<R: Files + Input + AllocGlobal>(
     rt: &R,
     paths: &[String],
     report: &mut Report,
@@ -111,7 +111,7 @@ fn name_beside(alloc: Global, path: &str) -> Result<String, OutOfMemory> {
 }
 
 /// The text of a file; where it can't be read, that is noted.
-fn text_of<R: Files + AllocGlobal>(
+fn text_of<R: Files + Input + AllocGlobal>(
     rt: &R,
     path: &str,
     report: &mut Report,
@@ -125,13 +125,18 @@ fn text_of<R: Files + AllocGlobal>(
     }
 }
 
-/// The declared shapes beside a definition; where there are none, or they can't be read, that is noted.
-fn text_beside<R: Files + AllocGlobal>(
+/// The declared shapes beside a definition; where there are none, as beside standard input, or they can't be read, that is
+/// noted.
+fn text_beside<R: Files + Input + AllocGlobal>(
     rt: &R,
     path: &str,
     declared: &str,
     report: &mut Report,
 ) -> Result<Option<Vec<u8>>, OutOfMemory> {
+    if is_input(path) {
+        report.add_undeclared(path)?;
+        return Ok(None);
+    }
     match text_or_why(rt, declared) {
         Ok(text) => return Ok(Some(text)),
         Err(why) if why.is_absence() => report.add_undeclared(path)?,

@@ -3,26 +3,37 @@
 //! writes the verdict to standard output. By the commands `infer` and `verify` it takes a definition and declared shapes
 //! from files, and writes the certificate, or the verdict on it. By the command `run` it takes a definition, an input and
 //! answers from files, and writes the trace. By the command `lint` it takes definitions, and tells all that is wrong with
-//! them, each with its place.
+//! them, each with its place. By the command `explain` it takes what `verify` takes, and tells why its findings stand. By
+//! the commands `declare` and `shape` it takes a definition, or samples of data, and writes shapes to begin with. By the
+//! command `completions` it writes a script for a shell. A file may be standard input, by the name `-`.
 #![tactic(auto)]
 
 mod checking;
 mod command_line;
+mod commands;
+mod completions;
+mod declaring;
 mod definitions;
 mod endings;
+mod explaining;
 mod files;
 mod inferring;
 mod linting;
 mod printing;
 mod reports;
 mod running;
+mod sampling;
 
 use checking::{check_files, check_input};
 use command_line::{Request, asked, words};
+use completions::print_completions;
+use declaring::declare_file;
 use endings::refuse;
+use explaining::explain_files;
 use inferring::{infer_files, verify_files};
 use linting::lint_files;
 use running::run_files;
+use sampling::shape_files;
 use std::process::ExitCode;
 use std::rt::{Env, Files};
 
@@ -43,6 +54,10 @@ fn run<R: Env + Files + Input + Print + Eprint + AllocGlobal + Clone + Drop>(rt:
         Ok(Request::Verify(files)) => verify_files(rt, &files),
         Ok(Request::Run(request)) => run_files(rt, &request),
         Ok(Request::Lint(request)) => lint_files(rt, &request),
+        Ok(Request::Explain(request)) => explain_files(rt, &request),
+        Ok(Request::Declare(name)) => declare_file(rt, name),
+        Ok(Request::Shape(request)) => shape_files(rt, &request),
+        Ok(Request::Complete(shell)) => print_completions(rt, shell),
         Err(error) => refuse(rt, &error),
     }
 }

@@ -1,6 +1,8 @@
 //! What goes to standard output.
 
+use crate::endings::or_out_of_memory;
 use asl_tool::{RunFault, Verdict, verdict_text};
+use asl_tree::OutOfMemory;
 use std::io::{self, Write};
 
 /// Writes a text to standard output.
@@ -13,6 +15,19 @@ pub(crate) fn print_text<R: Print>(rt: &R, text: &str) -> Result<(), RunFault> {
     }
 }
 
+/// Writes a text and a line break to standard output.
+///
+/// Refused: Write; OutOfMemory.
+pub(crate) fn print_line<R: Print>(rt: &R, text: String) -> Result<(), RunFault> {
+    print_text(rt, &or_out_of_memory(with_break(text))?)
+}
+
+/// The text and a line break.
+pub(crate) fn with_break(mut text: String) -> Result<String, OutOfMemory> {
+    text.push_str("\n")?;
+    Ok(text)
+}
+
 /// Writes the lines of a verdict to standard output.
 ///
 /// Refused: Write; OutOfMemory.
@@ -20,8 +35,5 @@ pub(crate) fn print_verdict<R: Print + AllocGlobal>(
     rt: &R,
     verdict: &Verdict,
 ) -> Result<(), RunFault> {
-    match verdict_text(rt.alloc(), verdict) {
-        Ok(text) => print_text(rt, &text),
-        Err(_) => Err(RunFault::OutOfMemory),
-    }
+    print_text(rt, &or_out_of_memory(verdict_text(rt.alloc(), verdict))?)
 }

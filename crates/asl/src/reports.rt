@@ -1,6 +1,7 @@
 //! What a run of the command `lint` tells: diagnostics, lines for standard error, and an exit status.
 
 use crate::command_line::Format;
+use crate::printing::with_break;
 use asl_diagnostics::{
     Diagnostic, Severity, github_lines, json_text, sarif_text, sort, text_lines,
 };
@@ -232,10 +233,4 @@ fn written(
         Format::Sarif => with_break(sarif_text(alloc, diagnostics)?),
         Format::Github => github_lines(alloc, diagnostics),
     }
-}
-
-/// The text and a line break.
-fn with_break(mut text: String) -> Result<String, OutOfMemory> {
-    text.push_str("\n")?;
-    Ok(text)
 }

@@ -1,0 +1,112 @@
+//! Scripts by which a shell completes the words of a command line. They are made of the commands that `clap` has, so they
+//! have each command and each option.
+
+mod bash;
+mod fish;
+mod zsh;
+
+use crate::command_line::Shell;
+use crate::commands::{FILES, program};
+use crate::endings::{end, or_out_of_memory};
+use crate::printing::print_text;
+use asl_tool::RunFault;
+use asl_tree::OutOfMemory;
+use clap::builder::{ValueParser, ValueRange};
+use clap::{Arg, Command};
+use std::alloc::{AllocError, Global};
+
+/// What a value of an argument may be.
+pub(crate) enum Values<'a> {
+    /// A file's name.
+    Files,
+    /// One of these words.
+    Words(&'a [&'a str]),
+    /// Something of which nothing is known.
+    Unknown,
+}
+
+/// The argument of the command for help.
+const TOPIC: &str = "subcommand";
+
+/// Writes the script for a shell to standard output, and gives the exit status.
+pub(crate) fn print_completions<R: Print + Eprint + AllocGlobal>(rt: &R, shell: Shell) -> u8 {
+    end(rt, completions_on(rt, shell))
+}
+
+/// Writes the script for a shell to standard output, and gives the exit status.
+///
+/// Refused: Write; OutOfMemory.
+fn completions_on<R: Print + AllocGlobal>(rt: &R, shell: Shell) -> Result<u8, RunFault> {
+    print_text(rt, &or_out_of_memory(script(rt.alloc(), shell))?)?;
+    Ok(0)
+}
+
+/// The script for a shell.
+fn script(alloc: Global, shell: Shell) -> Result<String, OutOfMemory> {
+    let mut program = program(alloc)?;
+    program.build()?;
+    let mut names = Vec::new(alloc);
+    for command in program.get_subcommands() {
+        names.push(command.get_name())?;
+    }
+    Ok(match shell {
+        Shell::Bash => bash::script(alloc, &program, &names)?,
+        Shell::Zsh => zsh::script(alloc, &program, &names)?,
+        Shell::Fish => fish::script(alloc, &program, &names)?,
+    })
+}
+
+/// What a value of this argument may be, where the program has commands of these names.
+fn values_of<'a>(argument: &Arg<'a>, commands: &'a [&'a str]) -> Values<'a> {
+    let name = argument.get_id();
+    match argument.get_value_parser() {
+        ValueParser::Names(words) => Values::Words(words),
+        _ if FILES.iter().any(|file| *file == name) => Values::Files,
+        _ if name == TOPIC => Values::Words(commands),
+        _ => Values::Unknown,
+    }
+}
+
+/// Whether this is an option that has a value.
+fn has_value(argument: &Arg<'_>) -> bool {
+    !argument.is_positional() && argument.get_action().takes_values()
+}
+
+/// Whether this argument is an option, or the first that is none: those behind it are offered in the same way.
+fn is_offered(argument: &Arg<'_>) -> bool {
+    !argument.is_positional() || argument.get_index() == Some(1)
+}
+
+/// Whether this argument may have several values.
+fn has_several(argument: &Arg<'_>) -> bool {
+    argument
+        .get_num_args()
+        .unwrap_or(ValueRange::SINGLE)
+        .max_values()
+        > 1
+}
+
+/// Puts the words, with a space between each two of them, behind the text.
+fn push_words(text: &mut String, words: &[&str]) -> Result<(), AllocError> {
+    for (place, word) in words.iter().enumerate() {
+        if place > 0 {
+            text.push(' ')?;
+        }
+        text.push_str(word)?;
+    }
+    Ok(())
+}
+
+/// Puts a description behind the text, as it stands within single quotes of a shell: an apostrophe leaves them, and a
+/// special character has a backslash in front.
+fn push_quoted(text: &mut String, description: &str, special: &str) -> Result<(), AllocError> {
+    for character in description.chars() {
+        if character == '\'' {
+            text.push_str("'\\'")?;
+        } else if special.contains(character) {
+            text.push('\\')?;
+        }
+        text.push(character)?;
+    }
+    Ok(())
+}

@@ -1,0 +1,63 @@
+//! From a definition and declared shapes to explanations, on standard output.
+
+use crate::command_line::ExplainRequest;
+use crate::endings::{end, finish, or_out_of_memory};
+use crate::files::file_text;
+use crate::inferring::ROUNDS;
+use crate::printing::print_text;
+use asl_explain::{Explained, explain_texts};
+use asl_tool::{Closing, RunFault};
+use asl_tree::{OutOfMemory, Tree, to_text};
+use std::alloc::Global;
+use std::rt::Files;
+
+/// Explains the findings on the texts in two files, or what comes to a state, on standard output, and gives the exit status.
+pub(crate) fn explain_files<R: Files + Input + Print + Eprint + AllocGlobal>(
+    rt: &R,
+    request: &ExplainRequest<'_>,
+) -> u8 {
+    end(rt, explained_on(rt, request))
+}
+
+/// Explains what is asked for, and gives the exit status: 1 for findings, 2 for a state that isn't there. That there is
+/// nothing to explain, or no such state, goes to standard error. Both files are read, the definition first, before a text is
+/// looked at.
+///
+/// Refused: Read for a file that can't be opened or read, TooLong for one that is too long, the first of them; Text for
+/// a refused text; Write; OutOfMemory.
+fn explained_on<R: Files + Input + Print + Eprint + AllocGlobal>(
+    rt: &R,
+    request: &ExplainRequest<'_>,
+) -> Result<u8, RunFault> {
+    let definition = file_text(rt, request.files.definition)?;
+    let declared = file_text(rt, request.files.declared)?;
+    let alloc = rt.alloc();
+    match explain_texts(alloc, &definition, &declared, request.state, ROUNDS)? {
+        Explained::Nothing => {
+            let _ = rt.eprint("nothing to explain: verify says yes\n");
+            Ok(0)
+        }
+        Explained::Findings(text) => {
+            print_text(rt, &text)?;
+            Ok(1)
+        }
+        Explained::State(text) => {
+            print_text(rt, &text)?;
+            Ok(0)
+        }
+        Explained::NoSuchState => {
+            let line = or_out_of_memory(no_such_state(alloc, request.state.unwrap_or("")))?;
+            let _ = rt.eprint(&line);
+            Ok(2)
+        }
+        Explained::NotSettled => Ok(finish(rt, &Closing::NotSettled)),
+    }
+}
+
+/// The line that tells that there is no state of that name.
+fn no_such_state(alloc: Global, name: &str) -> Result<String, OutOfMemory> {
+    let mut line = String::from_str(alloc, "there is no state ")?;
+    line.push_str(&to_text(alloc, &Tree::Text(String::from_str(alloc, name)?))?)?;
+    line.push_str("\n")?;
+    Ok(line)
+}
