@@ -115,7 +115,7 @@ field that some samples lack isn't required. The exit status is 0, and 2 where a
 /// What stands below the help of the command `completions`.
 const AFTER_COMPLETIONS_HELP: &str = "\
 For bash: asl completions bash > ~/.local/share/bash-completion/completions/asl
-For zsh, in a folder of $fpath: asl completions zsh > FOLDER/_asl
+For zsh, with ~/.zfunc in $fpath: asl completions zsh > ~/.zfunc/_asl
 For fish: asl completions fish > ~/.config/fish/completions/asl.fish";
 
 /// The command line of the program.
