@@ -25,6 +25,9 @@ pub(crate) enum Values<'a> {
     Unknown,
 }
 
+/// That something was put behind a text, or that there was no memory for it.
+type Pushed = Result<(), AllocError>;
+
 /// The argument of the command for help.
 const TOPIC: &str = "subcommand";
 
@@ -86,20 +89,21 @@ fn has_several(argument: &Arg<'_>) -> bool {
         > 1
 }
 
-/// Puts the words, with a space between each two of them, behind the text.
-fn push_words(text: &mut String, words: &[&str]) -> Result<(), AllocError> {
+/// Puts the words, with a space between each two of them, behind the text, and what stands around them.
+fn push_words(text: &mut String, front: &str, words: &[&str], back: &str) -> Pushed {
+    text.push_str(front)?;
     for (place, word) in words.iter().enumerate() {
         if place > 0 {
             text.push(' ')?;
         }
         text.push_str(word)?;
     }
-    Ok(())
+    text.push_str(back)
 }
 
 /// Puts a description behind the text, as it stands within single quotes of a shell: an apostrophe leaves them, and a
 /// special character has a backslash in front.
-fn push_quoted(text: &mut String, description: &str, special: &str) -> Result<(), AllocError> {
+fn push_quoted(text: &mut String, description: &str, special: &str) -> Pushed {
     for character in description.chars() {
         if character == '\'' {
             text.push_str("'\\'")?;

@@ -1,6 +1,6 @@
 //! The script for bash.
 
-use super::{Values, has_value, push_words, values_of};
+use super::{Pushed, Values, has_value, push_words, values_of};
 use clap::{Arg, Command};
 use std::alloc::{AllocError, Global};
 
@@ -46,19 +46,13 @@ pub(super) fn script(
     }
     text.push_str("        \" \"*) options='")?;
     push_options(&mut text, program)?;
-    text.push_str(" values='")?;
-    push_words(&mut text, commands)?;
-    text.push_str("' ;;\n")?;
+    push_words(&mut text, " values='", commands, "' ;;\n")?;
     text.push_str(TAIL)?;
     Ok(text)
 }
 
 /// Puts the cases of a command behind the text.
-fn push_command(
-    text: &mut String,
-    commands: &[&str],
-    command: &Command<'_>,
-) -> Result<(), AllocError> {
+fn push_command(text: &mut String, commands: &[&str], command: &Command<'_>) -> Pushed {
     let name = command.get_name();
     for argument in command.get_arguments() {
         if has_value(argument) {
@@ -75,12 +69,7 @@ fn push_command(
 }
 
 /// Puts the case of an option that has a value behind the text.
-fn push_option(
-    text: &mut String,
-    commands: &[&str],
-    command: &str,
-    argument: &Arg<'_>,
-) -> Result<(), AllocError> {
+fn push_option(text: &mut String, commands: &[&str], command: &str, argument: &Arg<'_>) -> Pushed {
     if let Some(long) = argument.get_long() {
         write!(text, "        \"{command} --{long}\")")?;
         push_values(text, commands, argument)?;
@@ -90,7 +79,7 @@ fn push_option(
 }
 
 /// Puts the options of a command behind the text, and the quote that ends them.
-fn push_options(text: &mut String, command: &Command<'_>) -> Result<(), AllocError> {
+fn push_options(text: &mut String, command: &Command<'_>) -> Pushed {
     for argument in command.get_arguments() {
         if let Some(short) = argument.get_short() {
             write!(text, "-{short} ")?;
@@ -103,14 +92,10 @@ fn push_options(text: &mut String, command: &Command<'_>) -> Result<(), AllocErr
 }
 
 /// Puts what a value of an argument may be behind the text.
-fn push_values(text: &mut String, commands: &[&str], argument: &Arg<'_>) -> Result<(), AllocError> {
+fn push_values(text: &mut String, commands: &[&str], argument: &Arg<'_>) -> Pushed {
     match values_of(argument, commands) {
         Values::Files => text.push_str(" files=yes"),
-        Values::Words(words) => {
-            text.push_str(" values='")?;
-            push_words(text, words)?;
-            text.push('\'')
-        }
+        Values::Words(words) => push_words(text, " values='", words, "'"),
         Values::Unknown => Ok(()),
     }
 }

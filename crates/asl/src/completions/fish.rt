@@ -1,6 +1,6 @@
 //! The script for fish.
 
-use super::{Values, has_value, is_offered, push_quoted, push_words, values_of};
+use super::{Pushed, Values, has_value, is_offered, push_quoted, push_words, values_of};
 use clap::{Arg, Command};
 use std::alloc::{AllocError, Global};
 
@@ -33,7 +33,7 @@ fn push_command(
     text: &mut String,
     commands: &[&str],
     command: &Command<'_>,
-) -> Result<(), AllocError> {
+) -> Pushed {
     let name = command.get_name();
     write!(text, "complete -c asl -n {FIRST} -a {name}")?;
     push_description(text, command.get_about())?;
@@ -47,7 +47,7 @@ fn push_arguments(
     commands: &[&str],
     command: &Command<'_>,
     condition: &str,
-) -> Result<(), AllocError> {
+) -> Pushed {
     for argument in command.get_arguments() {
         if is_offered(argument) {
             write!(text, "complete -c asl -n {condition}")?;
@@ -58,11 +58,7 @@ fn push_arguments(
 }
 
 /// Puts what a line has of an argument behind the text.
-fn push_argument(
-    text: &mut String,
-    commands: &[&str],
-    argument: &Arg<'_>,
-) -> Result<(), AllocError> {
+fn push_argument(text: &mut String, commands: &[&str], argument: &Arg<'_>) -> Pushed {
     if let Some(short) = argument.get_short() {
         write!(text, " -s {short}")?;
     }
@@ -84,20 +80,16 @@ fn push_argument(
 }
 
 /// Puts what a value of an argument may be behind the text.
-fn push_values(text: &mut String, commands: &[&str], argument: &Arg<'_>) -> Result<(), AllocError> {
+fn push_values(text: &mut String, commands: &[&str], argument: &Arg<'_>) -> Pushed {
     match values_of(argument, commands) {
         Values::Files => text.push_str(" -F"),
-        Values::Words(words) => {
-            text.push_str(" -f -a '")?;
-            push_words(text, words)?;
-            text.push('\'')
-        }
+        Values::Words(words) => push_words(text, " -f -a '", words, "'"),
         Values::Unknown => text.push_str(" -f"),
     }
 }
 
 /// Puts a description, where there is one, and the end of the line behind the text.
-fn push_description(text: &mut String, description: Option<&str>) -> Result<(), AllocError> {
+fn push_description(text: &mut String, description: Option<&str>) -> Pushed {
     if let Some(description) = description {
         text.push_str(" -d '")?;
         push_quoted(text, description, "\\")?;

@@ -1,6 +1,6 @@
 //! The script for zsh.
 
-use super::{Values, has_several, has_value, push_quoted, push_words, values_of};
+use super::{Pushed, Values, has_several, has_value, push_quoted, push_words, values_of};
 use clap::{Arg, Command};
 use std::alloc::{AllocError, Global};
 
@@ -69,7 +69,7 @@ pub(super) fn script(
 }
 
 /// Puts the names of the commands, each with what it does, behind the text.
-fn push_names(text: &mut String, program: &Command<'_>) -> Result<(), AllocError> {
+fn push_names(text: &mut String, program: &Command<'_>) -> Pushed {
     for command in program.get_subcommands() {
         let name = command.get_name();
         write!(text, "                '{name}:")?;
@@ -80,11 +80,7 @@ fn push_names(text: &mut String, program: &Command<'_>) -> Result<(), AllocError
 }
 
 /// Puts the arguments of a command behind the text.
-fn push_arguments(
-    text: &mut String,
-    commands: &[&str],
-    command: &Command<'_>,
-) -> Result<(), AllocError> {
+fn push_arguments(text: &mut String, commands: &[&str], command: &Command<'_>) -> Pushed {
     for argument in command.get_arguments() {
         if argument.is_positional() {
             push_positional(text, commands, argument)?;
@@ -96,18 +92,14 @@ fn push_arguments(
 }
 
 /// Puts an argument that has no name on the command line behind the text.
-fn push_positional(
-    text: &mut String,
-    commands: &[&str],
-    argument: &Arg<'_>,
-) -> Result<(), AllocError> {
+fn push_positional(text: &mut String, commands: &[&str], argument: &Arg<'_>) -> Pushed {
     text.push_str(if has_several(argument) { " '*" } else { " '" })?;
     push_values(text, commands, argument)?;
     text.push('\'')
 }
 
 /// Puts an option behind the text, once for each of its names, of which only one is given.
-fn push_option(text: &mut String, commands: &[&str], argument: &Arg<'_>) -> Result<(), AllocError> {
+fn push_option(text: &mut String, commands: &[&str], argument: &Arg<'_>) -> Pushed {
     if let Some(short) = argument.get_short() {
         push_names_of(text, argument)?;
         write!(text, "-{short}")?;
@@ -123,7 +115,7 @@ fn push_option(text: &mut String, commands: &[&str], argument: &Arg<'_>) -> Resu
 }
 
 /// Puts the names of an option behind the text, of which none is offered any more where one is given.
-fn push_names_of(text: &mut String, argument: &Arg<'_>) -> Result<(), AllocError> {
+fn push_names_of(text: &mut String, argument: &Arg<'_>) -> Pushed {
     text.push_str(" '(")?;
     if let Some(short) = argument.get_short() {
         write!(text, "-{short} ")?;
@@ -135,11 +127,7 @@ fn push_names_of(text: &mut String, argument: &Arg<'_>) -> Result<(), AllocError
 }
 
 /// Puts what an option means, and what its value may be, behind the text.
-fn push_meaning(
-    text: &mut String,
-    commands: &[&str],
-    argument: &Arg<'_>,
-) -> Result<(), AllocError> {
+fn push_meaning(text: &mut String, commands: &[&str], argument: &Arg<'_>) -> Pushed {
     text.push('[')?;
     push_quoted(text, argument.get_help().unwrap_or(""), SPECIAL)?;
     text.push(']')?;
@@ -150,16 +138,12 @@ fn push_meaning(
 }
 
 /// Puts the name of a value and what it may be behind the text.
-fn push_values(text: &mut String, commands: &[&str], argument: &Arg<'_>) -> Result<(), AllocError> {
+fn push_values(text: &mut String, commands: &[&str], argument: &Arg<'_>) -> Pushed {
     let name = argument.get_id();
     write!(text, ":{name}:")?;
     match values_of(argument, commands) {
         Values::Files => text.push_str("_files"),
-        Values::Words(words) => {
-            text.push('(')?;
-            push_words(text, words)?;
-            text.push(')')
-        }
+        Values::Words(words) => push_words(text, "(", words, ")"),
         Values::Unknown => text.push(' '),
     }
 }
