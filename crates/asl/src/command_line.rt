@@ -179,7 +179,7 @@ fn inputs_among(names: &[&str]) -> usize {
     names.iter().filter(|name| is_input(name)).count()
 }
 
-/// What the arguments of the command of that name ask for. A name of no command asks for what no command does.
+/// What the arguments of the command of that name ask for. `clap` gives no other names than those here.
 ///
 /// Refused: OutOfMemory.
 fn request_of<'a>(

@@ -16,7 +16,8 @@ use clap::{Arg, Command};
 use std::alloc::{AllocError, Global};
 
 /// What a value of an argument may be.
-pub(crate) enum Values<'a> {
+#[derive(Clone, Copy)]
+enum Values<'a> {
     /// A file's name.
     Files,
     /// One of these words.

@@ -34,7 +34,8 @@ const TAIL: &str = r#"    esac
 complete -o bashdefault -o default -F _asl asl
 "#;
 
-/// The script for a program with commands of these names. In front of a command's own case stand those of its options that have a value.
+/// The script for a program with commands of these names. In front of a command's own case stand those of its options that
+/// have a value.
 pub(super) fn script(
     alloc: Global,
     program: &Command<'_>,
