@@ -10,6 +10,9 @@ use asl_numbered::Shapes;
 use asl_tree::OutOfMemory;
 use std::alloc::Global;
 
+/// With how many shapes of earlier visits of a state, the first ones, one that comes is compared.
+const MOST_COMPARED: usize = 16;
+
 /// The visits so far.
 #[derive(Drop)]
 pub(crate) struct Search {
@@ -83,7 +86,7 @@ impl Search {
     }
 
     /// Adds what comes as a visit, from the one before it, unless there are as many as there may be, no tree has its shape,
-    /// or it is inside that of a visit of the state.
+    /// or it is inside that of one of the first visits of the state.
     pub(crate) fn visit(
         &mut self,
         shapes: &mut Shapes,
@@ -140,7 +143,7 @@ impl Search {
         self.note(&visit.arrival)
     }
 
-    /// Whether the shape of what comes is inside that of a visit of the state.
+    /// Whether the shape of what comes is inside that of one of the first visits of the state.
     fn was_there(&self, shapes: &mut Shapes, arrival: &Arrival) -> Result<bool, OutOfMemory>
         ensures there { IfOk result (λ there. IsTrue there
             → IsTakenIn (expansions shapes.old) self.now.visits.items
@@ -169,13 +172,13 @@ impl Search {
     }
 }
 
-/// Whether the shape of that number is inside one of those.
+/// Whether the shape of that number is inside one of the first of those.
 fn is_inside_one(shapes: &mut Shapes, inner: usize, outer: &[usize]) -> Result<bool, OutOfMemory>
     ensures inside { IfOk result (λ inside. IsTrue inside
         → IsInsideOne (expansions shapes.old) inner outer.now) }
     ensures unchanged { shapes.new ≡ shapes.old }
 {
-    for number in outer {
+    for number in outer.iter().take(MOST_COMPARED) {
         if shapes.sub(inner, *number)? == Some(true) {
             return Ok(true);
         }

@@ -29,8 +29,8 @@ pub struct Visit {
 ///
 /// The machine's input comes to its start state with the shape that is declared. From there on each state is walked with the
 /// shape of the visit as its input, and what leaves it for another one is a visit of that one, if some tree has its shape,
-/// and if that isn't inside the shape of an earlier visit of the state. Of the ends of branches and processors, and of outputs,
-/// the certificate tells the shapes. Nothing leaves a state for which it has no entry.
+/// and if that isn't inside the shape of one of the first visits of the state, of which sixteen are looked at. Of the ends of
+/// branches and processors, and of outputs, the certificate tells the shapes. Nothing leaves a state for which it has no entry.
 ///
 /// Further shapes may stand in the certificate's table afterwards, also where memory runs out; each that stood there keeps
 /// its number, and the certificate's own numbers are the same. Refuses only where an allocation was refused.
