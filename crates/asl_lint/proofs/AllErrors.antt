@@ -7,7 +7,7 @@ use Rattle.asl_model.specs.Machine.{Scope}
 use Rattle.asl_model.specs.Names.{Bytes}
 use Rattle.asl_model.specs.StandsFor.{Complaint, complaints}
 use Rattle.asl_lint.specs.Tells as tells
-use Rattle.asl_lint.specs.Tells.{AreBroken, TellsInstead, TellsOfBoth, TellsOfCertificate, TellsOfDeclared, TellsOfDefinition, TellsOfMachine, TellsOfOne, TellsOfTexts, accepted, rejected, leniently, alone, inferred, stopped, unsettled, both_read, definition_reads, declared_reads, neither_reads, alone_reads, alone_refused}
+use Rattle.asl_lint.specs.Tells.{AreBroken, TellsInstead, TellsOfBoth, TellsOfCertificate, TellsOfDeclared, TellsOfDefinition, TellsOfMachine, TellsOfOne, TellsOfTexts, accepted, rejected, leniently, unsettled_leniently, unbroken, inferred, stopped, unsettled, both_read, definition_reads, declared_reads, neither_reads, alone_reads, alone_refused}
 use Rattle.asl_lint.specs.Told.{Told, errors_in, is_error, of_complaint, of_finding}
 
 findings_kept : (fs : List Finding) → errors_in (map of_finding fs) ≡ map of_finding fs
@@ -36,7 +36,8 @@ of_certificate machine shapes certified told (rejected right b) = of_broken mach
 
 of_instead : (rounds : ℕ) (machine : Scope) (shapes : Declared) (found : Finding) (told : List Told) → TellsInstead rounds machine shapes found told → errors_in told ≡ told
 of_instead rounds machine shapes found told (leniently {certified = certified} i b) = of_broken machine shapes certified told b
-of_instead rounds machine shapes found told alone = refl
+of_instead rounds machine shapes found told (unsettled_leniently never) = refl
+of_instead rounds machine shapes found told (unbroken i none) = refl
 
 of_machine : (rounds : ℕ) (machine : Scope) (shapes : Declared) (told : List Told) → TellsOfMachine rounds machine shapes told → errors_in told ≡ told
 of_machine rounds machine shapes told (inferred {certified = certified} i t) = of_certificate machine shapes certified told t
