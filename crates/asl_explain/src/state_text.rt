@@ -65,13 +65,12 @@ impl Explainer<'_> {
         if arrivals.is_empty() {
             return push_row(text, "comes from", "nowhere");
         }
-        let mut label = "comes from";
-        for arrival in arrivals.iter().take(MOST_ARRIVALS) {
+        for (place, arrival) in arrivals.iter().take(MOST_ARRIVALS).enumerate() {
             if let Some(arrival) = self.flows.arrivals.get(*arrival) {
+                let label = if place == 0 { "comes from" } else { "" };
                 let origin = self.arrival_text(arrival)?;
                 let is = noted(self.alloc, shapes, arrival.shape)?;
                 push_row(text, label, &format!(in self.alloc; "{origin}  {is}")?)?;
-                label = "";
             }
         }
         let others = arrivals.len().saturating_sub(MOST_ARRIVALS);
