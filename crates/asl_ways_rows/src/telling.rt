@@ -1,4 +1,8 @@
 //! What comes to states, in one text.
+
+ghost use Rattle.std.specs.Prelude.{IfOk};
+ghost use Rattle.asl_records.specs.Numbered.{AreWithin};
+
 use crate::machines::Given;
 use asl_records::{Declared, NumberedCertificate, read_declared, read_numbered};
 use asl_states::Machine;
@@ -22,7 +26,9 @@ pub(crate) fn read_records(
     definition: &str,
     declared: &str,
     certificate: &str,
-) -> Result<Records, OutOfMemory> {
+) -> Result<Records, OutOfMemory>
+    ensures { IfOk result (λ records. AreWithin records.certificate) }
+{
     let definition = read_value(alloc, definition.as_bytes()).expect(rt, "a value");
     let declared = read_value(alloc, declared.as_bytes()).expect(rt, "a value");
     let certificate = read_value(alloc, certificate.as_bytes()).expect(rt, "a value");
