@@ -47,11 +47,11 @@ module _ (rounds : ℕ) (definition text : Bytes) (yes : IsVerdictOnInferred rou
       subst (λ s. findings machine s yes.certified ≡ []) same (subst (λ x. findings x yes.shapes yes.certified ≡ []) one yes.right)
 
   no_other_verdict : (fs : List Finding) → IsVerdictOnInferred rounds definition text (Rejected fs) → ⊥
-  no_other_verdict fs no =
-      let inferred = inferred_also no.machine no.shapes no.as_machine no.as_declared in
-      let one : yes.certified ≡ no.certified = inferred_once (table_of no.machine) no.shapes rounds yes.certified no.certified inferred no.inferred in
-      let unbroken = unbroken_also no.machine no.shapes no.as_machine no.as_declared in
-      some_broken no.machine no.shapes no.certified fs no.right (subst (λ c. findings no.machine no.shapes c ≡ []) one unbroken)
+  no_other_verdict fs other =
+      let inferred = inferred_also other.machine other.shapes other.as_machine other.as_declared in
+      let one : yes.certified ≡ other.certified = inferred_once (table_of other.machine) other.shapes rounds yes.certified other.certified inferred other.inferred in
+      let unbroken = unbroken_also other.machine other.shapes other.as_machine other.as_declared in
+      some_broken other.machine other.shapes other.certified fs other.right (subst (λ c. findings other.machine other.shapes c ≡ []) one unbroken)
 
   no_finding : (f : Finding) → IsFindingOn rounds definition text f → ⊥
   no_finding f found =
