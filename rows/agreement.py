@@ -1,5 +1,5 @@
 #!/usr/bin/env python3
-"""Holds what `asl lint` tells against what `asl verify` says, and its formats against each other.
+"""Holds what `asl lint` tells against what `asl verify` says, its formats against each other, and `asl explain` against both.
 
 usage: python3 rows/agreement.py [--machines N] [PROGRAM ..]
 
@@ -14,8 +14,15 @@ given to `asl verify`:
 - text, JSON, SARIF and GitHub's commands tell the same diagnostics, in one order;
 - the problem matcher takes each line of the text apart as the JSON has it.
 
-The last line is 'N passed, M failed', in which N counts the definitions and the checks of formats; the exit status is 0 where
-nothing failed and something passed.
+Each is given to `asl explain`, too:
+
+- its status is that of verify, but for shapes that don't settle;
+- what it explains are the errors that lint tells of a definition that is read, by state, field and finding;
+- where verify says yes, the input and the output that `asl explain --state` tells of the first states are those of the
+  certificate that `asl infer` prints, in short notation (rows/notation.py).
+
+The last line is 'N passed, M failed', in which N counts the definitions, twice, and the checks of formats; the exit status is 0
+where nothing failed and something passed.
 """
 
 import argparse
@@ -30,6 +37,7 @@ import tempfile
 
 from machines import Maker
 from made import made
+from notation import noted
 from run import BUILDS, ROWS, TOP, cases_of
 
 # Longer texts of cases are left out: they try limits.
@@ -37,6 +45,8 @@ MOST_BYTES = 100000
 MATCHER = TOP / "tools/asl-problem-matcher.json"
 REFERENCE = TOP / "docs/REFERENCE.md"
 SECONDS = 300
+# How many states of a definition are looked at, in byte order of their names.
+MOST_STATES = 6
 
 
 def of_samples():
@@ -86,9 +96,13 @@ class Folder:
             stderr=subprocess.PIPE, timeout=SECONDS, check=False)
         return done.returncode, done.stdout.decode(), done.stderr.decode()
 
+    def words(self, number):
+        """The files of the definition of that number."""
+        return f"{number:05}.asl.json", f"{number:05}.declared.json"
+
     def says_yes(self, program, number):
         """Whether verify says yes to the definition of that number."""
-        return self.run(program, "verify", f"{number:05}.asl.json", f"{number:05}.declared.json") == (0, "yes\n", "")
+        return self.run(program, "verify", *self.words(number)) == (0, "yes\n", "")
 
 
 class Tally:
@@ -115,6 +129,63 @@ def look_at_verdicts(program, folder, diagnostics, tally):
         fault = f"verify says {'yes' if says_yes else 'no'}, and lint tells {'an' if has_error else 'no'} error"
         tally.look(folder.names[number], None if says_yes != has_error else fault)
     print(f"{len(verdicts)} definitions, {sum(verdicts)} of them with a yes", flush=True)
+
+
+def told_of(line):
+    """The state, the field and the finding that the first line of an explanation names."""
+    state, end = json.JSONDecoder().raw_decode(line)
+    field, finding = line[end + 1:].split(":")[0].rsplit(" ", 1)
+    return state, field, finding
+
+
+def fault_of_findings(explained, errors):
+    """Where other findings are explained than lint tells, or None."""
+    heads = {told_of(it) for it in explained.split("\n") if it.startswith('"')}
+    told = {(it.get("state", ""), it.get("field", ""), it["rule"]) for it in errors}
+    return None if heads == told else f"explained is {sorted(heads ^ told)[:2]} or told by lint, and not both"
+
+
+def fault_of_state(program, folder, number, name, shapes):
+    """Where what is explained of a state isn't what is certified of it, or None."""
+    status, output, _ = folder.run(program, "explain", *folder.words(number), f"--state={name}")
+    rows = {it[2:12].strip(): it[14:] for it in output.split("\n") if it.startswith("  ")}
+    if status != 0 or "input" not in rows:
+        return f"status {status} for the state {name!r}: {output[:200]!r}"
+    for label in rows.keys() & {"input", "output"}:
+        if rows[label] != noted(shapes[label]):
+            return f"the {label} of {name!r} is {rows[label]}, and certified is {noted(shapes[label])}"
+    return None
+
+
+def fault_of_states(program, folder, number):
+    """Where what is explained of the first states isn't what is certified of them, or None."""
+    states = json.loads(folder.run(program, "infer", *folder.words(number))[1])["states"]
+    names = [it for it in sorted(states, key=str.encode)[:MOST_STATES] if "\0" not in it]
+    faults = (fault_of_state(program, folder, number, it, states[it]) for it in names)
+    return next((it for it in faults if it), None)
+
+
+def fault_of_explained(program, folder, number, errors):
+    """Where what is explained of the definition of that number isn't what verify, lint and infer tell, or None."""
+    verified, verdict, _ = folder.run(program, "verify", *folder.words(number))
+    status, explained, _ = folder.run(program, "explain", *folder.words(number))
+    if status != verified:
+        return f"the status of explain is {status}, and that of verify {verified}"
+    if verdict == "yes\n":
+        return fault_of_states(program, folder, number)
+    return fault_of_findings(explained, errors) if verdict.startswith("no ") else None
+
+
+def look_at_explanations(program, folder, diagnostics, tally):
+    """Compares what is explained of each definition with what else is told of it."""
+    errors = {number: [] for number in range(len(folder.names))}
+    for it in diagnostics:
+        if it["severity"] == "error":
+            errors[int(it["file"].split("/")[-1].partition(".")[0])].append(it)
+    with concurrent.futures.ThreadPoolExecutor(len(os.sched_getaffinity(0))) as workers:
+        faults = workers.map(lambda it: fault_of_explained(program, folder, it, errors[it]), errors)
+        for number, fault in enumerate(faults):
+            tally.look(f"explanations of {folder.names[number]}", fault)
 
 
 def documented_fields():
@@ -200,10 +271,11 @@ def look_at(program, folder, tally):
     print(counts.strip().split("\n")[-1], flush=True)
     look_at_verdicts(program.resolve(), folder, diagnostics, tally)
     look_at_formats(program.resolve(), folder, diagnostics, tally)
+    look_at_explanations(program.resolve(), folder, diagnostics, tally)
 
 
 def main():
-    words = argparse.ArgumentParser(description="Holds lint against verify, and its formats against each other.")
+    words = argparse.ArgumentParser(description="Holds lint and explain against verify, and lint's formats against each other.")
     words.add_argument("--machines", type=int, default=2000, help="how many random machines are made")
     words.add_argument("programs", nargs="*", type=pathlib.Path, default=BUILDS)
     given = words.parse_args()
