@@ -4,3 +4,4 @@ pub mod Gathering
 pub mod Named
 pub mod Place
 pub mod Standing
+pub mod Whole

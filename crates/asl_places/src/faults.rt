@@ -1,7 +1,13 @@
 //! Where and why a text that is no JSON breaks.
-ghost use Rattle.std.specs.Prelude.{◌≡◌, ◌<◌, ◌≤◌, IfErr, IfSome, length};
+ghost use Rattle.std.specs.Prelude.{◌≡◌, ◌<◌, ◌≤◌, ◌↔◌, None, Some, IfErr, IfOk, IfSome, IsSome, IsTrue, MatchOption, OnErr, length};
+ghost use Rattle.json.specs.Json.{Json};
+ghost use Rattle.serde_json.specs.Read.{of_json, read};
+ghost use Rattle.asl_places.specs.Whole.{json_of};
 
 use crate::lexemes::{behind_number, behind_string, behind_word};
+use asl_tree::OutOfMemory;
+use json::{Reader, Scratch};
+use std::alloc::Global;
 
 /// Where a text can't go on as JSON, and why.
 #[derive(Clone, Copy, Debug, Drop, PartialEq, Eq)]
@@ -70,13 +76,40 @@ struct Nesting {
     wanted: Wanted,
 }
 
-/// Where the text can't go on as JSON. There is no such place where it is JSON and nests no deeper than [`MAX_DEPTH`].
-pub fn fault_in(text: &str) -> Option<Fault>
-    ensures { IfSome result (λ fault. fault.byte ≤ length text.now) }
+/// Where the text can't go on as JSON. There is no such place exactly where it is JSON and nests no deeper than
+/// [`MAX_DEPTH`].
+///
+/// It needs as much memory as the text has bytes, and refuses only where it doesn't get it.
+pub fn fault_in(alloc: Global, text: &str) -> Result<Option<Fault>, OutOfMemory>
+    ensures json { IfOk result (λ found. (found ≡ None) ↔ IsSome (json_of text.now)) }
+    ensures reads { IfOk result (λ found. MatchOption found
+        ((j : Json) × (json_of text.now ≡ Some j) × (read text.now ≡ of_json j))
+        (λ _. read text.now ≡ None)) }
+    ensures byte { IfOk result (λ found. IfSome found (λ fault. fault.byte ≤ length text.now)) }
+    ensures memory { OnErr result (0 < length text.now) }
 {
-    let bytes = text.as_bytes();
-    if bytes.starts_with(b"\xef\xbb\xbf") {
-        return Some(Fault::at(0, FaultKind::ByteOrderMark));
+    if is_json(alloc, text)? {
+        return Ok(None);
+    }
+    Ok(Some(first_fault(text.as_bytes())))
+}
+
+/// Whether the text is JSON and nests no deeper than [`MAX_DEPTH`].
+fn is_json(alloc: Global, text: &str) -> Result<bool, OutOfMemory>
+    ensures json { IfOk result (λ json. IsTrue json ↔ IsSome (json_of text.now)) }
+    ensures memory { OnErr result (0 < length text.now) }
+{
+    let mut scratch = Scratch::new(alloc);
+    let mut reader = Reader::new(text, &mut scratch)?;
+    Ok(reader.skip_value(MAX_DEPTH).is_ok() && reader.next().is_none())
+}
+
+/// Where a text that is no JSON can't go on.
+fn first_fault(text: &[u8]) -> Fault
+    ensures { result.byte ≤ length text.now }
+{
+    if text.starts_with(b"\xef\xbb\xbf") {
+        return Fault::at(0, FaultKind::ByteOrderMark);
     }
     let mut nesting = Nesting {
         open: [Bracket::Object; MAX_DEPTH],
@@ -84,19 +117,16 @@ pub fn fault_in(text: &str) -> Option<Fault>
         wanted: Wanted::Value,
     };
     let mut next = 0;
-    for at in 0..bytes.len() {
-        if at < next || matches!(bytes[at], b' ' | b'\t' | b'\n' | b'\r') {
+    for at in 0..text.len() {
+        if at < next || matches!(text[at], b' ' | b'\t' | b'\n' | b'\r') {
             continue;
         }
-        match nesting.passes(bytes, at) {
+        match nesting.passes(text, at) {
             Ok(behind) => next = behind,
-            Err(fault) => return Some(fault),
+            Err(fault) => return fault,
         }
     }
-    match nesting.wanted {
-        Wanted::Nothing => None,
-        wanted => Some(Fault::wanted(bytes.len(), wanted)),
-    }
+    nesting.fault(text.len())
 }
 
 impl Fault {

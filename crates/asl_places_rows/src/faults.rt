@@ -1,5 +1,21 @@
 //! Where texts break, and why: bytes counted by hand.
 use asl_places::{Fault, FaultKind, MAX_DEPTH, Wanted, fault_in};
+use std::alloc::Global;
+use std::process::Abort;
+
+/// The fault in a text.
+fn fault_of(rt: &impl Abort, alloc: Global, text: &str) -> Option<Fault> {
+    fault_in(alloc, text).expect(rt, "memory")
+}
+
+/// Whether what stands in front of the byte is JSON, or would be if it went on: it breaks nowhere but at its end.
+fn may_go_on_at(rt: &impl Abort, alloc: Global, text: &str, byte: usize) -> bool {
+    let front = text.get(..byte).unwrap_or(text);
+    match fault_of(rt, alloc, front) {
+        Some(fault) => fault.byte == byte,
+        None => true,
+    }
+}
 
 #[test]
 fn what_is_wanted_is_told(rt: HostRuntime) {
@@ -51,7 +67,11 @@ fn what_is_wanted_is_told(rt: HostRuntime) {
             byte,
             kind: FaultKind::Wanted(wanted),
         };
-        assert_eq!(rt; fault_in(text), Some(fault), "in {text}");
+        assert_eq!(rt; fault_of(&rt, rt.alloc(), text), Some(fault), "in {text}");
+        assert!(rt;
+            may_go_on_at(&rt, rt.alloc(), text, byte),
+            "in front of {text}"
+        );
     }
 }
 
@@ -79,7 +99,15 @@ fn other_faults_are_told(rt: HostRuntime) {
         ("\"a\\udc00\"", 2, FaultKind::Surrogate),
         ("\u{feff}{}", 0, FaultKind::ByteOrderMark),
     ] {
-        assert_eq!(rt; fault_in(text), Some(Fault { byte, kind }), "in {text}");
+        assert_eq!(rt;
+            fault_of(&rt, rt.alloc(), text),
+            Some(Fault { byte, kind }),
+            "in {text}"
+        );
+        assert!(rt;
+            may_go_on_at(&rt, rt.alloc(), text, byte),
+            "in front of {text}"
+        );
     }
 }
 
@@ -92,7 +120,7 @@ fn json_has_no_fault(rt: HostRuntime) {
         "[[], {}, false]",
         "\"\\\"\\\\\\/\\b\\f\\n\\r\\t\\u00e9\\ud83d\\ude00 é\"",
     ] {
-        assert_eq!(rt; fault_in(text), None, "in {text}");
+        assert_eq!(rt; fault_of(&rt, rt.alloc(), text), None, "in {text}");
     }
 }
 
@@ -106,5 +134,5 @@ fn a_text_that_nests_too_deep_breaks_at_its_bracket(rt: HostRuntime) {
         byte: MAX_DEPTH,
         kind: FaultKind::TooDeep,
     };
-    assert_eq!(rt; fault_in(&text), Some(fault));
+    assert_eq!(rt; fault_of(&rt, rt.alloc(), &text), Some(fault));
 }
