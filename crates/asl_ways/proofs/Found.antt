@@ -1,16 +1,18 @@
 -- Visits that are added to a search.
-use Rattle.std.proofs.Common.{◌≡◌, ◌<◌, ◌⊎◌, inl, inr, ℕ, List, [], ◌∷◌, ◌++◌, length, Option, Contains, true, refl, sym, ap, ◌∙◌, subst, append_assoc, arith, length-append}
-use Rattle.std.proofs.lemmas.List.{append-nil}
+use Rattle.std.proofs.Common.{◌≡◌, ◌<◌, ◌≤◌, ◌⊎◌, inl, inr, ℕ, List, [], ◌∷◌, ◌++◌, length, take, slice_get, nat_lt, Option, Some, Contains, Bool, true, false, refl, sym, ap, ◌∙◌, subst, append_assoc, arith, length-append}
+use borrow.Author.Tests.{ltb-true, ltb-false}
+use Rattle.std.proofs.lemmas.List.{append-nil, take-append-le}
 use Rattle.std.proofs.lemmas.List.Elements.{Contains-append_left, Contains-append_right, Contains-append_cases, Contains-push}
+use Rattle.std.proofs.lemmas.Option.{slice_get_within}
 use Rattle.asl_model.specs.Shape.{Shape, inhabited}
 use Rattle.asl_numbered.specs.Expansion.{shape_at}
 use Rattle.asl_ways.specs.Coming.{Coming, coming}
 use Rattle.asl_ways.specs.Seeking.{IsOf, Visits}
-use Rattle.asl_ways.specs.Visits.{AreTakenIn, IsTakenIn}
+use Rattle.asl_ways.specs.Visits.{AreTakenIn, IsNew, IsTakenIn}
 use Rattle.asl_ways.specs.declared.arriving.Arrival.{Arrival}
 use Rattle.asl_ways.specs.declared.search.Search.{Search}
 use Rattle.asl_ways.specs.declared.visiting.Visit.{Visit}
-use Rattle.asl_ways.proofs.Places.{no_element, only_element}
+use Rattle.asl_ways.proofs.Places.{front_at, last_at, no_element, only_element}
 
 -- ---- what is taken in
 
@@ -43,6 +45,7 @@ module _ (table : List Shape) (before : Option ℕ) where
     whole = sym (append-nil a.visits.items);
     most = refl;
     each = λ visit has. absurd (no_element visit has);
+    new = λ place visit past stands. let within = slice_get_within a.visits.items place visit stands in absurd (omega (arith, past, within));
     taken_in = taken;
   }
 
@@ -51,12 +54,13 @@ module _ (table : List Shape) (before : Option ℕ) where
   visits_of_none a = visits_none a [] (λ room x has. absurd (no_element x has))
 
   -- one is added
-  pub visits_one : (a b : Search) (arrival : Arrival) → b.visits.items ≡ a.visits.items ++ record { arrival = arrival; before = before } ∷ [] → b.most ≡ a.most → inhabited (shape_at table arrival.shape) ≡ true → arrival.shape < length table → Visits table a b (coming table arrival ∷ []) before
-  visits_one a b arrival whole most some below = record {
+  pub visits_one : (a b : Search) (arrival : Arrival) → b.visits.items ≡ a.visits.items ++ record { arrival = arrival; before = before } ∷ [] → b.most ≡ a.most → inhabited (shape_at table arrival.shape) ≡ true → arrival.shape < length table → IsNew table a.visits.items (coming table arrival) → Visits table a b (coming table arrival ∷ []) before
+  visits_one a b arrival whole most some below new = record {
     added = visit ∷ [];
     whole = whole;
     most = most;
     each = λ v has. subst (IsOf table all before) (only_element visit v has) itself;
+    new = λ place v past stands. as_last place v (last_at a.visits.items visit place v past (subst (λ vs. slice_get vs place ≡ Some v) whole stands));
     taken_in = λ room. taken_one table b.visits.items (coming table arrival) (λ there. record {
       visit = visit;
       stands = subst (λ vs. Contains vs visit) (sym whole) (Contains-push a.visits.items visit);
@@ -74,6 +78,11 @@ module _ (table : List Shape) (before : Option ℕ) where
       itself : IsOf table all before visit
       itself = record { behind = refl; comes = Contains-push [] (coming table arrival); inhabited = some; below = below }
 
+      as_last : (place : ℕ) (v : Visit) → (v ≡ visit) × (take place (a.visits.items ++ visit ∷ []) ≡ a.visits.items) → IsNew table (take place b.visits.items) (coming table v.arrival)
+      as_last place v last =
+          let in_front : take place b.visits.items ≡ a.visits.items = ap (take place) whole ∙ last.1 in
+          subst (λ (w : Visit). IsNew table (take place b.visits.items) (coming table w.arrival)) (sym last.0) (subst (λ vs. IsNew table vs (coming table arrival)) (sym in_front) new)
+
   -- some are added, and then others
   pub visits_then : (a b c : Search) (xs ys : List Coming) → Visits table a b xs before → Visits table b c ys before → Visits table a c (xs ++ ys) before
   visits_then a b c xs ys first second = record {
@@ -81,6 +90,7 @@ module _ (table : List Shape) (before : Option ℕ) where
     whole = second.whole ∙ ap (λ vs. vs ++ second.added) first.whole ∙ append_assoc a.visits.items first.added second.added;
     most = second.most ∙ first.most;
     each = λ visit has. by visit (Contains-append_cases first.added second.added visit has);
+    new = λ place visit past stands. new place visit past stands (nat_lt place (length b.visits.items)) refl;
     taken_in = λ room x has some. taken room x some (Contains-append_cases xs ys x has);
   }
     where
@@ -91,6 +101,14 @@ module _ (table : List Shape) (before : Option ℕ) where
       by visit (inr has) =
           let of = second.each visit has in
           record { behind = of.behind; comes = Contains-append_right xs ys _ of.comes; inhabited = of.inhabited; below = of.below }
+
+      new : (place : ℕ) (visit : Visit) → length a.visits.items ≤ place → slice_get c.visits.items place ≡ Some visit → (front : Bool) → nat_lt place (length b.visits.items) ≡ front → IsNew table (take place c.visits.items) (coming table visit.arrival)
+      new place visit past stands true front =
+          let within = ltb-true place (length b.visits.items) front in
+          let stood : slice_get b.visits.items place ≡ Some visit = sym (front_at b.visits.items second.added place within) ∙ subst (λ vs. slice_get vs place ≡ Some visit) second.whole stands in
+          let same : take place c.visits.items ≡ take place b.visits.items = ap (take place) second.whole ∙ take-append-le place b.visits.items second.added (omega (arith, within)) in
+          subst (λ vs. IsNew table vs (coming table visit.arrival)) (sym same) (first.new place visit past stood)
+      new place visit past stands false front = let behind = ltb-false place (length b.visits.items) front in second.new place visit (omega (arith, behind)) stands
 
       sooner : length c.visits.items < c.most → length b.visits.items < b.most
       sooner room =

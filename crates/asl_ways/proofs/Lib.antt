@@ -3,6 +3,7 @@ pub mod Along
 pub mod Certified
 pub mod Found
 pub mod Noted
+pub mod Outside
 pub mod Passing
 pub mod Places
 pub mod Rows

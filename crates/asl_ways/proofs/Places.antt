@@ -1,6 +1,7 @@
 -- What stands at places of lists.
-use Rattle.std.proofs.Common.{◌≡◌, ◌<◌, ◌≤◌, ◌⊎◌, inl, inr, ℕ, zero, suc, ◌+◌, add-one, List, [], ◌∷◌, ◌++◌, length, slice_get, get_or, map, take, Some, Contains, refl, ap, arith}
+use Rattle.std.proofs.Common.{◌≡◌, ◌<◌, ◌≤◌, ◌⊎◌, inl, inr, ℕ, zero, suc, ◌+◌, add-one, List, [], ◌∷◌, ◌++◌, length, slice_get, get_or, map, take, Some, Contains, refl, sym, ap, arith}
 use Rattle.std.proofs.lemmas.Option.{get_or_from_slice_get, slice_get-get_or, slice_get_within}
+use Rattle.asl_model.proofs.RunOptions.{some_inj}
 
 pub no_element : {X : Type 0} (x : X) → Contains [] x → ⊥
 no_element x (k, within, is) = omega (arith, within)
@@ -31,6 +32,13 @@ front_or_behind (y ∷ xs) ys (suc k) x e = elim (front_or_behind xs ys k x e) [
   | inl here ↦ (let within = here.0 in inl (omega (arith, within), here.1))
   | inr there ↦ (let past = there.0 in inr (omega (arith, past), there.1))
 ]
+
+-- what stands behind others, and they themselves in front of it
+pub last_at : {X : Type 0} (xs : List X) (y : X) (k : ℕ) (x : X) → length xs ≤ k → slice_get (xs ++ y ∷ []) k ≡ Some x → (x ≡ y) × (take k (xs ++ y ∷ []) ≡ xs)
+last_at [] y zero x h e = (sym (some_inj e), refl)
+last_at [] y (suc k) x h e = absurd (cc)
+last_at (z ∷ xs) y zero x h e = absurd (omega (arith, h))
+last_at (z ∷ xs) y (suc k) x h e = let behind = last_at xs y k x (omega (arith, h)) e in (behind.0, ap (λ zs. z ∷ zs) behind.1)
 
 -- one more of the first is seen
 pub mapped_more : {X Y : Type 0} (f : X → Y) (xs : List X) (i : ℕ) (d : X) → i < length xs → map f (take (i + 1) xs) ≡ map f (take i xs) ++ f (get_or xs i d) ∷ []

@@ -1,6 +1,7 @@
 -- What a search has found, once the first of its visits are gone on from.
-use Rattle.std.proofs.Common.{◌≡◌, ◌<◌, ◌≤◌, ◌+◌, ◌⊎◌, inl, inr, ℕ, List, [], ◌++◌, length, slice_get, get_or, Option, Some, None, Contains, Bool, true, false, refl, sym, ap, ◌∙◌, subst, arith, length-append}
+use Rattle.std.proofs.Common.{◌≡◌, ◌<◌, ◌≤◌, ◌+◌, ◌⊎◌, inl, inr, ℕ, List, [], ◌++◌, length, take, slice_get, get_or, Option, Some, None, Contains, Bool, true, false, refl, sym, ap, ◌∙◌, subst, arith, length-append}
 use borrow.Author.Tests.{ltb-true, ltb-false}
+use Rattle.std.proofs.lemmas.List.{take-append-le}
 use Rattle.std.specs.Prelude.{IfSome, nat_lt}
 use Rattle.std.proofs.lemmas.List.Elements.{All-append, All-contains, All-weaker, Contains-get_or}
 use Rattle.std.proofs.lemmas.Option.{slice_get-get_or, slice_get_cases, slice_get_within}
@@ -11,11 +12,12 @@ use Rattle.asl_numbered.proofs.Expansions.{keeps_longer, kept_shape}
 use Rattle.asl_ways.specs.Coming.{Coming, coming, leaves, starts}
 use Rattle.asl_ways.specs.Given.{Given}
 use Rattle.asl_ways.specs.Seeking.{IsOf, Visits}
-use Rattle.asl_ways.specs.Visits.{comes_next, leaves_visit, leaves_where, AreAll, AreTakenIn, AreVisits, AreVisitsBelow, IsNoLater, IsTakenIn, IsVisit}
+use Rattle.asl_ways.specs.Visits.{comes_next, leaves_visit, leaves_where, AreAll, AreTakenIn, AreVisits, AreVisitsBelow, IsNew, IsNoLater, IsTakenIn, IsVisit}
 use Rattle.asl_ways.specs.declared.search.Search.{Search}
 use Rattle.asl_ways.specs.declared.visiting.Visit.{Visit}
 use Rattle.asl_ways.proofs.Found.{all_more}
 use Rattle.asl_ways.proofs.Places.{contains_at, front_at, front_or_behind, place_of}
+use Rattle.asl_ways.proofs.Noted.{first_stands, taken_stands}
 
 -- Each is a visit, with one before it among the first; what comes to the start is taken in, and what leaves the first,
 -- unless there are as many as there may be.
@@ -65,6 +67,7 @@ module _ (a b : List Shape) (keeps : Keeps a b) (given : Given) (visits : List V
         sooner = is.sooner;
         comes = rw (next_kept visit.before, same) is.comes;
         inhabited = rw same is.inhabited;
+        new = λ earlier has inside. is.new earlier has (subst (λ outer. Inside (shape_at a visit.arrival.shape) outer) (shape_kept earlier (taken_stands place visits earlier (first_stands visit.arrival.state (take place visits) earlier has).0)) (subst (λ inner. Inside inner (shape_at b earlier.arrival.shape)) same inside));
       }
 
   pub sought_kept : (most first : ℕ) → AreSought a given visits most first → AreSought b given visits most first
@@ -96,7 +99,7 @@ module _ (table : List Shape) (given : Given) where
   pub sought_first : (a b : Search) → a.visits.items ≡ [] → Visits table a b (starts given) None → AreSought table given b.visits.items b.most 0
   sought_first a b none adds = record {
     found = record {
-      each = λ place visit stands. by place visit (of place visit stands);
+      each = λ place visit stands. by place visit stands (of place visit stands);
       in_order = λ place later visit next sooner stands behind. no_later visit.before next.before (of place visit stands).behind;
     };
     below = λ k d within. (of k _ (slice_get-get_or b.visits.items k d within)).below;
@@ -111,11 +114,12 @@ module _ (table : List Shape) (given : Given) where
       of : (place : ℕ) (visit : Visit) → slice_get b.visits.items place ≡ Some visit → IsOf table (starts given) None visit
       of place visit stands = adds.each visit (contains_at adds.added place visit (subst (λ vs. slice_get vs place ≡ Some visit) whole stands))
 
-      by : (place : ℕ) (visit : Visit) → IsOf table (starts given) None visit → IsVisit table given b.visits.items place visit
-      by place visit is = record {
+      by : (place : ℕ) (visit : Visit) → slice_get b.visits.items place ≡ Some visit → IsOf table (starts given) None visit → IsVisit table given b.visits.items place visit
+      by place visit stands is = record {
         sooner = subst (λ o. IfSome o (λ before. before < place)) (sym is.behind) tt;
         comes = subst (λ o. Contains (comes_next table given b.visits.items o) (coming table visit.arrival)) (sym is.behind) is.comes;
         inhabited = is.inhabited;
+        new = adds.new place visit (subst (λ vs. length vs ≤ place) (sym none) (omega arith)) stands;
       }
 
   module _ (a b : Search) (first : ℕ) (own : Visit) (stands : slice_get a.visits.items first ≡ Some own) (are : AreSought table given a.visits.items a.most first) (adds : Visits table a b (leaves_visit table given own) (Some first)) where
@@ -149,15 +153,20 @@ module _ (table : List Shape) (given : Given) where
     next_own : comes_next table given b.visits.items (Some first) ≡ leaves_visit table given own
     next_own = ap (leaves_where table given) (ap (λ vs. slice_get vs first) whole ∙ front_at old adds.added first own_within ∙ stands)
 
-    each : (place : ℕ) (visit : Visit) → ((place < length old) × (slice_get old place ≡ Some visit)) ⊎ ((length old ≤ place) × Contains adds.added visit) → IsVisit table given b.visits.items place visit
-    each place visit (inl here) =
+    -- in front of one that stood there before are those that stood there before
+    front_same : (place : ℕ) → place < length old → take place b.visits.items ≡ take place old
+    front_same place within = ap (take place) whole ∙ take-append-le place old adds.added (omega (arith, within))
+
+    each : (place : ℕ) (visit : Visit) → slice_get b.visits.items place ≡ Some visit → ((place < length old) × (slice_get old place ≡ Some visit)) ⊎ ((length old ≤ place) × Contains adds.added visit) → IsVisit table given b.visits.items place visit
+    each place visit e (inl here) =
         let is = are.found.each place visit here.1 in
         record {
           sooner = is.sooner;
           comes = subst (λ cs. Contains cs (coming table visit.arrival)) (sym (next_same visit.before (within_old place visit.before here.0 is.sooner))) is.comes;
           inhabited = is.inhabited;
+          new = subst (λ vs. IsNew table vs (coming table visit.arrival)) (sym (front_same place here.0)) is.new;
         }
-    each place visit (inr there) =
+    each place visit e (inr there) =
         let is = adds.each visit there.1 in
         let past = there.0 in
         let within = own_within in
@@ -165,6 +174,7 @@ module _ (table : List Shape) (given : Given) where
           sooner = subst (λ o. IfSome o (λ k. k < place)) (sym is.behind) (omega (arith, past, within));
           comes = subst (λ o. Contains (comes_next table given b.visits.items o) (coming table visit.arrival)) (sym is.behind) (subst (λ cs. Contains cs (coming table visit.arrival)) (sym next_own) is.comes);
           inhabited = is.inhabited;
+          new = adds.new place visit past e;
         }
 
     sooner_more : (before : Option ℕ) → IfSome before (λ k. k < first) → IfSome before (λ k. k < first + 1)
@@ -200,7 +210,7 @@ module _ (table : List Shape) (given : Given) where
     pub sought_on : AreSought table given b.visits.items b.most (first + 1)
     sought_on = record {
       found = record {
-        each = λ place visit e. each place visit (which place visit e);
+        each = λ place visit e. each place visit e (which place visit e);
         in_order = λ place later visit next sooner_than here behind. in_order place later visit next sooner_than here (which later next behind);
       };
       below = subst (AreVisitsBelow (length table)) (sym whole) (All-append (λ v. v.arrival.shape < length table) old adds.added are.below (λ k d within. (adds.each _ (Contains-get_or adds.added k d within)).below));

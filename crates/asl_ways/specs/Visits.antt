@@ -1,10 +1,11 @@
 -- The visits of states on the ways from a machine's start.
-use Rattle.std.specs.Prelude.{◌≡◌, ◌<◌, ◌≤◌, ℕ, List, [], Option, Some, None, IfSome, Contains, slice_get, true, ⊤}
-use Rattle.std.specs.List.{All}
+use Rattle.std.specs.Prelude.{◌≡◌, ◌<◌, ◌≤◌, ℕ, List, [], Option, Some, None, IfSome, Contains, slice_get, take, nat_eq, true, ⊤}
+use Rattle.std.specs.List.{All, filter}
 use Rattle.asl_model.specs.Shape.{Shape, Inside, inhabited}
 use Rattle.asl_numbered.specs.Expansion.{shape_at}
 use Rattle.asl_ways.specs.Coming.{Coming, coming, leaves, starts}
 use Rattle.asl_ways.specs.Given.{Given}
+use Rattle.asl_ways.specs.declared.search.TheConstants.{MOST_COMPARED}
 use Rattle.asl_ways.specs.declared.visiting.Visit.{Visit}
 
 -- what leaves the state of a visit for others, where what comes to it has the visit's own shape
@@ -21,11 +22,22 @@ abbrev pub comes_next : List Shape → Given → List Visit → Option ℕ → L
 comes_next table given visits None = starts given
 comes_next table given visits (Some before) = leaves_where table given (slice_get visits before)
 
--- A visit is one more step of a way, on which some tree comes.
+-- the first visits of the state of that number, so many as are compared with what comes to it
+abbrev pub first_of : ℕ → List Visit → List Visit
+first_of state visits = take MOST_COMPARED (filter (λ visit. nat_eq visit.arrival.state state) visits)
+
+-- what comes to a state is inside none of their shapes
+abbrev pub IsNew : List Shape → List Visit → Coming → Type 0
+IsNew table visits x = (earlier : Visit) → Contains (first_of x.state visits) earlier
+    → ¬ Inside x.shape (shape_at table earlier.arrival.shape)
+
+-- A visit is one more step of a way, on which some tree comes, and new where it stands: its shape is inside none of those
+-- of the first visits of its state in front of it.
 pub record IsVisit (table : List Shape) (given : Given) (visits : List Visit) (place : ℕ) (visit : Visit) : Type 0 where
   pub sooner : IfSome visit.before (λ before. before < place)
   pub comes : Contains (comes_next table given visits visit.before) (coming table visit.arrival)
   pub inhabited : inhabited (shape_at table visit.arrival.shape) ≡ true
+  pub new : IsNew table (take place visits) (coming table visit.arrival)
 
 -- one doesn't come before the other
 abbrev pub IsNoLater : Option ℕ → Option ℕ → Type 0

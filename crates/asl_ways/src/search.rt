@@ -1,25 +1,27 @@
 //! The visits so far of a search.
 
-ghost use Rattle.std.specs.Prelude.{◌≡◌, ◌≤◌, length, IfOk, IsTrue};
-ghost use Rattle.asl_numbered.specs.Expansion.{expansions};
-ghost use Rattle.asl_ways.specs.Noted.{AreNoted, IsInsideOne};
+ghost use Rattle.std.specs.Prelude.{◌≡◌, ◌≤◌, ◌∷◌, ◌++◌, [], length, take, IfOk, IsTrue, false, true};
+ghost use Rattle.asl_model.specs.Shape.{inhabited};
+ghost use Rattle.asl_numbered.specs.Expansion.{expansions, shape_at};
+ghost use Rattle.asl_ways.specs.Noted.{AreNoted, IsInsideNone, IsInsideOne};
 
 use crate::arriving::Arrival;
 use crate::visiting::Visit;
+use arrayvec::ArrayVec;
 use asl_numbered::Shapes;
 use asl_tree::OutOfMemory;
 use std::alloc::Global;
 
 /// With how many shapes of earlier visits of a state, the first ones, one that comes is compared.
-const MOST_COMPARED: usize = 16;
+pub(crate) const MOST_COMPARED: usize = 16;
 
 /// The visits so far.
 #[derive(Drop)]
 pub(crate) struct Search {
     /// In the order in which they were found.
     visits: Vec<Visit>,
-    /// Of each state the numbers of the shapes of its visits.
-    shapes_at: Vec<Vec<usize>>,
+    /// Of each state up to the greatest that was visited the numbers of the shapes of its first visits.
+    shapes_at: Vec<ArrayVec<usize, MOST_COMPARED>>,
     /// How many visits there may be.
     most: usize,
     ghost noted: { AreNoted visits.items shapes_at.items },
@@ -32,24 +34,19 @@ impl Search {
     ghost use Rattle.asl_numbered.specs.Expansion.{expansions, shape_at};
     ghost use Rattle.asl_ways.specs.Adding.{AreBelow};
     ghost use Rattle.asl_ways.specs.Coming.{coming};
-    ghost use Rattle.asl_ways.specs.Noted.{is_visited};
     ghost use Rattle.asl_ways.specs.Seeking.{Visits};
-    ghost use Rattle.asl_ways.specs.Visits.{IsTakenIn};
+    ghost use Rattle.asl_ways.specs.Visits.{IsNew, IsTakenIn};
 
-    /// No visits, of a machine with so many states.
-    pub(crate) fn new(alloc: Global, states: usize, most: usize) -> Result<Search, OutOfMemory>
-        ensures none { IfOk result (λ search. search.visits.items ≡ []) }
-        ensures most { IfOk result (λ search. search.most ≡ most) }
+    /// No visits yet, of at most so many.
+    pub(crate) fn new(alloc: Global, most: usize) -> Search
+        ensures none { result.visits.items ≡ [] }
+        ensures most { result.most ≡ most }
     {
-        let mut shapes_at = Vec::new(alloc);
-        for _ in 0..states {
-            shapes_at.push(Vec::new(alloc))?;
-        }
-        Ok(Search {
+        Search {
             visits: Vec::new(alloc),
-            shapes_at,
+            shapes_at: Vec::new(alloc),
             most,
-        })
+        }
     }
 
     /// The visit of that number.
@@ -118,6 +115,9 @@ impl Search {
             → inhabited (shape_at (expansions shapes.old) arrival.now.shape) ≡ true
             → IsTakenIn (expansions shapes.old) self.now.visits.items
             (coming (expansions shapes.old) arrival.now)) }
+        ensures new { IfOk result (λ wanted. IsTrue wanted
+            → IsNew (expansions shapes.old) self.now.visits.items
+            (coming (expansions shapes.old) arrival.now)) }
         ensures unchanged { shapes.new ≡ shapes.old }
     {
         if self.visits.len() >= self.most {
@@ -139,8 +139,24 @@ impl Search {
             (self.new.visits.items ≡ self.old.visits.items ++ visit ∷ []) }
         ensures most { self.new.most ≡ self.old.most }
     {
+        self.make_room(visit.arrival.state)?;
         self.visits.push(visit)?;
-        self.note(&visit.arrival)
+        if let Some(numbers) = self.shapes_at.get_mut(visit.arrival.state) {
+            note(numbers, visit.arrival.shape);
+        }
+        Ok(())
+    }
+
+    /// Makes a place for the shapes of visits of the state of that number, where there is none.
+    fn make_room(&mut self, state: usize) -> Result<(), OutOfMemory>
+        ensures visits { self.new.visits ≡ self.old.visits }
+        ensures most { self.new.most ≡ self.old.most }
+        ensures room { OnOk result (state < length self.new.shapes_at.items) }
+    {
+        while self.shapes_at.len() <= state {
+            self.shapes_at.push(ArrayVec::new())?;
+        }
+        Ok(())
     }
 
     /// Whether the shape of what comes is inside that of one of the first visits of the state.
@@ -148,37 +164,39 @@ impl Search {
         ensures there { IfOk result (λ there. IsTrue there
             → IsTakenIn (expansions shapes.old) self.now.visits.items
             (coming (expansions shapes.old) arrival.now)) }
+        ensures new { IfOk result (λ there. there ≡ false
+            → inhabited (shape_at (expansions shapes.old) arrival.now.shape) ≡ true
+            → IsNew (expansions shapes.old) self.now.visits.items
+            (coming (expansions shapes.old) arrival.now)) }
         ensures unchanged { shapes.new ≡ shapes.old }
     {
         match self.shapes_at.get(arrival.state) {
-            Some(outer) => is_inside_one(shapes, arrival.shape, outer),
+            Some(outer) => is_inside_one(shapes, arrival.shape, outer.as_slice()),
             None => Ok(false),
-        }
-    }
-
-    /// Notes the shape of a visit at its state.
-    fn note(&mut self, arrival: &Arrival) -> Result<(), OutOfMemory>
-        requires visited { is_visited self.old.visits.items arrival.now.state arrival.now.shape ≡ true }
-        ensures visits { self.new.visits ≡ self.old.visits }
-        ensures most { self.new.most ≡ self.old.most }
-    {
-        match self.shapes_at.get_mut(arrival.state) {
-            Some(numbers) => {
-                numbers.push(arrival.shape)?;
-                Ok(())
-            }
-            None => Ok(()),
         }
     }
 }
 
-/// Whether the shape of that number is inside one of the first of those.
+/// Notes a shape, unless as many are noted as are compared.
+fn note(numbers: &mut ArrayVec<usize, MOST_COMPARED>, shape: usize)
+    ensures { numbers.new.items ≡ take MOST_COMPARED (numbers.old.items ++ shape ∷ []) }
+{
+    if !numbers.is_full() {
+        numbers.push(shape);
+    }
+}
+
+/// Whether the shape of that number is inside one of those.
 fn is_inside_one(shapes: &mut Shapes, inner: usize, outer: &[usize]) -> Result<bool, OutOfMemory>
     ensures inside { IfOk result (λ inside. IsTrue inside
         → IsInsideOne (expansions shapes.old) inner outer.now) }
+    ensures outside { IfOk result (λ inside. inside ≡ false
+        → inhabited (shape_at (expansions shapes.old) inner) ≡ true
+        → IsInsideNone (expansions shapes.old) inner outer.now) }
     ensures unchanged { shapes.new ≡ shapes.old }
 {
-    for number in outer.iter().take(MOST_COMPARED) {
+    shapes.are_proper();
+    for number in outer {
         if shapes.sub(inner, *number)? == Some(true) {
             return Ok(true);
         }

@@ -83,7 +83,7 @@ impl Walker<'_> {
             (λ visits. AreVisitsBelow (length shapes.new) visits.items) }
         ensures keeps { Keeps (expansions shapes.old) (expansions shapes.new) }
     {
-        let mut search = Search::new(self.alloc, self.machine.states(), most)?;
+        let mut search = Search::new(self.alloc, most);
         self.visit_start(shapes, &mut search)?;
         for place in 0..most {
             let Some(visit) = search.nth(place) else {

@@ -15,9 +15,9 @@ loop-place-init c =
     let table = expansions c.visit_start.new.shapes in
     let given = given_in (expansions c.args.shapes.now) c.args.self.now in
     record {
-      most = c.in_ok-visit_start.ensures.visits.most ∙ c.in_ok-search.ensures.most;
+      most = c.in_ok-visit_start.ensures.visits.most ∙ c.new-search.ensures.most;
       keeps = c.visit_start.ensures.keeps;
-      sought = sought_first table given c.in_ok-search.search c.visit_start.new.search c.in_ok-search.ensures.none c.in_ok-visit_start.ensures.visits;
+      sought = sought_first table given _ c.visit_start.new.search c.new-search.ensures.none c.in_ok-visit_start.ensures.visits;
     }
 
 pub visit_onward-requires : goal.visit_onward-requires

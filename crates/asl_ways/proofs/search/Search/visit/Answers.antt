@@ -12,7 +12,7 @@ returns-then-branch-clause-visits c =
     let below = c.requires.below in
     let many = as_many shapes in
     let wanted = c.in_ok-is_wanted.ensures in
-    on_ok_weaker c.push.result (λ whole. visits_one (expansions shapes) c.args.before c.args.self.now c.push.new.self c.args.arrival whole c.push.ensures.most (wanted.inhabited c.if-branch.true) (omega (arith, below, many))) c.push.ensures.visits
+    on_ok_weaker c.push.result (λ whole. visits_one (expansions shapes) c.args.before c.args.self.now c.push.new.self c.args.arrival whole c.push.ensures.most (wanted.inhabited c.if-branch.true) (omega (arith, below, many)) (wanted.new c.if-branch.true)) c.push.ensures.visits
 
 pub returns-else-branch-clause-visits : goal.returns-else-branch-clause-visits
 returns-else-branch-clause-visits c =

@@ -1,10 +1,13 @@
-use Rattle.std.proofs.Common.{◌∷◌, [], Some, get_or, take, map, sym, ap, ◌∙◌, subst}
+use Rattle.std.proofs.Common.{◌∷◌, [], Some, get_or, take, map, refl, sym, ap, ◌∙◌, subst}
 use Rattle.asl_numbered.specs.Expansion.{expansions}
 use Rattle.asl_ways.specs.Coming.{coming}
 use Rattle.asl_ways.specs.Seeking.{Visits}
-use Rattle.asl_ways.proofs.Found.{visits_then}
+use Rattle.asl_ways.proofs.Found.{visits_of_none, visits_then}
 use Rattle.asl_ways.proofs.Places.{mapped_more}
 use Rattle.asl_ways.proofs.search.Search.visit_all.Goals as goal
+
+pub loop-arrival-init : goal.loop-arrival-init
+loop-arrival-init c = record { unchanged = refl; visits = visits_of_none (expansions c.args.shapes.now) (Some c.args.before) c.args.self.now }
 
 pub loop-arrival-preserved : goal.loop-arrival-preserved
 loop-arrival-preserved c =
