@@ -1,0 +1,105 @@
+//! What is known of a machine under declared shapes.
+
+ghost use Rattle.asl_records.specs.Numbered.{AreWithin};
+
+use crate::flows::Flows;
+use crate::picture::Look;
+use asl_check::{Located, find_all};
+use asl_infer::infer_leniently;
+use asl_records::{Declared, NumberedCertificate};
+use asl_states::Machine;
+use asl_tree::OutOfMemory;
+use std::alloc::Global;
+
+/// What is known of a machine by a certificate that is inferred leniently.
+#[derive(Drop)]
+pub(crate) struct Known {
+    pub(crate) certificate: NumberedCertificate,
+    pub(crate) flows: Flows,
+    /// How each state looks, by its number.
+    looks: Vec<Look>,
+}
+
+impl Known {
+    /// What is known of a machine under declared shapes; nothing where the shapes don't settle. What flows between
+    /// states is found only where it is wanted.
+    pub(crate) fn find(
+        alloc: Global,
+        machine: &Machine,
+        declared: &Declared,
+        with_shapes: bool,
+        max_rounds: u32,
+    ) -> Result<Option<Known>, OutOfMemory> {
+        let Some(mut certificate) = infer_leniently(alloc, machine, declared, max_rounds)? else {
+            return Ok(None);
+        };
+        let findings = find_all(alloc, machine, declared, &mut certificate)?;
+        let looks = looks_of(alloc, machine, &certificate, &findings)?;
+        let flows = flows_of(alloc, machine, declared, with_shapes, &mut certificate)?;
+        Ok(Some(Known {
+            certificate,
+            flows,
+            looks,
+        }))
+    }
+
+    /// How the state of that number looks.
+    pub(crate) fn look_of(&self, state: usize) -> Look {
+        self.looks.get(state).copied().unwrap_or(Look::Plain)
+    }
+}
+
+/// The flows, where they are wanted.
+fn flows_of(
+    alloc: Global,
+    machine: &Machine,
+    declared: &Declared,
+    with_shapes: bool,
+    certificate: &mut NumberedCertificate,
+) -> Result<Flows, OutOfMemory>
+    requires { AreWithin certificate.old }
+{
+    if with_shapes {
+        Flows::find(alloc, machine, declared, certificate)
+    } else {
+        Ok(Flows::unknown(alloc))
+    }
+}
+
+/// How each state looks.
+fn looks_of(
+    alloc: Global,
+    machine: &Machine,
+    certificate: &NumberedCertificate,
+    findings: &[Located],
+) -> Result<Vec<Look>, OutOfMemory> {
+    let mut looks = Vec::with_capacity(alloc, machine.states())?;
+    for number in 0..machine.states() {
+        looks.push(look_by_data(machine, certificate, number))?;
+    }
+    mark_findings(machine, findings, &mut looks);
+    Ok(looks)
+}
+
+/// Whether data comes to the state of that number.
+fn look_by_data(machine: &Machine, certificate: &NumberedCertificate, number: usize) -> Look {
+    let entry = match machine.name(number) {
+        Some(name) => certificate.states.get(name),
+        None => None,
+    };
+    match entry {
+        Some(entry) if certificate.shapes.inhabited(entry.input) == Some(true) => Look::Plain,
+        _ => Look::Unreached,
+    }
+}
+
+/// Marks the states at which a rule is broken.
+fn mark_findings(machine: &Machine, findings: &[Located], looks: &mut Vec<Look>) {
+    for located in findings {
+        if let Some(number) = machine.state_named(&located.finding.state) {
+            if let Some(look) = looks.get_mut(number) {
+                *look = Look::Finding;
+            }
+        }
+    }
+}
