@@ -1,3 +1,4 @@
+pub mod Findings
 pub mod Lengths
 pub mod OneAnswer
 pub mod Yes

@@ -19,21 +19,43 @@ struct Part {
     outer: usize,
 }
 
-/// In words where a value of the first shape may lack the second, and what is wanted there: the place as a path, and what
-/// may be so there. `who` is what wants the second shape.
+/// How a value of one shape may lack another.
+#[derive(Clone, Copy, Drop)]
+pub(crate) enum Lack {
+    /// A field may be absent.
+    Absent,
+    /// A field may be there that isn't taken.
+    Surplus,
+    /// It may be of another kind, or a list of another length.
+    Other,
+}
+
+/// Where a value of one shape may lack another.
+#[derive(Drop)]
+pub(crate) struct Apart {
+    /// The place as a path, and what may be so there.
+    pub(crate) text: String,
+    pub(crate) lack: Lack,
+}
+
+/// What is told of a value that may lack a shape on its first level.
+type Told = (String, Lack);
+
+/// In words where a value of the first shape may lack the second, and what is wanted there. `who` is what wants the second
+/// shape.
 pub(crate) fn difference(
     alloc: Global,
     shapes: &mut Shapes,
     inner: usize,
     outer: usize,
     who: &str,
-) -> Result<String, OutOfMemory> {
+) -> Result<Apart, OutOfMemory> {
     let mut place = String::from_str(alloc, "$")?;
     let mut pair = (inner, outer);
     for _ in 0..MOST_LEVELS {
-        if let Some(lack) = lack_between(alloc, shapes, pair.0, pair.1, who)? {
-            place.push_str(&lack)?;
-            return Ok(place);
+        if let Some((told, lack)) = lack_between(alloc, shapes, pair.0, pair.1, who)? {
+            place.push_str(&told)?;
+            return Ok(Apart { text: place, lack });
         }
         let parts = parts_between(alloc, shapes, pair.0, pair.1)?;
         let Some(part) = first_apart(shapes, parts)? else {
@@ -44,7 +66,10 @@ pub(crate) fn difference(
     }
     let wanted = noted(alloc, shapes, pair.1)?;
     place.push_str(&format!(in alloc; " may not be what {who} wants, {wanted}")?)?;
-    Ok(place)
+    Ok(Apart {
+        text: place,
+        lack: Lack::Other,
+    })
 }
 
 /// What a value of the first shape may lack of the second on its first level, if it may lack something there.
@@ -54,7 +79,7 @@ fn lack_between(
     inner: usize,
     outer: usize,
     who: &str,
-) -> Result<Option<String>, OutOfMemory> {
+) -> Result<Option<Told>, OutOfMemory> {
     let Some(wanted) = shapes.take_apart(outer) else {
         return Ok(None);
     };
@@ -84,10 +109,11 @@ fn other_kind(
     inner: usize,
     outer: usize,
     who: &str,
-) -> Result<String, OutOfMemory> {
+) -> Result<Told, OutOfMemory> {
     let is = noted(alloc, shapes, inner)?;
     let wanted = noted(alloc, shapes, outer)?;
-    Ok(format!(in alloc; " is {is}, and {who} takes {wanted}")?)
+    let told = format!(in alloc; " is {is}, and {who} takes {wanted}")?;
+    Ok((told, Lack::Other))
 }
 
 /// What lists or objects may lack on their first level.
@@ -97,7 +123,7 @@ fn lack_of_parts(
     kinds: &NodeKinds,
     wanted: &NodeKinds,
     who: &str,
-) -> Result<Option<String>, OutOfMemory> {
+) -> Result<Option<Told>, OutOfMemory> {
     if let (Some(objects), Some(others)) = (&kinds.objects, &wanted.objects) {
         if let Some(lack) = lack_of_object(alloc, shapes, objects, others, who)? {
             return Ok(Some(lack));
@@ -116,7 +142,7 @@ fn lack_of_object(
     objects: &NodeObjects,
     wanted: &NodeObjects,
     who: &str,
-) -> Result<Option<String>, OutOfMemory> {
+) -> Result<Option<Told>, OutOfMemory> {
     if let Some(lack) = absent_field(alloc, objects, wanted, who)? {
         return Ok(Some(lack));
     }
@@ -127,8 +153,8 @@ fn lack_of_object(
         return Ok(Some(lack));
     }
     if objects.extra {
-        let lack = format!(in alloc; " may have other fields, and {who} takes none")?;
-        return Ok(Some(lack));
+        let told = format!(in alloc; " may have other fields, and {who} takes none")?;
+        return Ok(Some((told, Lack::Surplus)));
     }
     Ok(None)
 }
@@ -139,12 +165,12 @@ fn absent_field(
     objects: &NodeObjects,
     wanted: &NodeObjects,
     who: &str,
-) -> Result<Option<String>, OutOfMemory> {
+) -> Result<Option<Told>, OutOfMemory> {
     for (name, field) in wanted.fields.iter() {
         if field.needed && !is_sure(objects, name) {
-            let told = quoted(alloc, name)?;
-            let lack = format!(in alloc; " may have no field {told}, and {who} needs it")?;
-            return Ok(Some(lack));
+            let name = quoted(alloc, name)?;
+            let told = format!(in alloc; " may have no field {name}, and {who} needs it")?;
+            return Ok(Some((told, Lack::Absent)));
         }
     }
     Ok(None)
@@ -165,16 +191,16 @@ fn unwanted_field(
     objects: &NodeObjects,
     wanted: &NodeObjects,
     who: &str,
-) -> Result<Option<String>, OutOfMemory> {
+) -> Result<Option<Told>, OutOfMemory> {
     for (name, field) in objects.fields.iter() {
         if wanted.fields.get(name.as_str()).is_none()
             && shapes.inhabited(field.shape) == Some(true)
         {
-            let told = quoted(alloc, name)?;
-            let lack = format!(in alloc;
-                " may have a field {told}, and {who} takes none of that name"
+            let name = quoted(alloc, name)?;
+            let told = format!(in alloc;
+                " may have a field {name}, and {who} takes none of that name"
             )?;
-            return Ok(Some(lack));
+            return Ok(Some((told, Lack::Surplus)));
         }
     }
     Ok(None)
@@ -187,18 +213,18 @@ fn lack_of_list(
     lists: &NodeArrays,
     wanted: &NodeArrays,
     who: &str,
-) -> Result<Option<String>, OutOfMemory> {
+) -> Result<Option<Told>, OutOfMemory> {
     let many = wanted.first.len();
     if lists.first.len() < many {
-        let lack = format!(in alloc; " may have fewer than {many} elements, and {who} needs them")?;
-        return Ok(Some(lack));
+        let told = format!(in alloc; " may have fewer than {many} elements, and {who} needs them")?;
+        return Ok(Some((told, Lack::Other)));
     }
     let may_be_longer = lists.first.len() > many || shapes.inhabited(lists.rest) == Some(true);
     if may_be_longer && shapes.inhabited(wanted.rest) == Some(false) {
-        let lack = format!(in alloc;
+        let told = format!(in alloc;
             " may have more than {many} elements, and {who} takes no more"
         )?;
-        return Ok(Some(lack));
+        return Ok(Some((told, Lack::Other)));
     }
     Ok(None)
 }

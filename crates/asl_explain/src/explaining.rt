@@ -1,12 +1,19 @@
 //! From texts to explanations.
 
-ghost use Rattle.std.specs.Prelude.{◌≡◌, ◌≢◌, ◌↔◌, IfErr, IfOk, None, Ok};
+ghost use Rattle.std.specs.Prelude.{◌≡◌, ◌↔◌, IfErr, IfNone, IfOk, IfSome, None, Ok};
+ghost use Rattle.asl_states.specs.Table.{Shows};
+ghost use Rattle.asl_model.specs.Machine.{Scope};
+ghost use Rattle.asl_model.specs.Numbering.{table_of};
 ghost use Rattle.asl_model.specs.Verdict.{Accepted};
+ghost use Rattle.asl_infer.specs.Lenient.{NeverSettlesLeniently};
+ghost use Rattle.asl_records.specs.View.{declared_view};
 ghost use Rattle.asl_tool.specs.Inferred.{InferFaultStands};
 ghost use Rattle.asl_tool.specs.VerifiedInference.{IsVerdictOnInferred};
 ghost use Rattle.asl_check.specs.declared.verdicts.Verdict.TheVariants as checked;
 ghost use Rattle.asl_tool.specs.declared.inferring.Verified.TheVariants as outcomes;
 ghost use Rattle.asl_tool.specs.declared.refusals.RunFault.TheVariants as faults;
+ghost use Rattle.asl_explain.specs.Answers.{ExplainsFindings};
+ghost use Rattle.asl_explain.specs.Subjects.{Answers, AreFindings, SettlesLeniently};
 ghost use Rattle.asl_explain.specs.declared.explaining.Explained.TheVariants as answers;
 
 use crate::heads::is_repeated;
@@ -40,8 +47,11 @@ pub enum Explained {
 /// Without the name of a state there is nothing to explain exactly where [`verify_inferred`] says yes. Otherwise each rule is
 /// told that the certificate breaks which is inferred leniently in at most `max_rounds` rounds, or, where there is none, what
 /// [`verify_inferred`] tells: the line of the finding, what is known of the data with which it arises, the shortest way by
-/// which such data comes there, other origins from which it doesn't arise, an example, and what usually helps. With a name
-/// it is told what comes to the state of that name, its shapes, and its findings.
+/// which such data comes there, other origins from which it doesn't arise, an example, and what usually helps; where its
+/// rounds don't settle, that alone is told.
+///
+/// With a name it is told what comes to the state of that name, its shapes, and its findings, by the certificate that is
+/// inferred leniently, or that its rounds don't settle; or that the machine has no such state.
 ///
 /// Refused as by [`verify_inferred`].
 pub fn explain_texts(
@@ -53,6 +63,8 @@ pub fn explain_texts(
 ) -> Result<Explained, RunFault>
     ensures exactly { state.entry ≡ None → IfOk result (λ told. (told ≡ answers.Nothing)
         ↔ IsVerdictOnInferred max_rounds definition.now declared.now Accepted) }
+    ensures findings { state.entry ≡ None
+        → IfOk result (ExplainsFindings max_rounds definition.now declared.now) }
     ensures refused { IfErr result (InferFaultStands definition.now declared.now) }
 {
     let verified = verify_inferred(alloc, definition, declared, max_rounds)?;
@@ -75,6 +87,7 @@ fn explain_verified(
 ) -> Result<Explained, RunFault>
     ensures exactly { IfOk result (λ told. (told ≡ answers.Nothing)
         ↔ (verified ≡ outcomes.Verdict checked.Yes)) }
+    ensures answers { IfOk result (Answers verified) }
     ensures refused { IfErr result (λ fault. fault ≡ faults.OutOfMemory) }
 {
     match verified {
@@ -116,11 +129,14 @@ struct Known {
 
 impl Known {
     /// What is known of a machine under declared shapes; nothing where the shapes don't settle.
-    fn find(
-        alloc: Global,
-        subject: &Subject,
-        max_rounds: u32,
-    ) -> Result<Option<Known>, OutOfMemory> {
+    fn find(alloc: Global, subject: &Subject, max_rounds: u32) -> Result<Option<Known>, OutOfMemory>
+        ensures settled { IfOk result (λ found. (m : Scope) → Shows subject.now.machine m
+            → IfSome found (λ _.
+            SettlesLeniently (table_of m) (declared_view subject.now.declared) max_rounds)) }
+        ensures unsettled { IfOk result (λ found. (m : Scope) → Shows subject.now.machine m
+            → IfNone found
+            (NeverSettlesLeniently (table_of m) (declared_view subject.now.declared) max_rounds)) }
+    {
         let machine = &subject.machine;
         let declared = &subject.declared;
         let Some(mut certificate) = infer_leniently(alloc, machine, declared, max_rounds)? else {
@@ -139,7 +155,7 @@ impl Known {
 impl Texts<'_> {
     /// Explains this one finding, or all that are known, if there are some.
     fn explain_finding(&self, alloc: Global, finding: Finding) -> Result<Explained, OutOfMemory>
-        ensures { IfOk result (λ told. told ≢ answers.Nothing) }
+        ensures { IfOk result AreFindings }
     {
         let mut findings = Vec::new(alloc);
         findings.push(finding)?;
@@ -152,7 +168,7 @@ impl Texts<'_> {
         alloc: Global,
         findings: Vec<Finding>,
     ) -> Result<Explained, OutOfMemory>
-        ensures { IfOk result (λ told. told ≢ answers.Nothing) }
+        ensures { IfOk result AreFindings }
     {
         let subject = Subject::read(alloc, self.definition, self.declared)?;
         let text = match Known::find(alloc, &subject, self.max_rounds)? {

@@ -1,9 +1,11 @@
 //! What usually helps.
 
 use crate::causes::{Cause, Way};
+use crate::differences::{Lack, difference};
 use crate::lookups::type_of;
 use crate::stops::{Stop, stop_of};
 use crate::subject::Explainer;
+use crate::there::ITEM;
 use crate::words::quoted;
 use asl_check::{FindingFault, Located};
 use asl_diagnostics::rule_of_finding;
@@ -32,6 +34,11 @@ impl Explainer<'_> {
             FindingFault::PathMayBeMissing => {
                 self.help_with_path(shapes, finding.fault, cause, on_some_way)
             }
+            FindingFault::IntrinsicMayFail => match cause {
+                Some(cause) => self.help_with_call(shapes, cause, &finding.field),
+                None => self.general(finding.fault),
+            },
+            FindingFault::PayloadNotTaken => self.help_with_payload(shapes, finding.fault, cause),
             FindingFault::ResultMayNotFit => self.help_to_place(&finding.field),
             FindingFault::WrongKind => self.help_with_kind(&finding.field),
             fault => self.general(fault),
@@ -69,6 +76,45 @@ impl Explainer<'_> {
             None => self.sentence(
                 "Correct the name in \"tasks\" to that of a Task state, or take the entry out: no state has this name.",
             ),
+        }
+    }
+
+    /// To give a task what it takes.
+    fn help_with_payload(
+        &self,
+        shapes: &mut Shapes,
+        fault: FindingFault,
+        cause: Option<&Cause>,
+    ) -> Result<String, OutOfMemory> {
+        match self.lack_of_payload(shapes, cause)? {
+            Some(Lack::Absent) => self.sentence(
+                "Put the field into the payload by Parameters, or see in the states in front that it is always there; or, where \
+                the task does without it, take it out of \"required\" in what it is declared to take.",
+            ),
+            Some(Lack::Surplus) => self.sentence(
+                "Name by Parameters only what the task takes; or, where it takes other fields, too, leave \
+                \"additionalProperties\": false out of what it is declared to take.",
+            ),
+            Some(Lack::Other) | None => self.general(fault),
+        }
+    }
+
+    /// How a payload may lack what its task takes.
+    fn lack_of_payload(
+        &self,
+        shapes: &mut Shapes,
+        cause: Option<&Cause>,
+    ) -> Result<Option<Lack>, OutOfMemory> {
+        let Some(cause) = cause else {
+            return Ok(None);
+        };
+        match (cause.step, self.machine.name(cause.state)) {
+            (Step::Flows(edge), Some(name)) => {
+                let takes = self.taken_by(shapes, name)?;
+                let apart = difference(self.alloc, shapes, edge.flowing, takes, "the task")?;
+                Ok(Some(apart.lack))
+            }
+            _ => Ok(None),
         }
     }
 
@@ -121,8 +167,9 @@ impl Explainer<'_> {
             front => front,
         };
         Ok(format!(in self.alloc;
-            "See that {list} is always a list that is long enough: \"prefixItems\" with \"minItems\" declares the elements that are \
-            always there. A Map goes over all elements, however many."
+            "See that {list} is always a list that is long enough: where it comes from the machine's input or from a task, \
+            \"prefixItems\" with \"minItems\" declares the elements that are always there. A Map goes over all elements, however \
+            many."
         )?)
     }
 
@@ -137,7 +184,7 @@ impl Explainer<'_> {
     ) -> Result<String, OutOfMemory> {
         let mut text = self.help_to_have(field, whole, &stop.absent, cause, on_some_way)?;
         if stop.is_narrowed {
-            text.push_str(self.words_on_test(field, cause))?;
+            text.push_str(self.words_on_test(field, whole, cause))?;
         }
         text.push_str(".")?;
         if stop.is_anything {
@@ -170,6 +217,12 @@ impl Explainer<'_> {
         if on_some_way {
             return Ok(format!(in self.alloc; "See that {whole} has {absent} on that way, too")?);
         }
+        if whole == ITEM {
+            return Ok(format!(in self.alloc;
+                "See that each item has {absent}; where the list comes from the machine's input or from a task, and each item always \
+                has it, say so in what is declared of its \"items\""
+            )?);
+        }
         if self.is_at_start(cause) {
             return Ok(format!(in self.alloc;
                 "See that {whole} has {absent}; if the machine's input always has it, say so in the declared \"input\""
@@ -182,9 +235,12 @@ impl Explainer<'_> {
     }
 
     /// How to test for a field.
-    fn words_on_test(&self, field: &str, cause: &Cause) -> &'static str {
+    fn words_on_test(&self, field: &str, whole: &str, cause: &Cause) -> &'static str {
         if self.own_result(cause.state, field).is_some() {
             return "; or do without it here, and test for it by IsPresent in a Choice behind";
+        }
+        if whole == ITEM {
+            return "; or hand on the whole item, and test for it by IsPresent in a Choice with which the processor begins";
         }
         match field {
             "Choices" => "; or test for it first in the rule, by an And with IsPresent in front",

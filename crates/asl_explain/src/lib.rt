@@ -6,6 +6,7 @@
 #![tactic(auto)]
 
 mod by_state;
+mod calls;
 mod causes;
 mod differences;
 mod explaining;

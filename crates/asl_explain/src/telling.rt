@@ -51,14 +51,14 @@ impl<'m> Explainer<'m> {
         cause: &Cause<'m>,
     ) -> Result<usize, OutOfMemory> {
         self.push_there(shapes, text, cause)?;
+        let others = self.push_origins(shapes, walks, text, located, cause)?;
         if let FindingFault::NoDefault = located.finding.fault {
             let tree = self.unchosen(shapes, cause)?;
             push_example(self.alloc, text, "For example, no rule is true of: ", &tree)?;
-            return Ok(0);
+        } else {
+            let tree = self.example_of(shapes, cause)?;
+            push_example(self.alloc, text, "For example: ", &tree)?;
         }
-        let others = self.push_origins(shapes, walks, text, located, cause)?;
-        let example = self.example_of(shapes, cause)?;
-        push_example(self.alloc, text, "For example: ", &example)?;
         Ok(others)
     }
 

@@ -17,6 +17,9 @@ use asl_tree::{OutOfMemory, Tree};
 /// What stands in front of what is known.
 const THERE: &str = "What is there: ";
 
+/// What a path to a Map's item is looked up in.
+pub(crate) const ITEM: &str = "the item";
+
 impl Explainer<'_> {
     /// Puts down what is known where the rule is broken.
     pub(crate) fn push_there(
@@ -51,7 +54,8 @@ impl Explainer<'_> {
                 }
             }
             (FindingFault::IntrinsicMayFail, _) => {
-                self.push_called(shapes, text, cause, broken.field)
+                self.push_called(shapes, text, cause, broken.field)?;
+                self.push_doubtful_calls(shapes, text, cause, broken.field)
             }
             _ => self.push_effective(shapes, text, cause),
         }
@@ -82,8 +86,8 @@ impl Explainer<'_> {
         push_line(text, "It is looked up in: ", &told)
     }
 
-    /// What a path of that field is looked up in, which has the shape of that number: of a Map's ItemSelector the effective
-    /// input or the item.
+    /// What a path of that field is looked up in, which has the shape of that number: of Parameters the input, or what
+    /// InputPath names in it; of a Map's ItemSelector the effective input or the item.
     pub(crate) fn whole_at(
         &self,
         shapes: &mut Shapes,
@@ -91,12 +95,15 @@ impl Explainer<'_> {
         field: &str,
         number: usize,
     ) -> Result<&'static str, OutOfMemory> {
+        if field == "Parameters" && !self.goes_into_input(cause.state, field) {
+            return Ok("what InputPath names");
+        }
         if field != "ItemSelector" {
             return Ok(whole_of(field));
         }
         match self.effective_of(shapes, cause.state, cause.input)? {
             Some(effective) if effective == number => Ok("the effective input"),
-            Some(_) | None => Ok("the item"),
+            Some(_) | None => Ok(ITEM),
         }
     }
 
@@ -127,7 +134,10 @@ impl Explainer<'_> {
             self.machine.name(cause.state),
         ) {
             ("Parameters", _, _) => match self.taken_of(shapes, cause.state, cause.input)? {
-                Some(taken) => self.push_whole(shapes, text, whole_of(field), taken),
+                Some(taken) => {
+                    let whole = self.whole_at(shapes, cause, field, taken)?;
+                    self.push_whole(shapes, text, whole, taken)
+                }
                 None => Ok(()),
             },
             ("ResultSelector", Some(state), Some(name))
@@ -239,7 +249,7 @@ impl Explainer<'_> {
         let wanted = noted(self.alloc, shapes, takes)?;
         push_line(text, "What the task takes: ", &wanted)?;
         let apart = difference(self.alloc, shapes, edge.flowing, takes, "the task")?;
-        push_line(text, "Where it doesn't fit: ", &apart)
+        push_line(text, "Where it doesn't fit: ", &apart.text)
     }
 
     /// A tree that shows the rule to be broken with this data: one in which the path names nothing, or a payload that the task

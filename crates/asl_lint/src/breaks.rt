@@ -37,7 +37,7 @@ pub(crate) fn break_of(alloc: Global, text: &[u8]) -> Result<Break, OutOfMemory>
 
 /// Where a text in UTF-8 that is no JSON breaks: where it can't go on, or at a number, if it is of the right form.
 fn break_in(alloc: Global, text: &str) -> Result<Break, OutOfMemory> {
-    match fault_in(text) {
+    match fault_in(alloc, text)? {
         Some(fault) => Ok(Break {
             byte: fault.byte,
             reason: Reason::Fault(fault.kind),

@@ -1,7 +1,12 @@
 use Rattle.std.proofs.lemmas.Result.{IfOk-weaker}
+use Rattle.asl_explain.proofs.Findings.{explains}
 use Rattle.asl_explain.proofs.Yes.{exactly}
 use Rattle.asl_explain.proofs.explaining.explain_texts.Goals as goal
 
 pub returns-in-None-clause-exactly : goal.returns-in-None-clause-exactly
 returns-in-None-clause-exactly c =
     λ _. IfOk-weaker c.explain_verified.result _ _ (λ told same. exactly c.args.max_rounds c.args.definition.now c.args.declared.now c.in_ok-verified.verified told c.in_ok-verified.ensures.verdict c.in_ok-verified.ensures.otherwise same) c.explain_verified.ensures.exactly
+
+pub returns-in-None-clause-findings : goal.returns-in-None-clause-findings
+returns-in-None-clause-findings c =
+    λ _. IfOk-weaker c.explain_verified.result _ _ (λ told same. explains c.args.max_rounds c.args.definition.now c.args.declared.now c.in_ok-verified.verified told c.in_ok-verified.ensures.verdict c.in_ok-verified.ensures.otherwise same) c.explain_verified.ensures.answers
