@@ -13,6 +13,7 @@
 <<twins N over K>>  the same, each of the objects whose fields a and b have to be there, and have the shape in front of it
 <<lists or null N over K>>  the same of lists, and of pairs and twins, each of null too
 <<all of PATH>>     the file with that path from the top of the repository
+<<all of PATH, OLD => NEW>>     the same with NEW in place of OLD, which stands in it once
 """
 
 import pathlib
@@ -68,10 +69,19 @@ def made_part(part):
         spelling = or_null(SPELLINGS[listed[1]]) if listed[2] else SPELLINGS[listed[1]]
         return chained(spelling, int(listed[3]), int(listed[4])).encode()
     if part.startswith("all of "):
-        return (TOP / part[len("all of "):]).read_bytes()
+        return file_with(*part[len("all of "):].partition(", ")[::2])
     if part.startswith("bytes "):
         return bytes.fromhex(part[len("bytes "):])
     raise ValueError(f"nothing makes <<{part}>>")
+
+
+def file_with(path, change):
+    """Returns the bytes of a file, changed as `OLD => NEW` says, where it says something."""
+    text = (TOP / path).read_bytes()
+    old, _, new = change.partition(" => ")
+    if old and text.count(old.encode()) != 1:
+        raise ValueError(f"'{old}' doesn't stand once in {path}")
+    return text.replace(old.encode(), new.encode()) if old else text
 
 
 # A shape over the one of number K.

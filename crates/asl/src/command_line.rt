@@ -1,10 +1,13 @@
 //! What the command line asks for, read by `clap`.
 
 use crate::commands::{
-    ANSWERS, CERTIFICATE, DECLARED, DECLARED_FILE, DEFINITION, DENY_WARNINGS, FILE, FILES, FORMAT,
-    INPUT, MAX_STEPS, NUMBERED, OPEN, ORDER, SAMPLE, SHELL, STATE, command_named, program,
+    ANSWERS, CASE, CERTIFICATE, COVERAGE, DECLARED, DECLARED_FILE, DEFINITION, DENY_WARNINGS, FILE,
+    FILES, FORMAT, INPUT, MAX_STEPS, NUMBERED, OPEN, ORDER, SAMPLE, SHAPES, SHELL, STATE, SUITE,
+    command_named, program,
 };
 use crate::files::is_input;
+use asl_graph::Format as GraphFormat;
+use asl_results::Format as ReportFormat;
 use asl_tool::Pick;
 use clap::error::ErrorKind;
 use clap::{ArgMatches, Error};
@@ -33,6 +36,10 @@ pub(crate) enum Request<'a> {
     Declare(&'a str),
     /// To tell the shape of samples.
     Shape(ShapeRequest<'a>),
+    /// To run the cases of test suites.
+    Test(TestRequest<'a>),
+    /// To print a picture of a machine.
+    Graph(GraphRequest<'a>),
     /// To print the completions for a shell.
     Complete(Shell),
 }
@@ -110,6 +117,28 @@ pub(crate) struct ShapeRequest<'a> {
     pub(crate) names: Vec<&'a str>,
     /// Whether objects may have other fields than the samples have.
     pub(crate) is_open: bool,
+}
+
+/// Which suites are tested, and how it is told.
+#[derive(Drop)]
+pub(crate) struct TestRequest<'a> {
+    /// Files, at least one.
+    pub(crate) names: Vec<&'a str>,
+    /// The name of the only case that is to be run.
+    pub(crate) case: Option<&'a str>,
+    pub(crate) format: ReportFormat,
+    /// Whether it is told what no case took.
+    pub(crate) coverage: bool,
+}
+
+/// Of what a picture is printed, by the names of the files with the texts, and how.
+#[derive(Drop)]
+pub(crate) struct GraphRequest<'a> {
+    pub(crate) definition: &'a str,
+    pub(crate) declared: Option<&'a str>,
+    pub(crate) format: GraphFormat,
+    /// Whether the shape of what goes along each edge is told.
+    pub(crate) shapes: bool,
 }
 
 /// A shell that completes the words of a command line.
@@ -196,6 +225,8 @@ fn request_of<'a>(
         "explain" => Request::Explain(explain_request(given)),
         "declare" => Request::Declare(file_named(given, DEFINITION)),
         "shape" => Request::Shape(shape_request(alloc, given)?),
+        "test" => Request::Test(test_request(alloc, given)?),
+        "graph" => Request::Graph(graph_request(given)),
         "completions" => Request::Complete(shell_of(given)),
         _ => Request::CheckInput,
     })
@@ -277,6 +308,35 @@ fn shape_request<'a>(
         names: files_named(alloc, given, SAMPLE)?,
         is_open: given.get_flag(OPEN),
     })
+}
+
+/// What the arguments of the command `test` ask for. The format has a default, so it has a value.
+///
+/// Refused: OutOfMemory.
+fn test_request<'a>(alloc: Global, given: &ArgMatches<'a>) -> Result<TestRequest<'a>, AllocError> {
+    Ok(TestRequest {
+        names: files_named(alloc, given, SUITE)?,
+        case: given.get_str(CASE),
+        format: match given.get_str(FORMAT) {
+            Some("json") => ReportFormat::Json,
+            Some("junit") => ReportFormat::Junit,
+            _ => ReportFormat::Text,
+        },
+        coverage: given.get_flag(COVERAGE),
+    })
+}
+
+/// What the arguments of the command `graph` ask for. The format has a default, so it has a value.
+fn graph_request<'a>(given: &ArgMatches<'a>) -> GraphRequest<'a> {
+    GraphRequest {
+        definition: file_named(given, DEFINITION),
+        declared: given.get_str(DECLARED_FILE),
+        format: match given.get_str(FORMAT) {
+            Some("dot") => GraphFormat::Dot,
+            _ => GraphFormat::Mermaid,
+        },
+        shapes: given.get_flag(SHAPES),
+    }
 }
 
 /// The shell that the argument of the command `completions` names. It is required, so it has a value.

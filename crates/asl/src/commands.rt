@@ -20,13 +20,15 @@ pub(crate) const FILE: &str = "FILE";
 
 pub(crate) const SAMPLE: &str = "SAMPLE";
 
+pub(crate) const SUITE: &str = "SUITE";
+
 pub(crate) const SHELL: &str = "SHELL";
 
 /// The option with the file of the declared shapes.
 pub(crate) const DECLARED_FILE: &str = "declared";
 
 /// The arguments that are names of files.
-pub(crate) const FILES: [&str; 8] = [
+pub(crate) const FILES: [&str; 9] = [
     DEFINITION,
     DECLARED,
     CERTIFICATE,
@@ -34,6 +36,7 @@ pub(crate) const FILES: [&str; 8] = [
     ANSWERS,
     FILE,
     SAMPLE,
+    SUITE,
     DECLARED_FILE,
 ];
 
@@ -52,9 +55,19 @@ pub(crate) const STATE: &str = "state";
 
 pub(crate) const OPEN: &str = "open";
 
+pub(crate) const CASE: &str = "case";
+
+pub(crate) const COVERAGE: &str = "coverage";
+
+pub(crate) const SHAPES: &str = "shapes";
+
 const ORDERS: [&str; 2] = ["first", "last"];
 
 const FORMATS: [&str; 4] = ["text", "json", "sarif", "github"];
+
+const REPORT_FORMATS: [&str; 3] = ["text", "json", "junit"];
+
+const GRAPH_FORMATS: [&str; 2] = ["mermaid", "dot"];
 
 const SHELLS: [&str; 3] = ["bash", "zsh", "fish"];
 
@@ -112,6 +125,19 @@ const AFTER_SHAPE_HELP: &str = "\
 Each sample is a JSON value whose numbers are whole. It prints one shape, which every sample has: a
 field that some samples lack isn't required. The exit status is 0, and 2 where a sample can't be read.";
 
+/// What stands below the help of the command `test`.
+const AFTER_TEST_HELP: &str = "\
+A suite is JSON: the names of the files with the definition and the declared shapes, from its own folder
+on, and cases, each with an input, answers by state in the order of attempts, and what is expected. It
+prints a line for each case. The exit status is 0 where all cases pass, 1 where one doesn't, and 2 where
+a suite can't be read or no suite has the case.";
+
+/// What stands below the help of the command `graph`.
+const AFTER_GRAPH_HELP: &str = "\
+It prints a flowchart for Mermaid, as in a fenced block on GitHub, or a graph for dot. With declared
+shapes, states with findings are red, and states to which no data comes are grey. The exit status is 0,
+1 where the shapes don't settle, and 2 where a text is refused.";
+
 /// What stands below the help of the command `completions`.
 const AFTER_COMPLETIONS_HELP: &str = "\
 For bash: asl completions bash > ~/.local/share/bash-completion/completions/asl
@@ -152,6 +178,8 @@ fn commands<'a>(alloc: Global) -> Result<Vec<Command<'a>>, AllocError> {
         explain_command(alloc)?,
         declare_command(alloc)?,
         shape_command(alloc)?,
+        test_command(alloc)?,
+        graph_command(alloc)?,
         completions_command(alloc)?,
     ]?)
 }
@@ -258,6 +286,40 @@ fn shape_command<'a>(alloc: Global) -> Result<Command<'a>, AllocError> {
             OPEN,
             "Let objects have other fields, too, of any shape",
         ))
+}
+
+/// The command `test`.
+fn test_command<'a>(alloc: Global) -> Result<Command<'a>, AllocError> {
+    Command::new(alloc, "test")
+        .about("Run the cases of test suites")
+        .after_help(AFTER_TEST_HELP)
+        .arg(files(alloc, SUITE, "Files with a suite each"))?
+        .arg(option(alloc, CASE, "NAME").help("Run the case of this name alone"))?
+        .arg(choice(alloc, FORMAT, "FORMAT", REPORT_FORMATS.as_slice(), "text").help(
+            "How it is told",
+        ))?
+        .arg(flag(
+            alloc,
+            COVERAGE,
+            "Tell which states, rules, retriers and catchers no case took",
+        ))
+}
+
+/// The command `graph`.
+fn graph_command<'a>(alloc: Global) -> Result<Command<'a>, AllocError> {
+    Command::new(alloc, "graph")
+        .about("Print a picture of a state machine")
+        .after_help(AFTER_GRAPH_HELP)
+        .arg(definition(alloc))?
+        .arg(option(alloc, DECLARED_FILE, "FILE").help(
+            "File with the declared shapes, by which findings are shown",
+        ))?
+        .arg(choice(alloc, FORMAT, "FORMAT", GRAPH_FORMATS.as_slice(), "mermaid").help(
+            "What it is written for",
+        ))?
+        .arg(flag(alloc, SHAPES, "Tell the shape of what goes along each edge").requires_arg(
+            DECLARED_FILE,
+        )?)
 }
 
 /// The command `completions`.

@@ -2,7 +2,7 @@
 
 use crate::command_line::ExplainRequest;
 use crate::endings::{end, finish, or_out_of_memory};
-use crate::files::file_text;
+use crate::files::text_or_status;
 use crate::inferring::ROUNDS;
 use crate::printing::print_text;
 use asl_explain::{Explained, explain_texts};
@@ -11,28 +11,34 @@ use asl_tree::{OutOfMemory, Tree, to_text};
 use std::alloc::Global;
 use std::rt::Files;
 
-/// Explains the findings on the texts in two files, or what comes to a state, on standard output, and gives the exit status.
+/// Explains the findings on the texts in two files, or what comes to a state, on standard output, and gives the exit status. Both
+/// files are read, the definition first, before a text is looked at; one that can't be read is told on standard error.
 pub(crate) fn explain_files<R: Files + Input + Print + Eprint + AllocGlobal>(
     rt: &R,
     request: &ExplainRequest<'_>,
 ) -> u8 {
-    end(rt, explained_on(rt, request))
+    let definition = match text_or_status(rt, request.files.definition) {
+        Ok(text) => text,
+        Err(status) => return status,
+    };
+    match text_or_status(rt, request.files.declared) {
+        Ok(declared) => end(rt, explained_on(rt, request, &definition, &declared)),
+        Err(status) => status,
+    }
 }
 
 /// Explains what is asked for, and gives the exit status: 1 for findings, 2 for a state that isn't there. That there is
-/// nothing to explain, or no such state, goes to standard error. Both files are read, the definition first, before a text is
-/// looked at.
+/// nothing to explain, or no such state, goes to standard error.
 ///
-/// Refused: Read for a file that can't be opened or read, TooLong for one that is too long, the first of them; Text for
-/// a refused text; Write; OutOfMemory.
-fn explained_on<R: Files + Input + Print + Eprint + AllocGlobal>(
+/// Refused: Text for a refused text; Write; OutOfMemory.
+fn explained_on<R: Print + Eprint + AllocGlobal>(
     rt: &R,
     request: &ExplainRequest<'_>,
+    definition: &[u8],
+    declared: &[u8],
 ) -> Result<u8, RunFault> {
-    let definition = file_text(rt, request.files.definition)?;
-    let declared = file_text(rt, request.files.declared)?;
     let alloc = rt.alloc();
-    match explain_texts(alloc, &definition, &declared, request.state, ROUNDS)? {
+    match explain_texts(alloc, definition, declared, request.state, ROUNDS)? {
         Explained::Nothing => {
             let _ = rt.eprint("nothing to explain: verify says yes\n");
             Ok(0)

@@ -1,6 +1,7 @@
 //! The texts in files.
 
-use asl_tool::{FromRead, RunFault, read_text};
+use crate::endings::finish;
+use asl_tool::{Closing, FromRead, RunFault, read_text};
 use asl_tree::OutOfMemory;
 use std::alloc::Global;
 use std::fs;
@@ -34,6 +35,16 @@ impl Unread {
             Unread::Fault(fault) => Ok(format!(in alloc; "{fault}")?),
             Unread::Failed(error) if error.kind() == ErrorKind::OutOfMemory => Err(OutOfMemory),
             Unread::Failed(error) => Ok(format!(in alloc; "{error}")?),
+        }
+    }
+}
+
+impl Unread {
+    /// The exit status of a command that needs it.
+    fn status(&self) -> u8 {
+        match self {
+            Unread::Fault(RunFault::TooLong) => 2,
+            Unread::Fault(_) | Unread::Failed(_) => 5,
         }
     }
 }
@@ -100,4 +111,31 @@ pub(crate) fn text_or_why<R: Files + Input + AllocGlobal>(
         Ok(text) => Ok(text),
         Err(fault) => Err(Unread::Fault(fault)),
     }
+}
+
+/// All bytes of a file, or of standard input. Where it can't be read, its name and the reason go to standard error, and the
+/// exit status comes back.
+pub(crate) fn text_or_status<R: Files + Input + Eprint + AllocGlobal>(
+    rt: &R,
+    name: &str,
+) -> Result<Vec<u8>, u8> {
+    let why = match text_or_why(rt, name) {
+        Ok(text) => return Ok(text),
+        Err(why) => why,
+    };
+    match line_on(rt.alloc(), name, &why) {
+        Ok(line) => {
+            let _ = rt.eprint(&line);
+            Err(why.status())
+        }
+        Err(_) => Err(finish(rt, &Closing::Fault(RunFault::OutOfMemory))),
+    }
+}
+
+/// The line that tells why a file can't be read.
+///
+/// Refused: OutOfMemory, also where that is the reason.
+fn line_on(alloc: Global, name: &str, why: &Unread) -> Result<String, OutOfMemory> {
+    let words = why.words(alloc)?;
+    Ok(format!(in alloc; "{name}: {words}\n")?)
 }

@@ -5,7 +5,9 @@
 //! answers from files, and writes the trace. By the command `lint` it takes definitions, and tells all that is wrong with
 //! them, each with its place. By the command `explain` it takes what `verify` takes, and tells why its findings stand. By
 //! the commands `declare` and `shape` it takes a definition, or samples of data, and writes shapes to begin with. By the
-//! command `completions` it writes a script for a shell. A file may be standard input, by the name `-`.
+//! command `test` it takes suites of test cases, and tells which of them pass; by the command `graph` a definition, and
+//! writes a picture of it. By the command `completions` it writes a script for a shell. A file may be standard input, by the
+//! name `-`.
 #![tactic(auto)]
 
 mod checking;
@@ -17,12 +19,16 @@ mod definitions;
 mod endings;
 mod explaining;
 mod files;
+mod graphing;
 mod inferring;
 mod linting;
 mod printing;
+mod reading;
 mod reports;
 mod running;
 mod sampling;
+mod suites;
+mod testing;
 
 use checking::{check_files, check_input};
 use command_line::{Request, asked, words};
@@ -30,12 +36,14 @@ use completions::print_completions;
 use declaring::declare_file;
 use endings::refuse;
 use explaining::explain_files;
+use graphing::graph_file;
 use inferring::{infer_files, verify_files};
 use linting::lint_files;
 use running::run_files;
 use sampling::shape_files;
 use std::process::ExitCode;
 use std::rt::{Env, Files};
+use testing::test_files;
 
 fn main(rt: HostRuntime) -> ExitCode {
     ExitCode::from(run(&rt))
@@ -57,6 +65,8 @@ fn run<R: Env + Files + Input + Print + Eprint + AllocGlobal + Clone + Drop>(rt:
         Ok(Request::Explain(request)) => explain_files(rt, &request),
         Ok(Request::Declare(name)) => declare_file(rt, name),
         Ok(Request::Shape(request)) => shape_files(rt, &request),
+        Ok(Request::Test(request)) => test_files(rt, &request),
+        Ok(Request::Graph(request)) => graph_file(rt, &request),
         Ok(Request::Complete(shell)) => print_completions(rt, shell),
         Err(error) => refuse(rt, &error),
     }

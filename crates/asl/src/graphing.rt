@@ -1,0 +1,49 @@
+//! From a definition to a picture of it, on standard output.
+
+use crate::command_line::GraphRequest;
+use crate::endings::{end, finish};
+use crate::files::text_or_status;
+use crate::inferring::ROUNDS;
+use crate::printing::print_text;
+use asl_graph::{Drawn, graph_texts};
+use asl_tool::{Closing, RunFault};
+use std::rt::Files;
+
+/// Writes a picture of the definition in a file to standard output, and gives the exit status. The definition and then the
+/// declared shapes are read before a text is looked at; a file that can't be read is told on standard error.
+pub(crate) fn graph_file<R: Files + Input + Print + Eprint + AllocGlobal>(
+    rt: &R,
+    request: &GraphRequest<'_>,
+) -> u8 {
+    let definition = match text_or_status(rt, request.definition) {
+        Ok(text) => text,
+        Err(status) => return status,
+    };
+    let Some(name) = request.declared else {
+        return end(rt, graphed_on(rt, request, &definition, None));
+    };
+    match text_or_status(rt, name) {
+        Ok(declared) => end(rt, graphed_on(rt, request, &definition, Some(&declared))),
+        Err(status) => status,
+    }
+}
+
+/// Writes a picture of a definition, and gives the exit status.
+///
+/// Refused: Text for a refused text; Write; OutOfMemory.
+fn graphed_on<R: Print + Eprint + AllocGlobal>(
+    rt: &R,
+    request: &GraphRequest<'_>,
+    definition: &[u8],
+    declared: Option<&[u8]>,
+) -> Result<u8, RunFault> {
+    let (format, shapes) = (request.format, request.shapes);
+    let drawn = graph_texts(rt.alloc(), definition, declared, format, shapes, ROUNDS)?;
+    match drawn {
+        Drawn::Graph(text) => {
+            print_text(rt, &text)?;
+            Ok(0)
+        }
+        Drawn::NotSettled => Ok(finish(rt, &Closing::NotSettled)),
+    }
+}

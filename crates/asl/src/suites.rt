@@ -1,0 +1,324 @@
+//! Suites of test cases with the files that they name.
+
+use crate::files::text_or_why;
+use crate::reading::{declared_in, machine_in};
+use asl_cases::mistake_in;
+use asl_diagnostics::rule_of_text;
+use asl_machine::Machine;
+use asl_records::Declared;
+use asl_suites::{
+    Case, CaseAnswers, Expected, Input as CaseInput, Mocks, SuiteRefusal, read_mocks, read_suite,
+};
+use asl_tool::{Closing, RunFault, closing};
+use asl_tree::{OutOfMemory, Tree, TreeRefusal, read};
+use std::alloc::Global;
+use std::rt::Files;
+
+/// Why a suite can't be used.
+#[derive(Drop)]
+pub(crate) enum Unfit {
+    /// In words, behind the place in the suite where it isn't as it should be, and behind the name of the file, where that is
+    /// another one.
+    Why(String),
+    OutOfMemory,
+}
+
+impl From<OutOfMemory> for Unfit {
+    fn from(_error: OutOfMemory) -> Unfit {
+        Unfit::OutOfMemory
+    }
+}
+
+/// A suite that is read with all the files that it names.
+#[derive(Drop)]
+pub(crate) struct Loaded {
+    pub(crate) machine: Machine,
+    pub(crate) declared: Option<Declared>,
+    pub(crate) cases: Vec<LoadedCase>,
+}
+
+/// A case that can be played.
+#[derive(Drop)]
+pub(crate) struct LoadedCase {
+    pub(crate) name: String,
+    pub(crate) input: Tree,
+    pub(crate) answers: CaseAnswers,
+    pub(crate) expected: Expected,
+}
+
+/// A file with mocks that a suite names.
+#[derive(Drop)]
+struct MockFile {
+    path: String,
+    mocks: Mocks,
+}
+
+/// The suite in a file, with the definition, the declared shapes, the mocks and the inputs that it names.
+///
+/// Refused: in words where one of these can't be read, or where a case has a name that the machine hasn't; OutOfMemory.
+pub(crate) fn load<R: Files + Input + AllocGlobal>(rt: &R, name: &str) -> Result<Loaded, Unfit> {
+    let alloc = rt.alloc();
+    let suite = match read_suite(alloc, tree_in(rt, name)?) {
+        Ok(suite) => suite,
+        Err(refusal) => return Err(unfit_suite(alloc, refusal)?),
+    };
+    let machine = match machine_of(rt, &beside(alloc, name, &suite.definition)?) {
+        Ok(machine) => machine,
+        Err(why) => return Err(at(alloc, "definition", why)?),
+    };
+    let declared = match &suite.declared {
+        Some(declared) => match declared_of(rt, &beside(alloc, name, declared)?) {
+            Ok(declared) => Some(declared),
+            Err(why) => return Err(at(alloc, "declared", why)?),
+        },
+        None => None,
+    };
+    let mocks = match &suite.mocks {
+        Some(source) => {
+            let path = beside(alloc, name, &source.file)?;
+            Some(mocks_in(rt, path, &source.state_machine)?)
+        }
+        None => None,
+    };
+    let cases = load_cases(rt, name, &machine, &mocks, suite.cases)?;
+    Ok(Loaded {
+        machine,
+        declared,
+        cases,
+    })
+}
+
+/// The cases of a suite, as they can be played.
+///
+/// Refused: in words where one can't; OutOfMemory.
+fn load_cases<R: Files + Input + AllocGlobal>(
+    rt: &R,
+    suite: &str,
+    machine: &Machine,
+    mocks: &Option<MockFile>,
+    cases: Vec<Case>,
+) -> Result<Vec<LoadedCase>, Unfit> {
+    let mut loaded = Vec::new(rt.alloc());
+    for (number, case) in cases.into_iter().enumerate() {
+        let case = load_case(rt, suite, number, mocks, case)?;
+        if let Some(mistake) = mistake_in(rt.alloc(), machine, &case.answers, &case.expected)? {
+            let place = place_of(rt.alloc(), number, "")?;
+            return Err(at(rt.alloc(), &place, Unfit::Why(mistake))?);
+        }
+        if loaded.push(case).is_err() {
+            return Err(Unfit::OutOfMemory);
+        }
+    }
+    Ok(loaded)
+}
+
+/// The case of that number, with its input and its answers.
+///
+/// Refused: in words where its input can't be read, or there is no such test case; OutOfMemory.
+fn load_case<R: Files + Input + AllocGlobal>(
+    rt: &R,
+    suite: &str,
+    number: usize,
+    mocks: &Option<MockFile>,
+    case: Case,
+) -> Result<LoadedCase, Unfit> {
+    let Case {
+        name,
+        input,
+        answers,
+        test_case,
+        expected,
+    } = case;
+    Ok(LoadedCase {
+        name,
+        input: input_of(rt, suite, number, input)?,
+        answers: match (test_case, mocks) {
+            (Some(test_case), Some(mocks)) => mocks.added_to(rt.alloc(), answers, &test_case)?,
+            _ => answers,
+        },
+        expected,
+    })
+}
+
+/// The input of the case of that number.
+///
+/// Refused: in words where its file can't be read; OutOfMemory.
+fn input_of<R: Files + Input + AllocGlobal>(
+    rt: &R,
+    suite: &str,
+    number: usize,
+    input: CaseInput,
+) -> Result<Tree, Unfit> {
+    let name = match input {
+        CaseInput::Given(tree) => return Ok(tree),
+        CaseInput::File(name) => name,
+    };
+    let path = beside(rt.alloc(), suite, &name)?;
+    match tree_of(rt, &path) {
+        Ok(tree) => Ok(tree),
+        Err(why) => {
+            let place = place_of(rt.alloc(), number, ".inputFile")?;
+            Err(at(rt.alloc(), &place, why)?)
+        }
+    }
+}
+
+/// The place in a suite of the case of that number, or of a field of it.
+fn place_of(alloc: Global, number: usize, field: &str) -> Result<String, OutOfMemory> {
+    Ok(format!(in alloc; "cases[{number}]{field}")?)
+}
+
+impl MockFile {
+    /// The answers of a case, and for states without some those of the test case of that name.
+    ///
+    /// Refused: in words where there is no such test case; OutOfMemory.
+    fn added_to(
+        &self,
+        alloc: Global,
+        answers: CaseAnswers,
+        name: &str,
+    ) -> Result<CaseAnswers, Unfit> {
+        match self.mocks.answers(alloc, name) {
+            Ok(mocked) => Ok(answers.or_mocked(mocked)?),
+            Err(refusal) => Err(unfit_mocks(alloc, &self.path, refusal)?),
+        }
+    }
+}
+
+/// The mocks in a file for the state machine of that name.
+///
+/// Refused: in words where they can't be read; OutOfMemory.
+fn mocks_in<R: Files + Input + AllocGlobal>(
+    rt: &R,
+    path: String,
+    state_machine: &str,
+) -> Result<MockFile, Unfit> {
+    let tree = match tree_of(rt, &path) {
+        Ok(tree) => tree,
+        Err(why) => return Err(at(rt.alloc(), MOCKS, why)?),
+    };
+    match read_mocks(rt.alloc(), tree, state_machine) {
+        Ok(mocks) => Ok(MockFile { path, mocks }),
+        Err(refusal) => Err(unfit_mocks(rt.alloc(), &path, refusal)?),
+    }
+}
+
+/// The place in a suite of the name of a mock file.
+const MOCKS: &str = "mocks.file";
+
+/// That a file has no such mocks.
+fn unfit_mocks(alloc: Global, path: &str, refusal: SuiteRefusal) -> Result<Unfit, OutOfMemory> {
+    let why = unfit_suite(alloc, refusal)?;
+    at(alloc, MOCKS, at(alloc, path, why)?)
+}
+
+/// The machine that the text of a file stands for.
+///
+/// Refused: in words where it can't be read, or is no definition; OutOfMemory.
+fn machine_of<R: Files + Input + AllocGlobal>(rt: &R, path: &str) -> Result<Machine, Unfit> {
+    let text = text_of(rt, path)?;
+    match machine_in(rt.alloc(), &text) {
+        Ok(machine) => Ok(machine),
+        Err(fault) => Err(at(rt.alloc(), path, unfit_text(rt.alloc(), fault)?)?),
+    }
+}
+
+/// The declared shapes that the text of a file stands for.
+///
+/// Refused: in words where it can't be read, or isn't declared shapes; OutOfMemory.
+fn declared_of<R: Files + Input + AllocGlobal>(rt: &R, path: &str) -> Result<Declared, Unfit> {
+    let text = text_of(rt, path)?;
+    match declared_in(rt.alloc(), &text) {
+        Ok(declared) => Ok(declared),
+        Err(fault) => Err(at(rt.alloc(), path, unfit_text(rt.alloc(), fault)?)?),
+    }
+}
+
+/// All bytes of a file that a suite names.
+///
+/// Refused: in words where it can't be read; OutOfMemory.
+fn text_of<R: Files + Input + AllocGlobal>(rt: &R, path: &str) -> Result<Vec<u8>, Unfit> {
+    match text_or_why(rt, path) {
+        Ok(text) => Ok(text),
+        Err(why) => Err(at(rt.alloc(), path, Unfit::Why(why.words(rt.alloc())?))?),
+    }
+}
+
+/// The tree that the text of a file is which a suite names.
+///
+/// Refused: in words where it can't be read, or is no JSON with whole numbers; OutOfMemory.
+fn tree_of<R: Files + Input + AllocGlobal>(rt: &R, path: &str) -> Result<Tree, Unfit> {
+    match tree_in(rt, path) {
+        Ok(tree) => Ok(tree),
+        Err(why) => Err(at(rt.alloc(), path, why)?),
+    }
+}
+
+/// The tree that the text of a file is.
+///
+/// Refused: in words where it can't be read, or is no JSON with whole numbers; OutOfMemory.
+fn tree_in<R: Files + Input + AllocGlobal>(rt: &R, path: &str) -> Result<Tree, Unfit> {
+    let text = match text_or_why(rt, path) {
+        Ok(text) => text,
+        Err(why) => return Err(Unfit::Why(why.words(rt.alloc())?)),
+    };
+    match read(rt.alloc(), &text) {
+        Ok(tree) => Ok(tree),
+        Err(refusal) => Err(unfit_tree(rt.alloc(), &refusal)?),
+    }
+}
+
+/// That a file is no suite, or has no such mocks.
+fn unfit_suite(alloc: Global, refusal: SuiteRefusal) -> Result<Unfit, OutOfMemory> {
+    let SuiteRefusal::Wrong { place, fault } = refusal else {
+        return Ok(Unfit::OutOfMemory);
+    };
+    let why = Unfit::Why(fault.words(alloc)?);
+    if place.is_empty() {
+        Ok(why)
+    } else {
+        at(alloc, &place, why)
+    }
+}
+
+/// That a file is no JSON, or has a number that isn't whole.
+fn unfit_tree(alloc: Global, refusal: &TreeRefusal) -> Result<Unfit, OutOfMemory> {
+    match rule_of_text(refusal) {
+        Some(rule) => {
+            let id = rule.id;
+            let short = rule.short;
+            Ok(Unfit::Why(format!(in alloc; "{id}: {short}")?))
+        }
+        None => Ok(Unfit::OutOfMemory),
+    }
+}
+
+/// That a text is refused as a definition or as declared shapes.
+fn unfit_text(alloc: Global, fault: RunFault) -> Result<Unfit, OutOfMemory> {
+    if let RunFault::OutOfMemory = fault {
+        return Ok(Unfit::OutOfMemory);
+    }
+    let (_, line) = closing(alloc, &Closing::Fault(fault))?;
+    Ok(Unfit::Why(String::from_str(alloc, line.trim_end())?))
+}
+
+/// The same with that place, or that name of a file, in front.
+fn at(alloc: Global, place: &str, why: Unfit) -> Result<Unfit, OutOfMemory> {
+    match why {
+        Unfit::Why(words) => Ok(Unfit::Why(format!(in alloc; "{place}: {words}")?)),
+        Unfit::OutOfMemory => Ok(Unfit::OutOfMemory),
+    }
+}
+
+/// The path of a file that a suite names: from the suite's own folder on, where it isn't from the root.
+fn beside(alloc: Global, suite: &str, name: &str) -> Result<String, OutOfMemory> {
+    let mut path = String::new(alloc);
+    if !name.starts_with('/') {
+        if let Some((folder, _)) = suite.rsplit_once('/') {
+            path.push_str(folder)?;
+            path.push_str("/")?;
+        }
+    }
+    path.push_str(name)?;
+    Ok(path)
+}

@@ -1,0 +1,200 @@
+//! From suites of test cases to which of them pass, on standard output.
+
+use crate::command_line::TestRequest;
+use crate::endings::{end, or_out_of_memory};
+use crate::printing::print_text;
+use crate::suites::{Loaded, LoadedCase, Unfit, load};
+use asl_cases::{Coverage, difference, play};
+use asl_machine::Machine;
+use asl_records::Declared;
+use asl_results::{CaseResult, SuiteResult, report};
+use asl_tool::RunFault;
+use asl_tree::{OutOfMemory, Tree, to_text};
+use std::alloc::Global;
+use std::rt::Files;
+
+/// How many steps the run of a case takes at most.
+const MOST_STEPS: u64 = 1_000_000;
+
+/// What was tested so far.
+#[derive(Drop)]
+struct Tests {
+    results: Vec<SuiteResult>,
+    /// Lines for standard error, on suites that can't be used.
+    notes: String,
+    /// Such lines on suites that don't have the case that is asked for.
+    absences: String,
+}
+
+/// Plays the cases of the suites in files, writes which pass to standard output, and gives the exit status: 1 where one
+/// doesn't, 2 where a suite can't be used, or none has the case that is asked for, which is told on standard error.
+pub(crate) fn test_files<R: Files + Input + Print + Eprint + AllocGlobal>(
+    rt: &R,
+    request: &TestRequest<'_>,
+) -> u8 {
+    end(rt, tested_on(rt, request))
+}
+
+/// Writes which cases pass, and gives the exit status.
+///
+/// Refused: Write; OutOfMemory.
+fn tested_on<R: Files + Input + Print + Eprint + AllocGlobal>(
+    rt: &R,
+    request: &TestRequest<'_>,
+) -> Result<u8, RunFault> {
+    let tests = or_out_of_memory(tests_in(rt, request))?;
+    let _ = rt.eprint(&tests.notes);
+    let text = or_out_of_memory(report(rt.alloc(), &tests.results, request.format))?;
+    print_text(rt, &text)?;
+    Ok(tests.status())
+}
+
+/// What the suites that are asked for come to.
+fn tests_in<R: Files + Input + AllocGlobal>(
+    rt: &R,
+    request: &TestRequest<'_>,
+) -> Result<Tests, OutOfMemory> {
+    let mut tests = Tests {
+        results: Vec::new(rt.alloc()),
+        notes: String::new(rt.alloc()),
+        absences: String::new(rt.alloc()),
+    };
+    for name in &request.names {
+        match load(rt, name) {
+            Ok(loaded) => tests.add(rt.alloc(), request, name, loaded)?,
+            Err(Unfit::Why(why)) => write!(tests.notes, "{name}: {why}\n")?,
+            Err(Unfit::OutOfMemory) => return Err(OutOfMemory),
+        }
+    }
+    if tests.results.is_empty() {
+        tests.notes.push_str(&tests.absences)?;
+    }
+    Ok(tests)
+}
+
+impl Tests {
+    /// Plays the cases of a suite that are asked for, or notes that it has none of them.
+    fn add(
+        &mut self,
+        alloc: Global,
+        request: &TestRequest<'_>,
+        name: &str,
+        loaded: Loaded,
+    ) -> Result<(), OutOfMemory> {
+        if loaded.cases.iter().any(|case| is_asked_for(request, case)) {
+            let result = result_of(alloc, request, name, loaded)?;
+            self.results.push(result)?;
+            return Ok(());
+        }
+        match request.case {
+            Some(case) => self.note_absence(alloc, name, case, &loaded.cases),
+            None => {
+                let result = result_of(alloc, request, name, loaded)?;
+                self.results.push(result)?;
+                Ok(())
+            }
+        }
+    }
+
+    /// Notes which cases a suite has that doesn't have the one of that name.
+    fn note_absence(
+        &mut self,
+        alloc: Global,
+        suite: &str,
+        case: &str,
+        cases: &[LoadedCase],
+    ) -> Result<(), OutOfMemory> {
+        let case = quoted(alloc, case)?;
+        write!(
+            self.absences,
+            "{suite}: there is no case {case}: its cases are "
+        )?;
+        for (place, other) in cases.iter().enumerate() {
+            if place > 0 {
+                self.absences.push_str(", ")?;
+            }
+            self.absences.push_str(&quoted(alloc, &other.name)?)?;
+        }
+        self.absences.push_str("\n")?;
+        Ok(())
+    }
+
+    /// The exit status.
+    fn status(&self) -> u8 {
+        if !self.notes.is_empty() {
+            2
+        } else if self.results.iter().all(have_passed) {
+            0
+        } else {
+            1
+        }
+    }
+}
+
+/// Whether all cases of a suite have passed.
+fn have_passed(tested: &SuiteResult) -> bool {
+    tested.cases.iter().all(|case| case.difference.is_none())
+}
+
+/// Whether the case is to be played.
+fn is_asked_for(request: &TestRequest<'_>, case: &LoadedCase) -> bool {
+    match request.case {
+        Some(name) => case.name.as_str() == name,
+        None => true,
+    }
+}
+
+/// Which cases of a suite pass, of those that are asked for.
+fn result_of(
+    alloc: Global,
+    request: &TestRequest<'_>,
+    name: &str,
+    loaded: Loaded,
+) -> Result<SuiteResult, OutOfMemory> {
+    let Loaded {
+        machine,
+        declared,
+        cases,
+    } = loaded;
+    let mut coverage = Coverage::new(alloc, &machine)?;
+    let mut results = Vec::new(alloc);
+    for case in cases {
+        if is_asked_for(request, &case) {
+            results.push(result_of_case(alloc, &machine, declared.as_ref(), case, &mut coverage)?)?;
+        }
+    }
+    Ok(SuiteResult {
+        name: String::from_str(alloc, name)?,
+        cases: results,
+        lacking: if request.coverage {
+            Some(coverage.lacking(alloc, &machine)?)
+        } else {
+            None
+        },
+    })
+}
+
+/// Whether a case passes, and if it doesn't, what differs from what it expects.
+fn result_of_case(
+    alloc: Global,
+    machine: &Machine,
+    declared: Option<&Declared>,
+    case: LoadedCase,
+    coverage: &mut Coverage,
+) -> Result<CaseResult, OutOfMemory> {
+    let LoadedCase {
+        name,
+        input,
+        mut answers,
+        expected,
+    } = case;
+    let played = play(alloc, machine, declared, input, &mut answers, MOST_STEPS)?;
+    coverage.add(machine, &played.trace);
+    let difference = difference(alloc, machine, &played, &expected)?;
+    Ok(CaseResult { name, difference })
+}
+
+/// The text as JSON.
+fn quoted(alloc: Global, text: &str) -> Result<String, OutOfMemory> {
+    to_text(alloc, &Tree::Text(String::from_str(alloc, text)?))
+}
