@@ -2,6 +2,7 @@ pub mod CertifiedRows
 pub mod CutAbove
 pub mod DraftShapes
 pub mod DraftsStay
+pub mod OneAnswer
 pub mod PassedOver
 pub mod SettledClosed
 pub mod TakenIn

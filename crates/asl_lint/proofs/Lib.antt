@@ -3,7 +3,6 @@ pub mod Broken
 pub mod Errors
 pub mod Found
 pub mod Lists
-pub mod OneAnswer
 pub mod Outcomes
 pub mod Promises
 pub mod Refusals

@@ -53,13 +53,14 @@ pub fn lint<'f>(
     declared: Option<File<'f>>,
     max_rounds: u32,
 ) -> Result<Linted, OutOfMemory>
-    ensures told { IfOk result
-        (λ linted. Tells max_rounds definition.entry.text.now (text_of declared.entry) linted.diagnostics.items) }
+    ensures told { IfOk result (λ linted. Tells max_rounds definition.entry.text.now
+        (text_of declared.entry) linted.diagnostics.items) }
     ensures exactly { IfOk result (λ linted. WhereDeclared
         (λ text. (has_error linted.diagnostics.items ≡ false)
         ↔ IsVerdictOnInferred max_rounds definition.entry.text.now text Accepted) declared.entry) }
     ensures headline { IfOk result (λ linted. has_error linted.diagnostics.items ≡ false
-        → WhereDeclared (NeverFaultsAsInferred max_rounds definition.entry.text.now) declared.entry) }
+        → WhereDeclared (NeverFaultsAsInferred max_rounds definition.entry.text.now)
+        declared.entry) }
     ensures otherwise { IfOk result (λ linted. has_error linted.diagnostics.items ≡ true
         → WhereDeclared (IsFaulty max_rounds definition.entry.text.now) declared.entry) }
     ensures alone { IfOk result (λ linted. WhereUndeclared

@@ -57,7 +57,8 @@ fn no_definition(alloc: Global) -> Result<Definition, OutOfMemory>
 
 /// The definition that a value is.
 fn definition_of(alloc: Global, value: &Value) -> Result<Definition, OutOfMemory>
-    ensures { (text : Bytes) → ReadsAsValue text (view value.now) → IfOk result (IsDefinition text) }
+    ensures { (text : Bytes) → ReadsAsValue text (view value.now)
+        → IfOk result (IsDefinition text) }
 {
     match asl_machine::read(alloc, value) {
         Ok(machine) => Ok(Definition::Machine(machine)),
@@ -67,7 +68,8 @@ fn definition_of(alloc: Global, value: &Value) -> Result<Definition, OutOfMemory
 
 /// What is wrong with a value that isn't read as a machine. Where nothing is, there was no memory to read it.
 fn refused_value(alloc: Global, value: &Value) -> Result<Definition, OutOfMemory>
-    ensures { (text : Bytes) → ReadsAsValue text (view value.now) → IfOk result (IsDefinition text) }
+    ensures { (text : Bytes) → ReadsAsValue text (view value.now)
+        → IfOk result (IsDefinition text) }
 {
     let problems = problems_of_value(alloc, value)?;
     if problems.is_empty() {

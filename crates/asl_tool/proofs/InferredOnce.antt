@@ -1,39 +1,17 @@
 -- A verdict on the certificate that is inferred of two texts is one on each text that reads as it: there is one such certificate.
-use Rattle.std.proofs.Common.{◌≡◌, ◌+◌, ℕ, zero, suc, List, Bool, Ok, refl, sym, ap, ◌∙◌, subst, arith}
+use Rattle.std.proofs.Common.{◌≡◌, ℕ, List, Bool, subst}
 use Rattle.asl_model.specs.Certificate.{Certificate, Declared}
 use Rattle.asl_model.specs.Headline.{ReadAs}
 use Rattle.asl_model.specs.Machine.{Scope}
-use Rattle.asl_model.specs.Numbering.{Table, table_of}
+use Rattle.asl_model.specs.Numbering.{table_of}
 use Rattle.asl_model.specs.Texts.{ReadsAsDeclared, ReadsAsMachine}
 use Rattle.asl_model.specs.Verdict.{IsRight, Verdict}
-use Rattle.asl_drafts.specs.Drafts.{Draft, IsInferred, after_rounds, certificate_of, round, unless_told}
+use Rattle.asl_drafts.specs.Drafts.{IsInferred}
+use Rattle.asl_drafts.proofs.OneAnswer.{inferred_once}
 use Rattle.asl_check.specs.Told.{listed, TellsFirst}
 use Rattle.asl_tool.specs.FirstTold.{TellsFirstOnWritten}
 use Rattle.asl_tool.specs.Inferred.{IsWrittenFor}
 use Rattle.asl_tool.specs.VerifiedInference.{IsVerdictOnWritten}
-
-module _ (table : Table) (declared : Declared) where
-  -- further rounds leave a draft as it is that one round does
-  further : (draft : Draft) (n : ℕ) → after_rounds table declared n ≡ Ok draft → round table declared draft ≡ Ok draft → (k m : ℕ) → m ≡ k + n → after_rounds table declared m ≡ Ok draft
-  further draft n comes stays zero m e =
-      let same : m ≡ n = omega (arith, e) in
-      subst (λ r. after_rounds table declared r ≡ Ok draft) (sym same) comes
-  further draft n comes stays (suc k) zero e = absurd (omega (arith, e))
-  further draft n comes stays (suc k) (suc m) e =
-      let one_less : m ≡ k + n = omega (arith, e) in
-      ap (unless_told (round table declared)) (further draft n comes stays k m one_less) ∙ stays
-
-  -- one certificate is inferred
-  inferred_once : (rounds : ℕ) (c d : Certificate) → IsInferred table declared rounds c → IsInferred table declared rounds d → c ≡ d
-  inferred_once rounds c d a b =
-      let n = a.settles.before in
-      let m = b.settles.before in
-      let turned : n + m ≡ m + n = omega arith in
-      let here : after_rounds table declared (n + m) ≡ Ok a.draft = further a.draft n a.settles.comes a.settles.stays m (n + m) turned in
-      let there : after_rounds table declared (n + m) ≡ Ok b.draft = further b.draft m b.settles.comes b.settles.stays n (n + m) refl in
-      let both : Ok a.draft ≡ Ok b.draft = sym here ∙ there in
-      let one : a.draft ≡ b.draft = cc in
-      a.same ∙ ap (certificate_of table) one ∙ sym b.same
 
 -- a text reads as one machine, and as one declared record
 abbrev OneMachine : Type 0

@@ -5,7 +5,9 @@ pub mod FirstTold
 pub mod Fronts
 pub mod Inferred
 pub mod Lines
+pub mod OfLines
 pub mod Runs
+pub mod Subjects
 pub mod Texts
 pub mod Tracing
 pub mod VerifiedInference

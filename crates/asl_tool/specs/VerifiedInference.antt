@@ -12,10 +12,7 @@ use Rattle.asl_model.specs.Verdict as verdict
 use Rattle.asl_model.specs.Verdict.{IsRight, TellsOf}
 use Rattle.asl_drafts.specs.Drafts.{IsInferred}
 use Rattle.asl_check.specs.View.{finding_view, verdict_view}
-use Rattle.asl_records.specs.View.{declared_view}
 use Rattle.asl_tool.specs.Inferred.{IsWrittenFor}
-use Rattle.asl_tool.specs.Verifying.{ReadsInto}
-use Rattle.asl_tool.specs.declared.inferring.Subject.{Subject}
 use Rattle.asl_tool.specs.declared.inferring.Verified.{Verified}
 use Rattle.asl_tool.specs.declared.inferring.Verified.TheVariants.{Verdict, Finding, NotSettled}
 
@@ -72,10 +69,3 @@ abbrev pub Tells : (finding.Finding → Type 0) → Type 0 → Verified → Type
 Tells of_finding unsettled (Verdict told) = ⊤
 Tells of_finding unsettled (Finding found) = of_finding (finding_view found)
 Tells of_finding unsettled NotSettled = unsettled
-
--- ---- for private clauses
-
--- the two texts read as that machine and those declared shapes
-pub record Describes (definition declared : List ℕ) (subject : Subject) : Type 0 where
-  pub machine : ReadsInto definition subject.machine
-  pub as_declared : ReadsAsDeclared declared (declared_view subject.declared)

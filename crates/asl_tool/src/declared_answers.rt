@@ -32,7 +32,8 @@ impl Answers for DeclaredAnswers<'_> {
 
     ghost may_give = { λ s. MayGive (option_map (λ d. declared_view d.now) s.declared) };
 
-    ghost may_be_silent = { λ s later. MayBeSilent (option_map (λ d. declared_view d.now) s.declared)
+    ghost may_be_silent = { λ s later.
+        MayBeSilent (option_map (λ d. declared_view d.now) s.declared)
         (map answer_view later.list.items) };
 
     /// Never out of memory.

@@ -39,13 +39,13 @@ pub(crate) fn read_given<S: Source>(
     input: &[u8],
     answers: &mut S,
 ) -> Result<Given, RunFault>
-    ensures given { let texts = texts_of definition.now (option_map (λ text. text.now) declared.entry)
-        input.now (S.remaining answers.old) in
+    ensures given { let texts = texts_of definition.now
+        (option_map (λ text. text.now) declared.entry) input.now (S.remaining answers.old) in
         IfOk result (IsGiven texts) }
     ensures endless { OnOk result (NoFrontIsLong (S.begins answers.old)) }
     ensures endless_fault { IfErr result (IfAnswersRead (NoFrontIsLong (S.begins answers.old))) }
-    ensures fault { let texts = texts_of definition.now (option_map (λ text. text.now) declared.entry)
-        input.now (S.remaining answers.old) in
+    ensures fault { let texts = texts_of definition.now
+        (option_map (λ text. text.now) declared.entry) input.now (S.remaining answers.old) in
         IfErr result (GivesFault texts (S.failed answers.new)) }
     ensures lasting { IsTrue (S.failed answers.old) → IsTrue (S.failed answers.new) }
 {

@@ -11,17 +11,16 @@ ghost use Rattle.asl_model.specs.WrittenNumbered.{written_numbered};
 ghost use Rattle.asl_records.specs.Numbered.{AreWithin, numbered_view};
 ghost use Rattle.asl_tool.specs.FirstTold.{TellsFirstOnInferred, TellsFirstOnWritten};
 ghost use Rattle.asl_tool.specs.Inferred.{AreFewRounds, InferFaultStands, IsFindingOn, IsWrittenFor, WhereCertificate, WhereFinding, WhereNotSettled, written_as};
-ghost use Rattle.asl_tool.specs.VerifiedInference.{Describes, IsVerdictOnInferred, IsVerdictOnWritten, NeverFaultsAsInferred, Tells, WhereVerdict};
+ghost use Rattle.asl_tool.specs.VerifiedInference.{IsVerdictOnInferred, IsVerdictOnWritten, NeverFaultsAsInferred, Tells, WhereVerdict};
 
 use crate::certificate_text::plain_text;
-use crate::reading::{declared_text, machine_text};
-use crate::refusals::{RunFault, TextRefusal, Which};
+use crate::refusals::RunFault;
+use crate::subjects::read_subject;
 use asl_check::{Finding, Verdict, check_numbered};
 use asl_infer::{InferRefusal, infer_numbered};
-use asl_machine::Machine;
 use asl_model::reading_laws::texts_have_one_meaning;
 use asl_model::run_laws::{closed_runs_never_fault, closed_runs_tell_no_fault};
-use asl_records::{Declared, NumberedCertificate, write_numbered};
+use asl_records::{NumberedCertificate, write_numbered};
 use asl_tree::{OutOfMemory, to_text};
 use std::alloc::Global;
 
@@ -56,7 +55,8 @@ pub fn infer_texts(
 ) -> Result<Inferred, RunFault>
     ensures certificate { IfOk result
         (WhereCertificate (IsWrittenFor numbered max_rounds definition.now declared.now)) }
-    ensures finding { IfOk result (WhereFinding (IsFindingOn max_rounds definition.now declared.now)) }
+    ensures finding { IfOk result
+        (WhereFinding (IsFindingOn max_rounds definition.now declared.now)) }
     ensures not_settled { IfOk result
         (WhereNotSettled (AreFewRounds definition.now declared.now max_rounds)) }
     ensures refused { IfErr result (InferFaultStands definition.now declared.now) }
@@ -134,34 +134,6 @@ pub fn verify_inferred(
     }
 }
 
-/// What a certificate is inferred of.
-#[derive(Drop)]
-struct Subject {
-    machine: Machine,
-    declared: Declared,
-}
-
-/// The machine that a definition reads as, and the declared shapes. The definition is read first.
-fn read_subject(alloc: Global, definition: &[u8], declared: &[u8]) -> Result<Subject, RunFault>
-    ensures read { IfOk result (Describes definition.now declared.now) }
-    ensures refused { IfErr result (InferFaultStands definition.now declared.now) }
-{
-    let machine = match machine_text(alloc, definition) {
-        Ok(machine) => machine,
-        Err(fault) => return Err(RunFault::Text(TextRefusal {
-            which: Which::Definition,
-            fault,
-        })),
-    };
-    match declared_text(alloc, declared) {
-        Ok(declared) => Ok(Subject { machine, declared }),
-        Err(fault) => Err(RunFault::Text(TextRefusal {
-            which: Which::Declared,
-            fault,
-        })),
-    }
-}
-
 /// The compact text of what is written of a certificate, with a list of its shapes or without one.
 fn written_text(
     alloc: Global,
@@ -169,7 +141,8 @@ fn written_text(
     numbered: bool,
 ) -> Result<String, OutOfMemory>
     requires within { AreWithin certificate.now }
-    requires shallow { depth (value_of (written_certificate (numbered_view certificate.now))) ≤ max_depth }
+    requires shallow { depth (value_of (written_certificate (numbered_view certificate.now)))
+        ≤ max_depth }
     ensures text { IfOk result (λ text. string_bytes text
         ≡ compact_text (written_as numbered (numbered_view certificate.now))) }
     ensures reads_back { IfOk result

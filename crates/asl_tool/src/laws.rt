@@ -54,8 +54,10 @@ pub fn nesting_activities_stay_as_certified()
 /// among the lines that `run_texts` writes there is no Raise line, whatever the input and the answers are, in whatever
 /// order the places are picked, and after however many events the run ends.
 pub fn verified_runs_write_no_raise_line()
-    ensures { (definition declared certificate : List ℕ) → NeverFaults definition declared certificate
-        → (input : List ℕ) (known : Option (List ℕ)) (order : Pick) (most : ℕ) (end : RunEnd) (text : List ℕ)
+    ensures { (definition declared certificate : List ℕ)
+        → NeverFaults definition declared certificate
+        → (input : List ℕ) (known : Option (List ℕ)) (order : Pick) (most : ℕ)
+        (end : RunEnd) (text : List ℕ)
         → let request = request_of (texts_of definition (Some declared) input known) order most in
         RunsTexts request end text → HasNoRaiseLine text }
 {

@@ -2,9 +2,9 @@
 //!
 //! [`verify_texts`] checks a certificate of shapes against a state machine and its declared shapes, all three given as
 //! texts. [`check_lines`] does it for three lines of a [`Source`] and writes the lines of the verdict to a [`Sink`].
-//! [`infer_texts`] infers such a certificate, [`verify_inferred`] infers and checks it. [`run_texts`] runs a state machine on an input, with answers for its tasks,
-//! and writes what happened. [`read_text`] takes a whole source as one text, and [`closing`] says how a program ends that
-//! did any of this.
+//! [`infer_texts`] infers such a certificate, [`verify_inferred`] infers and checks it. [`run_texts`] runs a state machine on
+//! an input, with answers for its tasks, and writes what happened. [`read_subject`] reads a definition and declared shapes,
+//! [`read_text`] takes a whole source as one text, and [`closing`] says how a program ends that did any of this.
 #![tactic(auto)]
 
 mod answering;
@@ -24,6 +24,7 @@ mod runs;
 mod sinks;
 mod sources;
 mod spellings;
+mod subjects;
 mod texts;
 mod tracing;
 mod verifying;
@@ -44,5 +45,6 @@ pub use running::run_texts;
 pub use runs::{Pick, RunEnd};
 pub use sinks::{Sink, ToWrite};
 pub use sources::{Failed, FromRead, Source};
+pub use subjects::{Subject, read_declared_text, read_definition, read_subject};
 pub use texts::read_text;
 pub use verifying::{check_lines, verify_texts};

@@ -59,7 +59,8 @@ fn finding_text(alloc: Global, finding: &Finding) -> Result<String, OutOfMemory>
 /// Puts a space and the example as a JSON text behind the text; nothing where there is none.
 fn push_example(alloc: Global, text: &mut String, example: &Option<Tree>) -> Result<(), OutOfMemory>
     ensures { OnOk result
-        (string_bytes text.new ≡ string_bytes text.old ++ example_text (option_map view example.now)) }
+        (string_bytes text.new
+        ≡ string_bytes text.old ++ example_text (option_map view example.now)) }
 {
     if let Some(tree) = example {
         let written = to_text(alloc, tree)?;
@@ -76,7 +77,8 @@ fn push_example(alloc: Global, text: &mut String, example: &Option<Tree>) -> Res
 /// steps left; 5 out of memory, or a reader or writer that failed.
 pub fn closing(alloc: Global, closing: &Closing) -> Result<(u8, String), OutOfMemory>
     ensures status { IfOk result (λ end. end.0 ≡ closing_status (closing_view closing.now)) }
-    ensures line { IfOk result (λ end. string_bytes end.1 ≡ closing_line (closing_view closing.now)) }
+    ensures line { IfOk result (λ end.
+        string_bytes end.1 ≡ closing_line (closing_view closing.now)) }
 {
     match closing {
         Closing::Verdict(verdict) => Ok((status_of(verdict), String::new(alloc))),

@@ -80,7 +80,8 @@ pub(crate) fn tree_text(alloc: Global, text: &[u8]) -> Result<Tree, TextFault>
 
 /// The answers that a text reads as.
 pub(crate) fn answers_text(alloc: Global, text: &[u8]) -> Result<VecDeque<Answer>, TextFault>
-    ensures answers { IfOk result (λ answers. ReadsAsAnswers text.now (map answer_view answers.items)) }
+    ensures answers { IfOk result (λ answers.
+        ReadsAsAnswers text.now (map answer_view answers.items)) }
     ensures refused { IfErr result (λ fault. RefusesAnswers text.now (text_fault_view fault)) }
 {
     let tree = tree_text(alloc, text)?;

@@ -57,16 +57,16 @@ pub fn run_texts<R: Source, W: Sink>(
     order: Pick,
     max_steps: u64,
 ) -> Result<RunEnd, RunFault>
-    ensures run { let texts = texts_of definition.now (option_map (λ text. text.now) declared.entry)
-        input.now (R.remaining answers.old) in
+    ensures run { let texts = texts_of definition.now
+        (option_map (λ text. text.now) declared.entry) input.now (R.remaining answers.old) in
         let streams = streams_of (W.contents out.old) (W.contents out.new)
         (R.failed answers.new) (W.failed out.new) in
         IfOk result (λ end. WritesRun (request_of texts order max_steps) streams
         (run_end_view end)) }
     ensures endless { OnOk result (NoFrontIsLong (R.begins answers.old)) }
     ensures endless_fault { IfErr result (IfAnswersRead (NoFrontIsLong (R.begins answers.old))) }
-    ensures fault { let texts = texts_of definition.now (option_map (λ text. text.now) declared.entry)
-        input.now (R.remaining answers.old) in
+    ensures fault { let texts = texts_of definition.now
+        (option_map (λ text. text.now) declared.entry) input.now (R.remaining answers.old) in
         let streams = streams_of (W.contents out.old) (W.contents out.new)
         (R.failed answers.new) (W.failed out.new) in
         IfErr result (RunFaultStands (request_of texts order max_steps) streams) }
@@ -178,7 +178,8 @@ fn trace<O: Order, A: Answers>(
 /// What a run ends with that was driven until it stopped so. Where a task has no answer though one is left, that one
 /// isn't of its shape.
 fn end_of(alloc: Global, machine: &Machine, stop: Stop, spent: bool) -> Result<RunEnd, OutOfMemory>
-    ensures { IfOk result (λ end. run_end_view end ≡ end_at (table_view machine.now).names spent stop) }
+    ensures { IfOk result (λ end.
+        run_end_view end ≡ end_at (table_view machine.now).names spent stop) }
 {
     match stop {
         Stop::Output => Ok(RunEnd::Output),

@@ -8,7 +8,8 @@ ghost use Rattle.asl_check.specs.View.{verdict_view};
 ghost use Rattle.asl_tool.specs.FirstTold.{TellsFirstOn};
 ghost use Rattle.asl_tool.specs.Fronts.{IfLinesRead, NoFrontLineIsLong};
 ghost use Rattle.asl_tool.specs.Lines.{NoLineIsLong};
-ghost use Rattle.asl_tool.specs.Verifying.{IsRefused, OfLines, TellsRefusal};
+ghost use Rattle.asl_tool.specs.Verifying.{IsRefused, TellsRefusal};
+ghost use Rattle.asl_tool.specs.OfLines.{IsNoWhereRejected, IsYesWhereClosed, IsYesWhereNoneFaults, OfLinesTells};
 ghost use Rattle.asl_tool.specs.View.{which_view, text_fault_view};
 ghost use Rattle.asl_tool.specs.Writing.{CheckFaultStands};
 
@@ -40,12 +41,18 @@ pub fn verify_texts(
     declared: &[u8],
     certificate: &[u8],
 ) -> Result<Verdict, TextRefusal>
-    ensures verdict { IfOk result (λ v. IsVerdictOn definition.now declared.now certificate.now (verdict_view v)) }
-    ensures first { IfOk result (λ v. TellsFirstOn definition.now declared.now certificate.now (verdict_view v)) }
-    ensures yes { IfOk result (λ v. WhereAccepted (AreClosed definition.now declared.now certificate.now) (verdict_view v)) }
-    ensures headline { IfOk result (λ v. WhereAccepted (NeverFaults definition.now declared.now certificate.now) (verdict_view v)) }
-    ensures no { IfOk result (λ v. WhereRejected (AreRejected definition.now declared.now certificate.now) (verdict_view v)) }
-    ensures refused { IfErr result (λ r. IsRefused definition.now declared.now certificate.now (which_view r.which) (text_fault_view r.fault)) }
+    ensures verdict { IfOk result (λ verdict.
+        IsVerdictOn definition.now declared.now certificate.now (verdict_view verdict)) }
+    ensures first { IfOk result (λ verdict.
+        TellsFirstOn definition.now declared.now certificate.now (verdict_view verdict)) }
+    ensures yes { IfOk result (λ verdict. WhereAccepted
+        (AreClosed definition.now declared.now certificate.now) (verdict_view verdict)) }
+    ensures headline { IfOk result (λ verdict. WhereAccepted
+        (NeverFaults definition.now declared.now certificate.now) (verdict_view verdict)) }
+    ensures no { IfOk result (λ verdict. WhereRejected
+        (AreRejected definition.now declared.now certificate.now) (verdict_view verdict)) }
+    ensures refused { IfErr result (λ refusal. IsRefused definition.now declared.now certificate.now
+        (which_view refusal.which) (text_fault_view refusal.fault)) }
 {
     let machine = match machine_text(alloc, definition) {
         Ok(machine) => machine,
@@ -95,17 +102,19 @@ pub fn check_lines<R: Source, W: Sink>(
     source: &mut R,
     sink: &mut W,
 ) -> Result<Verdict, RunFault>
-    ensures verdict { IfOk result (λ v. OfLines (R.remaining source.old) (λ definition declared certificate. IsVerdictOn definition declared certificate (verdict_view v))) }
-    ensures first { IfOk result (λ v. OfLines (R.remaining source.old) (λ definition declared certificate. TellsFirstOn definition declared certificate (verdict_view v))) }
-    ensures yes { IfOk result (λ v. OfLines (R.remaining source.old) (λ definition declared certificate. WhereAccepted (AreClosed definition declared certificate) (verdict_view v))) }
-    ensures headline { IfOk result (λ v. OfLines (R.remaining source.old) (λ definition declared certificate. WhereAccepted (NeverFaults definition declared certificate) (verdict_view v))) }
-    ensures no { IfOk result (λ v. OfLines (R.remaining source.old) (λ definition declared certificate. WhereRejected (AreRejected definition declared certificate) (verdict_view v))) }
-    ensures written { IfOk result (λ v. Appends (W.contents sink.old) (W.contents sink.new) (verdict_text (verdict_view v))) }
+    ensures verdict { IfOk result (OfLinesTells (R.remaining source.old) IsVerdictOn) }
+    ensures first { IfOk result (OfLinesTells (R.remaining source.old) TellsFirstOn) }
+    ensures yes { IfOk result (OfLinesTells (R.remaining source.old) IsYesWhereClosed) }
+    ensures headline { IfOk result (OfLinesTells (R.remaining source.old) IsYesWhereNoneFaults) }
+    ensures no { IfOk result (OfLinesTells (R.remaining source.old) IsNoWhereRejected) }
+    ensures written { IfOk result (λ verdict. Appends (W.contents sink.old) (W.contents sink.new)
+        (verdict_text (verdict_view verdict))) }
     ensures refused { IfErr result (TellsRefusal (R.remaining source.old)) }
     ensures short { OnOk result (NoLineIsLong (R.remaining source.old)) }
     ensures endless { OnOk result (NoFrontLineIsLong (R.begins source.old)) }
     ensures endless_fault { IfErr result (IfLinesRead (NoFrontLineIsLong (R.begins source.old))) }
-    ensures fault { IfErr result (λ fault. CheckFaultStands (R.remaining source.old) (R.failed source.new) (W.contents sink.old) (W.contents sink.new) (W.failed sink.new) fault) }
+    ensures fault { IfErr result (CheckFaultStands (R.remaining source.old) (R.failed source.new)
+        (W.contents sink.old) (W.contents sink.new) (W.failed sink.new)) }
     ensures lasting_read { IsTrue (R.failed source.old) → IsTrue (R.failed source.new) }
     ensures lasting_write { IsTrue (W.failed sink.old) → IsTrue (W.failed sink.new) }
 {
