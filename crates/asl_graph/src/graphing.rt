@@ -1,17 +1,17 @@
 //! From texts to pictures.
 
-ghost use Rattle.std.specs.Prelude.{◌≡◌, IfErr, IfSome};
+ghost use Rattle.std.specs.Prelude.{◌≡◌, IfErr, IfSome, None};
 ghost use Rattle.asl_tool.specs.Inferred.{InferFaultStands};
+ghost use Rattle.asl_tool.specs.Subjects.{DefinitionFaultStands};
 ghost use Rattle.asl_tool.specs.declared.refusals.RunFault.TheVariants as faults;
 
 use crate::drawing::Drawer;
 use crate::known::Known;
 use crate::order::written_order;
 use crate::picture::Format;
-use crate::reading::{Subject, machine_in};
 use crate::scopes::Scopes;
 use asl_states::Machine;
-use asl_tool::{RunFault, verify_inferred};
+use asl_tool::{RunFault, Subject, read_definition, read_subject};
 use asl_tree::OutOfMemory;
 use std::alloc::Global;
 
@@ -31,7 +31,7 @@ pub enum Drawn {
 /// whose certified input no tree has. With `with_shapes` the lines tell the shapes of what flows along them; without
 /// declared shapes nothing is known of that.
 ///
-/// Refused as by [`verify_inferred`]; without declared shapes as that refuses a definition.
+/// Refused as by [`read_subject`]; without declared shapes as by [`read_definition`].
 pub fn graph_texts<'t>(
     alloc: Global,
     definition: &'t [u8],
@@ -42,24 +42,26 @@ pub fn graph_texts<'t>(
 ) -> Result<Drawn, RunFault>
     ensures refused { IfSome declared.entry (λ text.
         IfErr result (InferFaultStands definition.now text.now)) }
+    ensures refused_alone { declared.entry ≡ None
+        → IfErr result (DefinitionFaultStands definition.now) }
 {
-    let Some(declared) = declared else {
-        return draw_alone(alloc, definition, format);
-    };
-    drop(verify_inferred(alloc, definition, declared, max_rounds)?);
     let request = Request {
         definition,
-        declared,
         format,
         with_shapes,
         max_rounds,
     };
-    drawn_or_fault(request.draw(alloc))
+    match declared {
+        Some(declared) => request.draw(alloc, declared),
+        None => draw_alone(alloc, definition, format),
+    }
 }
 
 /// Draws a definition of which nothing is declared.
-fn draw_alone(alloc: Global, definition: &[u8], format: Format) -> Result<Drawn, RunFault> {
-    let machine = machine_in(alloc, definition)?;
+fn draw_alone(alloc: Global, definition: &[u8], format: Format) -> Result<Drawn, RunFault>
+    ensures refused { IfErr result (DefinitionFaultStands definition.now) }
+{
+    let machine = read_definition(alloc, definition)?;
     let known: Option<Known> = None;
     drawn_or_fault(graph_of(alloc, definition, &machine, known.as_ref(), format))
 }
@@ -74,20 +76,26 @@ fn drawn_or_fault(drawn: Result<Drawn, OutOfMemory>) -> Result<Drawn, RunFault>
     }
 }
 
-/// A picture that is wanted of two texts that were read before.
+/// A picture that is wanted of a definition with declared shapes.
 #[derive(Clone, Copy, Drop)]
 struct Request<'t> {
     definition: &'t [u8],
-    declared: &'t [u8],
     format: Format,
     with_shapes: bool,
     max_rounds: u32,
 }
 
 impl Request<'_> {
-    /// Draws it.
-    fn draw(&self, alloc: Global) -> Result<Drawn, OutOfMemory> {
-        let subject = Subject::read(alloc, self.definition, self.declared)?;
+    /// Draws it with these declared shapes.
+    fn draw(&self, alloc: Global, declared: &[u8]) -> Result<Drawn, RunFault>
+        ensures refused { IfErr result (InferFaultStands self.now.definition.now declared.now) }
+    {
+        let subject = read_subject(alloc, self.definition, declared)?;
+        drawn_or_fault(self.draw_subject(alloc, &subject))
+    }
+
+    /// Draws what the two texts read as.
+    fn draw_subject(&self, alloc: Global, subject: &Subject) -> Result<Drawn, OutOfMemory> {
         let known = Known::find(
             alloc,
             &subject.machine,

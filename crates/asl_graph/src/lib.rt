@@ -30,7 +30,6 @@ mod mermaid;
 mod order;
 mod page;
 mod picture;
-mod reading;
 mod rules;
 mod scopes;
 mod words;
