@@ -7,7 +7,7 @@ use Rattle.asl_tool.specs.VerifiedInference.{IsVerdictOnInferred, Tells, WhereVe
 use Rattle.asl_tool.specs.declared.inferring.Verified.{Verified}
 use Rattle.asl_tool.specs.declared.inferring.Verified.TheVariants as verified
 use Rattle.asl_explain.specs.Answers.{ExplainsFindings, HasFindings, no, finding}
-use Rattle.asl_explain.specs.Subjects.{Answers, AreFindings}
+use Rattle.asl_explain.specs.Outcomes.{Answers, AreFindings}
 use Rattle.asl_explain.specs.declared.explaining.Explained.{Explained}
 use Rattle.asl_explain.specs.declared.explaining.Explained.TheVariants.{Nothing, Findings, State, NoSuchState, NotSettled}
 

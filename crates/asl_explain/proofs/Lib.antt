@@ -1,4 +1,3 @@
 pub mod Findings
 pub mod Lengths
-pub mod OneAnswer
 pub mod Yes

@@ -19,7 +19,7 @@ use Rattle.asl_tool.specs.declared.inferring.Verified.{Verified}
 use Rattle.asl_tool.specs.declared.inferring.Verified.TheVariants as verified
 use Rattle.asl_explain.specs.declared.explaining.Explained.{Explained}
 use Rattle.asl_explain.specs.declared.explaining.Explained.TheVariants.{Nothing}
-use Rattle.asl_explain.proofs.OneAnswer.{inferred_once, nothing_told, settles}
+use Rattle.asl_drafts.proofs.OneAnswer.{inferred_once, nothing_told, settles}
 
 -- the first one is contained
 first : {A : Type 0} (x : A) (xs : List A) → Contains (x ∷ xs) x

@@ -1,7 +1,7 @@
 //! Calls of intrinsic functions that may have no value.
 
 use crate::causes::Cause;
-use crate::subject::Explainer;
+use crate::flows::Explainer;
 use crate::words::{push_line, quoted};
 use asl_flow::{TemplateShapeRefusal, template_shape_at};
 use asl_intrinsic::{Arg, Call};

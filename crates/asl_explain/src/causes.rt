@@ -1,6 +1,6 @@
 //! By which way data comes to a state with which a rule is broken.
 
-use crate::subject::Explainer;
+use crate::flows::Explainer;
 use crate::walking::Walks;
 use asl_check::{FindingFault, Located};
 use asl_edges::Step;

@@ -3,27 +3,29 @@
 ghost use Rattle.std.specs.Prelude.{◌≡◌, ◌↔◌, IfErr, IfNone, IfOk, IfSome, None, Ok};
 ghost use Rattle.asl_states.specs.Table.{Shows};
 ghost use Rattle.asl_model.specs.Machine.{Scope};
+ghost use Rattle.asl_model.specs.Names.{Bytes};
 ghost use Rattle.asl_model.specs.Numbering.{table_of};
 ghost use Rattle.asl_model.specs.Verdict.{Accepted};
 ghost use Rattle.asl_infer.specs.Lenient.{NeverSettlesLeniently};
 ghost use Rattle.asl_records.specs.View.{declared_view};
 ghost use Rattle.asl_tool.specs.Inferred.{InferFaultStands};
+ghost use Rattle.asl_tool.specs.Subjects.{Describes};
 ghost use Rattle.asl_tool.specs.VerifiedInference.{IsVerdictOnInferred};
 ghost use Rattle.asl_check.specs.declared.verdicts.Verdict.TheVariants as checked;
 ghost use Rattle.asl_tool.specs.declared.inferring.Verified.TheVariants as outcomes;
 ghost use Rattle.asl_tool.specs.declared.refusals.RunFault.TheVariants as faults;
-ghost use Rattle.asl_explain.specs.Answers.{ExplainsFindings};
-ghost use Rattle.asl_explain.specs.Subjects.{Answers, AreFindings, SettlesLeniently};
+ghost use Rattle.asl_explain.specs.Answers.{ExplainsFindings, ExplainsState};
+ghost use Rattle.asl_explain.specs.Outcomes.{Answers, AreFindings, SettlesLeniently};
 ghost use Rattle.asl_explain.specs.declared.explaining.Explained.TheVariants as answers;
 
+use crate::flows::{Explainer, Flows};
 use crate::heads::is_repeated;
-use crate::subject::{Explainer, Flows, Subject};
 use crate::telling::push_alone;
 use crate::walking::Walks;
 use asl_check::{Finding, Located, Verdict, find_all};
 use asl_infer::infer_leniently;
 use asl_records::NumberedCertificate;
-use asl_tool::{RunFault, Verified, verify_inferred};
+use asl_tool::{RunFault, Subject, Verified, read_subject, verify_inferred};
 use asl_tree::OutOfMemory;
 use std::alloc::Global;
 
@@ -53,7 +55,7 @@ pub enum Explained {
 /// With a name it is told what comes to the state of that name, its shapes, and its findings, by the certificate that is
 /// inferred leniently, or that its rounds don't settle; or that the machine has no such state.
 ///
-/// Refused as by [`verify_inferred`].
+/// Refused as by [`verify_inferred`] and [`read_subject`], which refuse the same texts.
 pub fn explain_texts(
     alloc: Global,
     definition: &[u8],
@@ -65,6 +67,42 @@ pub fn explain_texts(
         ↔ IsVerdictOnInferred max_rounds definition.now declared.now Accepted) }
     ensures findings { state.entry ≡ None
         → IfOk result (ExplainsFindings max_rounds definition.now declared.now) }
+    ensures state { IfSome state.entry (λ name.
+        IfOk result (ExplainsState max_rounds definition.now declared.now name.now)) }
+    ensures refused { IfErr result (InferFaultStands definition.now declared.now) }
+{
+    match state {
+        Some(name) => explain_named(alloc, definition, declared, name, max_rounds),
+        None => explain_all(alloc, definition, declared, max_rounds),
+    }
+}
+
+/// Tells what is known of the state of that name.
+fn explain_named(
+    alloc: Global,
+    definition: &[u8],
+    declared: &[u8],
+    name: &str,
+    max_rounds: u32,
+) -> Result<Explained, RunFault>
+    ensures state { IfOk result
+        (ExplainsState max_rounds definition.now declared.now name.now) }
+    ensures refused { IfErr result (InferFaultStands definition.now declared.now) }
+{
+    let subject = read_subject(alloc, definition, declared)?;
+    told_or_fault(explain_state(alloc, &subject, name, max_rounds))
+}
+
+/// Explains each broken rule.
+fn explain_all(
+    alloc: Global,
+    definition: &[u8],
+    declared: &[u8],
+    max_rounds: u32,
+) -> Result<Explained, RunFault>
+    ensures exactly { IfOk result (λ told. (told ≡ answers.Nothing)
+        ↔ IsVerdictOnInferred max_rounds definition.now declared.now Accepted) }
+    ensures findings { IfOk result (ExplainsFindings max_rounds definition.now declared.now) }
     ensures refused { IfErr result (InferFaultStands definition.now declared.now) }
 {
     let verified = verify_inferred(alloc, definition, declared, max_rounds)?;
@@ -73,10 +111,7 @@ pub fn explain_texts(
         declared,
         max_rounds,
     };
-    match state {
-        Some(name) => told_or_fault(texts.explain_state(alloc, name)),
-        None => explain_verified(alloc, &texts, verified),
-    }
+    explain_verified(alloc, &texts, verified)
 }
 
 /// Explains what is told of two texts.
@@ -170,34 +205,42 @@ impl Texts<'_> {
     ) -> Result<Explained, OutOfMemory>
         ensures { IfOk result AreFindings }
     {
-        let subject = Subject::read(alloc, self.definition, self.declared)?;
+        // The texts were read before, so that memory alone can refuse them now.
+        let subject = read_subject(alloc, self.definition, self.declared).map_err(|_| OutOfMemory)?;
         let text = match Known::find(alloc, &subject, self.max_rounds)? {
             Some(known) => explain_known(alloc, &subject, known, findings)?,
             None => lines_of(alloc, findings)?,
         };
         Ok(Explained::Findings(text))
     }
+}
 
-    /// Tells what is known of the state of that name.
-    fn explain_state(&self, alloc: Global, name: &str) -> Result<Explained, OutOfMemory> {
-        let subject = Subject::read(alloc, self.definition, self.declared)?;
-        let Some(state) = subject.machine.state_named(name) else {
-            return Ok(Explained::NoSuchState);
-        };
-        let Some(mut known) = Known::find(alloc, &subject, self.max_rounds)? else {
-            return Ok(Explained::NotSettled);
-        };
-        let explainer = Explainer {
-            alloc,
-            machine: &subject.machine,
-            declared: &subject.declared,
-            states: &known.certificate.states,
-            flows: &known.flows,
-        };
-        let shapes = &mut known.certificate.shapes;
-        let text = explainer.about_state(shapes, &known.findings, state)?;
-        Ok(Explained::State(text))
-    }
+/// Tells what is known of the state of that name, of a machine under declared shapes.
+fn explain_state(
+    alloc: Global,
+    subject: &Subject,
+    name: &str,
+    max_rounds: u32,
+) -> Result<Explained, OutOfMemory>
+    ensures { (definition : Bytes) (declared : Bytes) → Describes definition declared subject.now
+        → IfOk result (ExplainsState max_rounds definition declared name.now) }
+{
+    let Some(state) = subject.machine.state_named(name) else {
+        return Ok(Explained::NoSuchState);
+    };
+    let Some(mut known) = Known::find(alloc, subject, max_rounds)? else {
+        return Ok(Explained::NotSettled);
+    };
+    let explainer = Explainer {
+        alloc,
+        machine: &subject.machine,
+        declared: &subject.declared,
+        states: &known.certificate.states,
+        flows: &known.flows,
+    };
+    let shapes = &mut known.certificate.shapes;
+    let text = explainer.about_state(shapes, &known.findings, state)?;
+    Ok(Explained::State(text))
 }
 
 /// Explains all that is known, or these findings where that is nothing.

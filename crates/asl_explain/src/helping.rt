@@ -2,9 +2,9 @@
 
 use crate::causes::{Cause, Way};
 use crate::differences::{Lack, difference};
+use crate::flows::Explainer;
 use crate::lookups::type_of;
 use crate::stops::{Stop, stop_of};
-use crate::subject::Explainer;
 use crate::there::ITEM;
 use crate::words::quoted;
 use asl_check::{FindingFault, Located};

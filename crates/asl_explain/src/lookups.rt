@@ -2,7 +2,7 @@
 
 ghost use Rattle.std.specs.Prelude.{◌<◌, IfOk, length};
 
-use crate::subject::Explainer;
+use crate::flows::Explainer;
 use asl_numbered::Shapes;
 use asl_shape::Shape;
 use asl_states::{Kind, State};

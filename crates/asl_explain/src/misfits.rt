@@ -1,8 +1,8 @@
 //! Where a result may not fit.
 
 use crate::causes::Cause;
+use crate::flows::Explainer;
 use crate::stops::{front_of, part_at};
-use crate::subject::Explainer;
 use crate::words::{counted, noted, quoted};
 use asl_flow::{PutRefusal, put_at};
 use asl_numbered::Shapes;

@@ -1,7 +1,7 @@
 //! Ways and origins in words.
 
 use crate::causes::Way;
-use crate::subject::Explainer;
+use crate::flows::Explainer;
 use crate::words::{counted, quoted};
 use asl_tree::OutOfMemory;
 use asl_ways::{Arrival, Exit, Origin, Visit, way_to};

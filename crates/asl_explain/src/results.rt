@@ -1,6 +1,6 @@
 //! Data that comes from a state's own result and not from its input.
 
-use crate::subject::Explainer;
+use crate::flows::Explainer;
 use asl_path::RefPath;
 use asl_states::{Kind, State};
 

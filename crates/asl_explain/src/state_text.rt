@@ -1,8 +1,8 @@
 //! What is known of one state, in lines.
 
+use crate::flows::Explainer;
 use crate::heads::{is_repeated, told_in_short};
 use crate::lookups::type_of;
-use crate::subject::Explainer;
 use crate::words::{counted, noted};
 use asl_check::Located;
 use asl_numbered::Shapes;

@@ -1,8 +1,8 @@
 //! The explanation of one finding, in lines.
 
 use crate::causes::Cause;
+use crate::flows::Explainer;
 use crate::heads::head_of;
-use crate::subject::Explainer;
 use crate::walking::Walks;
 use crate::words::{example_text, noted, push_line};
 use asl_check::{FindingFault, Located};

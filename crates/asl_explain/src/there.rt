@@ -2,8 +2,8 @@
 
 use crate::causes::Cause;
 use crate::differences::difference;
+use crate::flows::Explainer;
 use crate::stops::{Stop, stop_of};
-use crate::subject::Explainer;
 use crate::words::{noted, push_line};
 use asl_check::{FindingFault, Located};
 use asl_choice::holds;

@@ -4,7 +4,7 @@ ghost use Rattle.std.specs.Prelude.{◌↔◌, IfSome, IsTrue, length};
 ghost use Rattle.asl_edges.specs.Entry.{IsEntryBelow};
 ghost use Rattle.asl_numbered.specs.Expansion.{AreBelow};
 
-use crate::subject::Explainer;
+use crate::flows::Explainer;
 use asl_check::Located;
 use asl_edges::{Broken, Destination, Edge, Entry, Step, edges_of};
 use asl_numbered::Shapes;

@@ -1,76 +1,15 @@
-//! What is explained.
+//! How data goes through a machine.
 
-ghost use Rattle.std.specs.Prelude.{IfOk};
-ghost use Rattle.serde_json.specs.View.{view};
-ghost use Rattle.asl_model.specs.Json.{ReadsAsValue};
-ghost use Rattle.asl_model.specs.Texts.{ReadsAsDeclared};
 ghost use Rattle.asl_records.specs.Numbered.{AreWithin};
-ghost use Rattle.asl_records.specs.View.{declared_view};
-ghost use Rattle.asl_tool.specs.Verifying.{ReadsInto};
-ghost use Rattle.asl_explain.specs.Subjects.{IsSubject};
 
 use crate::by_state::ByState;
 use asl_machine::Machine;
-use asl_records::{Declared, NumberedCertificate, StateNumbers, read_declared};
-use asl_tree::{OutOfMemory, read_value};
+use asl_records::{Declared, NumberedCertificate, StateNumbers};
+use asl_tool::Subject;
+use asl_tree::OutOfMemory;
 use asl_ways::{Arrival, Visit, arrivals, visits};
-use serde_json::Value;
 use std::alloc::Global;
 use std::collections::BTreeMap;
-
-/// A machine and its declared shapes.
-#[derive(Drop)]
-pub(crate) struct Subject {
-    pub(crate) machine: Machine,
-    pub(crate) declared: Declared,
-}
-
-impl Subject {
-    /// What two texts read as that were read before, so that memory alone can refuse them now.
-    pub(crate) fn read(
-        alloc: Global,
-        definition: &[u8],
-        declared: &[u8],
-    ) -> Result<Subject, OutOfMemory>
-        ensures { IfOk result (IsSubject definition.now declared.now) }
-    {
-        let machine = machine_of(alloc, definition)?;
-        let declared = declared_of(alloc, declared)?;
-        Ok(Subject { machine, declared })
-    }
-}
-
-/// The machine that a definition is which was read before.
-fn machine_of(alloc: Global, text: &[u8]) -> Result<Machine, OutOfMemory>
-    ensures { IfOk result (ReadsInto text.now) }
-{
-    let value = value_of(alloc, text)?;
-    match asl_machine::read(alloc, &value) {
-        Ok(machine) => Ok(machine),
-        Err(_) => Err(OutOfMemory),
-    }
-}
-
-/// The declared shapes that a text is which was read before.
-fn declared_of(alloc: Global, text: &[u8]) -> Result<Declared, OutOfMemory>
-    ensures { IfOk result (λ declared. ReadsAsDeclared text.now (declared_view declared)) }
-{
-    let value = value_of(alloc, text)?;
-    match read_declared(alloc, value) {
-        Ok(declared) => Ok(declared),
-        Err(_) => Err(OutOfMemory),
-    }
-}
-
-/// The JSON value that a text is which was read before.
-fn value_of(alloc: Global, text: &[u8]) -> Result<Value, OutOfMemory>
-    ensures { IfOk result (λ value. ReadsAsValue text.now (view value)) }
-{
-    match read_value(alloc, text) {
-        Ok(value) => Ok(value),
-        Err(_) => Err(OutOfMemory),
-    }
-}
 
 /// How data goes through a machine: its ways from the start, and all that comes to each state.
 #[derive(Drop)]

@@ -1,23 +1,13 @@
--- What two texts were read as. No public clause cites this module.
+-- What private clauses say of answers. No public clause cites this module.
 use Rattle.std.specs.Prelude.{◌≡◌, ℕ, List, ⊤}
 use Rattle.asl_model.specs.Certificate.{Certificate, Declared}
-use Rattle.asl_model.specs.Names.{Bytes}
 use Rattle.asl_model.specs.Numbering.{Table}
-use Rattle.asl_model.specs.Texts.{ReadsAsDeclared}
-use Rattle.asl_records.specs.View.{declared_view}
 use Rattle.asl_infer.specs.Lenient.{IsInferredLeniently}
 use Rattle.asl_check.specs.declared.verdicts.Verdict.TheVariants.{Yes, No}
-use Rattle.asl_tool.specs.Verifying.{ReadsInto}
 use Rattle.asl_tool.specs.declared.inferring.Verified.{Verified}
 use Rattle.asl_tool.specs.declared.inferring.Verified.TheVariants as verified
 use Rattle.asl_explain.specs.declared.explaining.Explained.{Explained}
 use Rattle.asl_explain.specs.declared.explaining.Explained.TheVariants.{Nothing, Findings, State, NoSuchState, NotSettled}
-use Rattle.asl_explain.specs.declared.subject.Subject.{Subject}
-
--- the two texts read as that machine and those declared shapes
-pub record IsSubject (definition declared : Bytes) (subject : Subject) : Type 0 where
-  pub machine : ReadsInto definition subject.machine
-  pub as_declared : ReadsAsDeclared declared (declared_view subject.declared)
 
 -- lenient rounds settle on a certificate
 pub record SettlesLeniently (machine : Table) (declared : Declared) (rounds : ℕ) : Type 0 where
