@@ -1,5 +1,19 @@
 //! Playing a case: a machine runs on its input, with its answers.
 
+ghost use Rattle.std.specs.Prelude.{◌≡◌, map, option_map, IfOk};
+ghost use Rattle.asl_states.specs.Table.{Shows};
+ghost use Rattle.asl_model.specs.Certificate.{gives_of};
+ghost use Rattle.asl_model.specs.Machine.{Scope};
+ghost use Rattle.asl_model.specs.Run as model;
+ghost use Rattle.asl_model.specs.Shape.{has as has_shape};
+ghost use Rattle.asl_records.specs.View.{declared_view};
+ghost use Rattle.asl_run.specs.Entries.{answer_view, entry_view, event_view};
+ghost use Rattle.asl_run.specs.Running.{IsRunOf, run_view};
+ghost use Rattle.asl_suites.specs.View.{answers_under};
+ghost use Rattle.asl_tree.specs.View.{view};
+ghost use Rattle.asl_cases.specs.Playing.{ComesTo, IsRun, case_of, fits_input, stage_of};
+ghost use Rattle.asl_cases.specs.Stepping.{EndsWith, IsAsked, IsGoing, StepsTo, TakesSo, fits_task};
+
 use crate::asking::{asked_place, item_at, turn_of};
 use asl_records::Declared;
 use asl_run::{Answer, Entry, Event, First, ListAnswers, Outcome, Run, Stop, drive, start};
@@ -71,7 +85,13 @@ pub fn play(
     input: Tree,
     answers: &mut CaseAnswers,
     max_steps: u64,
-) -> Result<Played, OutOfMemory> {
+) -> Result<Played, OutOfMemory>
+    ensures { let shapes = option_map (λ d. declared_view d.now) declared.entry in
+        (m : Scope) → Shows machine.now m
+        → let given = case_of m shapes (view input) (answers_under answers.old) in
+        IfOk result (λ played. ComesTo given max_steps played.end
+        (map entry_view played.trace.items) (answers_under answers.new)) }
+{
     if fits_input(declared, &input) {
         play_run(alloc, machine, declared, input, answers, max_steps)
     } else {
@@ -90,7 +110,13 @@ fn play_run(
     input: Tree,
     answers: &mut CaseAnswers,
     max_steps: u64,
-) -> Result<Played, OutOfMemory> {
+) -> Result<Played, OutOfMemory>
+    ensures { let shapes = option_map (λ d. declared_view d.now) declared.entry in
+        (m : Scope) → Shows machine.now m
+        → let given = case_of m shapes (view input) (answers_under answers.old) in
+        IfOk result (λ played. IsRun given max_steps played.end
+        (map entry_view played.trace.items) (answers_under answers.new)) }
+{
     let mut run = match start(alloc, machine, input) {
         Ok(run) => run,
         Err(_) => return Err(OutOfMemory),
@@ -109,7 +135,10 @@ fn play_run(
 }
 
 /// Whether the input is of its declared shape, where one is declared.
-fn fits_input(declared: Option<&Declared>, input: &Tree) -> bool {
+fn fits_input(declared: Option<&Declared>, input: &Tree) -> bool
+    ensures { result
+        ≡ fits_input (option_map (λ d. declared_view d.now) declared.entry) (view input.now) }
+{
     match declared {
         Some(declared) => has(&declared.input, input),
         None => true,
@@ -124,7 +153,15 @@ fn take_step(
     run: &mut Run<'_>,
     answers: &mut CaseAnswers,
     trace: &mut Vec<Entry>,
-) -> Result<Option<End>, OutOfMemory> {
+) -> Result<Option<End>, OutOfMemory>
+    ensures run { (m : Scope) → IsRunOf m run.old → IsRunOf m run.new }
+    ensures steps { let shapes = option_map (λ d. declared_view d.now) declared.entry in
+        let before = stage_of (run_view run.old) (answers_under answers.old)
+        (map entry_view trace.old.items) in
+        (m : Scope) → Shows machine.now m → IsRunOf m run.old → IsGoing m before
+        → IfOk result (λ end. StepsTo m shapes before end (stage_of (run_view run.new)
+        (answers_under answers.new) (map entry_view trace.new.items))) }
+{
     let mut silent = ListAnswers::new(VecDeque::new(alloc));
     let (stop, mut entries) = match drive(run, &mut First, &mut silent, 1) {
         Ok(driven) => driven,
@@ -148,7 +185,15 @@ fn answer(
     answers: &mut CaseAnswers,
     trace: &mut Vec<Entry>,
     state: usize,
-) -> Result<Option<End>, OutOfMemory> {
+) -> Result<Option<End>, OutOfMemory>
+    ensures run { (m : Scope) → IsRunOf m run.old → IsRunOf m run.new }
+    ensures steps { let shapes = option_map (λ d. declared_view d.now) declared.entry in
+        let before = stage_of (run_view run.old) (answers_under answers.old)
+        (map entry_view trace.old.items) in
+        (m : Scope) → Shows machine.now m → IsRunOf m run.old → IsAsked m before state
+        → IfOk result (λ end. StepsTo m shapes before end (stage_of (run_view run.new)
+        (answers_under answers.new) (map entry_view trace.new.items))) }
+{
     let place = Vec::from_slice(alloc, asked_place(trace))?;
     let name = machine.name(state).unwrap_or("");
     let item = item_at(machine, state, &place);
@@ -180,7 +225,13 @@ fn take_answer(
     run: &mut Run<'_>,
     event: Event,
     trace: &mut Vec<Entry>,
-) -> Result<Option<End>, OutOfMemory> {
+) -> Result<Option<End>, OutOfMemory>
+    ensures run { (m : Scope) → IsRunOf m run.old → IsRunOf m run.new }
+    ensures taken { (m : Scope) → IsRunOf m run.old
+        → IfOk result (λ end. TakesSo m (run_view run.old) (event_view event)
+        (map entry_view trace.old.items) end (run_view run.new)
+        (map entry_view trace.new.items)) }
+{
     let mut entries = match run.step(event) {
         Ok(entries) => entries,
         // The task waits, so an allocation was refused.
@@ -191,7 +242,9 @@ fn take_answer(
 }
 
 /// How the case ends where the run has ended.
-fn end_of(run: &Run<'_>) -> Option<End> {
+fn end_of(run: &Run<'_>) -> Option<End>
+    ensures { EndsWith result (model.outcome_of (run_view run.now)) }
+{
     match run.outcome() {
         Some(Outcome::Output(_)) => Some(End::Output),
         Some(Outcome::Failed { .. }) => Some(End::Failed),
@@ -200,10 +253,21 @@ fn end_of(run: &Run<'_>) -> Option<End> {
 }
 
 /// Whether the task of that name may be given the answer: what it gives is of the shape that is declared for it.
-fn fits_task(declared: Option<&Declared>, name: &str, answer: &Answer) -> bool {
-    let (Some(declared), Answer::Gives(tree)) = (declared, answer) else {
-        return true;
-    };
+fn fits_task(declared: Option<&Declared>, name: &str, answer: &Answer) -> bool
+    ensures { result ≡ fits_task (option_map (λ d. declared_view d.now) declared.entry)
+        name.now (answer_view answer.now) }
+{
+    match (declared, answer) {
+        (Some(declared), Answer::Gives(tree)) => is_given(declared, name, tree),
+        _ => true,
+    }
+}
+
+/// Whether the tree is of the shape of what the task of that name is declared to give; where it isn't declared, that is
+/// any.
+fn is_given(declared: &Declared, name: &str, tree: &Tree) -> bool
+    ensures { result ≡ has_shape (gives_of (declared_view declared.now) name.now) (view tree.now) }
+{
     match declared.task(name) {
         Some(task) => has(&task.gives, tree),
         None => true,

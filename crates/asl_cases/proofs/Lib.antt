@@ -1,0 +1,7 @@
+mod Answered
+mod Around
+mod Asked
+mod Chains
+mod Items
+mod NamedKinds
+mod Steps
