@@ -3,9 +3,8 @@
 use crate::endings::{end, or_out_of_memory};
 use crate::files::text_or_status;
 use crate::printing::print_line;
-use crate::reading::machine_in;
 use asl_samples::declared_text;
-use asl_tool::RunFault;
+use asl_tool::{RunFault, read_definition};
 use std::rt::Files;
 
 /// Writes declared shapes for the definition in a file to standard output, and gives the exit status. A file that can't be read
@@ -24,7 +23,7 @@ pub(crate) fn declare_file<R: Files + Input + Print + Eprint + AllocGlobal>(
 ///
 /// Refused: Text for a text that is no definition; Write; OutOfMemory.
 fn declared_on<R: Print + AllocGlobal>(rt: &R, text: &[u8]) -> Result<u8, RunFault> {
-    let machine = machine_in(rt.alloc(), text)?;
+    let machine = read_definition(rt.alloc(), text)?;
     print_line(rt, or_out_of_memory(declared_text(rt.alloc(), &machine))?)?;
     Ok(0)
 }

@@ -11,6 +11,7 @@ use asl_lint::{File, lint};
 use asl_tool::{Closing, RunFault};
 use asl_tree::OutOfMemory;
 use std::alloc::Global;
+use std::fs;
 use std::rt::Files;
 
 /// Checks definitions, writes what is wrong with them to standard output, and gives the exit status. What couldn't be looked
@@ -137,10 +138,22 @@ fn text_beside<R: Files + Input + AllocGlobal>(
         report.add_undeclared(path)?;
         return Ok(None);
     }
+    if is_device(rt, declared) {
+        report.add_unread(declared, "is no file")?;
+        return Ok(None);
+    }
     match text_or_why(rt, declared) {
         Ok(text) => return Ok(Some(text)),
         Err(why) if why.is_absence() => report.add_undeclared(path)?,
         Err(why) => report.add_unread(declared, &why.words(rt.alloc())?)?,
     }
     Ok(None)
+}
+
+/// Whether something stands at a path that is neither a file nor a folder, as a pipe, which may never end.
+fn is_device<R: Files>(rt: &R, path: &str) -> bool {
+    match fs::metadata(rt, path) {
+        Ok(metadata) => !metadata.is_file() && !metadata.is_dir(),
+        Err(_) => false,
+    }
 }

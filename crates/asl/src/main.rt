@@ -23,7 +23,6 @@ mod graphing;
 mod inferring;
 mod linting;
 mod printing;
-mod reading;
 mod reports;
 mod running;
 mod sampling;

@@ -1,7 +1,6 @@
 //! Suites of test cases with the files that they name.
 
-use crate::files::text_or_why;
-use crate::reading::{declared_in, machine_in};
+use crate::files::{is_input, text_or_why};
 use asl_cases::mistake_in;
 use asl_diagnostics::rule_of_text;
 use asl_machine::Machine;
@@ -9,7 +8,9 @@ use asl_records::Declared;
 use asl_suites::{
     Case, CaseAnswers, Expected, Input as CaseInput, Mocks, SuiteRefusal, read_mocks, read_suite,
 };
-use asl_tool::{Closing, RunFault, closing};
+use asl_tool::{
+    Closing, RunFault, TextFault, TextRefusal, closing, read_declared_text, read_definition,
+};
 use asl_tree::{OutOfMemory, Tree, TreeRefusal, read};
 use std::alloc::Global;
 use std::rt::Files;
@@ -217,7 +218,7 @@ fn unfit_mocks(alloc: Global, path: &str, refusal: SuiteRefusal) -> Result<Unfit
 /// Refused: in words where it can't be read, or is no definition; OutOfMemory.
 fn machine_of<R: Files + Input + AllocGlobal>(rt: &R, path: &str) -> Result<Machine, Unfit> {
     let text = text_of(rt, path)?;
-    match machine_in(rt.alloc(), &text) {
+    match read_definition(rt.alloc(), &text) {
         Ok(machine) => Ok(machine),
         Err(fault) => Err(at(rt.alloc(), path, unfit_text(rt.alloc(), fault)?)?),
     }
@@ -228,7 +229,7 @@ fn machine_of<R: Files + Input + AllocGlobal>(rt: &R, path: &str) -> Result<Mach
 /// Refused: in words where it can't be read, or isn't declared shapes; OutOfMemory.
 fn declared_of<R: Files + Input + AllocGlobal>(rt: &R, path: &str) -> Result<Declared, Unfit> {
     let text = text_of(rt, path)?;
-    match declared_in(rt.alloc(), &text) {
+    match read_declared_text(rt.alloc(), &text) {
         Ok(declared) => Ok(declared),
         Err(fault) => Err(at(rt.alloc(), path, unfit_text(rt.alloc(), fault)?)?),
     }
@@ -295,11 +296,19 @@ fn unfit_tree(alloc: Global, refusal: &TreeRefusal) -> Result<Unfit, OutOfMemory
 
 /// That a text is refused as a definition or as declared shapes.
 fn unfit_text(alloc: Global, fault: RunFault) -> Result<Unfit, OutOfMemory> {
-    if let RunFault::OutOfMemory = fault {
-        return Ok(Unfit::OutOfMemory);
+    match fault {
+        RunFault::OutOfMemory
+        | RunFault::Text(
+            TextRefusal {
+                fault: TextFault::OutOfMemory,
+                ..
+            },
+        ) => Ok(Unfit::OutOfMemory),
+        fault => {
+            let (_, line) = closing(alloc, &Closing::Fault(fault))?;
+            Ok(Unfit::Why(String::from_str(alloc, line.trim_end())?))
+        }
     }
-    let (_, line) = closing(alloc, &Closing::Fault(fault))?;
-    Ok(Unfit::Why(String::from_str(alloc, line.trim_end())?))
 }
 
 /// The same with that place, or that name of a file, in front.
@@ -310,13 +319,16 @@ fn at(alloc: Global, place: &str, why: Unfit) -> Result<Unfit, OutOfMemory> {
     }
 }
 
-/// The path of a file that a suite names: from the suite's own folder on, where it isn't from the root.
+/// The path of a file that a suite names: from the suite's own folder on, where it isn't from the root. None of them is
+/// standard input.
 fn beside(alloc: Global, suite: &str, name: &str) -> Result<String, OutOfMemory> {
     let mut path = String::new(alloc);
     if !name.starts_with('/') {
         if let Some((folder, _)) = suite.rsplit_once('/') {
             path.push_str(folder)?;
             path.push_str("/")?;
+        } else if is_input(name) {
+            path.push_str("./")?;
         }
     }
     path.push_str(name)?;

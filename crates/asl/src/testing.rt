@@ -81,14 +81,11 @@ impl Tests {
         name: &str,
         loaded: Loaded,
     ) -> Result<(), OutOfMemory> {
-        if loaded.cases.iter().any(|case| is_asked_for(request, case)) {
-            let result = result_of(alloc, request, name, loaded)?;
-            self.results.push(result)?;
-            return Ok(());
-        }
         match request.case {
-            Some(case) => self.note_absence(alloc, name, case, &loaded.cases),
-            None => {
+            Some(case) if !loaded.cases.iter().any(|it| is_asked_for(request, it)) => {
+                self.note_absence(alloc, name, case, &loaded.cases)
+            }
+            _ => {
                 let result = result_of(alloc, request, name, loaded)?;
                 self.results.push(result)?;
                 Ok(())
