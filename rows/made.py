@@ -7,6 +7,8 @@
 <<entries N>>       a certificate's entries for these states, integers going in and out
 <<pairs N>>         a certificate's listed shapes: integers, and N of closed objects, each with two fields of the one before
 <<lists N>>         the same of N listed shapes: integers, and lists, each of the one before
+<<orders>>          fields k0000, k0001, .. of an object shape, each with a list of types: of one to six of them, in every order
+<<orders, sorted>>  the same fields, the types of each in byte order, and one alone without a list
 <<loop N>>          N Pass states, each followed by the one before it, and the first, which wraps its input, by the last
 <<lists N over K>>  shapes that a certificate lists behind its number K: N, each of the lists of the shape in front of it
 <<pairs N over K>>  the same, each of the lists whose first two elements have the shape in front of it
@@ -16,6 +18,8 @@
 <<all of PATH, OLD => NEW>>     the same with NEW in place of OLD, which stands in it once
 """
 
+import itertools
+import json
 import pathlib
 import re
 
@@ -68,6 +72,8 @@ def made_part(part):
     if listed:
         spelling = or_null(SPELLINGS[listed[1]]) if listed[2] else SPELLINGS[listed[1]]
         return chained(spelling, int(listed[3]), int(listed[4])).encode()
+    if part in ("orders", "orders, sorted"):
+        return orders(part != "orders").encode()
     if part.startswith("all of "):
         return file_with(*part[len("all of "):].partition(", ")[::2])
     if part.startswith("bytes "):
@@ -127,6 +133,16 @@ def lists(count):
     """Returns so many listed shapes: that of integers, and of lists, each of the one before."""
     listed = (f'{{"items":{{"shape":{i}}},"type":"array"}}' for i in range(count - 1))
     return ",".join(['{"type":"integer"}', *listed])
+
+
+def orders(is_sorted):
+    """Returns the fields of an object shape, each with the types of one order, or with the same types in byte order."""
+    types = ["array", "boolean", "integer", "null", "object", "string"]
+    every = (order for count in range(1, 7) for order in itertools.permutations(types, count))
+    listed = (sorted(order) if is_sorted else order for order in every)
+    spelled = (order[0] if is_sorted and len(order) == 1 else order for order in listed)
+    fields = (f'"k{i:04}":{json.dumps({"type": it}, separators=(",", ":"))}' for i, it in enumerate(spelled))
+    return ",".join(fields)
 
 
 def loop(count):
