@@ -7,7 +7,7 @@ use crate::inferring::ROUNDS;
 use crate::printing::print_text;
 use asl_explain::{Explained, explain_texts};
 use asl_tool::{Closing, RunFault};
-use asl_tree::{OutOfMemory, Tree, to_text};
+use asl_tree::{OutOfMemory, quoted};
 use std::alloc::Global;
 use std::rt::Files;
 
@@ -63,7 +63,7 @@ fn explained_on<R: Print + Eprint + AllocGlobal>(
 /// The line that tells that there is no state of that name.
 fn no_such_state(alloc: Global, name: &str) -> Result<String, OutOfMemory> {
     let mut line = String::from_str(alloc, "there is no state ")?;
-    line.push_str(&to_text(alloc, &Tree::Text(String::from_str(alloc, name)?))?)?;
+    line.push_str(&quoted(alloc, name)?)?;
     line.push_str("\n")?;
     Ok(line)
 }

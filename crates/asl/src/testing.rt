@@ -9,7 +9,7 @@ use asl_machine::Machine;
 use asl_records::Declared;
 use asl_results::{CaseResult, SuiteResult, report};
 use asl_tool::RunFault;
-use asl_tree::{OutOfMemory, Tree, to_text};
+use asl_tree::{OutOfMemory, in_line, quoted};
 use std::alloc::Global;
 use std::rt::Files;
 
@@ -189,9 +189,4 @@ fn result_of_case(
     coverage.add(machine, &played.trace);
     let difference = difference(alloc, machine, &played, &expected)?;
     Ok(CaseResult { name, difference })
-}
-
-/// The text as JSON.
-fn quoted(alloc: Global, text: &str) -> Result<String, OutOfMemory> {
-    to_text(alloc, &Tree::Text(String::from_str(alloc, text)?))
 }

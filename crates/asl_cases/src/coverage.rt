@@ -1,11 +1,11 @@
 //! What the runs of cases have taken of a machine.
 
-use crate::words::{counted, quoted};
+use crate::words::counted;
 use asl_choice::holds;
 use asl_path::find;
 use asl_run::Entry;
 use asl_states::{Catcher, ChoiceRule, Kind, Machine, Retrier, Settings, State};
-use asl_tree::{OutOfMemory, Tree};
+use asl_tree::{OutOfMemory, Tree, quoted};
 use std::alloc::Global;
 use std::collections::BTreeMap;
 

@@ -3,11 +3,11 @@
 use crate::differing::first_difference;
 use crate::playing::{End, Played};
 use crate::sequences::{difference_of_paths, difference_of_payloads};
-use crate::words::{counted, expected_found, quoted, quoted_text, tree_text};
+use crate::words::{counted, expected_found, quoted_text, tree_text};
 use asl_run::Outcome;
 use asl_states::Machine;
 use asl_suites::{Expected, ExpectedEnd};
-use asl_tree::{OutOfMemory, Tree};
+use asl_tree::{OutOfMemory, Tree, quoted};
 use std::alloc::Global;
 
 /// What differs first from what the case expects, in words; none where nothing does, so the case has passed. A case

@@ -1,10 +1,10 @@
 //! Names in a case that the machine doesn't have.
 
 use crate::asking::stands_in_map;
-use crate::words::{counted, quoted};
+use crate::words::counted;
 use asl_states::{Kind, Machine};
 use asl_suites::{CaseAnswers, Expected, ExpectedPayloads};
-use asl_tree::OutOfMemory;
+use asl_tree::{OutOfMemory, quoted};
 use std::alloc::Global;
 
 /// The first name in the answers of a case and in what it expects that the machine doesn't have, in words; none where

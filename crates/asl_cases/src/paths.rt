@@ -1,8 +1,7 @@
 //! Where a tree differs from another, as a path.
 
-use crate::words::quoted;
 use asl_path::{PathRefusal, parse, print};
-use asl_tree::OutOfMemory;
+use asl_tree::{OutOfMemory, quoted};
 use std::alloc::Global;
 
 /// A step into a tree.

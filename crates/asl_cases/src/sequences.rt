@@ -1,10 +1,10 @@
 //! How the path and the payloads of a run differ from those that a case expects.
 
 use crate::differing::first_difference;
-use crate::words::{counted, expected_found, quoted, tree_text};
+use crate::words::{counted, expected_found, tree_text};
 use asl_run::Entry;
 use asl_suites::ExpectedPayloads;
-use asl_tree::{OutOfMemory, Tree};
+use asl_tree::{OutOfMemory, Tree, quoted};
 use std::alloc::Global;
 
 /// Where the states that were entered, in order, differ first from those of the path.

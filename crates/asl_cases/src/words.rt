@@ -1,16 +1,10 @@
 //! Pieces of what is told.
 
-use asl_tree::{OutOfMemory, Tree, to_text};
+use asl_tree::{OutOfMemory, Tree, quoted, to_text};
 use std::alloc::Global;
 
 /// How many characters of a value are told.
 const MOST_CHARACTERS: usize = 200;
-
-/// The text as JSON.
-pub(crate) fn quoted(alloc: Global, text: &str) -> Result<String, OutOfMemory> {
-    let tree = Tree::Text(String::from_str(alloc, text)?);
-    to_text(alloc, &tree)
-}
 
 /// The text as JSON, cut where it is long.
 pub(crate) fn quoted_text(alloc: Global, text: &str) -> Result<String, OutOfMemory> {

@@ -1,14 +1,14 @@
 -- The lines for people.
 use Rattle.std.specs.Prelude.{List, [], ◌∷◌, ◌++◌, codes, decimal, string_bytes}
 use Rattle.asl_model.specs.Names.{Bytes}
-use Rattle.asl_model.specs.Printed.{line_break}
-use Rattle.asl_diagnostics.specs.Statement.{told, severity_name, statement}
+use Rattle.asl_model.specs.Printed.{in_line, line_break}
+use Rattle.asl_diagnostics.specs.Statement.{severity_name, statement}
 use Rattle.asl_diagnostics.specs.declared.Diagnostic.{Diagnostic}
 
 -- `FILE:LINE:COLUMN: SEVERITY: STATEMENT`
 abbrev pub text_line : Diagnostic → Bytes
 text_line d =
-    told (string_bytes d.file)
+    in_line (string_bytes d.file)
     ++ (codes ":" ++ (decimal d.place.line ++ (codes ":" ++ (decimal d.place.column
     ++ (codes ": " ++ (severity_name d.severity ++ (codes ": " ++ (statement d ++ line_break))))))))
 

@@ -1,21 +1,12 @@
 -- What a diagnostic says, in a line.
-use Rattle.std.specs.Prelude.{ℕ, List, [], ◌++◌, Bool, Option, Some, None, String, codes, if◌then◌else◌, nat_lt, option_map, string_bytes}
-use Rattle.std.specs.List.{list_any}
+use Rattle.std.specs.Prelude.{[], ◌++◌, Option, Some, None, String, codes, option_map, string_bytes}
 use Rattle.std.specs.declared.alloc.Global.{Global}
 use Rattle.asl_model.specs.Names.{Bytes}
-use Rattle.asl_model.specs.Printed.{quoted_name, example_text}
+use Rattle.asl_model.specs.Printed.{in_line, quoted_name, example_text}
 use Rattle.asl_tree.specs.View.{view}
 use Rattle.asl_diagnostics.specs.declared.Diagnostic.{Diagnostic}
 use Rattle.asl_diagnostics.specs.declared.Severity.{Severity}
 use Rattle.asl_diagnostics.specs.declared.Severity.TheVariants as severity
-
--- a control character of ASCII but U+007F, as a line break or a tab
-abbrev pub is_control : ℕ → Bool
-is_control byte = nat_lt byte 32
-
--- the text as it stands, or as a JSON text where it has a control character
-abbrev pub told : Bytes → Bytes
-told text = if list_any is_control text then quoted_name text else text
 
 -- the severity as a word
 abbrev pub severity_name : Severity → Bytes
@@ -27,16 +18,16 @@ abbrev pub state_text : Option (String Global) → Bytes
 state_text None = []
 state_text (Some state) = quoted_name (string_bytes state) ++ codes " "
 
--- so the field, as it stands
+-- so the field, as it stands in a line
 abbrev pub field_text : Option (String Global) → Bytes
 field_text None = []
-field_text (Some field) = told (string_bytes field) ++ codes " "
+field_text (Some field) = in_line (string_bytes field) ++ codes " "
 
 -- `STATE FIELD RULE: MESSAGE`
 abbrev pub sentence : Diagnostic → Bytes
 sentence d =
     state_text d.state
-    ++ (field_text d.field ++ (d.rule.now.id.now ++ (codes ": " ++ told (string_bytes d.message))))
+    ++ (field_text d.field ++ (d.rule.now.id.now ++ (codes ": " ++ in_line (string_bytes d.message))))
 
 -- `STATE FIELD RULE: MESSAGE EXAMPLE`
 abbrev pub statement : Diagnostic → Bytes

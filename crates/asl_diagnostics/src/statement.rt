@@ -1,38 +1,12 @@
 //! What a diagnostic says, in a line.
 ghost use Rattle.std.specs.Prelude.{◌≡◌, ◌++◌, IfOk, OnOk, option_map, string_bytes};
-ghost use Rattle.std.specs.List.{list_any};
-ghost use Rattle.asl_model.specs.Printed.{quoted_name, example_text};
+ghost use Rattle.asl_model.specs.Printed.{in_line, quoted_name, example_text};
 ghost use Rattle.asl_tree.specs.View.{view};
-ghost use Rattle.asl_diagnostics.specs.Statement.{field_text, is_control, sentence, state_text, statement, told};
+ghost use Rattle.asl_diagnostics.specs.Statement.{field_text, sentence, state_text, statement};
 
 use crate::Diagnostic;
-use asl_tree::{OutOfMemory, Tree, to_text};
+use asl_tree::{OutOfMemory, Tree, in_line, quoted, to_text};
 use std::alloc::Global;
-
-/// The text as it stands, or as a JSON text where it has a control character, by which it would break its line.
-pub(crate) fn told(alloc: Global, text: &str) -> Result<String, OutOfMemory>
-    ensures { IfOk result (λ line. string_bytes line ≡ told text.now) }
-{
-    if has_control(text) {
-        quoted(alloc, text)
-    } else {
-        Ok(String::from_str(alloc, text)?)
-    }
-}
-
-fn has_control(text: &str) -> bool
-    ensures { result ≡ list_any is_control text.now }
-{
-    text.bytes().any(|byte| byte < 32)
-}
-
-/// A text as JSON.
-fn quoted(alloc: Global, text: &str) -> Result<String, OutOfMemory>
-    ensures { IfOk result (λ quoted. string_bytes quoted ≡ quoted_name text.now) }
-{
-    let tree = Tree::Text(String::from_str(alloc, text)?);
-    to_text(alloc, &tree)
-}
 
 /// `STATE FIELD RULE: MESSAGE EXAMPLE`, without what isn't there.
 pub(crate) fn statement(alloc: Global, diagnostic: &Diagnostic) -> Result<String, OutOfMemory>
@@ -52,7 +26,7 @@ pub(crate) fn sentence(alloc: Global, diagnostic: &Diagnostic) -> Result<String,
     push_field(alloc, &mut text, &diagnostic.field)?;
     text.push_str(diagnostic.rule.id)?;
     text.push_str(": ")?;
-    let message = told(alloc, &diagnostic.message)?;
+    let message = in_line(alloc, &diagnostic.message)?;
     text.push_str(&message)?;
     Ok(text)
 }
@@ -74,7 +48,7 @@ fn push_field(alloc: Global, text: &mut String, field: &Option<String>) -> Resul
     ensures { OnOk result (string_bytes text.new ≡ string_bytes text.old ++ field_text field.now) }
 {
     if let Some(field) = field {
-        let field = told(alloc, field)?;
+        let field = in_line(alloc, field)?;
         text.push_str(&field)?;
         text.push_str(" ")?;
     }

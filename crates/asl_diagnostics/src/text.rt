@@ -3,8 +3,8 @@ ghost use Rattle.std.specs.Prelude.{◌≡◌, ◌++◌, IfOk, OnOk, codes, deci
 ghost use Rattle.asl_diagnostics.specs.Line.{text_line, text_lines};
 
 use crate::Diagnostic;
-use crate::statement::{statement, told};
-use asl_tree::OutOfMemory;
+use crate::statement::statement;
+use asl_tree::{OutOfMemory, in_line};
 use std::alloc::Global;
 
 /// A line for each diagnostic, ended by a line break: `FILE:LINE:COLUMN: SEVERITY: STATE FIELD RULE: MESSAGE EXAMPLE`,
@@ -25,7 +25,7 @@ pub fn text_lines(alloc: Global, diagnostics: &[Diagnostic]) -> Result<String, O
 fn text_line(alloc: Global, diagnostic: &Diagnostic) -> Result<String, OutOfMemory>
     ensures { IfOk result (λ text. string_bytes text ≡ text_line diagnostic.now) }
 {
-    let mut text = told(alloc, &diagnostic.file)?;
+    let mut text = in_line(alloc, &diagnostic.file)?;
     push_number(alloc, &mut text, ":", diagnostic.place.line)?;
     push_number(alloc, &mut text, ":", diagnostic.place.column)?;
     text.push_str(": ")?;

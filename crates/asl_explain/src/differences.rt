@@ -1,8 +1,8 @@
 //! Where one shape isn't within another.
 
-use crate::words::{noted, quoted};
+use crate::words::noted;
 use asl_numbered::{NodeArrays, NodeKinds, NodeObjects, Shapes};
-use asl_tree::OutOfMemory;
+use asl_tree::{OutOfMemory, quoted};
 use std::alloc::Global;
 
 /// How many levels are gone down to the place.

@@ -1,9 +1,9 @@
 //! The line that says what is wrong.
 
-use crate::words::{cut, quoted};
+use crate::words::cut;
 use asl_check::{FindingFault, Located};
 use asl_diagnostics::rule_of_finding;
-use asl_tree::OutOfMemory;
+use asl_tree::{OutOfMemory, quoted};
 use std::alloc::Global;
 
 /// The state's name, the field, the fault, and what it says in a sentence.

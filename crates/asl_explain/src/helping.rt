@@ -6,13 +6,12 @@ use crate::flows::Explainer;
 use crate::lookups::type_of;
 use crate::stops::{Stop, stop_of};
 use crate::there::ITEM;
-use crate::words::quoted;
 use asl_check::{FindingFault, Located};
 use asl_diagnostics::rule_of_finding;
 use asl_edges::{Broken, Step};
 use asl_numbered::Shapes;
 use asl_states::Kind;
-use asl_tree::OutOfMemory;
+use asl_tree::{OutOfMemory, quoted};
 
 impl Explainer<'_> {
     /// What usually helps against a finding; `on_some_way` says that there is another way on which the rule isn't broken.

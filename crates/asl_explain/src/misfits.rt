@@ -3,13 +3,13 @@
 use crate::causes::Cause;
 use crate::flows::Explainer;
 use crate::stops::{front_of, part_at};
-use crate::words::{counted, noted, quoted};
+use crate::words::{counted, noted};
 use asl_flow::{PutRefusal, put_at};
 use asl_numbered::Shapes;
 use asl_path::{RefPath, Segment};
 use asl_shape::Shape;
 use asl_states::Settings;
-use asl_tree::OutOfMemory;
+use asl_tree::{OutOfMemory, quoted};
 use std::alloc::Global;
 
 /// A path at which what is placed may not fit, and the number of the segment where that is so.

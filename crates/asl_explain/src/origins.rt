@@ -2,8 +2,8 @@
 
 use crate::causes::Way;
 use crate::flows::Explainer;
-use crate::words::{counted, quoted};
-use asl_tree::OutOfMemory;
+use crate::words::counted;
+use asl_tree::{OutOfMemory, quoted};
 use asl_ways::{Arrival, Exit, Origin, Visit, way_to};
 use std::alloc::Global;
 

@@ -1,10 +1,10 @@
 //! Where a path may stop, and why.
 
-use crate::words::{cut, quoted};
+use crate::words::cut;
 use asl_flow::DoubtfulPath;
 use asl_numbered::{NodeKinds, NodeObjects, Shapes};
 use asl_path::{RefPath, Segment, print};
-use asl_tree::OutOfMemory;
+use asl_tree::{OutOfMemory, quoted};
 use std::alloc::Global;
 
 /// A value beyond which a path may name nothing.

@@ -11,12 +11,6 @@ const MOST_CHARACTERS: usize = 200;
 /// How much is told of a shape.
 const LIMITS: Limits = Limits { depth: 3, width: 6 };
 
-/// The text as JSON.
-pub(crate) fn quoted(alloc: Global, text: &str) -> Result<String, OutOfMemory> {
-    let tree = Tree::Text(String::from_str(alloc, text)?);
-    to_text(alloc, &tree)
-}
-
 /// The number that comes behind that one: what is counted from 0, counted from 1.
 pub(crate) fn counted(alloc: Global, number: usize) -> Result<String, OutOfMemory> {
     Ok((number as u128 + 1).to_string(alloc)?)

@@ -1,6 +1,7 @@
 -- What the program prints, with what status it ends, and which lines it reads (the profile's own formats).
 use Rattle.std.specs.Prelude.{ℕ, List, [], ◌∷◌, ◌++◌, length, ◌==◌, nat_lt, Bool, if◌then◌else◌, codes, decimal}
 use Rattle.std.specs.Prelude.{Option, Some, None}
+use Rattle.std.specs.List.{list_any}
 use Rattle.asl_model.specs.Names.{StateName, FieldName, Bytes}
 use Rattle.asl_model.specs.Tree.{Tree, Text}
 use Rattle.asl_model.specs.Json.{compact_text}
@@ -21,6 +22,14 @@ line_break = codes "\n"
 -- a name as a JSON text
 abbrev pub quoted_name : Bytes → Bytes
 quoted_name n = compact_text (Text n)
+
+-- a control character of ASCII but U+007F, as a line break or a tab
+abbrev pub is_control : ℕ → Bool
+is_control byte = nat_lt byte 32
+
+-- the text as it stands, or as a JSON text where it has a control character, by which it might break its line
+abbrev pub in_line : Bytes → Bytes
+in_line text = if list_any is_control text then quoted_name text else text
 
 -- ---- verdicts
 
@@ -109,7 +118,7 @@ record_fault_name records.BadNumber = codes "BadNumber"
 -- the field behind a space, nothing where it is empty
 abbrev pub field_text : FieldName → Bytes
 field_text [] = []
-field_text (x ∷ rest) = codes " " ++ (x ∷ rest)
+field_text (x ∷ rest) = codes " " ++ in_line (x ∷ rest)
 
 -- a name as a JSON text, and the field
 abbrev pub place_text : StateName → FieldName → Bytes

@@ -3,7 +3,7 @@ ghost use Rattle.std.specs.Prelude.{◌≡◌, IfOk, string_bytes};
 ghost use Rattle.std.specs.List.{list_all};
 ghost use Rattle.asl_notation.specs.Notation as model;
 
-use asl_tree::{OutOfMemory, Tree, to_text};
+use asl_tree::{OutOfMemory, quoted};
 use std::alloc::Global;
 
 /// The name as it stands where it is a word, else as a JSON text.
@@ -13,8 +13,7 @@ pub(crate) fn note_name(alloc: Global, name: &str) -> Result<String, OutOfMemory
     if is_word(name) {
         Ok(String::from_str(alloc, name)?)
     } else {
-        let tree = Tree::Text(String::from_str(alloc, name)?);
-        to_text(alloc, &tree)
+        quoted(alloc, name)
     }
 }
 

@@ -1,7 +1,7 @@
 //! Places in a file, as they are told to people.
 
-use crate::refusals::{SuiteFault, SuiteRefusal, quoted};
-use asl_tree::OutOfMemory;
+use crate::refusals::{SuiteFault, SuiteRefusal};
+use asl_tree::{OutOfMemory, quoted};
 use std::alloc::Global;
 
 /// A place in a JSON value, by the way to it.

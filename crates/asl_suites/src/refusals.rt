@@ -1,6 +1,6 @@
 //! Why a suite or a mock file is refused.
 
-use asl_tree::{OutOfMemory, Tree, to_text};
+use asl_tree::{OutOfMemory, quoted};
 use std::alloc::{AllocError, AllocFailed, Global};
 
 /// Why a suite or a mock file isn't read.
@@ -180,10 +180,4 @@ impl Unknown {
 /// The words as a text of their own.
 fn said(alloc: Global, words: &str) -> Result<String, OutOfMemory> {
     Ok(String::from_str(alloc, words)?)
-}
-
-/// The text as JSON.
-pub(crate) fn quoted(alloc: Global, text: &str) -> Result<String, OutOfMemory> {
-    let tree = Tree::Text(String::from_str(alloc, text)?);
-    to_text(alloc, &tree)
 }

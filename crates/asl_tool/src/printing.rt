@@ -1,7 +1,7 @@
 //! The lines that a verdict, a run and a fault are told by.
 
 ghost use Rattle.std.specs.Prelude.{◌≡◌, ◌++◌, IfOk, OnOk, option_map, string_bytes, codes, decimal};
-ghost use Rattle.asl_model.specs.Printed.{quoted_name, example_text, finding_line, finding_lines, verdict_text, verdict_status, place_text, refusal_text, refusal_line, refusal_status, out_of_memory, fault_line, fault_status, closing_line, closing_status, run_line, run_status, AnswerShape};
+ghost use Rattle.asl_model.specs.Printed.{example_text, field_text, finding_line, finding_lines, verdict_text, verdict_status, place_text, refusal_text, refusal_line, refusal_status, out_of_memory, fault_line, fault_status, closing_line, closing_status, run_line, run_status, AnswerShape};
 ghost use Rattle.asl_check.specs.View.{finding_view, findings_view, verdict_view};
 ghost use Rattle.asl_tree.specs.View.{view};
 ghost use Rattle.asl_tool.specs.View.{which_view, tree_refusal_view, def_refusal_view, record_refusal_view, text_fault_view, run_fault_view, run_end_view, closing_view};
@@ -13,7 +13,7 @@ use asl_check::{Finding, Verdict};
 use asl_machine::{DefFault, DefRefusal};
 use asl_records::{RecordFault, RecordRefusal};
 use asl_shape::ShapeRefusal;
-use asl_tree::{OutOfMemory, Tree, TreeRefusal, to_text};
+use asl_tree::{OutOfMemory, Tree, TreeRefusal, in_line, quoted, to_text};
 use std::alloc::Global;
 
 /// The lines of a verdict, each ended by a line break: `yes`, or `no STATE FIELD FAULT` for each finding, the state's
@@ -45,7 +45,7 @@ fn finding_text(alloc: Global, finding: &Finding) -> Result<String, OutOfMemory>
     ensures { IfOk result (λ text. string_bytes text ≡ finding_line (finding_view finding.now)) }
 {
     let mut text = String::from_str(alloc, "no ")?;
-    let state = json_text(alloc, &finding.state)?;
+    let state = quoted(alloc, &finding.state)?;
     text.push_str(&state)?;
     text.push_str(" ")?;
     text.push_str(&finding.field)?;
@@ -119,7 +119,7 @@ fn answer_shape_line(alloc: Global, state: &str) -> Result<String, OutOfMemory>
     ensures { IfOk result (λ text. string_bytes text ≡ run_line (AnswerShape state.now)) }
 {
     let mut text = String::from_str(alloc, "answer not of its shape ")?;
-    let state = json_text(alloc, state)?;
+    let state = quoted(alloc, state)?;
     text.push_str(&state)?;
     text.push_str("\n")?;
     Ok(text)
@@ -256,19 +256,20 @@ fn place_text(alloc: Global, name: &str, field: &str) -> Result<String, OutOfMem
     ensures { IfOk result (λ text. string_bytes text ≡ place_text name.now field.now) }
 {
     let mut text = String::from_str(alloc, " ")?;
-    let name = json_text(alloc, name)?;
+    let name = quoted(alloc, name)?;
     text.push_str(&name)?;
-    if !field.is_empty() {
-        text.push_str(" ")?;
-        text.push_str(field)?;
-    }
+    push_field(alloc, &mut text, field)?;
     Ok(text)
 }
 
-/// A text as JSON.
-fn json_text(alloc: Global, text: &str) -> Result<String, OutOfMemory>
-    ensures { IfOk result (λ quoted. string_bytes quoted ≡ quoted_name text.now) }
+/// Puts a space and the field behind the text, where it isn't empty.
+fn push_field(alloc: Global, text: &mut String, field: &str) -> Result<(), OutOfMemory>
+    ensures { OnOk result (string_bytes text.new ≡ string_bytes text.old ++ field_text field.now) }
 {
-    let tree = Tree::Text(String::from_str(alloc, text)?);
-    to_text(alloc, &tree)
+    if !field.is_empty() {
+        let field = in_line(alloc, field)?;
+        text.push_str(" ")?;
+        text.push_str(&field)?;
+    }
+    Ok(())
 }

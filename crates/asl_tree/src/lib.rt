@@ -2,7 +2,8 @@
 //!
 //! A [`Tree`] is any JSON value whose numbers are whole and fit an `i64` (RFC 8259; States Language, "Data").
 //! [`read`] makes one of a text, [`to_text`] and [`write`] write it as compact JSON, [`copy`] and [`same`] copy and compare,
-//! [`is_whole`] tests whether a JSON value is one, [`to_value`] makes that value of a tree.
+//! [`is_whole`] tests whether a JSON value is one, [`to_value`] makes that value of a tree. [`quoted`] and [`in_line`] tell a
+//! text in a line.
 #![tactic(auto)]
 
 ghost use Rattle.std.specs.Prelude.{◌≡◌};
@@ -12,12 +13,14 @@ use std::collections::BTreeMap;
 
 mod comparing;
 mod copying;
+mod quoting;
 mod reading;
 mod wholeness;
 mod writing;
 
 pub use comparing::same;
 pub use copying::copy;
+pub use quoting::{in_line, quoted};
 pub use reading::{from_value, into_tree, read, read_value};
 pub use wholeness::is_whole;
 pub use writing::{to_text, to_value, write};
