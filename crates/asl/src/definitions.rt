@@ -4,7 +4,7 @@ use crate::files::{Unread, is_input};
 use crate::reports::Report;
 use asl_tree::OutOfMemory;
 use std::fs::{self, DirEntry, FileType};
-use std::io::Error;
+use std::io::{Error, ErrorKind};
 use std::rt::Files;
 
 /// What the name of a definition in a folder ends in.
@@ -96,6 +96,9 @@ fn add_entries<R: Files + AllocGlobal + Clone + Drop>(
     for entry in entries {
         match entry {
             Ok(entry) => add_entry(rt, &entry, found, report)?,
+            Err(error) if error.kind() == ErrorKind::InvalidFilename => {
+                report.add_unread(folder, "in it is a name that isn't UTF-8")?;
+            }
             Err(error) => note(rt, folder, error, report)?,
         }
     }

@@ -2,7 +2,7 @@
 
 use crate::endings::finish;
 use asl_tool::{Closing, FromRead, RunFault, read_text};
-use asl_tree::OutOfMemory;
+use asl_tree::{OutOfMemory, in_line};
 use std::alloc::Global;
 use std::fs;
 use std::io::{Error, ErrorKind};
@@ -136,6 +136,7 @@ pub(crate) fn text_or_status<R: Files + Input + Eprint + AllocGlobal>(
 ///
 /// Refused: OutOfMemory, also where that is the reason.
 fn line_on(alloc: Global, name: &str, why: &Unread) -> Result<String, OutOfMemory> {
+    let name = in_line(alloc, name)?;
     let words = why.words(alloc)?;
     Ok(format!(in alloc; "{name}: {words}\n")?)
 }

@@ -6,7 +6,7 @@ use asl_diagnostics::{
     Diagnostic, Severity, github_lines, json_text, sarif_text, sort, text_lines,
 };
 use asl_lint::Linted;
-use asl_tree::{OutOfMemory, same};
+use asl_tree::{OutOfMemory, in_line, same};
 use std::alloc::Global;
 
 /// What was found so far.
@@ -78,7 +78,8 @@ impl Report {
     pub(crate) fn add_unread(&mut self, path: &str, why: &str) -> Result<(), OutOfMemory> {
         self.is_partial = true;
         self.unread = self.unread.saturating_add(1);
-        self.notes.push_str(path)?;
+        let alloc = *self.undeclared.allocator();
+        self.notes.push_str(&in_line(alloc, path)?)?;
         self.notes.push_str(": ")?;
         self.notes.push_str(why)?;
         self.notes.push_str("\n")?;
@@ -172,7 +173,7 @@ fn push_undeclared(alloc: Global, text: &mut String, paths: &[String]) -> Result
     match paths {
         [] => {}
         [path] => {
-            text.push_str(path)?;
+            text.push_str(&in_line(alloc, path)?)?;
             text.push_str(": no shapes are declared for it, so its structure alone is checked\n")?;
         }
         _ => {

@@ -8,7 +8,7 @@ use asl_diagnostics::rule_of_text;
 use asl_samples::{opened, shape_of, shape_text};
 use asl_shape::Shape;
 use asl_tool::RunFault;
-use asl_tree::{OutOfMemory, Tree, TreeRefusal, read};
+use asl_tree::{OutOfMemory, Tree, TreeRefusal, in_line, read};
 use std::alloc::Global;
 use std::rt::Files;
 
@@ -73,7 +73,7 @@ fn samples_in<R: Files + Input + AllocGlobal>(
     for name in names {
         match text_or_why(rt, name) {
             Ok(text) => samples.add(rt.alloc(), name, &text)?,
-            Err(why) => samples.note(name, &why.words(rt.alloc())?)?,
+            Err(why) => samples.note(rt.alloc(), name, &why.words(rt.alloc())?)?,
         }
     }
     Ok(samples)
@@ -104,14 +104,15 @@ impl Samples {
             Some(rule) => {
                 let id = rule.id;
                 let short = rule.short;
-                self.note(name, &format!(in alloc; "{id}: {short}")?)
+                self.note(alloc, name, &format!(in alloc; "{id}: {short}")?)
             }
             None => Err(OutOfMemory),
         }
     }
 
     /// Notes why a file isn't taken.
-    fn note(&mut self, name: &str, why: &str) -> Result<(), OutOfMemory> {
+    fn note(&mut self, alloc: Global, name: &str, why: &str) -> Result<(), OutOfMemory> {
+        let name = in_line(alloc, name)?;
         write!(self.notes, "{name}: {why}\n")?;
         Ok(())
     }

@@ -11,7 +11,7 @@ use asl_suites::{
 use asl_tool::{
     Closing, RunFault, TextFault, TextRefusal, closing, read_declared_text, read_definition,
 };
-use asl_tree::{OutOfMemory, Tree, TreeRefusal, read};
+use asl_tree::{OutOfMemory, Tree, TreeRefusal, in_line, read};
 use std::alloc::Global;
 use std::rt::Files;
 
@@ -314,7 +314,10 @@ fn unfit_text(alloc: Global, fault: RunFault) -> Result<Unfit, OutOfMemory> {
 /// The same with that place, or that name of a file, in front.
 fn at(alloc: Global, place: &str, why: Unfit) -> Result<Unfit, OutOfMemory> {
     match why {
-        Unfit::Why(words) => Ok(Unfit::Why(format!(in alloc; "{place}: {words}")?)),
+        Unfit::Why(words) => {
+            let place = in_line(alloc, place)?;
+            Ok(Unfit::Why(format!(in alloc; "{place}: {words}")?))
+        }
         Unfit::OutOfMemory => Ok(Unfit::OutOfMemory),
     }
 }

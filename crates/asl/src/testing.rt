@@ -62,7 +62,7 @@ fn tests_in<R: Files + Input + AllocGlobal>(
     for name in &request.names {
         match load(rt, name) {
             Ok(loaded) => tests.add(rt.alloc(), request, name, loaded)?,
-            Err(Unfit::Why(why)) => write!(tests.notes, "{name}: {why}\n")?,
+            Err(Unfit::Why(why)) => tests.note(rt.alloc(), name, &why)?,
             Err(Unfit::OutOfMemory) => return Err(OutOfMemory),
         }
     }
@@ -73,6 +73,13 @@ fn tests_in<R: Files + Input + AllocGlobal>(
 }
 
 impl Tests {
+    /// Notes why a suite can't be used.
+    fn note(&mut self, alloc: Global, suite: &str, why: &str) -> Result<(), OutOfMemory> {
+        let suite = in_line(alloc, suite)?;
+        write!(self.notes, "{suite}: {why}\n")?;
+        Ok(())
+    }
+
     /// Plays the cases of a suite that are asked for, or notes that it has none of them.
     fn add(
         &mut self,
@@ -101,6 +108,7 @@ impl Tests {
         case: &str,
         cases: &[LoadedCase],
     ) -> Result<(), OutOfMemory> {
+        let suite = in_line(alloc, suite)?;
         let case = quoted(alloc, case)?;
         write!(
             self.absences,

@@ -10,6 +10,9 @@ use asl_places::{Member, Spot, States};
 use asl_tree::OutOfMemory;
 use std::alloc::Global;
 
+/// The fields that a machine must have.
+const MACHINE_FIELDS: [&str; 2] = ["StartAt", "States"];
+
 /// A definition in which places are found.
 #[derive(Drop)]
 pub(crate) struct DefinitionPlaces<'s, 'f, 'a> {
@@ -29,7 +32,7 @@ impl DefinitionPlaces<'_, '_, '_> {
     fn spot_of(&self, problem: &Problem) -> Result<Spot, OutOfMemory> {
         let field = problem.field.as_deref();
         let Some(name) = problem.state.as_deref() else {
-            return Ok(self.in_machine(field));
+            return self.of_unnamed(&problem.kind, field);
         };
         match &problem.kind {
             Kind::Finding(FindingFault::StartInput, _) => Ok(self.in_machine(field)),
@@ -38,6 +41,23 @@ impl DefinitionPlaces<'_, '_, '_> {
             Kind::Odd { index, .. } => Ok(self.of_element(name, field, *index)),
             _ => Ok(self.index.root()),
         }
+    }
+
+    /// Where a problem without the name of a state is told: in the machine, or in the state whose name is empty.
+    fn of_unnamed(&self, kind: &Kind, field: Option<&str>) -> Result<Spot, OutOfMemory> {
+        if let (Kind::Complaint(fault), Some(name)) = (kind, field) {
+            if self.is_of_unnamed_state(name) {
+                return self.of_complaint(*fault, "", field);
+            }
+        }
+        Ok(self.in_machine(field))
+    }
+
+    /// Whether there is a state whose name is empty, and the machine neither has that field nor must have it.
+    fn is_of_unnamed_state(&self, field: &str) -> bool {
+        self.states.state("").is_some()
+            && !MACHINE_FIELDS.contains(&field)
+            && self.index.member(self.index.root(), field).is_none()
     }
 
     /// Where a complaint about a state is told.
@@ -119,20 +139,43 @@ impl DefinitionPlaces<'_, '_, '_> {
         self.index.first_without(found.value, field)
     }
 
-    /// The text in the field that is no state's name: its value, or the first such `Next` of the list's elements.
+    /// The text in the field that is no state's name: its value, or the first such `Next` or `StartAt` in it.
     fn naming(&self, state: Member, field: &str) -> Result<Spot, OutOfMemory> {
         let whole = self.index.field_or_name(state, field);
         let Some(mut items) = self.index.outline.items(whole) else {
-            return Ok(whole);
+            return Ok(self.misnamed_start(whole)?.unwrap_or(whole));
         };
         while let Some(item) = items.next() {
-            if let Some(next) = self.index.member(item, "Next") {
-                if self.names_no_state(next.value)? {
-                    return Ok(next.value);
-                }
+            if let Some(found) = self.misnamed(item)? {
+                return Ok(found);
             }
         }
         Ok(whole)
+    }
+
+    /// The `Next` of the object that is the name of no state, or the `StartAt` that is the name of none of its states.
+    fn misnamed(&self, object: Spot) -> Result<Option<Spot>, OutOfMemory> {
+        if let Some(next) = self.index.member(object, "Next") {
+            if self.names_no_state(next.value)? {
+                return Ok(Some(next.value));
+            }
+        }
+        self.misnamed_start(object)
+    }
+
+    /// The `StartAt` of a branch or a processor that is the name of none of its states.
+    fn misnamed_start(&self, scope: Spot) -> Result<Option<Spot>, OutOfMemory> {
+        let (Some(start), Some(states)) = (
+            self.index.member(scope, "StartAt"),
+            self.index.member(scope, "States"),
+        ) else {
+            return Ok(None);
+        };
+        let Some(name) = self.said_at(start.value)? else {
+            return Ok(None);
+        };
+        let is_absent = self.index.member(states.value, &name).is_none();
+        Ok(is_absent.then_some(start.value))
     }
 
     /// Whether the value is a text that no state of the machine has as its name.
