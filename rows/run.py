@@ -11,6 +11,7 @@ where no case failed and one passed. rows/README.md tells how a table is written
 import argparse
 import os
 import pathlib
+import re
 import resource
 import shutil
 import subprocess
@@ -72,7 +73,7 @@ class Case:
     def files(self):
         """Returns the lines of each further file, by its path."""
         files = {}
-        for name, text in (it.split(" ", 1) for it in self.many["file"]):
+        for name, text in map(named, self.many["file"]):
             files.setdefault(name, []).append(made(text))
         return files
 
@@ -82,11 +83,11 @@ class Case:
             if key in self.given:
                 (folder / key).write_bytes(made(self.given[key]))
         for name in self.many["folder"]:
-            (folder / name).mkdir(parents=True)
+            (folder / os.fsdecode(made(name))).mkdir(parents=True)
         for name, lines in self.files().items():
             (folder / name).parent.mkdir(parents=True, exist_ok=True)
             (folder / name).write_bytes(b"\n".join(lines))
-        for name, target in (it.split(" ", 1) for it in self.many["link"]):
+        for name, target in map(named, self.many["link"]):
             (folder / name).symlink_to(target)
 
     def wanted(self):
@@ -95,6 +96,12 @@ class Case:
             raise ValueError(f"{self.place}: the case has no status")
         prints, tells = (b"".join(made(it) + b"\n" for it in self.many[key]) for key in ("prints", "tells"))
         return int(self.given["status"]), prints * int(self.given.get("times", 1)), tells
+
+
+def named(value):
+    """Returns the name with which a value begins, its parts made, and what stands behind the space that ends it."""
+    name, text = re.fullmatch(r"((?:<<.*?>>|\S)+) (.*)", value).groups()
+    return os.fsdecode(made(name)), text
 
 
 def cases_of(table):

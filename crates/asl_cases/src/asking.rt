@@ -8,7 +8,7 @@ ghost use Rattle.asl_cases.specs.Asking.{IsTurnOf, are_by_item, is_attempt, is_i
 ghost use Rattle.asl_cases.specs.Stepping.{place_asked, place_in};
 
 use asl_run::Entry;
-use asl_states::{Kind, Machine};
+use asl_states::Machine;
 use asl_suites::CaseAnswers;
 
 /// The place of the task that was asked last: while each is answered before anything else happens, it is the one that
@@ -75,7 +75,7 @@ fn is_map(machine: &Machine, number: usize) -> bool
     ensures { result ≡ is_map (slice_get (table_view machine.now).states number) }
 {
     match machine.state(number) {
-        Some(state) => matches!(state.kind, Kind::Map { .. }),
+        Some(state) => state.kind.is_map(),
         None => false,
     }
 }

@@ -135,7 +135,7 @@ impl Coverage {
                 if covered.entered {
                     push_lacking(alloc, &mut lines, &name, state, covered)?;
                 } else {
-                    let kind = kind_name(&state.kind);
+                    let kind = state.kind.name();
                     lines.push(format!(in alloc; "{name} (a {kind}) is never entered")?)?;
                 }
             }
@@ -289,18 +289,4 @@ fn errors_text(alloc: Global, names: &[String]) -> Result<String, OutOfMemory> {
         text.push_str(name)?;
     }
     Ok(text)
-}
-
-/// The name of a state's type.
-fn kind_name(kind: &Kind) -> &'static str {
-    match kind {
-        Kind::Pass { .. } => "Pass",
-        Kind::Task { .. } => "Task",
-        Kind::Choice { .. } => "Choice",
-        Kind::Wait { .. } => "Wait",
-        Kind::Succeed => "Succeed",
-        Kind::Fail { .. } => "Fail",
-        Kind::Parallel { .. } => "Parallel",
-        Kind::Map { .. } => "Map",
-    }
 }

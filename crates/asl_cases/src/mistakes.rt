@@ -2,7 +2,7 @@
 
 use crate::asking::stands_in_map;
 use crate::words::counted;
-use asl_states::{Kind, Machine};
+use asl_states::Machine;
 use asl_suites::{CaseAnswers, Expected, ExpectedPayloads};
 use asl_tree::{OutOfMemory, quoted};
 use std::alloc::Global;
@@ -101,5 +101,5 @@ fn why_no_task(
 fn is_task(machine: &Machine, number: usize) -> bool {
     machine
         .state(number)
-        .is_some_and(|state| matches!(state.kind, Kind::Task { .. }))
+        .is_some_and(|state| state.kind.is_task())
 }

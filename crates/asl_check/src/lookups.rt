@@ -2,7 +2,6 @@
 
 ghost use Rattle.std.specs.Prelude.{◌≡◌, ◌<◌, List, length, IfSome, option_map};
 ghost use Rattle.asl_model.specs.Certificate.{certified, child_end};
-ghost use Rattle.asl_model.specs.Machine as machine;
 ghost use Rattle.asl_numbered.specs.Expansion.{expansions, shape_at};
 ghost use Rattle.asl_numbered.specs.declared.node.Node.{Node};
 ghost use Rattle.asl_states.specs.Machine.{kind_view, scope_view};
@@ -49,7 +48,7 @@ impl<'c> Checker<'c> {
             return false;
         };
         match self.machine.state(number) {
-            Some(state) => is_task(&state.kind),
+            Some(state) => state.kind.is_task(),
             None => false,
         }
     }
@@ -109,11 +108,4 @@ impl<'c> Checker<'c> {
             | Kind::Fail { .. } => None,
         }
     }
-}
-
-/// Whether a state of that type is a Task.
-pub(crate) fn is_task(kind: &Kind) -> bool
-    ensures { result ≡ machine.is_task (kind_view kind.now) }
-{
-    matches!(kind, Kind::Task { .. })
 }

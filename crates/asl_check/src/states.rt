@@ -1,7 +1,6 @@
 // The rules of one state: on its entry, and on what flows through it.
 
 ghost use Rattle.std.specs.Prelude.{◌≡◌, List, length, OnOk, option_map};
-ghost use Rattle.asl_model.specs.Certificate as certificates;
 ghost use Rattle.asl_model.specs.Finding as finding;
 ghost use Rattle.asl_model.specs.Finding.{found_at};
 ghost use Rattle.asl_model.specs.Shape as model;
@@ -18,7 +17,7 @@ ghost use Rattle.asl_check.specs.Rules.{end_in, inputs_in, entry_rules, flow_rul
 use crate::checker::Checker;
 use crate::faults::breach_unless;
 use crate::listed::{Listed, list};
-use crate::lookups::{Row, is_task};
+use crate::lookups::Row;
 use crate::standing::Standing;
 use crate::tasks::number_task;
 use asl_edges::{Entry, FindingFault, edges_of};
@@ -44,7 +43,7 @@ impl Checker<'_> {
         let certified = is_certified(kind, self.states.get(row.name));
         let uncertified = breach_unless(certified, "states", FindingFault::NotCertified);
         list(rules, row.name, uncertified)?;
-        let declared = !is_task(kind) || self.declared.task(row.name).is_some();
+        let declared = !kind.is_task() || self.declared.task(row.name).is_some();
         let undeclared = breach_unless(declared, "Resource", FindingFault::TaskUndeclared);
         list(rules, row.name, undeclared)
     }
@@ -120,31 +119,8 @@ fn is_certified(kind: &Kind, entry: Option<&StateNumbers>) -> bool
 {
     match entry {
         Some(entry) => {
-            entry.branches.len() == branches_in(kind) && entry.item.is_some() == is_map(kind)
+            entry.branches.len() == kind.branches() && entry.item.is_some() == kind.is_map()
         }
         None => false,
     }
-}
-
-/// How many branches a state of that type has.
-fn branches_in(kind: &Kind) -> usize
-    ensures count { result ≡ certificates.branches_in (kind_view kind.now) }
-{
-    match kind {
-        Kind::Parallel { branches } => branches.len(),
-        Kind::Pass { .. }
-        | Kind::Task { .. }
-        | Kind::Choice { .. }
-        | Kind::Wait { .. }
-        | Kind::Succeed
-        | Kind::Fail { .. }
-        | Kind::Map { .. } => 0,
-    }
-}
-
-/// Whether a state of that type is a Map.
-fn is_map(kind: &Kind) -> bool
-    ensures map { result ≡ certificates.is_map (kind_view kind.now) }
-{
-    matches!(kind, Kind::Map { .. })
 }

@@ -3,7 +3,6 @@
 use crate::causes::{Cause, Way};
 use crate::differences::{Lack, difference};
 use crate::flows::Explainer;
-use crate::lookups::type_of;
 use crate::stops::{Stop, stop_of};
 use crate::there::ITEM;
 use asl_check::{FindingFault, Located};
@@ -67,7 +66,7 @@ impl Explainer<'_> {
     fn help_to_remove(&self, name: &str) -> Result<String, OutOfMemory> {
         match self.state_named(name) {
             Some(state) => {
-                let kind = type_of(&state.kind);
+                let kind = state.kind.name();
                 Ok(format!(in self.alloc;
                     "Take the entry out of \"tasks\": the state of this name is a {kind}, and only a Task has one."
                 )?)
@@ -251,7 +250,7 @@ impl Explainer<'_> {
     /// To have a field in a result.
     fn help_with_result(&self, absent: &str, cause: &Cause) -> Result<String, OutOfMemory> {
         match self.machine.state(cause.state) {
-            Some(state) if matches!(state.kind, Kind::Task { .. }) => Ok(format!(in self.alloc;
+            Some(state) if state.kind.is_task() => Ok(format!(in self.alloc;
                 "If the task always gives {absent}, say so in its declared \"gives\""
             )?),
             _ => Ok(format!(in self.alloc; "See that the result has {absent}")?),

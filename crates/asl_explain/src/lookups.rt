@@ -39,17 +39,3 @@ impl<'m> Explainer<'m> {
         }
     }
 }
-
-/// The type of a state, as a definition spells it.
-pub(crate) fn type_of(kind: &Kind) -> &'static str {
-    match kind {
-        Kind::Pass { .. } => "Pass",
-        Kind::Task { .. } => "Task",
-        Kind::Choice { .. } => "Choice",
-        Kind::Wait { .. } => "Wait",
-        Kind::Succeed => "Succeed",
-        Kind::Fail { .. } => "Fail",
-        Kind::Parallel { .. } => "Parallel",
-        Kind::Map { .. } => "Map",
-    }
-}

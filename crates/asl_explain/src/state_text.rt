@@ -2,7 +2,6 @@
 
 use crate::flows::Explainer;
 use crate::heads::{is_repeated, told_in_short};
-use crate::lookups::type_of;
 use crate::words::{counted, noted};
 use asl_check::Located;
 use asl_numbered::Shapes;
@@ -27,7 +26,7 @@ impl Explainer<'_> {
         else {
             return Ok(text);
         };
-        text.push_str(&format!(in self.alloc; ", a {}", type_of(&state.kind))?)?;
+        text.push_str(&format!(in self.alloc; ", a {}", state.kind.name())?)?;
         text.push_str(&self.place_of(number)?)?;
         text.push_str("\n")?;
         self.push_arrivals(shapes, &mut text, number)?;
@@ -126,7 +125,7 @@ impl Explainer<'_> {
             return Ok(());
         }
         let label = match self.machine.state(number) {
-            Some(state) if matches!(state.kind, Kind::Task { .. }) => "payload",
+            Some(state) if state.kind.is_task() => "payload",
             _ => "effective",
         };
         self.push_shape(shapes, text, label, effective)
@@ -143,7 +142,7 @@ impl Explainer<'_> {
         else {
             return Ok(());
         };
-        if !matches!(state.kind, Kind::Task { .. }) {
+        if !state.kind.is_task() {
             return Ok(());
         }
         if self.declared.task(name).is_none() {

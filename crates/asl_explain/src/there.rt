@@ -141,7 +141,7 @@ impl Explainer<'_> {
                 None => Ok(()),
             },
             ("ResultSelector", Some(state), Some(name))
-                if matches!(state.kind, Kind::Task { .. }) => {
+                if state.kind.is_task() => {
                 let gives = self.given_by(shapes, name)?;
                 self.push_whole(shapes, text, whole_of(field), gives)
             }

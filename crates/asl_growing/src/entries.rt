@@ -5,7 +5,6 @@ ghost use Rattle.asl_drafts.specs.Drafts as drafts;
 ghost use Rattle.asl_drafts.specs.Drafts.{entry_with, taken_in, with_element};
 ghost use Rattle.asl_model.specs.Shape.{Shape};
 ghost use Rattle.asl_edges.specs.Entry.{entry_view as shapes_view, IsEntryBelow};
-ghost use Rattle.asl_model.specs.Certificate as certificates;
 ghost use Rattle.asl_model.specs.Machine.{kind_of};
 ghost use Rattle.asl_states.specs.Machine.{kind_view};
 ghost use Rattle.asl_states.specs.Table.{table_view};
@@ -206,7 +205,7 @@ pub(crate) fn entry_in<'e>(kind: &Kind, numbers: &'e EntryNumbers) -> Entry<'e>
         → shapes_view table result ≡ entry_with (kind_view kind.now) entry }
     ensures below { (bound : ℕ) → AreAllBelow bound numbers.now → IsEntryBelow bound result }
 {
-    if is_map(kind) {
+    if kind.is_map() {
         Entry {
             input: numbers.input,
             output: numbers.output,
@@ -221,13 +220,6 @@ pub(crate) fn entry_in<'e>(kind: &Kind, numbers: &'e EntryNumbers) -> Entry<'e>
             item: None,
         }
     }
-}
-
-// Whether a state of that type is a Map.
-fn is_map(kind: &Kind) -> bool
-    ensures { result ≡ certificates.is_map (kind_view kind.now) }
-{
-    matches!(kind, Kind::Map { .. })
 }
 
 // The numbers of the shapes.

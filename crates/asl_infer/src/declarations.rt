@@ -2,9 +2,7 @@
 
 ghost use Rattle.std.specs.Prelude.{◌≡◌, option_map, IfErr, OnOk};
 ghost use Rattle.asl_drafts.specs.Drafts.{rows_of, undeclared, unknown};
-ghost use Rattle.asl_model.specs.Machine as machines;
 ghost use Rattle.asl_records.specs.View.{declared_view};
-ghost use Rattle.asl_states.specs.Machine.{kind_view};
 ghost use Rattle.asl_states.specs.Table.{table_view};
 ghost use Rattle.asl_check.specs.Rules.{names_task_in};
 ghost use Rattle.asl_growing.specs.Order.{AreOrdered};
@@ -15,7 +13,7 @@ use crate::inferring::InferRefusal;
 use crate::telling::{Breach, finding};
 use asl_edges::FindingFault;
 use asl_records::Declared;
-use asl_states::{Kind, Machine};
+use asl_states::Machine;
 use std::alloc::Global;
 
 /// A name for which a rule about what is declared is broken. No tree shows that.
@@ -76,7 +74,7 @@ fn undeclared<'n>(machine: &'n Machine, declared: &Declared, number: usize) -> O
 {
     let name = machine.name(number)?;
     let state = machine.state(number)?;
-    if is_task(&state.kind) && declared.task(name).is_none() {
+    if state.kind.is_task() && declared.task(name).is_none() {
         Some(Misnamed {
             name,
             field: "Resource",
@@ -122,16 +120,9 @@ fn names_task(machine: &Machine, name: &str) -> bool
         return false;
     };
     match machine.state(number) {
-        Some(state) => is_task(&state.kind),
+        Some(state) => state.kind.is_task(),
         None => false,
     }
-}
-
-// Whether a state of that type is a Task.
-fn is_task(kind: &Kind) -> bool
-    ensures { result ≡ machines.is_task (kind_view kind.now) }
-{
-    matches!(kind, Kind::Task { .. })
 }
 
 // The one whose name comes first in byte order, the first one where both are the same.

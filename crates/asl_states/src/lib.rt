@@ -3,6 +3,7 @@
 #![tactic(auto)]
 
 mod finding;
+mod kinds;
 mod machine;
 mod states;
 mod target;
