@@ -490,6 +490,12 @@ next_task tasks i d t h is =
 pub both_within : (ns : List Node) (a b m n : ℕ) → a < m → m ≡ length ns → b < n → n ≡ length ns → IsWithin (expansions ns) (record { first = a; second = b })
 both_within ns a b m n h e i f = record { first = omega (arith, h, e, as_many ns); second = omega (arith, i, f, as_many ns) }
 
+-- a proper shape is inside itself
+pub inside_itself : (table : List model.Shape) (p : Pair) → p.first ≡ p.second → model.IsProperShape (shape_at table p.first) → ((a b : model.Shape) → model.IsOrdered a → model.Inside a b → IsTrue (sub a b)) → inside table p ≡ true
+inside_itself table p same proper complete =
+    let s = shape_at table p.first in
+    ap (λ n. sub s (shape_at table n)) (sym same) ∙ complete s s (proper-ordered s proper) (λ t h. h)
+
 -- the comparison tells of a proper shape exactly whether it is inside another
 pub told_exactly : (a b : model.Shape) (answer : Bool) → answer ≡ sub a b → model.IsProperShape a → ((a b : model.Shape) → IsTrue (sub a b) → model.Inside a b) → ((a b : model.Shape) → model.IsOrdered a → model.Inside a b → IsTrue (sub a b)) → IsTrue answer ↔ model.Inside a b
 told_exactly a b answer is proper inside complete =

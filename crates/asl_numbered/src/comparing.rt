@@ -14,6 +14,7 @@ use crate::kinds::{NodeArrays, NodeKinds, NodeObjects, take_apart};
 use crate::node::NodeField;
 use crate::pair::Pair;
 use crate::table::Table;
+use asl_model::shape_laws::sub_is_exactly_inside;
 use asl_tree::OutOfMemory;
 use indexmap::IndexMap;
 use std::alloc::Global;
@@ -92,8 +93,8 @@ fn known(compared: &Compared, pair: Pair) -> Option<bool>
     }
 }
 
-// Looks at one pair. False says that its first shape isn't inside its second; otherwise it is where all pairs are that
-// are put behind the tasks.
+// Looks at one pair, which is inside at once where it is of one shape. False says that its first shape isn't inside its
+// second; otherwise it is where all pairs are that are put behind the tasks.
 fn look(
     table: &Table,
     compared: &Compared,
@@ -104,6 +105,11 @@ fn look(
     requires within { IsWithin (expansions table.now) pair }
     ensures rests { IfOk result (λ b. RestsOn (expansions table.now) pair b tasks.old.items tasks.new.items) }
 {
+    if pair.first == pair.second {
+        sub_is_exactly_inside();
+        table.are_proper();
+        return Ok(true);
+    }
     if let Some(answer) = known(compared, pair) {
         return Ok(answer);
     }

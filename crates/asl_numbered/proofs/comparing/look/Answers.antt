@@ -1,7 +1,12 @@
-use Rattle.std.proofs.Common.{sym}
+use Rattle.std.proofs.Common.{true, sym}
 use Rattle.asl_numbered.specs.Expansion.{expansions}
-use Rattle.asl_numbered.proofs.Comparisons.{rests_known, rests_on_any, rests_of_any}
+use Rattle.asl_numbered.proofs.Comparisons.{inside_itself, rests_known, rests_on_any, rests_of_any}
 use Rattle.asl_numbered.proofs.comparing.look.Goals as goal
+
+pub returns-then-pair : goal.returns-then-pair
+returns-then-pair c = record {
+  rests = rests_known (expansions c.args.table.now) c.args.pair true c.args.tasks.now.items (inside_itself (expansions c.args.table.now) c.args.pair c.if-pair.true (c.are_proper.ensures.proper c.args.pair.first) c.sub_is_exactly_inside.ensures.complete);
+}
 
 pub returns-in-Some : goal.returns-in-Some
 returns-in-Some c = record {
