@@ -8,7 +8,7 @@ use Rattle.asl_model.specs.Shape as model
 use Rattle.asl_model.specs.Shape.{Shape, Any, OfKinds, Simple, Arrays, WithoutArrays, ArraysOf, Objects, WithoutObjects, ObjectsOf, Never, BooleanShape, IntegerShape, NullShape, StringShape, inhabited, has_several, are_several, type_names, name_if, has_arrays, has_objects, no_simple}
 use Rattle.asl_model.specs.ShapeOrder.{takes_all, takes_all_arrays, takes_all_objects}
 use Rattle.asl_shape.specs.View.{merged, with_kinds}
-use Rattle.asl_numbered.specs.Kinds.{IsOfKind, arrays_alone, booleans_alone, integers_alone, null_alone, objects_alone, strings_alone, AscendFrom, none_left, one_behind, AreSeveral, IsProperNode, full, full_arrays, full_objects, place_of}
+use Rattle.asl_numbered.specs.Kinds.{IsOfKind, arrays_alone, booleans_alone, integers_alone, null_alone, objects_alone, strings_alone, AscendFrom, none_left, one_behind, AreSeveral, IsProperNode, full, full_arrays, full_objects, tidy, place_of}
 use Rattle.asl_numbered.specs.declared.node.Node.{Node}
 use Rattle.asl_numbered.specs.declared.node.Node.TheVariants as nodes
 use Rattle.asl_numbered.specs.Expansion.{shape_at, shape_over}
@@ -91,6 +91,21 @@ pub full_merged : (place : ℕ) (ss : List Shape) → AscendFrom place ss → fu
 full_merged place [] none_left = refl
 full_merged place (s ∷ ss) (one_behind {kind = kind} h is behind) =
     full-with kind s (merged ss) is (begins (suc kind) ss behind) ∙ ap (λ b. full s && b) (full_merged (suc kind) ss behind)
+
+tidy-with : (kind : ℕ) (s t : Shape) → IsOfKind kind s → Begins (suc kind) t → tidy (with_kinds s t) ≡ (tidy s && tidy t)
+tidy-with kind s Any is b = absurd b
+tidy-with kind s (OfKinds simple arrays objects) arrays_alone b = rw (b.0 (omega arith)) (grind arith)
+tidy-with kind s (OfKinds simple arrays objects) booleans_alone b = refl
+tidy-with kind s (OfKinds simple arrays objects) integers_alone b = refl
+tidy-with kind s (OfKinds simple arrays objects) null_alone b = refl
+tidy-with kind s (OfKinds simple arrays objects) objects_alone b = rw (b.4 (omega arith)) (grind arith)
+tidy-with kind s (OfKinds simple arrays objects) strings_alone b = refl
+
+-- nothing in it is left out where nothing in one of the shapes is
+pub tidy_merged : (place : ℕ) (ss : List Shape) → AscendFrom place ss → tidy (merged ss) ≡ list_all tidy ss
+tidy_merged place [] none_left = refl
+tidy_merged place (s ∷ ss) (one_behind {kind = kind} h is behind) =
+    tidy-with kind s (merged ss) is (begins (suc kind) ss behind) ∙ ap (λ b. tidy s && b) (tidy_merged (suc kind) ss behind)
 
 -- ---- how many kinds there are
 

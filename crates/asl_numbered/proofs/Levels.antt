@@ -9,9 +9,9 @@ use Rattle.asl_numbered.specs.declared.node.Node.{Node}
 use Rattle.asl_numbered.specs.declared.node.Node.TheVariants as nodes
 use Rattle.asl_numbered.specs.declared.table.Facts.{Facts}
 use Rattle.asl_numbered.specs.Expansion.{shape_at, shapes_at, shape_over}
-use Rattle.asl_numbered.specs.Kinds.{IsProperNode, AreSeveral, full, of_every_kind}
+use Rattle.asl_numbered.specs.Kinds.{IsProperNode, AreSeveral, full, tidy, of_every_kind}
 use Rattle.asl_numbered.specs.Table.{IsTable}
-use Rattle.asl_numbered.proofs.Ascending.{inhabited_merged, full_merged, several_merged, all_merged}
+use Rattle.asl_numbered.proofs.Ascending.{inhabited_merged, full_merged, tidy_merged, several_merged, all_merged}
 use Rattle.asl_numbered.proofs.Tables.{shapes_in, entry_level, keys_counted, shape_past}
 
 several : (table : List model.Shape) (node : Node) (numbers : Vec ℕ Global) → node ≡ nodes.Several numbers → IsProperNode table node → AreSeveral (map (shape_at table) numbers.items)
@@ -23,6 +23,9 @@ some_inhabited table node numbers ns e same is =
 
 pub some_full : (table : List model.Shape) (node : Node) (numbers : Vec ℕ Global) (ns : List ℕ) → node ≡ nodes.Several numbers → ns ≡ numbers.items → IsProperNode table node → list_all full (map (shape_at table) ns) ≡ full (shape_over table node)
 some_full table node numbers ns e same is = rw (same, e) (sym (full_merged 0 _ (several table node numbers e is).ascend))
+
+pub some_tidy : (table : List model.Shape) (node : Node) (numbers : Vec ℕ Global) (ns : List ℕ) → node ≡ nodes.Several numbers → ns ≡ numbers.items → IsProperNode table node → list_all tidy (map (shape_at table) ns) ≡ tidy (shape_over table node)
+some_tidy table node numbers ns e same is = rw (same, e) (sym (tidy_merged 0 _ (several table node numbers e is).ascend))
 
 pub has_several : (table : List model.Shape) (node : Node) (numbers : Vec ℕ Global) → node ≡ nodes.Several numbers → IsProperNode table node → true ≡ model.has_several (shape_over table node)
 has_several table node numbers e is = rw e (sym (several_merged _ (several table node numbers e is)))

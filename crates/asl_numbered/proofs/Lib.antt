@@ -20,3 +20,4 @@ pub mod SpelledOut
 pub mod Stepping
 pub mod Tables
 pub mod Taking
+pub mod Tidy

@@ -1,6 +1,6 @@
 -- Shapes of one kind and of several, and when a node of several parts is proper.
-use Rattle.std.specs.Prelude.{◌≤◌, ℕ, suc, List, [], ◌∷◌, length, map, Bool, true, false, ◌&&◌, ◌==◌, Option, Some, None}
-use Rattle.asl_model.specs.Shape.{Shape, Any, OfKinds, Arrays, WithoutArrays, ArraysOf, Objects, WithoutObjects, ObjectsOf, Shapes, FieldShapes, ArrayShape, BooleanShape, IntegerShape, NullShape, ObjectShape, StringShape}
+use Rattle.std.specs.Prelude.{◌≤◌, ℕ, suc, List, [], ◌∷◌, length, map, Bool, true, false, not, ◌&&◌, ◌||◌, ◌==◌, Option, Some, None}
+use Rattle.asl_model.specs.Shape.{Shape, Any, OfKinds, Arrays, WithoutArrays, ArraysOf, Objects, WithoutObjects, ObjectsOf, Shapes, NoShapes, AndShape, FieldShapes, NoFieldShapes, AndFieldShape, ArrayShape, BooleanShape, IntegerShape, NullShape, ObjectShape, StringShape, inhabited}
 use Rattle.asl_model.specs.ShapeOrder.{takes_all_arrays, takes_all_objects}
 use Rattle.asl_numbered.specs.declared.node.Node.{Node}
 use Rattle.asl_numbered.specs.declared.node.Node.TheVariants as nodes
@@ -56,6 +56,33 @@ full_objects (ObjectsOf shapes extra) = takes_all_objects (ObjectsOf shapes extr
 abbrev pub full : Shape → Bool
 full Any = true
 full (OfKinds simple arrays objects) = full_arrays arrays && full_objects objects
+
+abbrev mutual
+  -- Nothing in the shape is left out where it is joined with itself: it has no arrays or objects of which there are none,
+  -- and so it is with the shapes of their elements and fields.
+  pub tidy : Shape → Bool
+  tidy Any = true
+  tidy (OfKinds simple arrays objects) = tidy_arrays arrays && tidy_objects objects
+
+  -- nothing in the arrays is
+  pub tidy_arrays : Arrays → Bool
+  tidy_arrays WithoutArrays = true
+  tidy_arrays (ArraysOf first rest) = tidy_places first && tidy rest
+
+  -- nothing in the objects is
+  pub tidy_objects : Objects → Bool
+  tidy_objects WithoutObjects = true
+  tidy_objects (ObjectsOf shapes extra) = tidy_fields shapes
+
+  -- each of the shapes is inhabited, and nothing in it is left out
+  pub tidy_places : Shapes → Bool
+  tidy_places NoShapes = true
+  tidy_places (AndShape s others) = inhabited s && (tidy s && tidy_places others)
+
+  -- the shape of each needed field is inhabited, and nothing in the shape of a field is left out
+  pub tidy_fields : FieldShapes → Bool
+  tidy_fields NoFieldShapes = true
+  tidy_fields (AndFieldShape n needed s shapes) = (not needed || inhabited s) && (tidy s && tidy_fields shapes)
 
 -- the place of the node's kind among these, if it is of one
 abbrev pub place_of : Node → Option ℕ

@@ -10,7 +10,7 @@ use Rattle.asl_numbered.specs.declared.node.Node.TheVariants.{Any, Never, Null, 
 use Rattle.asl_numbered.specs.declared.node.NodeField.{NodeField}
 use Rattle.asl_numbered.specs.declared.table.Facts.{Facts}
 use Rattle.asl_numbered.specs.Expansion.{expansions, shape_at, RefersBelow, AreDistinct}
-use Rattle.asl_numbered.specs.Kinds.{IsProperNode, full}
+use Rattle.asl_numbered.specs.Kinds.{IsProperNode, full, tidy}
 
 -- the names of the fields stand in byte order
 abbrev pub AreFieldsInOrder : List (String Global × NodeField) → Type 0
@@ -37,6 +37,7 @@ pub record AreFactsOf (s : model.Shape) (facts : Facts) : Type 0 where
   pub inhabited : facts.inhabited ≡ model.inhabited s
   pub full : facts.full ≡ full s
   pub several : facts.several ≡ model.has_several s
+  pub tidy : facts.tidy ≡ tidy s
 
 -- Each node has numbers of earlier ones alone, no shape stands twice, the facts are those of the shape, the names of
 -- fields stand in order, and nodes of several parts are proper.

@@ -2,8 +2,8 @@
 //
 // Where no tree has one of the two, it is the other; where one is `Any`, it is `Any`. Else it takes what either takes,
 // kind by kind, where a shape's lists are left out if there are none such, and so are its objects: the join of a shape
-// with itself may be another shape. Lists that one alone takes, and objects, stand as they are; those of both are made
-// of the joins of their parts.
+// with itself may be another shape. Where nothing in a shape is left out so, it is that shape, which is told at once.
+// Lists that one alone takes, and objects, stand as they are; those of both are made of the joins of their parts.
 //
 // The parts are gone through one by one, from a list of what is still to be done, and the numbers that are found stand
 // in a second list, so that no call goes from a shape to its parts.
@@ -154,7 +154,8 @@ fn look(table: &Table, joined: &Joined, work: &mut Work, pair: Pair) -> Result<(
     }
 }
 
-// The number of the join, where one of the shapes isn't inhabited or it is remembered.
+// The number of the join, where one of the shapes isn't inhabited, where both are one of which nothing is left out, or
+// where it is remembered.
 fn known(table: &Table, joined: &Joined, pair: Pair) -> Option<usize>
     requires right { AreJoins (expansions table.now) joined.now.entries }
     requires within { IsWithin (expansions table.now) pair }
@@ -166,6 +167,10 @@ fn known(table: &Table, joined: &Joined, pair: Pair) -> Option<usize>
         return Some(pair.second);
     }
     if !table.is_inhabited(pair.second) {
+        return Some(pair.first);
+    }
+    if pair.first == pair.second && table.is_tidy(pair.first) {
+        table.are_proper();
         return Some(pair.first);
     }
     match joined.get(&pair) {

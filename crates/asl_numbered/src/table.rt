@@ -6,7 +6,7 @@ ghost use Rattle.asl_model.specs.Shape as model;
 ghost use Rattle.asl_model.specs.ShapeOrder as order;
 ghost use Rattle.asl_numbered.specs.Expansion.{expansions, shape_at, shapes_at, fields_at, shape_over, numbers_in, AreBelow, RefersBelow, AreDistinct, IsNumberOf, Keeps};
 ghost use Rattle.asl_numbered.specs.Kinds as places;
-ghost use Rattle.asl_numbered.specs.Kinds.{AscendFrom, IsOfKind, IsProperNode, full, of_every_kind};
+ghost use Rattle.asl_numbered.specs.Kinds.{AscendFrom, IsOfKind, IsProperNode, full, of_every_kind, tidy, tidy_fields, tidy_places};
 ghost use Rattle.asl_numbered.specs.Table.{AreFactsOf, AreFieldsInOrder, IsOrdered};
 
 use crate::node::{Node, NodeField};
@@ -32,6 +32,8 @@ pub(crate) struct Facts {
     pub(crate) full: bool,
     /// Whether it, or one inside it, is of several kinds.
     pub(crate) several: bool,
+    /// Whether nothing in it is left out where it is joined with itself.
+    pub(crate) tidy: bool,
     /// How much room its example takes, if it has one: an estimate.
     pub(crate) weight: usize,
 }
@@ -164,6 +166,16 @@ impl Table {
     {
         match self.nodes.get_index(number) {
             Some(entry) => entry.1.full,
+            None => true,
+        }
+    }
+
+    /// Whether nothing in the shape of that number is left out where it is joined with itself.
+    pub(crate) fn is_tidy(&self, number: usize) -> bool
+        ensures { result ≡ tidy (shape_at (expansions self.now) number) }
+    {
+        match self.nodes.get_index(number) {
+            Some(entry) => entry.1.tidy,
             None => true,
         }
     }
@@ -310,6 +322,7 @@ fn node_facts(table: &Table, node: &Node) -> Facts
         inhabited: node_inhabited(table, node),
         full: is_node_full(table, node),
         several: node_has_several(table, node),
+        tidy: is_node_tidy(table, node),
         weight: node_weight(table, node),
     }
 }
@@ -440,4 +453,53 @@ fn field_has_several(table: &Table, fields: &BTreeMap<String, NodeField>) -> boo
         }
     }
     false
+}
+
+// Whether nothing in the shape whose first level is the node is left out where it is joined with itself.
+fn is_node_tidy(table: &Table, node: &Node) -> bool
+    requires proper { IsProperNode (expansions table.now) node.now }
+    ensures { result ≡ tidy (shape_over (expansions table.now) node.now) }
+{
+    match node {
+        Node::Any | Node::Never | Node::Null | Node::Bool | Node::Int | Node::Text => true,
+        Node::List { first, rest } => are_places_tidy(table, first) && table.is_tidy(*rest),
+        Node::Object { fields, .. } => are_fields_tidy(table, fields),
+        Node::Several(parts) => are_tidy(table, parts),
+    }
+}
+
+// Whether each of the shapes is inhabited, and nothing in it is left out.
+fn are_places_tidy(table: &Table, numbers: &[usize]) -> bool
+    ensures { result ≡ tidy_places (shapes_at (expansions table.now) numbers.now) }
+{
+    for number in numbers {
+        if !table.is_inhabited(*number) || !table.is_tidy(*number) {
+            return false;
+        }
+    }
+    true
+}
+
+// Whether the shape of each needed field is inhabited, and nothing in the shape of a field is left out.
+fn are_fields_tidy(table: &Table, fields: &BTreeMap<String, NodeField>) -> bool
+    ensures { result ≡ tidy_fields (fields_at (expansions table.now) fields.now.entries) }
+{
+    for (_, field) in fields.iter() {
+        if (field.needed && !table.is_inhabited(field.shape)) || !table.is_tidy(field.shape) {
+            return false;
+        }
+    }
+    true
+}
+
+// Whether nothing in one of the shapes is left out.
+fn are_tidy(table: &Table, numbers: &[usize]) -> bool
+    ensures { result ≡ list_all tidy (map (shape_at (expansions table.now)) numbers.now) }
+{
+    for number in numbers {
+        if !table.is_tidy(*number) {
+            return false;
+        }
+    }
+    true
 }
