@@ -73,7 +73,28 @@ struct JoinedKinds {
 
 /// The number of the join of the two shapes of the pair: as before, where that is remembered; else it is found out and
 /// remembered, and so it is for the pairs of parts that had to be joined.
+#[tactic(auto, using(crate::proofs::Expansions::keeps_unchanged))]
 pub(crate) fn join(
+    table: &mut Table,
+    joined: &mut Joined,
+    alloc: Global,
+    pair: Pair,
+) -> Result<usize, OutOfMemory>
+    requires right { AreJoins (expansions table.old) joined.old.entries }
+    requires within { IsWithin (expansions table.old) pair }
+    ensures number { IfOk result
+        (Shows (expansions table.new) (joint (expansions table.old) pair)) }
+    ensures keeps { Keeps (expansions table.old) (expansions table.new) }
+    ensures right { AreJoins (expansions table.new) joined.new.entries }
+{
+    match known(table, joined, pair) {
+        Some(number) => Ok(number),
+        None => find_join(table, joined, alloc, pair),
+    }
+}
+
+// The same, where it is looked for part by part.
+fn find_join(
     table: &mut Table,
     joined: &mut Joined,
     alloc: Global,

@@ -1,6 +1,6 @@
 use Rattle.asl_numbered.specs.Expansion.{expansions, Keeps}
 use Rattle.asl_numbered.specs.Joins.{joint, AreJoins, AreLeft, steps_of, found_in, work_left}
-use Rattle.asl_numbered.proofs.joining.join.Given as goal
+use Rattle.asl_numbered.proofs.joining.find_join.Given as goal
 
 abbrev pub invariant-loop-task : goal.invariant-loop-task
 invariant-loop-task l =
