@@ -109,8 +109,8 @@ mutual
       ∙ ap (AndFieldShape n needed s) (fields_joined shapes whole more first.1 ordered.2 own.1)
 
 -- the number of such a shape is that of its join with itself
-pub itself_shown : (table : List Shape) (p : Pair) (all : Bool) → IsWithin table p → p.first ≡ p.second → IsProperShape (shape_at table p.first) → all ≡ tidy (shape_at table p.first) → all ≡ true → Shows table (joint table p) p.first
+pub itself_shown : (table : List Shape) (p : Pair) (all : Bool) → IsWithin table p → p.first ≡ p.second → IsProperShape (shape_at table p.second) → all ≡ tidy (shape_at table p.second) → all ≡ true → Shows table (joint table p) p.second
 itself_shown table p all within same proper is holds =
-    let s = shape_at table p.first in
+    let s = shape_at table p.second in
     let joined : join s s ≡ s = join_itself s (proper-ordered s proper) (sym is ∙ holds) in
-    record { within = within.first; same = sym (ap (λ n. join s (shape_at table n)) (sym same) ∙ joined) }
+    record { within = within.second; same = sym (ap (λ n. join (shape_at table n) s) same ∙ joined) }

@@ -190,9 +190,9 @@ fn known(table: &Table, joined: &Joined, pair: Pair) -> Option<usize>
     if !table.is_inhabited(pair.second) {
         return Some(pair.first);
     }
-    if pair.first == pair.second && table.is_tidy(pair.first) {
+    if pair.first == pair.second && table.is_tidy(pair.second) {
         table.are_proper();
-        return Some(pair.first);
+        return Some(pair.second);
     }
     match joined.get(&pair) {
         Some(number) => Some(*number),

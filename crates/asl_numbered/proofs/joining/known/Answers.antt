@@ -14,7 +14,7 @@ returns-then-not-is_inhabited-2-clause-number c =
 
 pub returns-then-is_tidy-clause-number : goal.returns-then-is_tidy-clause-number
 returns-then-is_tidy-clause-number c =
-    itself_shown (expansions c.args.table.now) c.args.pair c.is_tidy.result c.requires.within c.if-pair.true (c.are_proper.ensures.proper c.args.pair.first) c.is_tidy.ensures c.if-is_tidy.true
+    itself_shown (expansions c.args.table.now) c.args.pair c.is_tidy.result c.requires.within c.if-pair.true (c.are_proper.ensures.proper c.args.pair.second) c.is_tidy.ensures c.if-is_tidy.true
 
 pub returns-in-Some-clause-number : goal.returns-in-Some-clause-number
 returns-in-Some-clause-number c =
