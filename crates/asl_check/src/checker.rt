@@ -58,8 +58,8 @@ pub fn check(
         → IsRight m (declared_view declared.now) (certificate_view certificate.now)
         (verdict_view verdict)) }
     ensures first { IfOk result (λ verdict. TellsFirst
-        (listed (table_view machine.now) (declared_view declared.now) (certificate_view certificate.now))
-        (verdict_view verdict)) }
+        (listed (table_view machine.now) (declared_view declared.now)
+        (certificate_view certificate.now)) (verdict_view verdict)) }
 {
     let mut numbered = number_certificate(alloc, certificate)?;
     check_numbered(alloc, machine, declared, &mut numbered)
@@ -78,8 +78,8 @@ pub fn check_numbered(
         → IsRight m (declared_view declared.now) (numbered_view certificate.old)
         (verdict_view verdict)) }
     ensures first { IfOk result (λ verdict. TellsFirst
-        (listed (table_view machine.now) (declared_view declared.now) (numbered_view certificate.old))
-        (verdict_view verdict)) }
+        (listed (table_view machine.now) (declared_view declared.now)
+        (numbered_view certificate.old)) (verdict_view verdict)) }
     ensures same { numbered_view certificate.new ≡ numbered_view certificate.old }
     ensures within { AreWithin certificate.new }
     ensures keeps { Keeps (expansions certificate.old.shapes) (expansions certificate.new.shapes) }

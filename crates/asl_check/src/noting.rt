@@ -57,7 +57,8 @@ fn note(
 ) -> Result<(), OutOfMemory>
     requires below { IsFaultBelow (length shapes.old) rule.now.fault }
     ensures noted { OnOk result
-        (AreNoted (notes_view notes.old.entries ++ listed_view (expansions shapes.old) rule.now ∷ [])
+        (AreNoted
+        (notes_view notes.old.entries ++ listed_view (expansions shapes.old) rule.now ∷ [])
         (notes_view notes.new.entries)) }
     ensures keeps { Keeps (expansions shapes.old) (expansions shapes.new) }
 {

@@ -12,7 +12,8 @@ use std::cmp::Ordering;
 pub fn sort(diagnostics: &mut Vec<Diagnostic>) -> Result<(), OutOfMemory>
     ensures same { IsPermutation diagnostics.old.items diagnostics.new.items }
     ensures sorted { OnOk result (IsSortedBy stands_before diagnostics.new.items) }
-    ensures stable { OnOk result (IsStableBy stands_before diagnostics.old.items diagnostics.new.items) }
+    ensures stable { OnOk result
+        (IsStableBy stands_before diagnostics.old.items diagnostics.new.items) }
     ensures err { OnErr result (diagnostics.new.items ≡ diagnostics.old.items) }
 {
     diagnostics.sort_by(|one, other| place_cmp(one, other))?;

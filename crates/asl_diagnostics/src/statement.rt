@@ -58,7 +58,8 @@ fn push_field(alloc: Global, text: &mut String, field: &Option<String>) -> Resul
 /// Puts a space and the example as a JSON text behind the text, where there is one.
 fn push_example(alloc: Global, text: &mut String, example: &Option<Tree>) -> Result<(), OutOfMemory>
     ensures { OnOk result
-        (string_bytes text.new ≡ string_bytes text.old ++ example_text (option_map view example.now)) }
+        (string_bytes text.new
+        ≡ string_bytes text.old ++ example_text (option_map view example.now)) }
 {
     if let Some(tree) = example {
         let written = to_text(alloc, tree)?;

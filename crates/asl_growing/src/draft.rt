@@ -220,7 +220,8 @@ impl Draft {
     pub fn certificate(self, machine: &Machine) -> Result<NumberedCertificate, OutOfMemory>
         ensures same { IfOk result
             (λ certificate. are_distinct (table_view machine.now).names ≡ true
-            → numbered_view certificate ≡ certificate_of (table_view machine.now) (draft_view self)) }
+            → numbered_view certificate
+            ≡ certificate_of (table_view machine.now) (draft_view self)) }
         ensures within { IfOk result AreWithin }
         ensures shallow { IfOk result
             (λ certificate. HoldsForCertificate IsShallow (numbered_view certificate)) }
@@ -233,7 +234,8 @@ impl Draft {
 
     // The certificate with those entries.
     fn with_states(self, states: BTreeMap<String, StateNumbers>) -> NumberedCertificate
-        ensures { result ≡ record { shapes = self.store; output = self.output.number; states = states } }
+        ensures { result
+            ≡ record { shapes = self.store; output = self.output.number; states = states } }
     {
         NumberedCertificate {
             shapes: self.store.into_shapes(),

@@ -138,7 +138,8 @@ fn push_rest(
     ensures { OnOk result (map string_bytes parts.new.items
         ≡ map string_bytes parts.old.items
         ++ model.word_if (shape.inhabited (shape_at (expansions shapes.now) rest))
-        (codes ".." ++ model.noted limits.depth limits.width (shape_at (expansions shapes.now) rest))) }
+        (codes ".."
+        ++ model.noted limits.depth limits.width (shape_at (expansions shapes.now) rest))) }
 {
     if is_inhabited(shapes, rest) {
         let rest = note(alloc, shapes, rest, limits)?;

@@ -39,7 +39,8 @@ impl StateAnswers {
     fn next(&mut self, alloc: Global, item: Option<usize>) -> Result<Option<Answer>, OutOfMemory>
         ensures given { IfOk result (λ answer. option_map answer_view answer
             ≡ model.next_of (model.script_for (state_view self.old) item)) }
-        ensures left { OnOk result (state_view self.new ≡ model.left_of (state_view self.old) item) }
+        ensures left { OnOk result
+            (state_view self.new ≡ model.left_of (state_view self.old) item) }
         ensures kept { OnErr result (state_view self.new ≡ state_view self.old) }
     {
         match self {
@@ -125,7 +126,8 @@ impl CaseAnswers {
     /// refused.
     pub fn or_mocked(self, mocked: CaseAnswers) -> Result<CaseAnswers, OutOfMemory>
         ensures { IfOk result (λ both. (n : String Global) → answers_under both (string_bytes n)
-            ≡ option_or (answers_under self (string_bytes n)) (answers_under mocked (string_bytes n))) }
+            ≡ option_or (answers_under self (string_bytes n))
+            (answers_under mocked (string_bytes n))) }
     {
         let mut own = self.states;
         let mut both = mocked;

@@ -108,7 +108,8 @@ fn next_repeated(
 
 /// A copy of the answer, where there is one.
 fn copy_where_there(alloc: Global, answer: &Option<Answer>) -> Result<Option<Answer>, OutOfMemory>
-    ensures { IfOk result (λ copied. option_map answer_view copied ≡ option_map answer_view answer.now) }
+    ensures { IfOk result
+        (λ copied. option_map answer_view copied ≡ option_map answer_view answer.now) }
 {
     match answer {
         Some(answer) => Ok(Some(copy_answer(alloc, answer)?)),

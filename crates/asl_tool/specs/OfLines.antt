@@ -12,13 +12,13 @@ OfLinesTells known Tells told =
     OfLines known (λ definition declared certificate. Tells definition declared certificate (verdict_view told))
 
 -- where it is yes, the certificate is closed
-abbrev pub IsYesWhereClosed : List ℕ → List ℕ → List ℕ → Verdict → Type 0
-IsYesWhereClosed definition declared certificate = WhereAccepted (AreClosed definition declared certificate)
+abbrev pub AreClosedWhereYes : List ℕ → List ℕ → List ℕ → Verdict → Type 0
+AreClosedWhereYes definition declared certificate = WhereAccepted (AreClosed definition declared certificate)
 
 -- where it is yes, no run meets a fault
-abbrev pub IsYesWhereNoneFaults : List ℕ → List ℕ → List ℕ → Verdict → Type 0
-IsYesWhereNoneFaults definition declared certificate = WhereAccepted (NeverFaults definition declared certificate)
+abbrev pub NeverFaultWhereYes : List ℕ → List ℕ → List ℕ → Verdict → Type 0
+NeverFaultWhereYes definition declared certificate = WhereAccepted (NeverFaults definition declared certificate)
 
 -- where it is no, the findings are right
-abbrev pub IsNoWhereRejected : List ℕ → List ℕ → List ℕ → Verdict → Type 0
-IsNoWhereRejected definition declared certificate = WhereRejected (AreRejected definition declared certificate)
+abbrev pub AreRejectedWhereNo : List ℕ → List ℕ → List ℕ → Verdict → Type 0
+AreRejectedWhereNo definition declared certificate = WhereRejected (AreRejected definition declared certificate)

@@ -9,7 +9,7 @@ ghost use Rattle.asl_tool.specs.FirstTold.{TellsFirstOn};
 ghost use Rattle.asl_tool.specs.Fronts.{IfLinesRead, NoFrontLineIsLong};
 ghost use Rattle.asl_tool.specs.Lines.{NoLineIsLong};
 ghost use Rattle.asl_tool.specs.Verifying.{IsRefused, TellsRefusal};
-ghost use Rattle.asl_tool.specs.OfLines.{IsNoWhereRejected, IsYesWhereClosed, IsYesWhereNoneFaults, OfLinesTells};
+ghost use Rattle.asl_tool.specs.OfLines.{AreRejectedWhereNo, AreClosedWhereYes, NeverFaultWhereYes, OfLinesTells};
 ghost use Rattle.asl_tool.specs.View.{which_view, text_fault_view};
 ghost use Rattle.asl_tool.specs.Writing.{CheckFaultStands};
 
@@ -104,9 +104,9 @@ pub fn check_lines<R: Source, W: Sink>(
 ) -> Result<Verdict, RunFault>
     ensures verdict { IfOk result (OfLinesTells (R.remaining source.old) IsVerdictOn) }
     ensures first { IfOk result (OfLinesTells (R.remaining source.old) TellsFirstOn) }
-    ensures yes { IfOk result (OfLinesTells (R.remaining source.old) IsYesWhereClosed) }
-    ensures headline { IfOk result (OfLinesTells (R.remaining source.old) IsYesWhereNoneFaults) }
-    ensures no { IfOk result (OfLinesTells (R.remaining source.old) IsNoWhereRejected) }
+    ensures yes { IfOk result (OfLinesTells (R.remaining source.old) AreClosedWhereYes) }
+    ensures headline { IfOk result (OfLinesTells (R.remaining source.old) NeverFaultWhereYes) }
+    ensures no { IfOk result (OfLinesTells (R.remaining source.old) AreRejectedWhereNo) }
     ensures written { IfOk result (λ verdict. Appends (W.contents sink.old) (W.contents sink.new)
         (verdict_text (verdict_view verdict))) }
     ensures refused { IfErr result (TellsRefusal (R.remaining source.old)) }
