@@ -140,8 +140,7 @@ impl Explainer<'_> {
                 }
                 None => Ok(()),
             },
-            ("ResultSelector", Some(state), Some(name))
-                if state.kind.is_task() => {
+            ("ResultSelector", Some(state), Some(name)) if state.kind.is_task() => {
                 let gives = self.given_by(shapes, name)?;
                 self.push_whole(shapes, text, whole_of(field), gives)
             }
