@@ -1,5 +1,5 @@
 //! Vectors for texts and trees, and each call once with ample memory.
-use asl_tree::{copy, from_value, read, read_value, same, to_text};
+use asl_tree::{copy, from_value, in_line, quoted, read, read_value, same, to_text};
 use std::alloc::Global;
 use std::process::Abort;
 
@@ -46,4 +46,20 @@ fn trees(rt: HostRuntime) {
     assert!(rt; same(&copy(alloc, &list).expect(&rt, "a copy"), &list));
     assert!(rt; !same(&read(alloc, b"[1,2]").expect(&rt, "a tree"), &list));
     assert!(rt; !same(&read(alloc, b"[1,2,3,4]").expect(&rt, "a tree"), &list));
+}
+
+#[test]
+fn texts_in_a_line(rt: HostRuntime) {
+    let alloc = rt.alloc();
+    let vectors = [
+        ("", "\"\"", ""),
+        ("a \"b\"\\", "\"a \\\"b\\\"\\\\\"", "a \"b\"\\"),
+        ("a\nb", "\"a\\nb\"", "\"a\\nb\""),
+        ("\u{1f}", "\"\\u001f\"", "\"\\u001f\""),
+        ("\u{7f}\u{e9}", "\"\u{7f}\u{e9}\"", "\u{7f}\u{e9}"),
+    ];
+    for (text, wanted, line) in vectors {
+        assert_eq!(rt; quoted(alloc, text).expect(&rt, "a text").as_str(), wanted);
+        assert_eq!(rt; in_line(alloc, text).expect(&rt, "a text").as_str(), line);
+    }
 }
