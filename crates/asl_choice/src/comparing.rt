@@ -10,7 +10,8 @@ use std::cmp::Ordering;
 
 /// Whether the comparison holds of the two values; it doesn't where they aren't both of its type.
 pub(crate) fn compares(comparison: Comparison, first: &Tree, second: &Tree) -> bool
-    ensures { result ≡ comparison_holds (comparison_view comparison) (trees.view first.now) (trees.view second.now) }
+    ensures { result ≡ comparison_holds (comparison_view comparison) (trees.view first.now)
+        (trees.view second.now) }
 {
     match comparison {
         Comparison::String(relation) => match (as_text(first), as_text(second)) {

@@ -24,8 +24,10 @@ pub struct NamesNothing;
 /// part isn't looked at. Every test but `IsPresent` with a path that names nothing is neither true nor false. A text
 /// matches a pattern where it can be cut into parts, one for each element: a byte is itself, a star any text.
 pub fn holds(test: &Test, input: &Tree) -> Result<bool, NamesNothing>
-    ensures decided { IfOk result (λ answer. truth (view test.now) (trees.view input.now) ≡ Some answer) }
-    ensures names_nothing { IfErr result (λ _. truth (view test.now) (trees.view input.now) ≡ None) }
+    ensures decided { IfOk result
+        (λ answer. truth (view test.now) (trees.view input.now) ≡ Some answer) }
+    ensures names_nothing { IfErr result
+        (λ _. truth (view test.now) (trees.view input.now) ≡ None) }
     ensures matched { (p : List Segment) (parts : List PatternPart) (text : List ℕ)
         → view test.now ≡ StringMatches p parts
         → Names p (trees.view input.now) (Text text)
@@ -39,8 +41,10 @@ pub fn holds(test: &Test, input: &Tree) -> Result<bool, NamesNothing>
 /// Whether the test is true of the input, by its definition.
 #[cycle(decide)]
 fn decide(test: &Test, input: &Tree) -> Result<bool, NamesNothing>
-    ensures decided { IfOk result (λ answer. truth (view test.now) (trees.view input.now) ≡ Some answer) }
-    ensures names_nothing { IfErr result (λ _. truth (view test.now) (trees.view input.now) ≡ None) }
+    ensures decided { IfOk result
+        (λ answer. truth (view test.now) (trees.view input.now) ≡ Some answer) }
+    ensures names_nothing { IfErr result
+        (λ _. truth (view test.now) (trees.view input.now) ≡ None) }
 {
     match test {
         Test::And(tests) => all_true(tests, input),
@@ -96,7 +100,8 @@ fn some_true(tests: &[Test], input: &Tree) -> Result<bool, NamesNothing>
 
 /// The second value of a comparison.
 fn operand_value<'t>(operand: &'t Operand, input: &'t Tree) -> Result<&'t Tree, NamesNothing>
-    ensures { option_map (λ t. trees.view t.now) (result_ok result) ≡ value_of_operand (operand_view operand.now) (trees.view input.now) }
+    ensures { option_map (λ t. trees.view t.now) (result_ok result)
+        ≡ value_of_operand (operand_view operand.now) (trees.view input.now) }
 {
     match operand {
         Operand::Constant(value) => Ok(value),
@@ -106,7 +111,8 @@ fn operand_value<'t>(operand: &'t Operand, input: &'t Tree) -> Result<&'t Tree, 
 
 /// What the path names in the input.
 fn named<'t>(input: &'t Tree, path: &RefPath) -> Result<&'t Tree, NamesNothing>
-    ensures { option_map (λ t. trees.view t.now) (result_ok result) ≡ named_by path.now (trees.view input.now) }
+    ensures { option_map (λ t. trees.view t.now) (result_ok result)
+        ≡ named_by path.now (trees.view input.now) }
 {
     match find(input, path) {
         Some(value) => Ok(value),

@@ -70,7 +70,8 @@ fn comparison_named(name: &str) -> Option<Comparison>
 
 /// The relation whose name stands in `name` behind that front.
 fn relation_behind(front: &str, name: &str) -> Option<Relation>
-    ensures { option_map relation_view result ≡ option_and_then relation_of (behind front.now name.now) }
+    ensures { option_map relation_view result
+        ≡ option_and_then relation_of (behind front.now name.now) }
 {
     match name.strip_prefix(front) {
         Some(relation) => relation_named(relation),

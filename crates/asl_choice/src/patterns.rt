@@ -31,7 +31,9 @@ pub(crate) fn read_pattern(alloc: Global, text: &[u8]) -> Result<Vec<PatternPart
 /// The first element of the pattern that a text with that first byte spells, and what is behind it; `None` where the
 /// byte is a backslash and neither a star nor a backslash follows.
 fn cut_part(first: u8, others: &[u8]) -> Option<(PatternPart, &[u8])>
-    ensures cases { MatchOption result (model.pattern_of (first ∷ others.now) ≡ None) (λ c. model.pattern_of (first ∷ others.now) ≡ option_map (λ parts. part_view c.0 ∷ parts) (model.pattern_of c.1.now)) }
+    ensures cases { MatchOption result (model.pattern_of (first ∷ others.now) ≡ None)
+        (λ c. model.pattern_of (first ∷ others.now)
+        ≡ option_map (λ parts. part_view c.0 ∷ parts) (model.pattern_of c.1.now)) }
     ensures shorter { IfSome result (λ c. length c.1.now ≤ length others.now) }
 {
     if first == b'\\' {

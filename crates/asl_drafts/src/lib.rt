@@ -13,18 +13,20 @@ ghost use Rattle.asl_drafts.specs.Resting.{Memory, Rests, IsPassedBy, IsTakenIn}
 /// The draft on which the rounds settle comes to a closed certificate: what flows is inside the join, the join is inside
 /// what it is cut to, and that is what stands there.
 pub fn settled_drafts_are_closed()
-    ensures closed { (machine : Scope) (declared : Declared) (rounds : ℕ) (draft : Draft) → IsWellNamed machine
-        → Settles (table_of machine) declared rounds draft
+    ensures closed { (machine : Scope) (declared : Declared) (rounds : ℕ) (draft : Draft)
+        → IsWellNamed machine → Settles (table_of machine) declared rounds draft
         → IsClosed declared (certificate_of (table_of machine) draft) machine }
 {}
 
 /// A state that is at rest may be passed over in a round. It stays at rest where a shape changes at which it doesn't look,
 /// if all that is remembered to have flowed from it into that shape would change nothing again.
 pub fn states_at_rest_may_be_passed_over()
-    ensures passed { (table : Table) (declared : Declared) (row : Row) (known : Memory) (draft : Draft)
-        → Rests table declared row known draft → walked table declared row draft ≡ Ok draft }
-    ensures kept { (table : Table) (declared : Declared) (row : Row) (known : Memory) (target : Target) (s : Shape)
-        (draft : Draft) → IsPassedBy row.number target
+    ensures passed { (table : Table) (declared : Declared) (row : Row) (known : Memory)
+        (draft : Draft) → Rests table declared row known draft
+        → walked table declared row draft ≡ Ok draft }
+    ensures kept { (table : Table) (declared : Declared) (row : Row) (known : Memory)
+        (target : Target) (s : Shape) (draft : Draft) → IsPassedBy row.number target
         → IsTakenIn row.number known target (taken_at (Some target) s draft)
-        → Rests table declared row known draft → Rests table declared row known (taken_at (Some target) s draft) }
+        → Rests table declared row known draft
+        → Rests table declared row known (taken_at (Some target) s draft) }
 {}

@@ -35,7 +35,8 @@ pub(crate) fn objects_alone(shape: &Shape) -> Option<Objects<'_>>
 
 /// Whether the kinds have a simple one among them.
 fn some_simple(kinds: &Kinds<'_>) -> bool
-    ensures { result ≡ model.some_simple (simple_of kinds.now.null kinds.now.boolean kinds.now.integer kinds.now.text) }
+    ensures { result ≡ model.some_simple
+        (simple_of kinds.now.null kinds.now.boolean kinds.now.integer kinds.now.text) }
 {
     kinds.null || kinds.boolean || kinds.integer || kinds.text
 }

@@ -187,7 +187,8 @@ fn fits_holes(shapes: &Shapes, arguments: &[Arg], first: usize, others: &[usize]
 
 /// How many holes the first argument has, where it is a literal text.
 fn holes_in(arguments: &[Arg]) -> Option<usize>
-    ensures { result ≡ option_map (λ pieces. length pieces.after_holes) (literal_pieces (arguments_view arguments.now)) }
+    ensures { result ≡ option_map
+        (λ pieces. length pieces.after_holes) (literal_pieces (arguments_view arguments.now)) }
 {
     let Arg::Text(pieces) = arguments.first()? else {
         return None;

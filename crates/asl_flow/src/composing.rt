@@ -17,7 +17,8 @@ pub(crate) fn set_field<F: Drop>(
     name: &String,
     field: F,
 ) -> Result<(), OutOfMemory>
-    ensures { OnOk result ((key : String Global) × (string_bytes key ≡ string_bytes name.now) × (fields.new.entries ≡ insert_entry string_cmp fields.old.entries key field)) }
+    ensures { OnOk result ((key : String Global) × (string_bytes key ≡ string_bytes name.now)
+        × (fields.new.entries ≡ insert_entry string_cmp fields.old.entries key field)) }
 {
     drop(fields.insert(name.clone()?, field)?);
     Ok(())

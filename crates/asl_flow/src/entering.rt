@@ -30,8 +30,8 @@ pub fn effective_at<'p>(
 ) -> Result<Flow<'p>, OutOfMemory>
     requires number { input < length shapes.old }
     ensures as_defined { IfOk result
-        (λ flow. effective_flow (settings_view settings.now) (shape_at (expansions shapes.old) input)
-        ≡ flow_view (expansions shapes.new) flow) }
+        (λ flow. effective_flow (settings_view settings.now)
+        (shape_at (expansions shapes.old) input) ≡ flow_view (expansions shapes.new) flow) }
     ensures within { IfOk result (IsFlowIn (length shapes.new)) }
     ensures number { IfOk result
         (λ flow. IfOk flow

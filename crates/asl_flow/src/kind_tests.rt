@@ -128,7 +128,8 @@ fn takes_kind(shapes: &Shapes, number: usize, kind: ValueKind) -> bool
 
 /// Whether the kind is among these.
 fn is_among(kinds: &NodeKinds<'_>, kind: ValueKind) -> bool
-    ensures { (table : List shape.Shape) → model.of_kind (kind_view kind) (kinds_over table kinds.now)
+    ensures { (table : List shape.Shape)
+        → model.of_kind (kind_view kind) (kinds_over table kinds.now)
         ≡ kind_if result (kind_view kind) }
 {
     match kind {
@@ -143,7 +144,8 @@ fn is_among(kinds: &NodeKinds<'_>, kind: ValueKind) -> bool
 fn node_of(kind: ValueKind) -> Node
     ensures proper { (table : List shape.Shape) → HasProperParts table result }
     ensures simple { parts result ≡ [] }
-    ensures shown { (table : List shape.Shape) → shape_over table result ≡ kind_if true (kind_view kind) }
+    ensures shown { (table : List shape.Shape)
+        → shape_over table result ≡ kind_if true (kind_view kind) }
 {
     match kind {
         ValueKind::Null => Node::Null,

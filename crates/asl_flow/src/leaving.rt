@@ -144,7 +144,8 @@ fn fault_told(
     doubt: Doubt<'_>,
 ) -> Result<FlowFault, OutOfMemory>
     requires cause { IsCauseIn shapes.old doubt.cause }
-    ensures told { IfOk result (IsStopped (Err (fault_of (expansions shapes.old) doubt.entry ∷ []))) }
+    ensures told { IfOk result
+        (IsStopped (Err (fault_of (expansions shapes.old) doubt.entry ∷ []))) }
     ensures keeps { Keeps (expansions shapes.old) (expansions shapes.new) }
 {
     match doubt.cause {

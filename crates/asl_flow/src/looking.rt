@@ -49,8 +49,11 @@ impl From<OutOfMemory> for LookRefusal {
 /// has `shape`; `OutOfMemory` comes only where an allocation of that copy was refused. [`find_shape`] lends the part.
 pub fn look(alloc: Global, shape: &Shape, path: &RefPath) -> Result<Shape, LookRefusal>
     ensures found { IfOk result (λ s. looked path.now (view shape.now) ≡ Ok (view s)) }
-    ensures named { IfOk result (λ s. (v : Tree) → Has (view shape.now) v → (w : Tree) × Names path.now v w × Has (view s) w) }
-    ensures may_be_missing { (at : ℕ) → (result ≡ Err (MayBeMissing at)) ↔ (looked path.now (view shape.now) ≡ Err at) }
+    ensures named { IfOk result
+        (λ s. (v : Tree) → Has (view shape.now) v
+        → (w : Tree) × Names path.now v w × Has (view s) w) }
+    ensures may_be_missing { (at : ℕ)
+        → (result ≡ Err (MayBeMissing at)) ↔ (looked path.now (view shape.now) ≡ Err at) }
 {
     look_means_named();
     if !inhabited(shape) {
@@ -125,7 +128,8 @@ pub fn find_shape<'s>(shape: &'s Shape, path: &RefPath) -> Result<&'s Shape, usi
 
 /// The shape of what one segment names in every tree of an inhabited shape.
 fn part<'s>(shape: &'s Shape, segment: &Segment) -> Option<&'s Shape>
-    ensures { option_map (λ s. view s.now) result ≡ part_at (segment_view segment.now) (view shape.now) }
+    ensures { option_map (λ s. view s.now) result
+        ≡ part_at (segment_view segment.now) (view shape.now) }
 {
     match segment {
         Segment::Name(name) => needed_field(shape, name),
@@ -135,14 +139,16 @@ fn part<'s>(shape: &'s Shape, segment: &Segment) -> Option<&'s Shape>
 
 /// The shape of the field of that name, where each tree of the shape is an object that has it.
 fn needed_field<'s>(shape: &'s Shape, name: &String) -> Option<&'s Shape>
-    ensures { option_map (λ s. view s.now) result ≡ part_at (Name (string_bytes name.now)) (view shape.now) }
+    ensures { option_map (λ s. view s.now) result
+        ≡ part_at (Name (string_bytes name.now)) (view shape.now) }
 {
     if_needed(objects_alone(shape)?.fields.get(name)?)
 }
 
 /// The shape of a field, where it is needed.
 fn if_needed(field: &Field) -> Option<&Shape>
-    ensures { option_map (λ s. view s.now) result ≡ needed_shape (Some (field.now.needed, view field.now.shape)) }
+    ensures { option_map (λ s. view s.now) result
+        ≡ needed_shape (Some (field.now.needed, view field.now.shape)) }
 {
     if field.needed {
         Some(&field.shape)

@@ -71,9 +71,13 @@ pub fn put(
     path: &RefPath,
     placed: &Shape,
 ) -> Result<Shape, PutRefusal>
-    ensures as_defined { IfOk result (λ s. put_shape path.now (view placed.now) (view shape.now) ≡ Ok (view s)) }
-    ensures placed { IfOk result (λ s. (x v : Tree) → Has (view placed.now) x → Has (view shape.now) v → (u : Tree) × Places path.now x v u × Has (view s) u) }
-    ensures may_not_fit { (at : ℕ) → result ≡ Err (MayNotFit at) → put_shape path.now (view placed.now) (view shape.now) ≡ Err at }
+    ensures as_defined { IfOk result
+        (λ s. put_shape path.now (view placed.now) (view shape.now) ≡ Ok (view s)) }
+    ensures placed { IfOk result
+        (λ s. (x v : Tree) → Has (view placed.now) x → Has (view shape.now) v
+        → (u : Tree) × Places path.now x v u × Has (view s) u) }
+    ensures may_not_fit { (at : ℕ) → result ≡ Err (MayNotFit at)
+        → put_shape path.now (view placed.now) (view shape.now) ≡ Err at }
 {
     put_means_placed();
     let mut shapes = Shapes::new(alloc);

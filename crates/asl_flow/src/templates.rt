@@ -153,8 +153,8 @@ pub(crate) fn fill_at<'p>(
     requires within { IsWithin (length shapes.old) sources }
     ensures filled { IfOk result
         (IsFilled (expansions shapes.new) field.now
-        (model.template_shape (templates.view template.now) (input_of (expansions shapes.old) sources)
-        (item_of (expansions shapes.old) sources))) }
+        (model.template_shape (templates.view template.now)
+        (input_of (expansions shapes.old) sources) (item_of (expansions shapes.old) sources))) }
     ensures within { IfOk result (IsFlowIn (length shapes.new)) }
     ensures keeps { Keeps (expansions shapes.old) (expansions shapes.new) }
 {

@@ -212,7 +212,8 @@ impl<'m> Given<'m> {
         requires row { IsRowOf self.now number row.now }
         ensures steps { IfOk result
             (λ found. AreStepsOf self.now.strictness (declared_in self.now)
-            (row_view number row.now) (draft_view draft.old) (expansions draft.new.store) found.0.items found.1) }
+            (row_view number row.now) (draft_view draft.old)
+            (expansions draft.new.store) found.0.items found.1) }
         ensures below { IfOk result
             (λ found. AreStepsBelow (length draft.new.store) found.0.items) }
         ensures told { IfErr result

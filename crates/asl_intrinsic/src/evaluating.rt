@@ -22,8 +22,11 @@ pub fn eval(
     input: &Tree,
     item: Option<Item>,
 ) -> Result<Tree, EvalRefusal>
-    ensures value { IfOk result (λ t. call_value (view call.now) (trees.view input.now) (at_hand item.entry) ≡ Some (trees.view t)) }
-    ensures no_value { result ≡ Err IntrinsicFailure → call_value (view call.now) (trees.view input.now) (at_hand item.entry) ≡ None }
+    ensures value { IfOk result
+        (λ t. call_value (view call.now) (trees.view input.now) (at_hand item.entry)
+        ≡ Some (trees.view t)) }
+    ensures no_value { result ≡ Err IntrinsicFailure
+        → call_value (view call.now) (trees.view input.now) (at_hand item.entry) ≡ None }
 {
     match call {
         Call::Array(arguments) => array(alloc, argument_values(alloc, arguments, input, item)?),
@@ -42,8 +45,11 @@ fn argument_values<'v>(
     input: &'v Tree,
     item: Option<Item<'v>>,
 ) -> Result<Vec<Value<'v>>, EvalRefusal>
-    ensures values { Answers (λ values. values_view values.items) result (values_of_arguments (arguments_view arguments.now) (trees.view input.now) (at_hand item.entry)) }
-    ensures literal { IfOk result (λ values. literal_in values.items ≡ literal_pieces (arguments_view arguments.now)) }
+    ensures values { Answers (λ values. values_view values.items) result
+        (values_of_arguments (arguments_view arguments.now) (trees.view input.now)
+        (at_hand item.entry)) }
+    ensures literal { IfOk result
+        (λ values. literal_in values.items ≡ literal_pieces (arguments_view arguments.now)) }
 {
     let mut values = Vec::with_capacity(alloc, arguments.len())?;
     for argument in arguments {
@@ -60,8 +66,12 @@ fn argument_value<'v>(
     input: &'v Tree,
     item: Option<Item<'v>>,
 ) -> Result<Value<'v>, EvalRefusal>
-    ensures value { Answers value_view result (value_of_argument (argument_view argument.now) (trees.view input.now) (at_hand item.entry)) }
-    ensures literal { IfOk result (λ value. (others : Arguments) → literal_of value ≡ literal_pieces (AndArgument (argument_view argument.now) others)) }
+    ensures value { Answers value_view result
+        (value_of_argument (argument_view argument.now) (trees.view input.now)
+        (at_hand item.entry)) }
+    ensures literal { IfOk result
+        (λ value. (others : Arguments)
+        → literal_of value ≡ literal_pieces (AndArgument (argument_view argument.now) others)) }
 {
     match argument {
         Arg::Null => Ok(Value::Made(Tree::Null)),

@@ -58,7 +58,8 @@ fn count(elements: &[Tree]) -> i64
 
 /// `States.Format`: the text that the first value is, its holes filled with the others.
 pub(crate) fn format(alloc: Global, values: &[Value]) -> Result<Tree, EvalRefusal>
-    ensures { Answers trees.view result (formatted (literal_in values.now) (values_view values.now)) }
+    ensures { Answers trees.view result
+        (formatted (literal_in values.now) (values_view values.now)) }
 {
     let [first, others @ ..] = values else {
         return Err(EvalRefusal::IntrinsicFailure);
@@ -72,7 +73,9 @@ pub(crate) fn format(alloc: Global, values: &[Value]) -> Result<Tree, EvalRefusa
 
 /// The literal text with the words for the values in its holes, where there are as many as holes.
 fn fill_pieces(pieces: &Pieces, values: &[Value]) -> Result<Tree, EvalRefusal>
-    ensures { Answers trees.view result (option_map Text (holes_filled (pieces_view pieces.now).first (pieces_view pieces.now).after_holes (values_view values.now))) }
+    ensures { Answers trees.view result
+        (option_map Text (holes_filled (pieces_view pieces.now).first
+        (pieces_view pieces.now).after_holes (values_view values.now))) }
 {
     if values.len() != pieces.after_holes.len() {
         return Err(EvalRefusal::IntrinsicFailure);
@@ -87,7 +90,8 @@ fn fill_pieces(pieces: &Pieces, values: &[Value]) -> Result<Tree, EvalRefusal>
 
 /// The same of a text that is a value: there each `{}` is a hole.
 fn fill_tree(alloc: Global, tree: &Tree, values: &[Value]) -> Result<Tree, EvalRefusal>
-    ensures { Answers trees.view result (formatted None (AndTree (trees.view tree.now) (values_view values.now))) }
+    ensures { Answers trees.view result
+        (formatted None (AndTree (trees.view tree.now) (values_view values.now))) }
 {
     match tree {
         Tree::Text(text) => fill_text(alloc, text, values),
@@ -99,7 +103,9 @@ fn fill_tree(alloc: Global, tree: &Tree, values: &[Value]) -> Result<Tree, EvalR
 
 /// The text with the words for the values in place of each `{}`, where there are as many.
 fn fill_text(alloc: Global, text: &str, values: &[Value]) -> Result<Tree, EvalRefusal>
-    ensures { Answers trees.view result (option_map Text (holes_filled (cut_at_holes text.now).first (cut_at_holes text.now).after_holes (values_view values.now))) }
+    ensures { Answers trees.view result
+        (option_map Text (holes_filled (cut_at_holes text.now).first
+        (cut_at_holes text.now).after_holes (values_view values.now))) }
 {
     let mut filled = String::new(alloc);
     let mut rest = text;

@@ -26,7 +26,8 @@ pub(crate) fn and_argument(
     arguments: Meant<Vec<Arg>>,
     argument: Meant<Arg>,
 ) -> Result<Meant<Vec<Arg>>, OutOfMemory>
-    ensures { IfOk result (λ together. arguments_seen together ≡ and_meaning (arguments_seen arguments) (argument_seen argument)) }
+    ensures { IfOk result (λ together. arguments_seen together
+        ≡ and_meaning (arguments_seen arguments) (argument_seen argument)) }
 {
     match arguments {
         Ok(mut arguments) => match argument {
@@ -65,7 +66,8 @@ pub(crate) fn nested(call: Meant<Call>) -> Meant<Arg>
 
 /// The argument that a path is.
 pub(crate) fn path_meaning(alloc: Global, path: &str, item: bool) -> Result<Meant<Arg>, OutOfMemory>
-    ensures { IfOk result (λ meant. argument_seen meant ≡ argument_meaning item (WrittenPath path.now)) }
+    ensures { IfOk result (λ meant. argument_seen meant
+        ≡ argument_meaning item (WrittenPath path.now)) }
 {
     match parse_reference(alloc, path, item)? {
         Some(argument) => Ok(Ok(argument)),

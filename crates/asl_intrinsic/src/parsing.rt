@@ -63,7 +63,8 @@ fn cut_inside(
     text: &str,
     item: bool,
 ) -> Result<(Meant<Vec<Arg>>, &str), CutRefusal>
-    ensures { Cuts (arguments_meaning item) arguments_seen (inside_at (λ rest. call_at depth rest) text.now) result }
+    ensures { Cuts (arguments_meaning item) arguments_seen
+        (inside_at (λ rest. call_at depth rest) text.now) result }
 {
     match text.strip_prefix(")") {
         Some(rest) => Ok((Ok(Vec::new(alloc)), rest)),
@@ -79,7 +80,8 @@ fn cut_arguments(
     text: &str,
     item: bool,
 ) -> Result<(Meant<Vec<Arg>>, &str), CutRefusal>
-    ensures { Cuts (arguments_meaning item) arguments_seen (arguments_at (λ rest. call_at depth rest) (length text.now) text.now) result }
+    ensures { Cuts (arguments_meaning item) arguments_seen
+        (arguments_at (λ rest. call_at depth rest) (length text.now) text.now) result }
 {
     let mut arguments = Ok(Vec::new(alloc));
     let mut left = text;
@@ -107,7 +109,8 @@ fn cut_argument(
     text: &str,
     item: bool,
 ) -> Result<(Meant<Arg>, &str), CutRefusal>
-    ensures { Cuts (argument_meaning item) argument_seen (argument_at (λ rest. call_at depth rest) text.now) result }
+    ensures { Cuts (argument_meaning item) argument_seen
+        (argument_at (λ rest. call_at depth rest) text.now) result }
 {
     if let Some(inside) = text.strip_prefix("'") {
         let (pieces, rest) = cut_text(alloc, inside)?;
@@ -134,7 +137,8 @@ fn cut_word(
     text: &str,
     item: bool,
 ) -> Result<(Meant<Arg>, &str), CutRefusal>
-    ensures { Cuts (argument_meaning item) argument_seen (word_at (λ rest. call_at depth rest) text.now) result }
+    ensures { Cuts (argument_meaning item) argument_seen
+        (word_at (λ rest. call_at depth rest) text.now) result }
 {
     let (word, behind) = Part::Word.cut(text);
     if behind.starts_with("(") {

@@ -15,7 +15,8 @@ use std::alloc::Global;
 ///
 /// It goes into the input; where `item` allows it, it may also be the item's number, or go into the item.
 pub fn parse_reference(alloc: Global, text: &str, item: bool) -> Result<Option<Arg>, OutOfMemory>
-    ensures { IfOk result (λ argument. option_map argument_view argument ≡ option_map PathArgument (reference_of item text.now)) }
+    ensures { IfOk result (λ argument. option_map argument_view argument
+        ≡ option_map PathArgument (reference_of item text.now)) }
 {
     if !text.starts_with("$$") {
         return match path_of(alloc, text)? {
@@ -32,7 +33,8 @@ pub fn parse_reference(alloc: Global, text: &str, item: bool) -> Result<Option<A
 
 /// The argument that a context path spells: the item's number, or a path into the item.
 fn item_reference(alloc: Global, text: &str) -> Result<Option<Arg>, OutOfMemory>
-    ensures { IfOk result (λ argument. option_map argument_view argument ≡ option_map PathArgument (context_of text.now)) }
+    ensures { IfOk result (λ argument. option_map argument_view argument
+        ≡ option_map PathArgument (context_of text.now)) }
 {
     if text == "$$.Map.Item.Index" {
         return Ok(Some(Arg::ItemIndex));

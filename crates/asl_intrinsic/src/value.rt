@@ -41,7 +41,8 @@ impl<'v> Value<'v> {
 
     /// Writes the value's word behind the text so far. A list or an object has none.
     pub(crate) fn push_word(&self, text: &mut String) -> Result<(), EvalRefusal>
-        ensures { WritesWord (string_bytes text.old) (string_bytes text.new) result (value_view self.now) }
+        ensures { WritesWord (string_bytes text.old) (string_bytes text.new) result
+            (value_view self.now) }
     {
         match self {
             Value::Literal(pieces) => Ok(push_whole(text, pieces)?),
@@ -63,7 +64,9 @@ pub(crate) fn named<'t>(tree: &'t Tree, path: &RefPath) -> Result<&'t Tree, Eval
 
 /// Writes the literal text behind the text so far, each hole as the characters `{}`.
 fn push_whole(text: &mut String, pieces: &Pieces) -> Result<(), AllocError>
-    ensures { OnOk result (string_bytes text.new ≡ string_bytes text.old ++ joined_by_holes (pieces_view pieces.now).first (pieces_view pieces.now).after_holes) }
+    ensures { OnOk result (string_bytes text.new
+        ≡ string_bytes text.old ++ joined_by_holes (pieces_view pieces.now).first
+        (pieces_view pieces.now).after_holes) }
 {
     text.push_str(&pieces.first)?;
     for piece in &pieces.after_holes {
@@ -75,7 +78,8 @@ fn push_whole(text: &mut String, pieces: &Pieces) -> Result<(), AllocError>
 
 /// Writes the word for the tree behind the text so far.
 fn push_tree(text: &mut String, tree: &Tree) -> Result<(), EvalRefusal>
-    ensures { WritesWord (string_bytes text.old) (string_bytes text.new) result (trees.view tree.now) }
+    ensures { WritesWord (string_bytes text.old) (string_bytes text.new) result
+        (trees.view tree.now) }
 {
     match tree {
         Tree::Null => Ok(text.push_str("null")?),

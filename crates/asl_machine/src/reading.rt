@@ -21,7 +21,8 @@ use std::alloc::Global;
 /// growth was refused.
 pub fn read(alloc: Global, value: &Value) -> Result<Machine, DefRefusal>
     ensures machine { IfOk result (λ _. StandsFor (view value.now) (scope_of (view value.now))) }
-    ensures table { IfOk result (λ machine. table_view machine ≡ table_of (scope_of (view value.now))) }
+    ensures table { IfOk result
+        (λ machine. table_view machine ≡ table_of (scope_of (view value.now))) }
     ensures shown { IfOk result (λ machine. Shows machine (scope_of (view value.now))) }
     ensures refused { IfErr result (λ refusal. IsRefused (view value.now) (refusal_view refusal)) }
 {

@@ -36,8 +36,8 @@ pub(crate) fn tell_found<'a>(
     found: Result<(), Complaint<'a>>,
     told: &mut Vec<Complaint<'a>>,
 ) -> Result<(), OutOfMemory>
-    ensures { OnOk result ((wrong : List ModelComplaint) → IsVerdict wrong found.entry → IsSingle wrong
-        → Told told.old.items told.new.items wrong) }
+    ensures { OnOk result ((wrong : List ModelComplaint) → IsVerdict wrong found.entry
+        → IsSingle wrong → Told told.old.items told.new.items wrong) }
 {
     match found {
         Ok(()) => Ok(()),

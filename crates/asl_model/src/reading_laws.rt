@@ -34,36 +34,43 @@ ghost use Rattle.asl_model.specs.Texts.{ReadsAsCertificate, IsDefinitionFault, I
 
 /// A text reads as at most one JSON value, tree, reference path, machine, declared shapes, certificate.
 pub fn texts_have_one_meaning()
-    ensures value { (text : Bytes) (v w : Data) → ReadsAsValue text v → ReadsAsValue text w → v ≡ w }
+    ensures value { (text : Bytes) (v w : Data) → ReadsAsValue text v → ReadsAsValue text w
+        → v ≡ w }
     ensures tree { (text : Bytes) (t u : Tree) → ReadsAsTree text t → ReadsAsTree text u → t ≡ u }
     ensures path { (text : Bytes) (p q : List Segment) → Spells text p → Spells text q → p ≡ q }
-    ensures machine { (text : Bytes) (m n : Scope) → ReadsAsMachine text m → ReadsAsMachine text n → m ≡ n }
-    ensures declared { (text : Bytes) (d e : Declared) → ReadsAsDeclared text d → ReadsAsDeclared text e → d ≡ e }
-    ensures certificate { (text : Bytes) (c d : Certificate) → ReadsAsCertificate text c → ReadsAsCertificate text d
-        → c ≡ d }
+    ensures machine { (text : Bytes) (m n : Scope) → ReadsAsMachine text m → ReadsAsMachine text n
+        → m ≡ n }
+    ensures declared { (text : Bytes) (d e : Declared) → ReadsAsDeclared text d
+        → ReadsAsDeclared text e → d ≡ e }
+    ensures certificate { (text : Bytes) (c d : Certificate) → ReadsAsCertificate text c
+        → ReadsAsCertificate text d → c ≡ d }
 {}
 
 /// Nothing is wrong with a text that has a meaning.
 pub fn meaningful_texts_have_no_fault()
-    ensures path { (text : Bytes) (p : List Segment) (f : PathFault) → Spells text p → IsRefusedPath text f → ⊥ }
-    ensures machine { (text : Bytes) (m : Scope) (f : TextFault) → ReadsAsMachine text m → IsDefinitionFault text f
-        → ⊥ }
+    ensures path { (text : Bytes) (p : List Segment) (f : PathFault) → Spells text p
+        → IsRefusedPath text f → ⊥ }
+    ensures machine { (text : Bytes) (m : Scope) (f : TextFault) → ReadsAsMachine text m
+        → IsDefinitionFault text f → ⊥ }
     ensures declared { (text : Bytes) (d : Declared) (f : TextFault) → ReadsAsDeclared text d
         → IsDeclaredFault text f → ⊥ }
-    ensures certificate { (text : Bytes) (c : Certificate) (f : TextFault) → ReadsAsCertificate text c
-        → IsCertificateFault text f → ⊥ }
+    ensures certificate { (text : Bytes) (c : Certificate) (f : TextFault)
+        → ReadsAsCertificate text c → IsCertificateFault text f → ⊥ }
 {}
 
 /// A JSON value stands for at most one machine, declared shapes, certificate, and nothing is wrong with one that does.
 pub fn values_stand_for_one_thing()
     ensures machine { (v : Data) (m n : Scope) → StandsFor v m → StandsFor v n → m ≡ n }
-    ensures no_complaint { (v : Data) (m : Scope) (c : Complaint) → StandsFor v m → HasComplaint v c → ⊥ }
-    ensures declared { (v : Data) (d e : Declared) → StandsForDeclared v d → StandsForDeclared v e → d ≡ e }
-    ensures no_declared_fault { (v : Data) (d : Declared) (c : RecordComplaint) → StandsForDeclared v d
-        → HasDeclaredFault v c → ⊥ }
-    ensures certificate { (v : Data) (c d : Certificate) → StandsForCertificate v c → StandsForCertificate v d → c ≡ d }
-    ensures no_certificate_fault { (v : Data) (d : Certificate) (c : RecordComplaint) → StandsForCertificate v d
-        → HasCertificateFault v c → ⊥ }
+    ensures no_complaint { (v : Data) (m : Scope) (c : Complaint) → StandsFor v m → HasComplaint v c
+        → ⊥ }
+    ensures declared { (v : Data) (d e : Declared) → StandsForDeclared v d → StandsForDeclared v e
+        → d ≡ e }
+    ensures no_declared_fault { (v : Data) (d : Declared) (c : RecordComplaint)
+        → StandsForDeclared v d → HasDeclaredFault v c → ⊥ }
+    ensures certificate { (v : Data) (c d : Certificate) → StandsForCertificate v c
+        → StandsForCertificate v d → c ≡ d }
+    ensures no_certificate_fault { (v : Data) (d : Certificate) (c : RecordComplaint)
+        → StandsForCertificate v d → HasCertificateFault v c → ⊥ }
 {}
 
 /// A tree that a text reads as is proper: its texts are UTF-8, and each object has its names once, in byte order.
@@ -82,9 +89,11 @@ pub fn machines_as_read_lead_inside()
 /// certificates.
 pub fn trees_spell_one_shape()
     ensures shape { (t : Tree) (a b : Shape) → SpellsShape t a → SpellsShape t b → a ≡ b }
-    ensures no_fault { (t : Tree) (a : Shape) (f : ShapeFault) → SpellsShape t a → HasShapeFault t f → ⊥ }
+    ensures no_fault { (t : Tree) (a : Shape) (f : ShapeFault) → SpellsShape t a → HasShapeFault t f
+        → ⊥ }
     ensures shape_v1 { (t : Tree) (a b : Shape) → SpellsShapeV1 t a → SpellsShapeV1 t b → a ≡ b }
-    ensures no_fault_v1 { (t : Tree) (a : Shape) (f : ShapeFault) → SpellsShapeV1 t a → HasShapeFaultV1 t f → ⊥ }
+    ensures no_fault_v1 { (t : Tree) (a : Shape) (f : ShapeFault) → SpellsShapeV1 t a
+        → HasShapeFaultV1 t f → ⊥ }
 {}
 
 /// What spells a shape in the first version of certificates spells it in the second.
@@ -95,18 +104,21 @@ pub fn first_version_spells_the_same()
 /// A tree spells at most one template, and either spells one or has a fault. So it is with and without leave for paths
 /// to a Map's item.
 pub fn trees_spell_one_template()
-    ensures template { (item : Bool) (t : Tree) (p q : Template) → SpellsTemplate item t p → SpellsTemplate item t q
-        → p ≡ q }
-    ensures no_fault { (item : Bool) (t : Tree) (p : Template) (f : TemplateFault) → SpellsTemplate item t p
-        → HasTemplateFault item t f → ⊥ }
+    ensures template { (item : Bool) (t : Tree) (p q : Template) → SpellsTemplate item t p
+        → SpellsTemplate item t q → p ≡ q }
+    ensures no_fault { (item : Bool) (t : Tree) (p : Template) (f : TemplateFault)
+        → SpellsTemplate item t p → HasTemplateFault item t f → ⊥ }
     ensures either { (item : Bool) (t : Tree)
-        → ((p : Template) × SpellsTemplate item t p) ⊎ ((f : TemplateFault) × HasTemplateFault item t f) }
-    ensures read { (item : Bool) (t : Tree) (p : Template) → (template_of item t ≡ Some p) ↔ SpellsTemplate item t p }
+        → ((p : Template) × SpellsTemplate item t p)
+        ⊎ ((f : TemplateFault) × HasTemplateFault item t f) }
+    ensures read { (item : Bool) (t : Tree) (p : Template)
+        → (template_of item t ≡ Some p) ↔ SpellsTemplate item t p }
 {}
 
 /// A tree spells exactly the template that it stands for by the rules of payload templates.
 pub fn templates_are_exactly_spelled()
-    ensures { (item : Bool) (t : Tree) (p : Template) → SpellsTemplate item t p ↔ StandsForTemplate item t p }
+    ensures { (item : Bool) (t : Tree) (p : Template)
+        → SpellsTemplate item t p ↔ StandsForTemplate item t p }
 {}
 
 /// A template that a tree spells stands in order: at every depth each object has its names once, in byte order.
@@ -117,8 +129,10 @@ pub fn templates_as_read_stand_in_order()
 /// A tree spells at most one choice rule, and either spells one or has a fault.
 pub fn trees_spell_one_rule()
     ensures rule { (t : Tree) (a b : Rule) → SpellsRule t a → SpellsRule t b → a ≡ b }
-    ensures no_fault { (t : Tree) (a : Rule) (f : RuleFault) → SpellsRule t a → HasRuleFault t f → ⊥ }
-    ensures either { (t : Tree) → ((a : Rule) × SpellsRule t a) ⊎ ((f : RuleFault) × HasRuleFault t f) }
+    ensures no_fault { (t : Tree) (a : Rule) (f : RuleFault) → SpellsRule t a → HasRuleFault t f
+        → ⊥ }
+    ensures either { (t : Tree)
+        → ((a : Rule) × SpellsRule t a) ⊎ ((f : RuleFault) × HasRuleFault t f) }
     ensures read { (t : Tree) (a : Rule) → (rule_of t ≡ Some a) ↔ SpellsRule t a }
 {}
 
@@ -153,17 +167,23 @@ pub fn texts_have_a_meaning_or_a_fault()
     ensures declared { (text : Bytes)
         → ((d : Declared) × ReadsAsDeclared text d) ⊎ ((f : TextFault) × IsDeclaredFault text f) }
     ensures certificate { (text : Bytes)
-        → ((c : Certificate) × ReadsAsCertificate text c) ⊎ ((f : TextFault) × IsCertificateFault text f) }
-    ensures value { (v : Data) → ((m : Scope) × StandsFor v m) ⊎ ((c : Complaint) × HasComplaint v c) }
-    ensures shape { (t : Tree) → ((a : Shape) × SpellsShape t a) ⊎ ((f : ShapeFault) × HasShapeFault t f) }
-    ensures shape_v1 { (t : Tree) → ((a : Shape) × SpellsShapeV1 t a) ⊎ ((f : ShapeFault) × HasShapeFaultV1 t f) }
+        → ((c : Certificate) × ReadsAsCertificate text c)
+        ⊎ ((f : TextFault) × IsCertificateFault text f) }
+    ensures value { (v : Data)
+        → ((m : Scope) × StandsFor v m) ⊎ ((c : Complaint) × HasComplaint v c) }
+    ensures shape { (t : Tree)
+        → ((a : Shape) × SpellsShape t a) ⊎ ((f : ShapeFault) × HasShapeFault t f) }
+    ensures shape_v1 { (t : Tree)
+        → ((a : Shape) × SpellsShapeV1 t a) ⊎ ((f : ShapeFault) × HasShapeFaultV1 t f) }
 {}
 
 /// Each text spells a reference path or is refused, in one way. The function that reads paths gives exactly the path
 /// that a text spells.
 pub fn texts_spell_paths_or_are_refused()
-    ensures either { (text : Bytes) → ((p : List Segment) × Spells text p) ⊎ ((f : PathFault) × IsRefusedPath text f) }
-    ensures one_refusal { (text : Bytes) (f g : PathFault) → IsRefusedPath text f → IsRefusedPath text g → f ≡ g }
+    ensures either { (text : Bytes)
+        → ((p : List Segment) × Spells text p) ⊎ ((f : PathFault) × IsRefusedPath text f) }
+    ensures one_refusal { (text : Bytes) (f g : PathFault) → IsRefusedPath text f
+        → IsRefusedPath text g → f ≡ g }
     ensures read { (text : Bytes) (p : List Segment) → (path_of text ≡ Some p) ↔ Spells text p }
 {}
 
@@ -172,8 +192,10 @@ pub fn texts_spell_paths_or_are_refused()
 pub fn printed_paths_are_spelled()
     ensures again { (text : Bytes) (p : List Segment) → Spells text p → Spells (printed_path p) p }
     ensures spelled { (p : List Segment) → IsTrue (have_spellings p) → Spells (printed_path p) p }
-    ensures have_spellings { (text : Bytes) (p : List Segment) → Spells text p → IsTrue (have_spellings p) }
-    ensures read_back { (p : List Segment) → IsTrue (have_spellings p) → path_of (printed_path p) ≡ Some p }
+    ensures have_spellings { (text : Bytes) (p : List Segment) → Spells text p
+        → IsTrue (have_spellings p) }
+    ensures read_back { (p : List Segment) → IsTrue (have_spellings p)
+        → path_of (printed_path p) ≡ Some p }
 {}
 
 /// The characters of a text are as many as its bytes that continue no character.
@@ -183,7 +205,8 @@ pub fn characters_are_counted()
 
 /// A text reads as at most one list of answers, and reads as one or has a fault, never both.
 pub fn texts_have_one_list_of_answers()
-    ensures one { (text : Bytes) (a b : List Action) → ReadsAsAnswers text a → ReadsAsAnswers text b → a ≡ b }
+    ensures one { (text : Bytes) (a b : List Action) → ReadsAsAnswers text a → ReadsAsAnswers text b
+        → a ≡ b }
     ensures no_fault { (text : Bytes) (a : List Action) (f : TextFault) → ReadsAsAnswers text a
         → IsAnswersFault text f → ⊥ }
     ensures either { (text : Bytes)
@@ -193,7 +216,8 @@ pub fn texts_have_one_list_of_answers()
 /// The function that cuts a text as a call gives exactly the call that the text writes, and the one that reads paths in
 /// templates exactly the path that it spells.
 pub fn written_calls_are_exactly_cut()
-    ensures written { (text : Bytes) (c : WrittenCall) → (written_call text ≡ Some c) ↔ WritesCall 32 text c }
+    ensures written { (text : Bytes) (c : WrittenCall)
+        → (written_call text ≡ Some c) ↔ WritesCall 32 text c }
     ensures reference { (item : Bool) (text : Bytes) (r : Reference)
         → (reference_of item text ≡ Some r) ↔ SpellsReference item text r }
 {}
@@ -204,13 +228,14 @@ pub fn written_calls_are_exactly_cut()
 pub fn texts_spell_calls_or_are_refused()
     ensures either { (item : Bool) (text : Bytes)
         → ((c : Call) × SpellsCall item text c) ⊎ ((f : CallFault) × IsRefusedCall item text f) }
-    ensures call { (item : Bool) (text : Bytes) (c d : Call) → SpellsCall item text c → SpellsCall item text d
-        → c ≡ d }
-    ensures no_refusal { (item : Bool) (text : Bytes) (c : Call) (f : CallFault) → SpellsCall item text c
-        → IsRefusedCall item text f → ⊥ }
+    ensures call { (item : Bool) (text : Bytes) (c d : Call) → SpellsCall item text c
+        → SpellsCall item text d → c ≡ d }
+    ensures no_refusal { (item : Bool) (text : Bytes) (c : Call) (f : CallFault)
+        → SpellsCall item text c → IsRefusedCall item text f → ⊥ }
     ensures one_refusal { (item : Bool) (text : Bytes) (f g : CallFault) → IsRefusedCall item text f
         → IsRefusedCall item text g → f ≡ g }
-    ensures read { (item : Bool) (text : Bytes) (c : Call) → (call_from item text ≡ Ok c) ↔ SpellsCall item text c }
+    ensures read { (item : Bool) (text : Bytes) (c : Call)
+        → (call_from item text ≡ Ok c) ↔ SpellsCall item text c }
     ensures refused { (item : Bool) (text : Bytes) (f : CallFault)
         → (call_from item text ≡ Err f) ↔ IsRefusedCall item text f }
 {}
@@ -219,7 +244,8 @@ pub fn texts_spell_calls_or_are_refused()
 /// and an element is refused exactly where it stands for no answer.
 pub fn answers_are_exactly_read()
     ensures read { (text : Bytes) (answers : List Action)
-        → ReadsAsAnswers text answers ↔ ((t : Tree) × ReadsAsTree text t × StandsForAnswers t answers) }
+        → ReadsAsAnswers text answers
+        ↔ ((t : Tree) × ReadsAsTree text t × StandsForAnswers t answers) }
     ensures bad { (text : Bytes) (i : ℕ)
         → IsAnswersFault text (BadAnswer i) ↔ ((t : Tree) × ReadsAsTree text t × IsBadAnswer t i) }
 {}

@@ -24,7 +24,8 @@ ghost use Rattle.asl_model.specs.Certificate.{DataAreAsCertified, MovesOn, Works
 pub fn closed_runs_never_fault()
     ensures { (declared : Declared) (certificate : Certificate) (machine : Scope)
         → IsClosed declared certificate machine → (input : Tree) (events : List Event)
-        → Obeys declared machine input events → RunIsAsCertified declared certificate machine input events }
+        → Obeys declared machine input events
+        → RunIsAsCertified declared certificate machine input events }
 {}
 
 /// Closed runs tell no fault: under the same premises the history of the run has no entry of a data-flow fault.
@@ -36,7 +37,8 @@ pub fn closed_runs_tell_no_fault()
 
 /// The lines of a history without a data-flow fault have no Raise line among them.
 pub fn faultless_traces_have_no_raise_line()
-    ensures { (told : List (PlaceInRun × Entry)) → TellsNoFault told → HasNoRaiseLine (trace_text told) }
+    ensures { (told : List (PlaceInRun × Entry)) → TellsNoFault told
+        → HasNoRaiseLine (trace_text told) }
 {}
 
 /// Every activity of an obeying run is as certified, at every nesting depth. Its data are, for every machine: the raw
@@ -47,10 +49,12 @@ pub fn faultless_traces_have_no_raise_line()
 pub fn every_activity_is_as_certified()
     ensures data_fit { (declared : Declared) (certificate : Certificate) (machine : Scope)
         → IsClosed declared certificate machine → (input : Tree) (events : List Event)
-        → Obeys declared machine input events → DataAreAsCertified declared certificate machine input events }
+        → Obeys declared machine input events
+        → DataAreAsCertified declared certificate machine input events }
     ensures activities_fit { (declared : Declared) (certificate : Certificate) (machine : Scope)
-        → IsClosed declared certificate machine → LeadsInside machine → (input : Tree) (events : List Event)
-        → Obeys declared machine input events → ActivitiesAreAsCertified declared certificate machine input events }
+        → IsClosed declared certificate machine → LeadsInside machine
+        → (input : Tree) (events : List Event) → Obeys declared machine input events
+        → ActivitiesAreAsCertified declared certificate machine input events }
 {}
 
 /// An event at a Pass, a Succeed or a Fail, wherever it is nested, leaves every activity's data as certified; and every
@@ -84,7 +88,8 @@ pub fn nesting_keeps_activities_as_certified()
 /// What stands apart from an event's place stays as it was. What stands above it is a Split, and stays the Split of the
 /// same state with the same raw input, counts and children, but for the child on the way to that place.
 pub fn apart_stays_as_it_was()
-    ensures apart { (p q : PlaceInRun) → AreApart p q → (scope : Scope) (a : Activity) (action : Action) (taken : Step)
+    ensures apart { (p q : PlaceInRun) → AreApart p q
+        → (scope : Scope) (a : Activity) (action : Action) (taken : Step)
         → step_at p scope a action ≡ Some taken → activity_at q taken.after ≡ activity_at q a }
     ensures above { (q : PlaceInRun) (i : ℕ) (p : PlaceInRun) (scope : Scope) (a : Activity)
         (action : Action) (taken : Step)
@@ -95,7 +100,8 @@ pub fn apart_stays_as_it_was()
 /// Two events at places apart can be taken in either order: each makes the same entries, and the activity after both
 /// is the same.
 pub fn apart_events_commute()
-    ensures { (p q : PlaceInRun) → AreApart p q → (scope : Scope) (a : Activity) (x y : Action) (first second : Step)
+    ensures { (p q : PlaceInRun) → AreApart p q
+        → (scope : Scope) (a : Activity) (x y : Action) (first second : Step)
         → step_at p scope a x ≡ Some first → step_at q scope first.after y ≡ Some second
         → Commute scope a p x q y first second }
 {}
@@ -103,7 +109,8 @@ pub fn apart_events_commute()
 /// A place is in the list of enabled ones, with a kind of event, exactly where an event of that kind has a step there.
 pub fn enabled_lists_exactly_the_steps()
     ensures { (p : PlaceInRun) (scope : Scope) (a : Activity) (action : Action)
-        → IsTrue (is_some (step_at p scope a action)) ↔ Enables (enabled a scope) p (want_of action) }
+        → IsTrue (is_some (step_at p scope a action))
+        ↔ Enables (enabled a scope) p (want_of action) }
 {}
 
 /// The enabled places stand in lexicographic order, a place before those below it, each once.
@@ -123,13 +130,15 @@ pub fn placed_is_exactly_places()
 
 /// A text passes the test of a pattern exactly where it can be cut into parts, one for each element of the pattern.
 pub fn matching_is_exactly_cutting()
-    ensures { (parts : List PatternPart) (text : Bytes) → IsCutBy parts text ↔ IsTrue (is_cut_by parts text) }
+    ensures { (parts : List PatternPart) (text : Bytes)
+        → IsCutBy parts text ↔ IsTrue (is_cut_by parts text) }
 {}
 
 /// Cutting a text at its holes gives exactly its pieces: joined by `{}` they are the text, and no piece has a hole in
 /// it.
 pub fn cutting_gives_exactly_the_pieces()
-    ensures { (text : Bytes) (pieces : Pieces) → ArePiecesOf text pieces ↔ cut_at_holes text ≡ pieces }
+    ensures { (text : Bytes) (pieces : Pieces)
+        → ArePiecesOf text pieces ↔ cut_at_holes text ≡ pieces }
 {}
 
 /// The value of a template whose names stand in byte order is the fault of its least failing place, or else every place
@@ -142,13 +151,16 @@ pub fn template_faults_are_those_of_the_least_place()
 /// What comes of an error in a state is exactly what the rules of retriers and catchers say: it is retried, or caught,
 /// or its error output can't be placed, or the state fails.
 pub fn trouble_is_exactly_what_comes()
-    ensures { (settings : Settings) (raw : Tree) (counts : RetryCounts) (error : ErrorName) (cause : Bytes)
-        (t : Trouble)
-        → ComesTo settings raw counts error cause t ↔ trouble_of settings raw counts error cause ≡ t }
+    ensures { (settings : Settings) (raw : Tree) (counts : RetryCounts) (error : ErrorName)
+        (cause : Bytes) (t : Trouble)
+        → ComesTo settings raw counts error cause t
+        ↔ trouble_of settings raw counts error cause ≡ t }
 {}
 
 /// Each retrier counts its own attempts: a retry makes its count one higher, and leaves the others.
 pub fn each_retrier_counts_its_own_attempts()
-    ensures own { (i : ℕ) (counts : RetryCounts) → count_at i (one_higher i counts) ≡ suc (count_at i counts) }
-    ensures others { (i j : ℕ) (counts : RetryCounts) → i ≢ j → count_at j (one_higher i counts) ≡ count_at j counts }
+    ensures own { (i : ℕ) (counts : RetryCounts)
+        → count_at i (one_higher i counts) ≡ suc (count_at i counts) }
+    ensures others { (i j : ℕ) (counts : RetryCounts) → i ≢ j
+        → count_at j (one_higher i counts) ≡ count_at j counts }
 {}

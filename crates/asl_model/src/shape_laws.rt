@@ -36,7 +36,8 @@ pub fn sub_means_inside()
 /// The comparison of two shapes is false exactly where a tree is found outside, which has the first and lacks the second;
 /// so it is true wherever every tree of the first has the second.
 pub fn sub_is_exactly_inside()
-    ensures outside { (a b : Shape) (t : Tree) → IsOrdered a → outside a b ≡ Some t → IsOutside a b t }
+    ensures outside { (a b : Shape) (t : Tree) → IsOrdered a → outside a b ≡ Some t
+        → IsOutside a b t }
     ensures exactly { (a b : Shape) → (outside a b ≡ None) ↔ IsTrue (sub a b) }
     ensures complete { (a b : Shape) → IsOrdered a → Inside a b → IsTrue (sub a b) }
 {}
@@ -55,7 +56,8 @@ pub fn examples_have_their_shapes()
 /// A proper shape that is inhabited has a proper tree: its texts are UTF-8, and each object has its names once, in byte
 /// order.
 pub fn inhabited_means_some_tree()
-    ensures some { (s : Shape) → IsProperShape s → IsTrue (inhabited s) → (t : Tree) × IsProper t × Has s t }
+    ensures some { (s : Shape) → IsProperShape s → IsTrue (inhabited s)
+        → (t : Tree) × IsProper t × Has s t }
 {}
 
 /// Every tree of either shape has their join.
@@ -73,36 +75,39 @@ pub fn look_means_named()
 /// Where a path isn't found in a shape, and only there, a tree is told: it has the shape, and the path names nothing in
 /// it.
 pub fn look_is_exactly_named()
-    ensures missing { (path : List Segment) (s : Shape) (t : Tree) → IsOrdered s → missing path s ≡ Some t
-        → IsMissing path s t }
-    ensures exactly { (path : List Segment) (s : Shape) → (missing path s ≡ None) ↔ IsTrue (is_ok (look path s)) }
+    ensures missing { (path : List Segment) (s : Shape) (t : Tree) → IsOrdered s
+        → missing path s ≡ Some t → IsMissing path s t }
+    ensures exactly { (path : List Segment) (s : Shape)
+        → (missing path s ≡ None) ↔ IsTrue (is_ok (look path s)) }
 {}
 
 /// Where a shape is put at a path in another, placing any tree of the one there in any tree of the other gives a tree
 /// of the shape that comes out.
 pub fn put_means_placed()
-    ensures placed { (path : List Segment) (w s r : Shape) → put path w s ≡ Ok r → (x v : Tree) → Has w x → Has s v
-        → (u : Tree) × Places path x v u × Has r u }
+    ensures placed { (path : List Segment) (w s r : Shape) → put path w s ≡ Ok r → (x v : Tree)
+        → Has w x → Has s v → (u : Tree) × Places path x v u × Has r u }
 {}
 
 /// Joins and puts keep names in order, and so do templates, rules and a state's way out.
 pub fn names_stay_in_order()
     ensures join { (a b : Shape) → IsOrdered a → IsOrdered b → IsOrdered (join a b) }
-    ensures put { (path : List Segment) (w s r : Shape) → IsOrdered w → IsOrdered s → put path w s ≡ Ok r
+    ensures put { (path : List Segment) (w s r : Shape) → IsOrdered w → IsOrdered s
+        → put path w s ≡ Ok r → IsOrdered r }
+    ensures template { (template : Template) (input : Shape) (item : Option Shape) (r : Shape)
+        → IsOrdered input → IfSome item IsOrdered → template_shape template input item ≡ Ok r
         → IsOrdered r }
-    ensures template { (template : Template) (input : Shape) (item : Option Shape) (r : Shape) → IsOrdered input
-        → IfSome item IsOrdered → template_shape template input item ≡ Ok r → IsOrdered r }
-    ensures rule { (test : Test) (s r : Shape) → IsOrdered s → rule_shape test s ≡ Ok r → IsOrdered r }
-    ensures output { (settings : Settings) (kind : Kind) (raw work r : Shape) → IsOrdered raw → IsOrdered work
-        → leave settings kind raw work ≡ Ok r → IsOrdered r }
+    ensures rule { (test : Test) (s r : Shape) → IsOrdered s → rule_shape test s ≡ Ok r
+        → IsOrdered r }
+    ensures output { (settings : Settings) (kind : Kind) (raw work r : Shape) → IsOrdered raw
+        → IsOrdered work → leave settings kind raw work ≡ Ok r → IsOrdered r }
 {}
 
 /// Where a template has a shape, it has a value of that shape for every tree of the input's shape and every item of
 /// the item's.
 pub fn template_shape_means_a_value()
     ensures value { (template : Template) (input : Shape) (item : Option Shape) (r : Shape)
-        → template_shape template input item ≡ Ok r → (v : Tree) (i : Option Item) → Has input v → ItemHas item i
-        → (u : Tree) × (template_value template v i ≡ Ok u) × Has r u }
+        → template_shape template input item ≡ Ok r → (v : Tree) (i : Option Item) → Has input v
+        → ItemHas item i → (u : Tree) × (template_value template v i ≡ Ok u) × Has r u }
 {}
 
 /// Where a rule has a shape, its test is true or false of every tree, and each tree of which it is true has that shape.
@@ -115,12 +120,12 @@ pub fn rule_shape_means_decided()
 /// that goes through `ResultSelector`, `ResultPath` and `OutputPath`, and for an effective input that goes through
 /// `OutputPath` alone.
 pub fn leave_means_an_output()
-    ensures result { (settings : Settings) (kind : Kind) (raw work r : Shape) → leaving kind ≡ WithResult
-        → leave settings kind raw work ≡ Ok r → (v x : Tree) → Has raw v → Has work x
-        → (u : Tree) × (output_of settings v x ≡ Ok u) × Has r u }
-    ensures input { (settings : Settings) (kind : Kind) (raw work r : Shape) → leaving kind ≡ WithInput
-        → leave settings kind raw work ≡ Ok r → (v x : Tree) → Has raw v → Has work x
-        → (u : Tree) × (at_output_path settings x ≡ Ok u) × Has r u }
+    ensures result { (settings : Settings) (kind : Kind) (raw work r : Shape)
+        → leaving kind ≡ WithResult → leave settings kind raw work ≡ Ok r → (v x : Tree) → Has raw v
+        → Has work x → (u : Tree) × (output_of settings v x ≡ Ok u) × Has r u }
+    ensures input { (settings : Settings) (kind : Kind) (raw work r : Shape)
+        → leaving kind ≡ WithInput → leave settings kind raw work ≡ Ok r → (v x : Tree) → Has raw v
+        → Has work x → (u : Tree) × (at_output_path settings x ≡ Ok u) × Has r u }
 {}
 
 /// Where no rule is broken, the certificate is closed: for every machine of all eight state types.
@@ -133,14 +138,17 @@ pub fn no_broken_rule_means_closed()
 /// declared and certified. Each rule that is broken is in the list, with some example. A rule has one exactly where its
 /// fault is one that a tree shows.
 pub fn findings_are_exactly_the_broken_rules()
-    ensures broken { (machine : Scope) (declared : Declared) (certificate : Certificate) (finding : Finding)
-        → HoldsForDeclared IsOrdered declared → HoldsForCertificate IsOrdered certificate
-        → Stands machine declared certificate finding → IsBroken machine declared certificate finding }
-    ensures listed { (machine : Scope) (declared : Declared) (certificate : Certificate) (finding : Finding)
-        → IsBroken machine declared certificate finding
-        → (example : Option Tree) × Stands machine declared certificate (record finding { example = example }) }
-    ensures shown { (machine : Scope) (declared : Declared) (certificate : Certificate) (finding : Finding)
-        → Stands machine declared certificate finding → is_some finding.example ≡ has_example finding.fault }
+    ensures broken { (machine : Scope) (declared : Declared) (certificate : Certificate)
+        (finding : Finding) → HoldsForDeclared IsOrdered declared
+        → HoldsForCertificate IsOrdered certificate → Stands machine declared certificate finding
+        → IsBroken machine declared certificate finding }
+    ensures listed { (machine : Scope) (declared : Declared) (certificate : Certificate)
+        (finding : Finding) → IsBroken machine declared certificate finding
+        → (example : Option Tree)
+        × Stands machine declared certificate (record finding { example = example }) }
+    ensures shown { (machine : Scope) (declared : Declared) (certificate : Certificate)
+        (finding : Finding) → Stands machine declared certificate finding
+        → is_some finding.example ≡ has_example finding.fault }
 {}
 
 /// The rules that are broken along the walk through a state are those that a checker may tell of what flows through it.

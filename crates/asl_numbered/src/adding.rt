@@ -67,7 +67,8 @@ fn add_objects(
     alloc: Global,
     objects: Option<Objects<'_>>,
 ) -> Result<Option<usize>, OutOfMemory>
-    ensures number { IfOk result (HasObjectsAt (expansions table.new) (objects_view objects.entry)) }
+    ensures number { IfOk result
+        (HasObjectsAt (expansions table.new) (objects_view objects.entry)) }
     ensures keeps { Keeps (expansions table.old) (expansions table.new) }
 {
     let Some(mentions) = objects else {
@@ -85,7 +86,8 @@ fn add_objects(
 #[tactic(auto, using(crate::proofs::Growing::no_numbers, crate::proofs::Expansions::keeps_same, crate::proofs::Expansions::keeps_trans))]
 #[cycle(add)]
 fn add_all(table: &mut Table, alloc: Global, shapes: &[Shape]) -> Result<Vec<usize>, OutOfMemory>
-    ensures numbers { IfOk result (λ v. AreNumbersOf (expansions table.new) (shapes_view shapes.now) v.items) }
+    ensures numbers { IfOk result
+        (λ v. AreNumbersOf (expansions table.new) (shapes_view shapes.now) v.items) }
     ensures keeps { Keeps (expansions table.old) (expansions table.new) }
 {
     let mut numbers = Vec::with_capacity(alloc, shapes.len())?;
@@ -104,7 +106,8 @@ fn add_fields(
     alloc: Global,
     fields: &BTreeMap<String, Field>,
 ) -> Result<BTreeMap<String, NodeField>, OutOfMemory>
-    ensures numbers { IfOk result (λ m. AreFieldsOf (expansions table.new) (fields_view fields.now.entries) m.entries) }
+    ensures numbers { IfOk result
+        (λ m. AreFieldsOf (expansions table.new) (fields_view fields.now.entries) m.entries) }
     ensures keeps { Keeps (expansions table.old) (expansions table.new) }
 {
     let mut numbered = BTreeMap::new(alloc);

@@ -64,7 +64,8 @@ pub(crate) fn compare(
 
 // Remembers of each pair that was to be concluded that its first shape isn't inside its second.
 fn refuse(compared: &mut Compared, tasks: &[Task]) -> Result<(), OutOfMemory>
-    ensures right { (table : List shape.Shape) → AreOutside table tasks.now → AreRight table compared.old.entries → AreRight table compared.new.entries }
+    ensures right { (table : List shape.Shape) → AreOutside table tasks.now
+        → AreRight table compared.old.entries → AreRight table compared.new.entries }
 {
     for task in tasks {
         match task {
@@ -77,7 +78,8 @@ fn refuse(compared: &mut Compared, tasks: &[Task]) -> Result<(), OutOfMemory>
 
 // Remembers the answer for the pair.
 fn remember(compared: &mut Compared, pair: Pair, answer: bool) -> Result<(), OutOfMemory>
-    ensures right { (table : List shape.Shape) → IsWithin table pair → answer ≡ inside table pair → AreRight table compared.old.entries → AreRight table compared.new.entries }
+    ensures right { (table : List shape.Shape) → IsWithin table pair → answer ≡ inside table pair
+        → AreRight table compared.old.entries → AreRight table compared.new.entries }
 {
     drop(compared.insert(pair, answer)?);
     Ok(())
@@ -85,7 +87,8 @@ fn remember(compared: &mut Compared, pair: Pair, answer: bool) -> Result<(), Out
 
 // The answer that is remembered for the pair.
 fn known(compared: &Compared, pair: Pair) -> Option<bool>
-    ensures right { (table : List shape.Shape) → AreRight table compared.now.entries → IfSome result (λ b. b ≡ inside table pair) }
+    ensures right { (table : List shape.Shape) → AreRight table compared.now.entries
+        → IfSome result (λ b. b ≡ inside table pair) }
 {
     match compared.get(&pair) {
         Some(answer) => Some(*answer),
@@ -103,7 +106,8 @@ fn look(
 ) -> Result<bool, OutOfMemory>
     requires right { AreRight (expansions table.now) compared.now.entries }
     requires within { IsWithin (expansions table.now) pair }
-    ensures rests { IfOk result (λ b. RestsOn (expansions table.now) pair b tasks.old.items tasks.new.items) }
+    ensures rests { IfOk result
+        (λ b. RestsOn (expansions table.now) pair b tasks.old.items tasks.new.items) }
 {
     if pair.first == pair.second {
         sub_is_exactly_inside();
@@ -131,11 +135,14 @@ fn look_inside(
     tasks: &mut Vec<Task>,
 ) -> Result<bool, OutOfMemory>
     requires within { IsWithin (expansions table.now) pair }
-    requires first { kinds_over (expansions table.now) inner ≡ shape_at (expansions table.now) pair.first }
-    requires second { kinds_over (expansions table.now) outer ≡ shape_at (expansions table.now) pair.second }
+    requires first { kinds_over (expansions table.now) inner
+        ≡ shape_at (expansions table.now) pair.first }
+    requires second { kinds_over (expansions table.now) outer
+        ≡ shape_at (expansions table.now) pair.second }
     requires inner { AreKindsAt (expansions table.now) pair.first inner }
     requires outer { AreKindsAt (expansions table.now) pair.second outer }
-    ensures rests { IfOk result (λ b. RestsOn (expansions table.now) pair b tasks.old.items tasks.new.items) }
+    ensures rests { IfOk result
+        (λ b. RestsOn (expansions table.now) pair b tasks.old.items tasks.new.items) }
 {
     if !are_simple_inside(inner, outer) {
         return Ok(false);
@@ -201,7 +208,8 @@ fn put_places(
     rest: usize,
     tasks: &mut Vec<Task>,
 ) -> Result<(), OutOfMemory>
-    ensures put { IfOk result (λ _. tasks.new.items ≡ tasks.old.items ++ place_tasks places.now bounds.now rest) }
+    ensures put { IfOk result
+        (λ _. tasks.new.items ≡ tasks.old.items ++ place_tasks places.now bounds.now rest) }
 {
     let mut left = bounds.iter();
     for place in places {
@@ -261,7 +269,9 @@ fn put_fields(
     outer: &BTreeMap<String, NodeField>,
     tasks: &mut Vec<Task>,
 ) -> Result<(), OutOfMemory>
-    ensures put { IfOk result (λ _. tasks.new.items ≡ tasks.old.items ++ field_tasks inner.now.entries outer.now.entries) }
+    ensures put { IfOk result
+        (λ _. tasks.new.items ≡ tasks.old.items
+        ++ field_tasks inner.now.entries outer.now.entries) }
 {
     for (name, field) in outer.iter() {
         if let Some(other) = inner.get(name) {
@@ -282,7 +292,8 @@ fn mentions_fit(
     more: bool,
     outer: &BTreeMap<String, NodeField>,
 ) -> bool
-    ensures { result ≡ mentions_fit_in (expansions table.now) inner.now.entries more outer.now.entries }
+    ensures { result ≡ mentions_fit_in
+        (expansions table.now) inner.now.entries more outer.now.entries }
 {
     for (name, field) in outer.iter() {
         let fits = match inner.get(name) {

@@ -60,7 +60,8 @@ fn expand_arrays(
     arrays: Option<NodeArrays<'_>>,
 ) -> Result<Option<OwnedArrays>, OutOfMemory>
     requires { AreArraysIfAny (expansions table.now) number arrays }
-    ensures expanded { IfOk result (λ owned. owned_arrays_view owned ≡ arrays_over (expansions table.now) arrays.entry) }
+    ensures expanded { IfOk result
+        (λ owned. owned_arrays_view owned ≡ arrays_over (expansions table.now) arrays.entry) }
     ensures proper { IfOk result (λ owned. IsTrue (arrays_proper owned)) }
 {
     let Some(lists) = arrays else {
@@ -83,7 +84,8 @@ fn expand_objects(
     objects: Option<NodeObjects<'_>>,
 ) -> Result<Option<OwnedObjects>, OutOfMemory>
     requires { AreObjectsIfAny (expansions table.now) number objects }
-    ensures expanded { IfOk result (λ owned. owned_objects_view owned ≡ objects_over (expansions table.now) objects.entry) }
+    ensures expanded { IfOk result
+        (λ owned. owned_objects_view owned ≡ objects_over (expansions table.now) objects.entry) }
     ensures proper { IfOk result (λ owned. IsTrue (objects_proper owned)) }
 {
     let Some(mentions) = objects else {
@@ -106,7 +108,8 @@ fn expand_all(
     bound: usize,
 ) -> Result<Vec<Shape>, OutOfMemory>
     requires { AreBelow bound numbers.now }
-    ensures expanded { IfOk result (λ v. shapes_view v.items ≡ shapes_at (expansions table.now) numbers.now) }
+    ensures expanded { IfOk result
+        (λ v. shapes_view v.items ≡ shapes_at (expansions table.now) numbers.now) }
     ensures proper { IfOk result (λ v. IsTrue (are_proper v.items)) }
 {
     let mut shapes = Vec::with_capacity(alloc, numbers.len())?;
@@ -125,7 +128,8 @@ fn expand_fields(
     bound: usize,
 ) -> Result<BTreeMap<String, Field>, OutOfMemory>
     requires { AreBelow bound (numbers_in fields.now.entries) }
-    ensures expanded { IfOk result (λ m. fields_view m.entries ≡ fields_at (expansions table.now) fields.now.entries) }
+    ensures expanded { IfOk result
+        (λ m. fields_view m.entries ≡ fields_at (expansions table.now) fields.now.entries) }
     ensures proper { IfOk result (λ m. IsTrue (fields_proper m.entries)) }
 {
     let mut expanded = BTreeMap::new(alloc);

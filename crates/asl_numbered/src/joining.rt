@@ -577,7 +577,8 @@ fn join_both_objects(
     parts: &[usize],
 ) -> Result<Node, OutOfMemory>
     ensures joined { IfOk result
-        (λ node. IsObjectJoin (Some objects.entry) (Some others.entry) parts.now (Some (Level node))) }
+        (λ node. IsObjectJoin (Some objects.entry) (Some others.entry) parts.now
+        (Some (Level node))) }
 {
     let mut joined = join_fields(alloc, objects.fields, others.fields, others.extra, parts)?;
     add_others(objects.fields, objects.extra, others.fields, &mut joined)?;

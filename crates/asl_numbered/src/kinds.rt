@@ -72,7 +72,8 @@ pub struct KindNumbers {
 /// What the shape of that number takes of each kind; `None` where it is `Any`. Takes no memory.
 #[cycle(take_apart)]
 pub(crate) fn take_apart(table: &Table, number: usize) -> Option<NodeKinds<'_>>
-    ensures shown { taken_apart (expansions table.now) result ≡ shape_at (expansions table.now) number }
+    ensures shown { taken_apart (expansions table.now) result
+        ≡ shape_at (expansions table.now) number }
     ensures within { IfSome result (AreKindsAt (expansions table.now) number) }
 {
     match table.node(number) {
@@ -84,9 +85,11 @@ pub(crate) fn take_apart(table: &Table, number: usize) -> Option<NodeKinds<'_>>
 // The same for the number's node.
 #[cycle(take_apart)]
 fn take_node_apart<'t>(table: &'t Table, number: usize, node: &'t Node) -> Option<NodeKinds<'t>>
-    requires level { shape_over (expansions table.now) node.now ≡ shape_at (expansions table.now) number }
+    requires level { shape_over (expansions table.now) node.now
+        ≡ shape_at (expansions table.now) number }
     requires below { RefersBelow number node.now }
-    ensures shown { taken_apart (expansions table.now) result ≡ shape_over (expansions table.now) node.now }
+    ensures shown { taken_apart (expansions table.now) result
+        ≡ shape_over (expansions table.now) node.now }
     ensures within { IfSome result (AreKindsAt (expansions table.now) number) }
 {
     let none = no_kinds(table);
@@ -172,7 +175,8 @@ pub(crate) fn put_kinds(
     alloc: Global,
     kinds: KindNumbers,
 ) -> Result<usize, OutOfMemory>
-    ensures number { IfOk result (IsNumberOf (expansions table.new) (kinds_at (expansions table.old) kinds)) }
+    ensures number { IfOk result
+        (IsNumberOf (expansions table.new) (kinds_at (expansions table.old) kinds)) }
     ensures keeps { Keeps (expansions table.old) (expansions table.new) }
 {
     let parts = put_parts(table, alloc, kinds)?;
@@ -235,7 +239,8 @@ fn push_if(
     node: Node,
 ) -> Result<(), OutOfMemory>
     requires { IsSimple node }
-    ensures listed { (shapes : List model.Shape) → AreListed (expansions table.old) shapes parts.old.items
+    ensures listed { (shapes : List model.Shape)
+        → AreListed (expansions table.old) shapes parts.old.items
         → IfOk result (λ _. AreListed (expansions table.new)
         (shapes ++ part_if wanted (shape_over (expansions table.old) node)) parts.new.items) }
     ensures keeps { Keeps (expansions table.old) (expansions table.new) }

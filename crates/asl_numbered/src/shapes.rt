@@ -350,13 +350,14 @@ impl Shapes {
         ensures number { IfOk result
             (λ n. IsNumberOf (expansions self.new) (shape_at (expansions self.new) n) n) }
         ensures spelled { IfOk result
-            (λ n. SpellsWith true (shapes_given (expansions self.old) given.entry) (tree_view tree.now)
-            (shape_at (expansions self.new) n)) }
+            (λ n. SpellsWith true (shapes_given (expansions self.old) given.entry)
+            (tree_view tree.now) (shape_at (expansions self.new) n)) }
         ensures spelled_alone { given.entry ≡ None → IfOk result
             (λ n. SpellsShape (tree_view tree.now) (shape_at (expansions self.new) n)) }
         ensures refused { IfErr result
             (TellsOf true (shapes_given (expansions self.old) given.entry) (tree_view tree.now)) }
-        ensures refused_alone { given.entry ≡ None → IfErr result (TellsFault true (tree_view tree.now)) }
+        ensures refused_alone { given.entry ≡ None
+            → IfErr result (TellsFault true (tree_view tree.now)) }
         ensures keeps { Keeps (expansions self.old) (expansions self.new) }
     {
         let value = asl_tree::to_value(self.alloc, tree)?;
@@ -374,13 +375,14 @@ impl Shapes {
         ensures number { IfOk result
             (λ n. IsNumberOf (expansions self.new) (shape_at (expansions self.new) n) n) }
         ensures spelled { IfOk result
-            (λ n. SpellsWith false (shapes_given (expansions self.old) given.entry) (tree_view tree.now)
-            (shape_at (expansions self.new) n)) }
+            (λ n. SpellsWith false (shapes_given (expansions self.old) given.entry)
+            (tree_view tree.now) (shape_at (expansions self.new) n)) }
         ensures spelled_alone { given.entry ≡ None → IfOk result
             (λ n. SpellsShapeV1 (tree_view tree.now) (shape_at (expansions self.new) n)) }
         ensures refused { IfErr result
             (TellsOf false (shapes_given (expansions self.old) given.entry) (tree_view tree.now)) }
-        ensures refused_alone { given.entry ≡ None → IfErr result (TellsFault false (tree_view tree.now)) }
+        ensures refused_alone { given.entry ≡ None
+            → IfErr result (TellsFault false (tree_view tree.now)) }
         ensures keeps { Keeps (expansions self.old) (expansions self.new) }
     {
         let value = asl_tree::to_value(self.alloc, tree)?;
@@ -458,7 +460,8 @@ impl Shapes {
             (λ n. SpellsWith several (shapes_given (expansions self.old) given.entry)
             (trees.view value.now) (shape_at (expansions self.new) n)) }
         ensures refused { IfErr result
-            (TellsOf several (shapes_given (expansions self.old) given.entry) (trees.view value.now)) }
+            (TellsOf several (shapes_given (expansions self.old) given.entry)
+            (trees.view value.now)) }
         ensures keeps { Keeps (expansions self.old) (expansions self.new) }
     {
         let answer = read(&mut self.table, self.alloc, value, given, several);

@@ -94,7 +94,9 @@ impl Table {
     pub(crate) fn node(&self, number: usize) -> Option<&Node>
         ensures exactly { option_copied result ≡ slice_get self.now number }
         ensures there { IsSome result ↔ number < length self.now }
-        ensures level { IfSome result (λ node. shape_over (expansions self.now) node.now ≡ shape_at (expansions self.now) number) }
+        ensures level { IfSome result
+            (λ node. shape_over (expansions self.now) node.now
+            ≡ shape_at (expansions self.now) number) }
         ensures earlier { IfSome result (λ node. RefersBelow number node.now) }
         ensures proper { IfSome result (λ node. IsProperNode (expansions self.now) node.now) }
     {
@@ -107,7 +109,8 @@ impl Table {
     /// Whether the shape of that number is inhabited.
     pub(crate) fn inhabited(&self, number: usize) -> Option<bool>
         ensures there { IsSome result ↔ number < length self.now }
-        ensures as_defined { IfSome result (λ b. b ≡ model.inhabited (shape_at (expansions self.now) number)) }
+        ensures as_defined { IfSome result
+            (λ b. b ≡ model.inhabited (shape_at (expansions self.now) number)) }
     {
         match self.nodes.get_index(number) {
             Some(entry) => Some(entry.1.inhabited),
@@ -126,7 +129,8 @@ impl Table {
     /// Whether the shape of that number, or one inside it, is of several kinds.
     pub(crate) fn has_several(&self, number: usize) -> Option<bool>
         ensures there { IsSome result ↔ number < length self.now }
-        ensures as_defined { IfSome result (λ b. b ≡ model.has_several (shape_at (expansions self.now) number)) }
+        ensures as_defined { IfSome result
+            (λ b. b ≡ model.has_several (shape_at (expansions self.now) number)) }
     {
         match self.nodes.get_index(number) {
             Some(entry) => Some(entry.1.several),
@@ -183,8 +187,12 @@ impl Table {
     /// The number of the shape whose first level is the node; none where the node has a number that isn't below the
     /// length, or is of several parts and isn't proper.
     pub(crate) fn add_node(&mut self, node: Node) -> Result<Option<usize>, OutOfMemory>
-        ensures exactly { IfOk result (λ r. IsSome r ↔ RefersBelow (length self.old) node × IsProperNode (expansions self.old) node) }
-        ensures number { IfOk result (λ r. IfSome r (IsNumberOf (expansions self.new) (shape_over (expansions self.old) node))) }
+        ensures exactly { IfOk result
+            (λ r. IsSome r ↔ RefersBelow (length self.old) node
+            × IsProperNode (expansions self.old) node) }
+        ensures number { IfOk result
+            (λ r. IfSome r (IsNumberOf (expansions self.new)
+            (shape_over (expansions self.old) node))) }
         ensures keeps { Keeps (expansions self.old) (expansions self.new) }
     {
         if refers_below(&node, self.len()) && is_proper(self, &node) {
@@ -199,7 +207,8 @@ impl Table {
     pub(crate) fn put(&mut self, node: Node) -> Result<usize, OutOfMemory>
         requires refers { RefersBelow (length self.old) node }
         requires proper { IsProperNode (expansions self.old) node }
-        ensures number { IfOk result (IsNumberOf (expansions self.new) (shape_over (expansions self.old) node)) }
+        ensures number { IfOk result
+            (IsNumberOf (expansions self.new) (shape_over (expansions self.old) node)) }
         ensures keeps { Keeps (expansions self.old) (expansions self.new) }
     {
         if let Some(number) = self.nodes.get_index_of(&node) {
@@ -277,7 +286,8 @@ fn ascend(table: &Table, parts: &[usize]) -> bool
 // The place of the only kind of which the shape is, in byte order of the names of types.
 fn kind_at(table: &Table, number: usize) -> Option<usize>
     ensures one { IfSome result (λ kind. IsOfKind kind (shape_at (expansions table.now) number)) }
-    ensures none { result ≡ None → (kind : ℕ) → IsOfKind kind (shape_at (expansions table.now) number) → ⊥ }
+    ensures none { result ≡ None → (kind : ℕ)
+        → IsOfKind kind (shape_at (expansions table.now) number) → ⊥ }
 {
     match table.node(number) {
         Some(node) => place_of(node),
@@ -370,7 +380,8 @@ fn needed_inhabited(table: &Table, fields: &BTreeMap<String, NodeField>) -> bool
 
 // Whether one of the shapes is inhabited.
 fn some_inhabited(table: &Table, numbers: &[usize]) -> bool
-    ensures { result ≡ list_any model.inhabited (map (shape_at (expansions table.now)) numbers.now) }
+    ensures { result ≡ list_any model.inhabited
+        (map (shape_at (expansions table.now)) numbers.now) }
 {
     for number in numbers {
         if table.is_inhabited(*number) {
@@ -445,7 +456,8 @@ fn some_has_several(table: &Table, numbers: &[usize]) -> bool
 
 // Whether the shape of one of the fields, or one inside it, is of several kinds.
 fn field_has_several(table: &Table, fields: &BTreeMap<String, NodeField>) -> bool
-    ensures { result ≡ model.field_has_several (fields_at (expansions table.now) fields.now.entries) }
+    ensures { result ≡ model.field_has_several
+        (fields_at (expansions table.now) fields.now.entries) }
 {
     for (_, field) in fields.iter() {
         if table.is_with_several(field.shape) {

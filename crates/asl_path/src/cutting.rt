@@ -12,7 +12,8 @@ use std::alloc::Global;
 
 /// The segment that the text begins with, and what is behind it; `None` where it begins with none.
 pub(crate) fn cut_segment(alloc: Global, text: &str) -> Result<Option<(Segment, &str)>, OutOfMemory>
-    ensures found { IfOk result (λ found. option_map (λ c. (segment_view c.0, c.1.now)) found ≡ cut text.now) }
+    ensures found { IfOk result
+        (λ found. option_map (λ c. (segment_view c.0, c.1.now)) found ≡ cut text.now) }
     ensures utf8 { IfOk result (λ found. IfSome found (λ c. IsUtf8 c.1.now)) }
 {
     if let Some(rest) = after(b'.', text) {
@@ -26,7 +27,8 @@ pub(crate) fn cut_segment(alloc: Global, text: &str) -> Result<Option<(Segment, 
 
 /// The name behind a dot, as long as possible.
 fn cut_dot_name(alloc: Global, text: &str) -> Result<Option<(Segment, &str)>, OutOfMemory>
-    ensures found { IfOk result (λ found. option_map (λ c. (segment_view c.0, c.1.now)) found ≡ cut_name text.now) }
+    ensures found { IfOk result
+        (λ found. option_map (λ c. (segment_view c.0, c.1.now)) found ≡ cut_name text.now) }
     ensures utf8 { IfOk result (λ found. IfSome found (λ c. IsUtf8 c.1.now)) }
 {
     let length = Part::DotName.length_in(text.as_bytes());
@@ -39,7 +41,9 @@ fn cut_dot_name(alloc: Global, text: &str) -> Result<Option<(Segment, &str)>, Ou
 
 /// What stands behind `[`: a name in apostrophes or in quotes, or an index.
 fn cut_bracket(alloc: Global, text: &str) -> Result<Option<(Segment, &str)>, OutOfMemory>
-    ensures found { IfOk result (λ found. option_map (λ c. (segment_view c.0, c.1.now)) found ≡ cut_behind_bracket text.now) }
+    ensures found { IfOk result
+        (λ found. option_map (λ c. (segment_view c.0, c.1.now)) found
+        ≡ cut_behind_bracket text.now) }
     ensures utf8 { IfOk result (λ found. IfSome found (λ c. IsUtf8 c.1.now)) }
 {
     if let Some(rest) = after(b'\'', text) {
@@ -58,7 +62,8 @@ fn cut_quoted_name(
     text: &str,
 ) -> Result<Option<(Segment, &str)>, OutOfMemory>
     requires { quote < 128 }
-    ensures found { IfOk result (λ found. option_map (λ c. (segment_view c.0, c.1.now)) found ≡ cut_quotes quote text.now) }
+    ensures found { IfOk result
+        (λ found. option_map (λ c. (segment_view c.0, c.1.now)) found ≡ cut_quotes quote text.now) }
     ensures utf8 { IfOk result (λ found. IfSome found (λ c. IsUtf8 c.1.now)) }
 {
     let (name, rest) = text.split_at(Part::QuotedName(quote).length_in(text.as_bytes()));
@@ -89,7 +94,8 @@ fn cut_index(text: &str) -> Option<(Segment, &str)>
 /// The number that the digits write, where they are an index: not empty, no leading zero, below 2 ^ 32.
 fn index_of(digits: &str) -> Option<u32>
     requires { front_length is_ascii_digit digits.now ≡ length digits.now }
-    ensures { MatchOption result (is_index digits.now ≡ false) (λ n. IsTrue (is_index digits.now) × (n ≡ digits_value 10 digits.now)) }
+    ensures { MatchOption result (is_index digits.now ≡ false)
+        (λ n. IsTrue (is_index digits.now) × (n ≡ digits_value 10 digits.now)) }
 {
     if digits.len() > 1 && digits.as_bytes()[0] == b'0' {
         return None;

@@ -23,7 +23,8 @@ pub fn find<'t>(tree: &'t Tree, path: &RefPath) -> Option<&'t Tree>
 
 /// What one step leads to from `tree`.
 fn child<'t>(tree: &'t Tree, segment: &Segment) -> Option<&'t Tree>
-    ensures { option_map (λ t. view t.now) result ≡ child_of (segment_view segment.now) (view tree.now) }
+    ensures { option_map (λ t. view t.now) result
+        ≡ child_of (segment_view segment.now) (view tree.now) }
 {
     match (tree, segment) {
         (Tree::Object(fields), Segment::Name(name)) => fields.get(name.as_str()),

@@ -16,7 +16,8 @@ use std::alloc::Global;
 /// text from there on has one of `* ? @ , : (` or `..`, and [`PathRefusal::BadSegment`] where not.
 pub fn parse(alloc: Global, text: &str) -> Result<RefPath, PathRefusal>
     ensures path { IfOk result (λ p. Spells text.now p) }
-    ensures every_path { (p : List model.Segment) → Spells text.now p → MatchResult result (λ q. q ≡ p) (λ refusal. refusal ≡ PathRefusal.OutOfMemory) }
+    ensures every_path { (p : List model.Segment) → Spells text.now p
+        → MatchResult result (λ q. q ≡ p) (λ refusal. refusal ≡ PathRefusal.OutOfMemory) }
     ensures refused { IfErr result (λ refusal. IsRefused text.now refusal) }
 {
     let Some(mut rest) = after(b'$', text) else {

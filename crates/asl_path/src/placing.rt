@@ -57,7 +57,9 @@ pub fn place(
 ) -> Result<Tree, (PlaceRefusal, Tree, Tree)>
     ensures answer { IfOk result (λ t. placed path.now (view value) (view tree) ≡ Some (view t)) }
     ensures placing { IfOk result (λ t. Places path.now (view value) (view tree) (view t)) }
-    ensures no_placing { IfErr result (λ r. (r.0 ≡ CannotPlace) ↔ ((t : model.Tree) → ¬ Places path.now (view value) (view tree) t)) }
+    ensures no_placing { IfErr result
+        (λ r. (r.0 ≡ CannotPlace)
+        ↔ ((t : model.Tree) → ¬ Places path.now (view value) (view tree) t)) }
     ensures given_back { IfErr result (λ r. (view r.1 ≡ view tree) × (view r.2 ≡ view value)) }
 {
     let mut whole = tree;
@@ -98,7 +100,9 @@ fn make_room_in_element(
     index: usize,
     rest: &[Segment],
 ) -> Result<(), PlaceRefusal>
-    ensures { MakesRoom (Index index ∷ segments_view rest.now) (model.Array (elements_view elements.old.items)) (model.Array (elements_view elements.new.items)) result }
+    ensures { MakesRoom (Index index ∷ segments_view rest.now)
+        (model.Array (elements_view elements.old.items))
+        (model.Array (elements_view elements.new.items)) result }
 {
     match elements.get_mut(index) {
         Some(element) => make_room(alloc, element, rest),
@@ -114,7 +118,9 @@ fn make_room_in_field(
     name: &String,
     rest: &[Segment],
 ) -> Result<(), PlaceRefusal>
-    ensures { MakesRoom (Name (string_bytes name.now) ∷ segments_view rest.now) (model.Object (entries_view fields.old.entries)) (model.Object (entries_view fields.new.entries)) result }
+    ensures { MakesRoom (Name (string_bytes name.now) ∷ segments_view rest.now)
+        (model.Object (entries_view fields.old.entries))
+        (model.Object (entries_view fields.new.entries)) result }
 {
     match fields.get_mut(name.as_str()) {
         Some(field) => make_room(alloc, field, rest),
@@ -130,7 +136,9 @@ fn create_field(
     rest: &[Segment],
 ) -> Result<(), PlaceRefusal>
     requires { model.field_named (string_bytes name.now) (entries_view fields.old.entries) ≡ None }
-    ensures { MakesRoom (Name (string_bytes name.now) ∷ segments_view rest.now) (model.Object (entries_view fields.old.entries)) (model.Object (entries_view fields.new.entries)) result }
+    ensures { MakesRoom (Name (string_bytes name.now) ∷ segments_view rest.now)
+        (model.Object (entries_view fields.old.entries))
+        (model.Object (entries_view fields.new.entries)) result }
 {
     let built = build(alloc, rest)?;
     let key = name.clone()?;
@@ -142,7 +150,8 @@ fn create_field(
 #[cycle(build)]
 fn build(alloc: Global, steps: &[Segment]) -> Result<Tree, PlaceRefusal>
     ensures tree { IfOk result (λ t. built (segments_view steps.now) model.Null ≡ Some (view t)) }
-    ensures refused { IfErr result (λ r. (r ≡ CannotPlace) ↔ (built (segments_view steps.now) model.Null ≡ None)) }
+    ensures refused { IfErr result
+        (λ r. (r ≡ CannotPlace) ↔ (built (segments_view steps.now) model.Null ≡ None)) }
 {
     let [step, rest @ ..] = steps else {
         return Ok(Tree::Null);
@@ -184,8 +193,11 @@ fn fill(tree: &mut Tree, steps: &[Segment], value: Tree)
 /// Replaces what the rest of the path names in the element at that place.
 #[cycle(fill)]
 fn fill_element(elements: &mut Vec<Tree>, index: usize, rest: &[Segment], value: Tree)
-    requires { HasNode (Index index ∷ segments_view rest.now) (model.Array (elements_view elements.old.items)) }
-    ensures { IsPlaced (Index index ∷ segments_view rest.now) (view value) (model.Array (elements_view elements.old.items)) (model.Array (elements_view elements.new.items)) }
+    requires { HasNode (Index index ∷ segments_view rest.now)
+        (model.Array (elements_view elements.old.items)) }
+    ensures { IsPlaced (Index index ∷ segments_view rest.now) (view value)
+        (model.Array (elements_view elements.old.items))
+        (model.Array (elements_view elements.new.items)) }
 {
     fill(&mut elements[index], rest, value)
 }
@@ -193,8 +205,11 @@ fn fill_element(elements: &mut Vec<Tree>, index: usize, rest: &[Segment], value:
 /// Replaces what the rest of the path names in the field of that name.
 #[cycle(fill)]
 fn fill_field(fields: &mut BTreeMap<String, Tree>, name: &String, rest: &[Segment], value: Tree)
-    requires { HasNode (Name (string_bytes name.now) ∷ segments_view rest.now) (model.Object (entries_view fields.old.entries)) }
-    ensures { IsPlaced (Name (string_bytes name.now) ∷ segments_view rest.now) (view value) (model.Object (entries_view fields.old.entries)) (model.Object (entries_view fields.new.entries)) }
+    requires { HasNode (Name (string_bytes name.now) ∷ segments_view rest.now)
+        (model.Object (entries_view fields.old.entries)) }
+    ensures { IsPlaced (Name (string_bytes name.now) ∷ segments_view rest.now) (view value)
+        (model.Object (entries_view fields.old.entries))
+        (model.Object (entries_view fields.new.entries)) }
 {
     let Some(field) = fields.get_mut(name.as_str()) else {
         unreachable!()

@@ -90,11 +90,14 @@ fn read_parts(
     requires listed { AreInTable shapes reader.listed }
     ensures right { OnOk result (ForReading reader.entry.several shapes reader.entry.listed
         (λ reading. certified_complaints reading fields.entries ≡ [])) }
-    ensures certificate { IfOk result (λ certificate. ForReading reader.entry.several shapes reader.entry.listed
+    ensures certificate { IfOk result
+        (λ certificate. ForReading reader.entry.several shapes reader.entry.listed
         (λ reading. numbered_view certificate ≡ certified reading.listed fields.entries)) }
-    ensures within { IfOk result (λ certificate. ForReading reader.entry.several shapes reader.entry.listed
+    ensures within { IfOk result
+        (λ certificate. ForReading reader.entry.several shapes reader.entry.listed
         (λ _. AreWithin certificate)) }
-    ensures refused { IfErr result (λ fault. ForReading reader.entry.several shapes reader.entry.listed
+    ensures refused { IfErr result
+        (λ fault. ForReading reader.entry.several shapes reader.entry.listed
         (λ reading. TellsOneOf (certified_complaints reading fields.entries) fault)) }
 {
     let record = Reader { name: "", ..reader };
@@ -142,10 +145,13 @@ fn read_states(
     ensures right { OnOk result (ForReading reader.entry.several shapes.old reader.entry.listed
         (λ reading. states_complaints reading
         (value_in (codes "states") fields.old.entries) ≡ [])) }
-    ensures states { IfOk result (λ states. ForReading reader.entry.several shapes.old reader.entry.listed
+    ensures states { IfOk result
+        (λ states. ForReading reader.entry.several shapes.old reader.entry.listed
         (λ reading. AreStatesOf shapes.new
-        (states_there reading.listed (value_in (codes "states") fields.old.entries)) states.entries)) }
-    ensures refused { IfErr result (λ fault. ForReading reader.entry.several shapes.old reader.entry.listed
+        (states_there reading.listed
+        (value_in (codes "states") fields.old.entries)) states.entries)) }
+    ensures refused { IfErr result
+        (λ fault. ForReading reader.entry.several shapes.old reader.entry.listed
         (λ reading. TellsOneOf (states_complaints reading
         (value_in (codes "states") fields.old.entries)) fault)) }
     ensures keeps { Keeps (expansions shapes.old) (expansions shapes.new) }
@@ -166,12 +172,14 @@ fn read_entries(
     requires listed { AreInTable shapes.old reader.listed }
     ensures right { OnOk result (ForReading reader.entry.several shapes.old reader.entry.listed
         (λ reading. entries_complaints reading state_rows (members_view entries.entries) ≡ [])) }
-    ensures states { IfOk result (λ states. ForReading reader.entry.several shapes.old reader.entry.listed
+    ensures states { IfOk result
+        (λ states. ForReading reader.entry.several shapes.old reader.entry.listed
         (λ reading. AreStatesOf shapes.new
         (entries_from (state_from reading.listed) (members_view entries.entries)) states.entries)) }
-    ensures refused { IfErr result (λ fault. ForReading reader.entry.several shapes.old reader.entry.listed
-        (λ reading. TellsOneOf
-        (entries_complaints reading state_rows (members_view entries.entries)) fault)) }
+    ensures refused { IfErr result
+        (λ fault. ForReading reader.entry.several shapes.old reader.entry.listed
+        (λ reading. TellsOneOf (entries_complaints reading state_rows
+        (members_view entries.entries)) fault)) }
     ensures keeps { Keeps (expansions shapes.old) (expansions shapes.new) }
 {
     let mut states = BTreeMap::new(reader.alloc);
@@ -193,11 +201,13 @@ fn read_state(
     requires listed { AreInTable shapes.old reader.listed }
     ensures right { OnOk result (ForReading reader.entry.several shapes.old reader.entry.listed
         (λ reading. object_complaints reading name.now state_rows (view value) ≡ [])) }
-    ensures numbers { IfOk result (λ state. ForReading reader.entry.several shapes.old reader.entry.listed
+    ensures numbers { IfOk result
+        (λ state. ForReading reader.entry.several shapes.old reader.entry.listed
         (λ reading. AreStateOf shapes.new (state_from reading.listed (view value)) state)) }
-    ensures refused { IfErr result (λ fault. ForReading reader.entry.several shapes.old reader.entry.listed
-        (λ reading. TellsOneOf
-        (object_complaints reading name.now state_rows (view value)) fault)) }
+    ensures refused { IfErr result
+        (λ fault. ForReading reader.entry.several shapes.old reader.entry.listed
+        (λ reading. TellsOneOf (object_complaints reading name.now state_rows
+        (view value)) fault)) }
     ensures keeps { Keeps (expansions shapes.old) (expansions shapes.new) }
 {
     let state = Reader { name, ..reader };

@@ -60,7 +60,8 @@ fn read_tasks(
     fields: &mut Map<String, Value>,
 ) -> Result<BTreeMap<String, TaskShapes>, ReadFault>
     requires { AreWhole (members_view fields.old.entries) }
-    ensures right { OnOk result (field_complaints declared_reading [] (entries_row (codes "tasks") false)
+    ensures right { OnOk result
+        (field_complaints declared_reading [] (entries_row (codes "tasks") false)
         (value_in (codes "tasks") fields.old.entries)
         ++ entries_complaints declared_reading task_rows
         (members_there (value_in (codes "tasks") fields.old.entries)) ≡ []) }
@@ -92,7 +93,8 @@ fn read_entries(
         ≡ entries_from task_from (members_view entries.entries)) }
     ensures proper { IfOk result (λ tasks. AreProperTasks tasks.entries) }
     ensures refused { IfErr result
-        (TellsOneOf (entries_complaints declared_reading task_rows (members_view entries.entries))) }
+        (TellsOneOf (entries_complaints declared_reading task_rows
+        (members_view entries.entries))) }
 {
     let mut tasks = BTreeMap::new(alloc);
     for (name, task) in entries {
@@ -105,7 +107,8 @@ fn read_entries(
 /// The shapes of the task of this name.
 fn read_task(alloc: Global, name: &str, value: Value) -> Result<TaskShapes, ReadFault>
     requires { IsWhole (view value) }
-    ensures right { OnOk result (object_complaints declared_reading name.now task_rows (view value) ≡ []) }
+    ensures right { OnOk result
+        (object_complaints declared_reading name.now task_rows (view value) ≡ []) }
     ensures shapes { IfOk result (λ shapes. task_view shapes ≡ task_from (view value)) }
     ensures proper { IfOk result IsProperTask }
     ensures refused { IfErr result

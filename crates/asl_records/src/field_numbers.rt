@@ -30,10 +30,12 @@ impl Reader<'_> {
         ensures right { OnOk result (ForReading self.now.several shapes.old self.now.listed
             (λ reading. field_complaints reading self.now.name.now
             (shape_row field.now true) (value_in field.now fields.old.entries) ≡ [])) }
-        ensures number { IfOk result (λ number. ForReading self.now.several shapes.old self.now.listed
+        ensures number { IfOk result
+            (λ number. ForReading self.now.several shapes.old self.now.listed
             (λ reading. IsNumberOf (expansions shapes.new)
             (shape_there reading.listed (value_in field.now fields.old.entries)) number)) }
-        ensures refused { IfErr result (λ fault. ForReading self.now.several shapes.old self.now.listed
+        ensures refused { IfErr result
+            (λ fault. ForReading self.now.several shapes.old self.now.listed
             (λ reading. TellsOneOf (field_complaints reading self.now.name.now
             (shape_row field.now true) (value_in field.now fields.old.entries)) fault)) }
         ensures keeps { Keeps (expansions shapes.old) (expansions shapes.new) }
@@ -57,10 +59,13 @@ impl Reader<'_> {
         ensures right { OnOk result (ForReading self.now.several shapes.old self.now.listed
             (λ reading. field_complaints reading self.now.name.now
             (shape_row field.now false) (value_in field.now fields.old.entries) ≡ [])) }
-        ensures number { IfOk result (λ number. ForReading self.now.several shapes.old self.now.listed
+        ensures number { IfOk result
+            (λ number. ForReading self.now.several shapes.old self.now.listed
             (λ reading. IsItemOf shapes.new
-            (option_map (shape_from reading.listed) (value_in field.now fields.old.entries)) number)) }
-        ensures refused { IfErr result (λ fault. ForReading self.now.several shapes.old self.now.listed
+            (option_map (shape_from reading.listed)
+            (value_in field.now fields.old.entries)) number)) }
+        ensures refused { IfErr result
+            (λ fault. ForReading self.now.several shapes.old self.now.listed
             (λ reading. TellsOneOf (field_complaints reading self.now.name.now
             (shape_row field.now false) (value_in field.now fields.old.entries)) fault)) }
         ensures keeps { Keeps (expansions shapes.old) (expansions shapes.new) }
@@ -87,10 +92,12 @@ impl Reader<'_> {
         ensures right { OnOk result (ForReading self.now.several shapes.old self.now.listed
             (λ reading. field_complaints reading self.now.name.now
             (shapes_row field.now) (value_in field.now fields.old.entries) ≡ [])) }
-        ensures numbers { IfOk result (λ numbers. ForReading self.now.several shapes.old self.now.listed
+        ensures numbers { IfOk result
+            (λ numbers. ForReading self.now.several shapes.old self.now.listed
             (λ reading. AreListOf shapes.new
             (shapes_there reading.listed (value_in field.now fields.old.entries)) numbers.items)) }
-        ensures refused { IfErr result (λ fault. ForReading self.now.several shapes.old self.now.listed
+        ensures refused { IfErr result
+            (λ fault. ForReading self.now.several shapes.old self.now.listed
             (λ reading. TellsOneOf (field_complaints reading self.now.name.now
             (shapes_row field.now) (value_in field.now fields.old.entries)) fault)) }
         ensures keeps { Keeps (expansions shapes.old) (expansions shapes.new) }
@@ -113,10 +120,12 @@ impl Reader<'_> {
         ensures right { OnOk result (ForReading self.now.several shapes.old self.now.listed
             (λ reading. map (complaint_of self.now.name.now field.now)
             (misfits reading ShapesValue (view value)) ≡ [])) }
-        ensures numbers { IfOk result (λ numbers. ForReading self.now.several shapes.old self.now.listed
+        ensures numbers { IfOk result
+            (λ numbers. ForReading self.now.several shapes.old self.now.listed
             (λ reading. AreListOf shapes.new
             (shapes_there reading.listed (Some (view value))) numbers.items)) }
-        ensures refused { IfErr result (λ fault. ForReading self.now.several shapes.old self.now.listed
+        ensures refused { IfErr result
+            (λ fault. ForReading self.now.several shapes.old self.now.listed
             (λ reading. TellsOneOf (map (complaint_of self.now.name.now field.now)
             (misfits reading ShapesValue (view value))) fault)) }
         ensures keeps { Keeps (expansions shapes.old) (expansions shapes.new) }
@@ -140,10 +149,12 @@ impl Reader<'_> {
         ensures right { OnOk result (ForReading self.now.several shapes.old self.now.listed
             (λ reading. shapes_complaints reading self.now.name.now field.now
             (items_view elements.items) ≡ [])) }
-        ensures numbers { IfOk result (λ numbers. ForReading self.now.several shapes.old self.now.listed
+        ensures numbers { IfOk result
+            (λ numbers. ForReading self.now.several shapes.old self.now.listed
             (λ reading. AreListOf shapes.new
             (shapes_from reading.listed (items_view elements.items)) numbers.items)) }
-        ensures refused { IfErr result (λ fault. ForReading self.now.several shapes.old self.now.listed
+        ensures refused { IfErr result
+            (λ fault. ForReading self.now.several shapes.old self.now.listed
             (λ reading. TellsOneOf (shapes_complaints reading self.now.name.now field.now
             (items_view elements.items)) fault)) }
         ensures keeps { Keeps (expansions shapes.old) (expansions shapes.new) }
@@ -166,10 +177,12 @@ impl Reader<'_> {
         requires listed { AreInTable shapes.old self.now.listed }
         ensures right { OnOk result (ForReading self.now.several shapes.old self.now.listed
             (λ reading. shape_complaints reading self.now.name.now field.now (view value) ≡ [])) }
-        ensures number { IfOk result (λ number. ForReading self.now.several shapes.old self.now.listed
+        ensures number { IfOk result
+            (λ number. ForReading self.now.several shapes.old self.now.listed
             (λ reading. IsNumberOf (expansions shapes.new)
             (shape_from reading.listed (view value)) number)) }
-        ensures refused { IfErr result (λ fault. ForReading self.now.several shapes.old self.now.listed
+        ensures refused { IfErr result
+            (λ fault. ForReading self.now.several shapes.old self.now.listed
             (λ reading. TellsOneOf (shape_complaints reading self.now.name.now field.now
             (view value)) fault)) }
         ensures keeps { Keeps (expansions shapes.old) (expansions shapes.new) }

@@ -81,7 +81,8 @@ impl Reader<'_> {
         ensures shape { IfOk result
             (λ shape. shape_view shape ≡ shape_there None (value_in field.now fields.old.entries)) }
         ensures proper { IfOk result IsProper }
-        ensures refused { IfErr result (TellsOneOf (field_complaints declared_reading self.now.name.now
+        ensures refused { IfErr result
+            (TellsOneOf (field_complaints declared_reading self.now.name.now
             (shape_row field.now true) (value_in field.now fields.old.entries))) }
     {
         match take(fields, field) {
@@ -103,7 +104,8 @@ impl Reader<'_> {
         ensures shape { IfOk result (λ shape. option_map shape_view shape
             ≡ option_map (shape_from None) (value_in field.now fields.old.entries)) }
         ensures proper { IfOk result (λ shape. IfSome shape IsProper) }
-        ensures refused { IfErr result (TellsOneOf (field_complaints declared_reading self.now.name.now
+        ensures refused { IfErr result
+            (TellsOneOf (field_complaints declared_reading self.now.name.now
             (shape_row field.now false) (value_in field.now fields.old.entries))) }
     {
         match take(fields, field) {
@@ -122,7 +124,8 @@ impl Reader<'_> {
         ensures shape { IfOk result (λ shape. shape_view shape ≡ shape_from None (view value)) }
         ensures proper { IfOk result IsProper }
         ensures refused { IfErr result
-            (TellsOneOf (shape_complaints declared_reading self.now.name.now field.now (view value))) }
+            (TellsOneOf (shape_complaints declared_reading self.now.name.now field.now
+            (view value))) }
     {
         match asl_shape::read_value(self.alloc, &value) {
             Ok(shape) => Ok(shape),
@@ -165,7 +168,8 @@ pub(crate) fn entries(
         (λ members. as_object (view value) ≡ Some (members_view members.entries)) }
     ensures whole { IfOk result (λ members. AreWhole (members_view members.entries)) }
     ensures refused { IfErr result
-        (TellsOneOf (map (complaint_of [] field.now) (misfits declared_reading EntriesValue (view value)))) }
+        (TellsOneOf (map (complaint_of [] field.now)
+        (misfits declared_reading EntriesValue (view value)))) }
 {
     match value {
         Value::Object(members) => Ok(members),

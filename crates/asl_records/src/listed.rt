@@ -47,7 +47,8 @@ fn read_list(
     value: Value,
 ) -> Result<Vec<usize>, ReadFault>
     requires { IsWhole (view value) }
-    ensures right { OnOk result (field_complaints (unlisted several) [] listed_row (Some (view value)) ≡ []) }
+    ensures right { OnOk result
+        (field_complaints (unlisted several) [] listed_row (Some (view value)) ≡ []) }
     ensures below { IfOk result (λ numbers. AreBelow (length shapes.new) numbers.items) }
     ensures meant { IfOk result
         (λ numbers. IsReading several shapes.new (Some numbers.items)

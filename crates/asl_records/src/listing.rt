@@ -158,7 +158,8 @@ impl Listing {
     /// Lists the shape of that number itself, unless it is listed.
     fn put(&mut self, number: usize) -> Result<(), OutOfMemory>
         requires within { number < length self.old.places.items }
-        ensures put { OnOk result (Puts (get_or self.old.places.items number None) number self.old self.new) }
+        ensures put { OnOk result
+            (Puts (get_or self.old.places.items number None) number self.old self.new) }
     {
         if self.places[number].is_none() {
             let place = self.order.len();

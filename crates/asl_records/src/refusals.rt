@@ -33,7 +33,8 @@ impl RecordFault {
 
     /// The fault's name, as it is printed.
     pub fn name(&self) -> &'static str
-        ensures { IfSome (record_fault_view self.now) (λ fault. result.now ≡ record_fault_name fault) }
+        ensures { IfSome (record_fault_view self.now)
+            (λ fault. result.now ≡ record_fault_name fault) }
     {
         match self {
             RecordFault::NotObject => "NotObject",

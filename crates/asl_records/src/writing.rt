@@ -24,8 +24,11 @@ use std::collections::BTreeMap;
 ///
 /// Refuses only where an allocation was refused.
 pub fn write_declared(alloc: Global, declared: &Declared) -> Result<Tree, OutOfMemory>
-    ensures written { IfOk result (λ t. trees.view t ≡ model.written_declared (declared_view declared.now)) }
-    ensures reads_back { IfOk result (λ t. (v : Data) → tree_of v ≡ Some (trees.view t) → StandsForDeclared v (declared_view declared.now)) }
+    ensures written { IfOk result
+        (λ t. trees.view t ≡ model.written_declared (declared_view declared.now)) }
+    ensures reads_back { IfOk result
+        (λ t. (v : Data) → tree_of v ≡ Some (trees.view t)
+        → StandsForDeclared v (declared_view declared.now)) }
 {
     let mut fields = BTreeMap::new(alloc);
     add_shape(alloc, &mut fields, "input", &declared.input)?;
@@ -40,8 +43,11 @@ pub fn write_declared(alloc: Global, declared: &Declared) -> Result<Tree, OutOfM
 ///
 /// Refuses only where an allocation was refused.
 pub fn write_certificate(alloc: Global, certificate: &Certificate) -> Result<Tree, OutOfMemory>
-    ensures written { IfOk result (λ t. trees.view t ≡ model.written_certificate (certificate_view certificate.now)) }
-    ensures reads_back { IfOk result (λ t. (v : Data) → tree_of v ≡ Some (trees.view t) → StandsForCertificate v (certificate_view certificate.now)) }
+    ensures written { IfOk result
+        (λ t. trees.view t ≡ model.written_certificate (certificate_view certificate.now)) }
+    ensures reads_back { IfOk result
+        (λ t. (v : Data) → tree_of v ≡ Some (trees.view t)
+        → StandsForCertificate v (certificate_view certificate.now)) }
 {
     let mut fields = BTreeMap::new(alloc);
     add_shape(alloc, &mut fields, "output", &certificate.output)?;
@@ -56,7 +62,9 @@ fn write_tasks(
     alloc: Global,
     tasks: &BTreeMap<String, TaskShapes>,
 ) -> Result<BTreeMap<String, Tree>, OutOfMemory>
-    ensures written { IfOk result (λ m. trees.entries_view m.entries ≡ model.written_entries model.written_task (tasks_view tasks.now.entries)) }
+    ensures written { IfOk result
+        (λ m. trees.entries_view m.entries
+        ≡ model.written_entries model.written_task (tasks_view tasks.now.entries)) }
     ensures spelled { IfOk result (λ _. TasksAreSpelled (tasks_view tasks.now.entries)) }
 {
     let mut entries = BTreeMap::new(alloc);
@@ -83,7 +91,10 @@ fn write_states(
     alloc: Global,
     states: &BTreeMap<String, StateShapes>,
 ) -> Result<BTreeMap<String, Tree>, OutOfMemory>
-    ensures written { IfOk result (λ m. trees.entries_view m.entries ≡ model.written_entries (model.written_state model.written_shape) (entries_view states.now.entries)) }
+    ensures written { IfOk result
+        (λ m. trees.entries_view m.entries
+        ≡ model.written_entries (model.written_state model.written_shape)
+        (entries_view states.now.entries)) }
     ensures spelled { IfOk result (λ _. StatesAreSpelled (entries_view states.now.entries)) }
 {
     let mut entries = BTreeMap::new(alloc);
@@ -96,7 +107,8 @@ fn write_states(
 
 /// The entry of a state.
 fn write_state(alloc: Global, state: &StateShapes) -> Result<Tree, OutOfMemory>
-    ensures written { IfOk result (λ t. trees.view t ≡ model.written_state model.written_shape (entry_view state.now)) }
+    ensures written { IfOk result
+        (λ t. trees.view t ≡ model.written_state model.written_shape (entry_view state.now)) }
     ensures spelled { IfOk result (λ _. HoldsForState IsSpelled (entry_view state.now)) }
 {
     let mut fields = BTreeMap::new(alloc);
@@ -114,7 +126,10 @@ fn add_item(
     fields: &mut BTreeMap<String, Tree>,
     item: &Option<Shape>,
 ) -> Result<(), OutOfMemory>
-    ensures added { IfOk result (λ _. trees.entries_view fields.new.entries ≡ with_item model.written_shape (option_map view item.now) (trees.entries_view fields.old.entries)) }
+    ensures added { IfOk result
+        (λ _. trees.entries_view fields.new.entries
+        ≡ with_item model.written_shape (option_map view item.now)
+        (trees.entries_view fields.old.entries)) }
     ensures spelled { IfOk result (λ _. IfSome (option_map view item.now) IsSpelled) }
 {
     match item {
@@ -125,7 +140,9 @@ fn add_item(
 
 /// Each of the shapes.
 fn write_shapes(alloc: Global, shapes: &Vec<Shape>) -> Result<Vec<Tree>, OutOfMemory>
-    ensures written { IfOk result (λ v. trees.elements_view v.items ≡ model.written_list model.written_shape (map view shapes.now.items)) }
+    ensures written { IfOk result
+        (λ v. trees.elements_view v.items
+        ≡ model.written_list model.written_shape (map view shapes.now.items)) }
     ensures spelled { IfOk result (λ _. AreSpelled (map view shapes.now.items)) }
 {
     let mut elements = Vec::with_capacity(alloc, shapes.len())?;
@@ -142,7 +159,10 @@ fn add_shape(
     name: &str,
     shape: &Shape,
 ) -> Result<(), OutOfMemory>
-    ensures added { IfOk result (λ _. trees.entries_view fields.new.entries ≡ with_field name.now (model.written_shape (view shape.now)) (trees.entries_view fields.old.entries)) }
+    ensures added { IfOk result
+        (λ _. trees.entries_view fields.new.entries
+        ≡ with_field name.now (model.written_shape (view shape.now))
+        (trees.entries_view fields.old.entries)) }
     ensures spelled { IfOk result (λ _. IsSpelled (view shape.now)) }
 {
     let value = write(alloc, shape)?;
@@ -191,7 +211,8 @@ pub(crate) fn add(
     name: &str,
     value: Tree,
 ) -> Result<(), OutOfMemory>
-    ensures { IfOk result (λ _. trees.entries_view fields.new.entries ≡ with_field name.now (trees.view value) (trees.entries_view fields.old.entries)) }
+    ensures { IfOk result (λ _. trees.entries_view fields.new.entries
+        ≡ with_field name.now (trees.view value) (trees.entries_view fields.old.entries)) }
 {
     drop(fields.insert(String::from_str(alloc, name)?, value)?);
     Ok(())

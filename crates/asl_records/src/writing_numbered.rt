@@ -92,8 +92,9 @@ impl Writer<'_> {
     fn write_state(&self, state: &StateNumbers) -> Result<Tree, OutOfMemory>
         requires ready { IsReady self.now }
         requires below { AreNumbersBelow (length self.now.shapes.now) state.now }
-        ensures written { IfOk result (λ t. trees.view t
-            ≡ model.written_state (referred self.now) (numbers_view (table_of self.now) state.now)) }
+        ensures written { IfOk result
+            (λ t. trees.view t ≡ model.written_state (referred self.now)
+            (numbers_view (table_of self.now) state.now)) }
     {
         let mut fields = BTreeMap::new(self.alloc);
         let branches = self.refer_all(&state.branches)?;
@@ -211,7 +212,8 @@ impl Writer<'_> {
         ensures some { IfOk result
             (λ w. is_some w ≡ has_objects (objects_over (table_of self.now) objects.entry)) }
         ensures closed { IfOk result
-            (λ w. are_closed w ≡ model.are_closed (objects_over (table_of self.now) objects.entry)) }
+            (λ w. are_closed w ≡ model.are_closed
+            (objects_over (table_of self.now) objects.entry)) }
     {
         let Some(NodeObjects { fields, extra, .. }) = objects else {
             return Ok(None);

@@ -12,7 +12,8 @@ use asl_tree::Tree;
 
 /// What the delay's path names in the input, a whole number or a text; the input itself where there is no path.
 pub(crate) fn find_delay<'t>(delay: &Delay, input: &'t Tree) -> Result<&'t Tree, Fault>
-    ensures { Finds (λ t. view t.now) result (model.delay_in (delay_view delay.now) (view input.now)) }
+    ensures { Finds (λ t. view t.now) result
+        (model.delay_in (delay_view delay.now) (view input.now)) }
 {
     match delay {
         Delay::Seconds(_) | Delay::Timestamp(_) => Ok(input),

@@ -135,7 +135,8 @@ fn add_own_place(
 #[cycle(count_places)]
 pub(crate) fn count_places(nodes: &Nodes, number: NodeNumber) -> usize
     requires within { number.0 < length nodes.now }
-    requires few { (names : List (List ℕ)) → open_count (shown_at names nodes.now number.0) < 2 ^ 64 }
+    requires few { (names : List (List ℕ))
+        → open_count (shown_at names nodes.now number.0) < 2 ^ 64 }
     ensures { (names : List (List ℕ)) → result ≡ open_count (shown_at names nodes.now number.0) }
 {
     let node = nodes.node(number);

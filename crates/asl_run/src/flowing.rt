@@ -47,7 +47,8 @@ fn at_input_path<'t>(
     path: &Option<RefPath>,
     raw: &'t Datum,
 ) -> Result<Data<'t>, Fault>
-    ensures { Finds data_view result (model.at_path (codes "InputPath") path.now (view raw.now.value)) }
+    ensures { Finds data_view result
+        (model.at_path (codes "InputPath") path.now (view raw.now.value)) }
 {
     if is_whole(path) {
         return Ok(Data::Shared(raw));

@@ -44,7 +44,8 @@ pub(crate) fn start_branches(
 
 /// The items of a Map: the list that `ItemsPath` names in its effective input.
 pub(crate) fn find_items<'t>(path: &RefPath, input: &'t Tree) -> Result<&'t [Tree], Fault>
-    ensures { Finds (λ ts. elements_view ts.now) result (model.map_items path.now (view input.now)) }
+    ensures { Finds (λ ts. elements_view ts.now) result
+        (model.map_items path.now (view input.now)) }
 {
     match named_in("ItemsPath", path, input)? {
         Tree::List(items) => Ok(items),

@@ -253,7 +253,8 @@ impl<'m> Here<'m> {
 
     /// The scope ends with an error and a cause.
     pub(crate) fn ends_failing(&self, error: &str, cause: &str) -> Result<Plan, OutOfMemory>
-        ensures { IfOk result (λ plan. Plans self.now plan (model.ends_failing error.now cause.now)) }
+        ensures { IfOk result (λ plan. Plans self.now plan
+            (model.ends_failing error.now cause.now)) }
     {
         let ended = self.failure(error, cause)?;
         let told = self.ended_failing(error, cause);

@@ -152,7 +152,8 @@ impl<'m> Run<'m> {
 
     /// How the run has ended; none while it goes on.
     pub fn outcome(&self) -> Option<&Outcome>
-        ensures { option_map (λ o. outcome_view o.now) result ≡ model.outcome_of (run_view self.now) }
+        ensures { option_map (λ o. outcome_view o.now) result
+            ≡ model.outcome_of (run_view self.now) }
     {
         let nodes = self.standing.nodes();
         match nodes.node(nodes.root()) {

@@ -115,7 +115,8 @@ impl Standing {
         change: Change,
     ) -> Result<(), OutOfMemory>
         requires at { number_from self.old 0 place.now ≡ Some number.0 }
-        requires wanted { (names : List (List ℕ)) → 0 < open_count (shown_at names self.old number.0) }
+        requires wanted { (names : List (List ℕ))
+            → 0 < open_count (shown_at names self.old number.0) }
         requires rises { (node : code.Node) → slice_get self.old number.0 ≡ Some node
             → CanApply node change }
         ensures changed { IfOk result (λ _. IsApplied number.0 self.old change self.new) }
@@ -156,7 +157,8 @@ impl Standing {
     pub(crate) fn last_open(&self, alloc: Global) -> Result<Place, OutOfMemory>
         requires goes_on { IsGoing self.now }
         ensures { IfOk result (λ place. (names : List (List ℕ)) (last : ℕ)
-            → last + 1 ≡ open_count (shown_at names self.now 0) → IsOpenAt self.now last place.items) }
+            → last + 1 ≡ open_count (shown_at names self.now 0)
+            → IsOpenAt self.now last place.items) }
     {
         let mut place = Vec::new(alloc);
         let mut here = self.nodes.root();

@@ -199,7 +199,8 @@ fn error_output(alloc: Global, error: &str, cause: &str) -> Result<Tree, OutOfMe
 /// Raises the count of the retrier of that number by one. A refusal leaves the counts as they are.
 pub(crate) fn one_higher(counts: &mut Vec<u64>, retrier: usize) -> Result<(), OutOfMemory>
     requires { CanRise counts.old.items retrier }
-    ensures raised { IfOk result (λ _. counts.new.items ≡ model.one_higher retrier counts.old.items) }
+    ensures raised { IfOk result
+        (λ _. counts.new.items ≡ model.one_higher retrier counts.old.items) }
     ensures unchanged { IfErr result (λ _. counts.new.items ≡ counts.old.items) }
 {
     reach(counts, retrier)?;

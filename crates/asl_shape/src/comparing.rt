@@ -138,10 +138,10 @@ fn field_by_field(
     fields: &BTreeMap<String, Field>,
     extra: bool,
 ) -> bool
-    ensures { result
-        ≡ (model.fields_sub (fields_view others.now.entries) more (fields_view fields.now.entries)
-        && (extra || (not more
-        && model.others_never_there (fields_view fields.now.entries) (fields_view others.now.entries)))) }
+    ensures { result ≡ (model.fields_sub (fields_view others.now.entries) more
+        (fields_view fields.now.entries) &&
+        (extra || (not more && model.others_never_there (fields_view fields.now.entries)
+        (fields_view others.now.entries)))) }
 {
     fields_sub(others, more, fields) && (extra || (!more && others_never_there(fields, others)))
 }
@@ -225,8 +225,8 @@ fn kinds_take_all(kinds: Kinds<'_>) -> bool
 
 // Whether it takes all of the simple kinds.
 fn every_simple(kinds: &Kinds<'_>) -> bool
-    ensures { result
-        ≡ model.every_simple (simple_of kinds.now.null kinds.now.boolean kinds.now.integer kinds.now.text) }
+    ensures { result ≡ model.every_simple
+        (simple_of kinds.now.null kinds.now.boolean kinds.now.integer kinds.now.text) }
 {
     kinds.null && kinds.boolean && kinds.integer && kinds.text
 }

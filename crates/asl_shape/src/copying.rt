@@ -54,7 +54,8 @@ pub(crate) fn copy_objects(
     alloc: Global,
     objects: Option<Objects<'_>>,
 ) -> Result<Option<OwnedObjects>, OutOfMemory>
-    ensures copied { IfOk result (λ copied. owned_objects_view copied ≡ objects_view objects.entry) }
+    ensures copied { IfOk result
+        (λ copied. owned_objects_view copied ≡ objects_view objects.entry) }
     ensures proper { IfOk result (λ copied. IsTrue (objects_proper copied)) }
 {
     match objects {

@@ -38,8 +38,8 @@ pub(crate) fn is_inhabited(shape: &Shape) -> bool
 
 // Whether it takes one of the simple kinds.
 fn some_simple(kinds: &Kinds<'_>) -> bool
-    ensures { result
-        ≡ model.some_simple (simple_of kinds.now.null kinds.now.boolean kinds.now.integer kinds.now.text) }
+    ensures { result ≡ model.some_simple
+        (simple_of kinds.now.null kinds.now.boolean kinds.now.integer kinds.now.text) }
 {
     kinds.null || kinds.boolean || kinds.integer || kinds.text
 }

@@ -146,7 +146,8 @@ fn join_lists(
 fn join_places(alloc: Global, places: &[Shape], others: &[Shape]) -> Result<Vec<Shape>, OutOfMemory>
     ensures proper { IfOk result (λ v. IsTrue (are_proper v.items)) }
     ensures joined { IfOk result
-        (λ v. shapes_view v.items ≡ model.common_joins model.join (shapes_view places.now) (shapes_view others.now)) }
+        (λ v. shapes_view v.items
+        ≡ model.common_joins model.join (shapes_view places.now) (shapes_view others.now)) }
 {
     let mut joins = Vec::new(alloc);
     let mut left = others.iter();
@@ -161,7 +162,8 @@ fn join_places(alloc: Global, places: &[Shape], others: &[Shape]) -> Result<Vec<
 
 // The places of one that the other doesn't have.
 fn places_behind<'a>(places: &'a [Shape], others: &'a [Shape]) -> &'a [Shape]
-    ensures { shapes_view result.now ≡ model.further_places (shapes_view places.now) (shapes_view others.now) }
+    ensures { shapes_view result.now
+        ≡ model.further_places (shapes_view places.now) (shapes_view others.now) }
 {
     if others.len() < places.len() {
         &places[others.len()..]
@@ -181,7 +183,9 @@ fn join_behind(
 ) -> Result<Shape, OutOfMemory>
     ensures proper { IfOk result (λ s. IsTrue (is_proper s)) }
     ensures joined { IfOk result
-        (λ s. view s ≡ model.join (model.join (model.joined_with_each model.join shape.Never (shapes_view behind.now)) (view rest.now)) (view further.now)) }
+        (λ s. view s ≡ model.join
+        (model.join (model.joined_with_each model.join shape.Never (shapes_view behind.now))
+        (view rest.now)) (view further.now)) }
 {
     if behind.is_empty() {
         return join_shapes(alloc, rest, further);
@@ -264,7 +268,9 @@ fn join_fields(
 ) -> Result<BTreeMap<String, Field>, OutOfMemory>
     ensures proper { IfOk result (λ m. IsTrue (fields_proper m.entries)) }
     ensures joined { IfOk result
-        (λ m. fields_view m.entries ≡ model.joined_fields model.join (fields_view fields.now.entries) (fields_view others.now.entries) more) }
+        (λ m. fields_view m.entries
+        ≡ model.joined_fields model.join (fields_view fields.now.entries)
+        (fields_view others.now.entries) more) }
 {
     let mut joined = BTreeMap::new(alloc);
     for (name, field) in fields.iter() {
@@ -300,7 +306,8 @@ fn add_others(
         → IfOk result (λ _. IsTrue (fields_proper joined.new.entries)) }
     ensures joined { IfOk result
         (λ _. fields_view joined.new.entries
-        ≡ model.with_other_fields (fields_view fields.now.entries) extra (fields_view others.now.entries) (fields_view joined.old.entries)) }
+        ≡ model.with_other_fields (fields_view fields.now.entries) extra
+        (fields_view others.now.entries) (fields_view joined.old.entries)) }
 {
     for (name, other) in others.iter().rev() {
         if !extra && !fields.contains_key(name) {

@@ -146,7 +146,8 @@ pub fn read_level(alloc: Global, value: &Value, several: bool) -> Result<Level<'
     ensures level { IfOk result
         (λ level. SpelledOver several (trees.view value.now) (level_view level)) }
     ensures refused { IfErr result (λ e. Tells e (level_faults several (trees.view value.now))) }
-    ensures faulty { IfErr result (λ e. Tells e (model.shape_faults several (trees.view value.now))) }
+    ensures faulty { IfErr result
+        (λ e. Tells e (model.shape_faults several (trees.view value.now))) }
 {
     match value {
         Value::Bool(true) => Ok(Level::Any),
@@ -202,7 +203,8 @@ fn type_names(value: &Value, several: bool) -> Result<&[Value], ShapeRefusal>
     ensures names { IfOk result
         (λ names. model.texts_among (trees.elements_view names.now)
         ≡ model.types_in (Some (trees.view value.now))) }
-    ensures refused { IfErr result (λ e. Tells e (model.type_faults several (trees.view value.now))) }
+    ensures refused { IfErr result
+        (λ e. Tells e (model.type_faults several (trees.view value.now))) }
 {
     match value {
         Value::String(word) => {
@@ -278,7 +280,8 @@ fn are_distinct(elements: &[Value]) -> bool
 
 // Whether that text is among the elements.
 fn says(elements: &[Value], name: &str) -> bool
-    ensures { result ≡ model.is_among name.now (model.texts_among (trees.elements_view elements.now)) }
+    ensures { result ≡ model.is_among name.now
+        (model.texts_among (trees.elements_view elements.now)) }
 {
     for element in elements {
         if let Some(text) = text_in(element) {
@@ -363,9 +366,11 @@ fn list_level_if(
         (λ l. option_map list_view l
         ≡ levels.only_if wanted (levels.array_level (entries_view keywords.now.entries))) }
     ensures right { IfOk result
-        (λ _. faults_when wanted (levels.array_level_faults (entries_view keywords.now.entries)) ≡ []) }
+        (λ _. faults_when wanted (levels.array_level_faults (entries_view keywords.now.entries))
+        ≡ []) }
     ensures refused { IfErr result
-        (λ e. Tells e (faults_when wanted (levels.array_level_faults (entries_view keywords.now.entries)))) }
+        (λ e. Tells e (faults_when wanted
+        (levels.array_level_faults (entries_view keywords.now.entries)))) }
 {
     if wanted {
         Ok(Some(list_level(keywords)?))
@@ -384,9 +389,11 @@ fn object_level_if(
         (λ l. option_map object_view l
         ≡ levels.only_if wanted (levels.object_level (entries_view keywords.now.entries))) }
     ensures right { IfOk result
-        (λ _. faults_when wanted (levels.object_level_faults (entries_view keywords.now.entries)) ≡ []) }
+        (λ _. faults_when wanted (levels.object_level_faults (entries_view keywords.now.entries))
+        ≡ []) }
     ensures refused { IfErr result
-        (λ e. Tells e (faults_when wanted (levels.object_level_faults (entries_view keywords.now.entries)))) }
+        (λ e. Tells e (faults_when wanted
+        (levels.object_level_faults (entries_view keywords.now.entries)))) }
 {
     if wanted {
         Ok(Some(object_level(alloc, keywords)?))
@@ -669,8 +676,9 @@ fn distinct_names(alloc: Global, elements: &[Value]) -> Result<Vec<&String>, Sha
     ensures names { IfOk result
         (λ names. texts names.items ≡ model.texts_among (trees.elements_view elements.now)) }
     ensures refused { IfErr result
-        (λ e. Tells e (model.unless (model.are_texts (trees.elements_view elements.now)
-        && model.are_distinct (model.texts_among (trees.elements_view elements.now))) model.NotAShape)) }
+        (λ e. Tells e (model.unless
+        (model.are_texts (trees.elements_view elements.now) && model.are_distinct
+        (model.texts_among (trees.elements_view elements.now))) model.NotAShape)) }
 {
     let mut names = Vec::with_capacity(alloc, elements.len())?;
     let mut seen = BTreeSet::new(alloc);
@@ -689,7 +697,8 @@ fn name_in(element: &Value) -> Result<&String, ShapeRefusal>
     ensures named { IfOk result
         (λ name. trees.view element.now ≡ json.Text (string_bytes name.now)) }
     ensures refused { IfErr result
-        (λ e. Tells e (model.unless (model.is_text_value (trees.view element.now)) model.NotAShape)) }
+        (λ e. Tells e (model.unless
+        (model.is_text_value (trees.view element.now)) model.NotAShape)) }
 {
     match element {
         Value::String(name) => Ok(name),

@@ -44,7 +44,8 @@ fn is_valid(shape: &Shape, tree: &Tree) -> bool
 // Whether the list of these elements is one of the lists.
 #[cycle(has)]
 fn arrays_have(arrays: Option<Arrays<'_>>, elements: &[Tree]) -> bool
-    ensures { result ≡ model.arrays_have (arrays_view arrays.entry) (trees.elements_view elements.now) }
+    ensures { result ≡ model.arrays_have (arrays_view arrays.entry)
+        (trees.elements_view elements.now) }
 {
     match arrays {
         None => false,
@@ -83,8 +84,8 @@ fn objects_have(objects: Option<Objects<'_>>, members: &BTreeMap<String, Tree>) 
 #[tactic(auto, using(crate::proofs::Places::all_pass))]
 #[cycle(has)]
 fn first_have(shapes: &[Shape], elements: &[Tree]) -> bool
-    ensures places { result
-        ≡ model.elements_have (shapes_view shapes.now) (λ t. true) (trees.elements_view elements.now) }
+    ensures places { result ≡ model.elements_have (shapes_view shapes.now)
+        (λ t. true) (trees.elements_view elements.now) }
     ensures enough { IsTrue result → length shapes.now ≤ length elements.now }
 {
     let mut left = elements.iter();
@@ -104,7 +105,8 @@ fn first_have(shapes: &[Shape], elements: &[Tree]) -> bool
 // Whether each element has the shape.
 #[cycle(has)]
 fn each_has(shape: &Shape, elements: &[Tree]) -> bool
-    ensures { result ≡ model.each_element (model.has (view shape.now)) (trees.elements_view elements.now) }
+    ensures { result ≡ model.each_element (model.has (view shape.now))
+        (trees.elements_view elements.now) }
 {
     for element in elements {
         if !is_valid(shape, element) {
@@ -118,8 +120,8 @@ fn each_has(shape: &Shape, elements: &[Tree]) -> bool
 #[tactic(auto, using(crate::proofs::Lookups::field_named_lookup, crate::proofs::Depths::fields_left_depth))]
 #[cycle(has)]
 fn fields_have(fields: &BTreeMap<String, Field>, members: &BTreeMap<String, Tree>) -> bool
-    ensures { result
-        ≡ model.fields_have (fields_view fields.now.entries) (trees.entries_view members.now.entries) }
+    ensures { result ≡ model.fields_have (fields_view fields.now.entries)
+        (trees.entries_view members.now.entries) }
 {
     for (name, field) in fields.iter() {
         match members.get(name) {
@@ -141,8 +143,8 @@ fn fields_have(fields: &BTreeMap<String, Field>, members: &BTreeMap<String, Tree
 // Whether each member is mentioned.
 #[tactic(auto, using(crate::proofs::Lookups::mentions_lookup))]
 fn all_mentioned(fields: &BTreeMap<String, Field>, members: &BTreeMap<String, Tree>) -> bool
-    ensures { result
-        ≡ model.all_mentioned (fields_view fields.now.entries) (trees.entries_view members.now.entries) }
+    ensures { result ≡ model.all_mentioned (fields_view fields.now.entries)
+        (trees.entries_view members.now.entries) }
 {
     for (name, _) in members.iter() {
         if !fields.contains_key(name) {

@@ -97,7 +97,8 @@ pub fn read_value_v1(alloc: Global, value: &Value) -> Result<Shape, ShapeRefusal
 fn read_spelling(alloc: Global, value: &Value, several: bool) -> Result<Shape, ShapeRefusal>
     ensures spelled { IfOk result (λ s. SpellsAs several (trees.view value.now) (view s)) }
     ensures proper { IfOk result (λ s. IsTrue (is_proper s)) }
-    ensures refused { IfErr result (λ e. Tells e (model.shape_faults several (trees.view value.now))) }
+    ensures refused { IfErr result
+        (λ e. Tells e (model.shape_faults several (trees.view value.now))) }
 {
     match read_level(alloc, value, several)? {
         Level::Any => Ok(Shape::Any),
@@ -183,7 +184,8 @@ fn read_rest(alloc: Global, rest: Option<&Value>, several: bool) -> Result<Shape
     ensures right { IfOk result (λ _. rest_faults several (trees.value_there rest.entry) ≡ []) }
     ensures shape { IfOk result (λ s. view s ≡ rest_shape (trees.value_there rest.entry)) }
     ensures proper { IfOk result (λ s. IsTrue (is_proper s)) }
-    ensures refused { IfErr result (λ e. Tells e (rest_faults several (trees.value_there rest.entry))) }
+    ensures refused { IfErr result
+        (λ e. Tells e (rest_faults several (trees.value_there rest.entry))) }
 {
     match rest {
         None => Ok(Shape::Any),

@@ -121,8 +121,10 @@ fn write_arrays(
 #[cycle(write)]
 fn write_places(alloc: Global, first: &[Shape], rest: &Shape) -> Result<WrittenArrays, OutOfMemory>
     ensures written { IfOk result
-        (λ w. (others : json.Fields) → with_arrays (Some w) others
-        ≡ model.with_written_arrays (shape.ArraysOf (shapes_view first.now) (view rest.now)) others) }
+        (λ w. (others : json.Fields)
+        → with_arrays (Some w) others
+        ≡ model.with_written_arrays
+        (shape.ArraysOf (shapes_view first.now) (view rest.now)) others) }
     ensures proper { IfOk result
         (λ _. ProperArrays (shape.ArraysOf (shapes_view first.now) (view rest.now))) }
 {
@@ -144,7 +146,8 @@ fn write_objects(
         (λ w. (others : json.Fields) → with_objects w others
         ≡ model.with_written_objects (objects_view objects.entry) others) }
     ensures some { IfOk result (λ w. is_some w ≡ has_objects (objects_view objects.entry)) }
-    ensures closed { IfOk result (λ w. are_closed w ≡ model.are_closed (objects_view objects.entry)) }
+    ensures closed { IfOk result
+        (λ w. are_closed w ≡ model.are_closed (objects_view objects.entry)) }
     ensures proper { IfOk result (λ _. ProperObjects (objects_view objects.entry)) }
 {
     match objects {
@@ -161,8 +164,10 @@ fn write_mentions(
     extra: bool,
 ) -> Result<WrittenObjects, OutOfMemory>
     ensures written { IfOk result
-        (λ w. (others : json.Fields) → with_objects (Some w) others
-        ≡ model.with_written_objects (shape.ObjectsOf (fields_view fields.now.entries) extra) others) }
+        (λ w. (others : json.Fields)
+        → with_objects (Some w) others
+        ≡ model.with_written_objects
+        (shape.ObjectsOf (fields_view fields.now.entries) extra) others) }
     ensures closed { IfOk result (λ w. w.extra ≡ extra) }
     ensures proper { IfOk result
         (λ _. ProperObjects (shape.ObjectsOf (fields_view fields.now.entries) extra)) }
@@ -192,7 +197,8 @@ fn unless_any(shape: &Shape, tree: Tree) -> Option<Tree>
 // For each of the shapes.
 #[cycle(write)]
 fn write_shapes(alloc: Global, shapes: &[Shape]) -> Result<Vec<Tree>, OutOfMemory>
-    ensures written { IfOk result (λ v. trees.elements_view v.items ≡ model.written_shapes (shapes_view shapes.now)) }
+    ensures written { IfOk result
+        (λ v. trees.elements_view v.items ≡ model.written_shapes (shapes_view shapes.now)) }
     ensures proper { IfOk result (λ _. AllProper (shapes_view shapes.now)) }
 {
     let mut elements = Vec::with_capacity(alloc, shapes.len())?;
@@ -208,7 +214,9 @@ fn write_fields(
     alloc: Global,
     fields: &BTreeMap<String, Field>,
 ) -> Result<BTreeMap<String, Tree>, OutOfMemory>
-    ensures written { IfOk result (λ m. trees.entries_view m.entries ≡ model.written_fields (fields_view fields.now.entries)) }
+    ensures written { IfOk result
+        (λ m. trees.entries_view m.entries
+        ≡ model.written_fields (fields_view fields.now.entries)) }
     ensures proper { IfOk result (λ _. FieldsProper (fields_view fields.now.entries)) }
 {
     let mut properties = BTreeMap::new(alloc);
@@ -221,8 +229,8 @@ fn write_fields(
 
 // The names of the needed fields, as texts.
 fn needed_names(alloc: Global, fields: &BTreeMap<String, Field>) -> Result<Vec<Tree>, OutOfMemory>
-    ensures { IfOk result
-        (λ v. trees.elements_view v.items ≡ model.as_texts (model.needed_names (fields_view fields.now.entries))) }
+    ensures { IfOk result (λ v. trees.elements_view v.items
+        ≡ model.as_texts (model.needed_names (fields_view fields.now.entries))) }
 {
     let mut names = Vec::new(alloc);
     for (name, field) in fields.iter() {
@@ -378,8 +386,9 @@ fn add_if(
     keyword: &str,
     value: Tree,
 ) -> Result<(), OutOfMemory>
-    ensures { IfOk result
-        (λ _. trees.entries_view keywords.new.entries ≡ with_field_if wanted keyword.now (trees.view value) (trees.entries_view keywords.old.entries)) }
+    ensures { IfOk result (λ _. trees.entries_view keywords.new.entries
+        ≡ with_field_if wanted keyword.now (trees.view value)
+        (trees.entries_view keywords.old.entries)) }
 {
     if wanted {
         drop(keywords.insert(String::from_str(alloc, keyword)?, value)?);

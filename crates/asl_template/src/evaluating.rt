@@ -27,10 +27,17 @@ pub fn eval(
     input: &Tree,
     item: Option<Item>,
 ) -> Result<Tree, TemplateRefusal>
-    ensures value { IfOk result (λ t. template_value (view template.now) (trees.view input.now) (at_hand item.entry) ≡ Ok (trees.view t)) }
-    ensures path_failure { result ≡ Err ParameterPathFailure → template_value (view template.now) (trees.view input.now) (at_hand item.entry) ≡ Err faults.ParameterPathFailure }
-    ensures intrinsic_failure { result ≡ Err IntrinsicFailure → template_value (view template.now) (trees.view input.now) (at_hand item.entry) ≡ Err faults.IntrinsicFailure }
-    ensures least { IfSome (answer result) (TellsLeastFailure (trees.view input.now) (at_hand item.entry) (view template.now)) }
+    ensures value { IfOk result
+        (λ t. template_value (view template.now) (trees.view input.now) (at_hand item.entry)
+        ≡ Ok (trees.view t)) }
+    ensures path_failure { result ≡ Err ParameterPathFailure
+        → template_value (view template.now) (trees.view input.now) (at_hand item.entry)
+        ≡ Err faults.ParameterPathFailure }
+    ensures intrinsic_failure { result ≡ Err IntrinsicFailure
+        → template_value (view template.now) (trees.view input.now) (at_hand item.entry)
+        ≡ Err faults.IntrinsicFailure }
+    ensures least { IfSome (answer result)
+        (TellsLeastFailure (trees.view input.now) (at_hand item.entry) (view template.now)) }
 {
     value_of(alloc, template, input, item)
 }
@@ -43,8 +50,11 @@ fn value_of(
     input: &Tree,
     item: Option<Item>,
 ) -> Result<Tree, TemplateRefusal>
-    ensures value { IfOk result (λ t. trees.view t ≡ filled (view template.now) (trees.view input.now) (at_hand item.entry)) }
-    ensures first { TellsFirst result (view template.now) (trees.view input.now) (at_hand item.entry) }
+    ensures value { IfOk result
+        (λ t. trees.view t ≡ filled (view template.now) (trees.view input.now)
+        (at_hand item.entry)) }
+    ensures first { TellsFirst result (view template.now) (trees.view input.now)
+        (at_hand item.entry) }
 {
     match template {
         Template::Literal(tree) => Ok(copy(alloc, tree)?),
@@ -69,8 +79,10 @@ fn value_of(
 
 /// A copy of what the path names in the tree.
 fn value_at(alloc: Global, tree: &Tree, path: &RefPath) -> Result<Tree, TemplateRefusal>
-    ensures value { IfOk result (λ t. named_by path.now (trees.view tree.now) ≡ Some (trees.view t)) }
-    ensures nothing_named { result ≡ Err ParameterPathFailure → named_by path.now (trees.view tree.now) ≡ None }
+    ensures value { IfOk result
+        (λ t. named_by path.now (trees.view tree.now) ≡ Some (trees.view t)) }
+    ensures nothing_named { result ≡ Err ParameterPathFailure
+        → named_by path.now (trees.view tree.now) ≡ None }
     ensures of_path { ¬ (result ≡ Err IntrinsicFailure) }
 {
     match find(tree, path) {
@@ -87,8 +99,12 @@ fn element_values(
     input: &Tree,
     item: Option<Item>,
 ) -> Result<Vec<Tree>, TemplateRefusal>
-    ensures values { IfOk result (λ v. trees.elements_view v.items ≡ elements_filled (elements_view elements.now) (trees.view input.now) (at_hand item.entry)) }
-    ensures first { TellsFirst result (ArrayTemplate (elements_view elements.now)) (trees.view input.now) (at_hand item.entry) }
+    ensures values { IfOk result
+        (λ v. trees.elements_view v.items
+        ≡ elements_filled (elements_view elements.now) (trees.view input.now)
+        (at_hand item.entry)) }
+    ensures first { TellsFirst result (ArrayTemplate (elements_view elements.now))
+        (trees.view input.now) (at_hand item.entry) }
 {
     let mut values = Vec::with_capacity(alloc, elements.len())?;
     for element in elements {
@@ -105,8 +121,12 @@ fn field_values(
     input: &Tree,
     item: Option<Item>,
 ) -> Result<BTreeMap<String, Tree>, TemplateRefusal>
-    ensures values { IfOk result (λ m. trees.entries_view m.entries ≡ fields_filled (entries_view fields.now.entries) (trees.view input.now) (at_hand item.entry)) }
-    ensures first { TellsFirst result (ObjectTemplate (entries_view fields.now.entries)) (trees.view input.now) (at_hand item.entry) }
+    ensures values { IfOk result
+        (λ m. trees.entries_view m.entries
+        ≡ fields_filled (entries_view fields.now.entries) (trees.view input.now)
+        (at_hand item.entry)) }
+    ensures first { TellsFirst result (ObjectTemplate (entries_view fields.now.entries))
+        (trees.view input.now) (at_hand item.entry) }
 {
     let mut values = BTreeMap::new(alloc);
     for (name, field) in fields.iter() {

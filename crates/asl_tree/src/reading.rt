@@ -68,7 +68,8 @@ fn integer_from(found: &Number) -> Result<Tree, TreeRefusal>
 
 #[cycle(build)]
 fn elements_from(alloc: Global, items: &Vec<Value>) -> Result<Vec<Tree>, TreeRefusal>
-    ensures elements { IfOk result (λ v. elements_of (items_view items.now.items) ≡ Some (elements_view v.items)) }
+    ensures elements { IfOk result
+        (λ v. elements_of (items_view items.now.items) ≡ Some (elements_view v.items)) }
     ensures no_elements { result ≡ Err NotWhole → elements_of (items_view items.now.items) ≡ None }
     ensures of_value { ¬ (result ≡ Err NotJson) }
 {
@@ -84,8 +85,10 @@ fn fields_from(
     alloc: Global,
     members: &Map<String, Value>,
 ) -> Result<BTreeMap<String, Tree>, TreeRefusal>
-    ensures fields { IfOk result (λ m. members_of (members_view members.now.entries) ≡ Some (entries_view m.entries)) }
-    ensures no_fields { result ≡ Err NotWhole → members_of (members_view members.now.entries) ≡ None }
+    ensures fields { IfOk result
+        (λ m. members_of (members_view members.now.entries) ≡ Some (entries_view m.entries)) }
+    ensures no_fields { result ≡ Err NotWhole
+        → members_of (members_view members.now.entries) ≡ None }
     ensures of_value { ¬ (result ≡ Err NotJson) }
 {
     let mut fields = BTreeMap::new(alloc);
@@ -117,7 +120,8 @@ pub fn into_tree(alloc: Global, value: Value) -> Result<Tree, TreeRefusal>
 
 #[cycle(take_apart)]
 fn into_elements(alloc: Global, items: Vec<Value>) -> Result<Vec<Tree>, TreeRefusal>
-    ensures elements { IfOk result (λ v. elements_of (items_view items.items) ≡ Some (elements_view v.items)) }
+    ensures elements { IfOk result
+        (λ v. elements_of (items_view items.items) ≡ Some (elements_view v.items)) }
     ensures no_elements { result ≡ Err NotWhole → elements_of (items_view items.items) ≡ None }
     ensures of_value { ¬ (result ≡ Err NotJson) }
 {
@@ -133,7 +137,8 @@ fn into_fields(
     alloc: Global,
     members: Map<String, Value>,
 ) -> Result<BTreeMap<String, Tree>, TreeRefusal>
-    ensures fields { IfOk result (λ m. members_of (members_view members.entries) ≡ Some (entries_view m.entries)) }
+    ensures fields { IfOk result
+        (λ m. members_of (members_view members.entries) ≡ Some (entries_view m.entries)) }
     ensures no_fields { result ≡ Err NotWhole → members_of (members_view members.entries) ≡ None }
     ensures of_value { ¬ (result ≡ Err NotJson) }
 {
@@ -148,7 +153,8 @@ fn into_fields(
 pub fn read(alloc: Global, text: &[u8]) -> Result<Tree, TreeRefusal>
     ensures tree { IfOk result (λ t. ReadsAsTree text.now (view t)) }
     ensures no_value { result ≡ Err NotJson → (v : Data) → ¬ ReadsAsValue text.now v }
-    ensures no_tree { result ≡ Err NotWhole → (v : Data) × ReadsAsValue text.now v × (tree_of v ≡ None) }
+    ensures no_tree { result ≡ Err NotWhole
+        → (v : Data) × ReadsAsValue text.now v × (tree_of v ≡ None) }
 {
     let value = read_value(alloc, text)?;
     into_tree(alloc, value)

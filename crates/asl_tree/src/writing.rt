@@ -23,7 +23,9 @@ use std::collections::BTreeMap;
 /// as the same tree where this doesn't nest deeper than 127 levels. Refuses only where an allocation was refused.
 pub fn to_text(alloc: Global, tree: &Tree) -> Result<String, OutOfMemory>
     ensures text { IfOk result (λ s. string_bytes s ≡ compact_text (view tree.now)) }
-    ensures reads_back { IfOk result (λ s. depth (value_of (view tree.now)) ≤ max_depth → ReadsAsTree (string_bytes s) (view tree.now)) }
+    ensures reads_back { IfOk result
+        (λ s. depth (value_of (view tree.now)) ≤ max_depth
+        → ReadsAsTree (string_bytes s) (view tree.now)) }
 {
     let mut writer = Writer::new(Vec::new(alloc));
     write(&mut writer, tree)?;
@@ -112,7 +114,8 @@ pub fn to_value(alloc: Global, tree: &Tree) -> Result<Value, OutOfMemory>
 
 #[cycle(unbuild)]
 fn items_for(alloc: Global, elements: &Vec<Tree>) -> Result<Vec<Value>, OutOfMemory>
-    ensures items { IfOk result (λ v. items_view v.items ≡ items_of (elements_view elements.now.items)) }
+    ensures items { IfOk result
+        (λ v. items_view v.items ≡ items_of (elements_view elements.now.items)) }
     ensures whole { IfOk result (λ _. AreWhole elements.now.items) }
 {
     let mut items = Vec::with_capacity(alloc, elements.len())?;
@@ -127,7 +130,8 @@ fn members_for(
     alloc: Global,
     fields: &BTreeMap<String, Tree>,
 ) -> Result<Map<String, Value>, OutOfMemory>
-    ensures members { IfOk result (λ m. members_view m.entries ≡ members_for (entries_view fields.now.entries)) }
+    ensures members { IfOk result
+        (λ m. members_view m.entries ≡ members_for (entries_view fields.now.entries)) }
     ensures whole { IfOk result (λ _. HaveWholeValues fields.now.entries) }
 {
     let mut members = Map::new(alloc);

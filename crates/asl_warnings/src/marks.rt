@@ -79,7 +79,8 @@ impl Marks {
 
     /// Marks the state that a field names, if it names one.
     fn mark_if_named(&mut self, target: &Option<Target>) -> Result<(), OutOfMemory>
-        ensures { OnOk result (Adds self.old self.new (option_to_list (option_map number_of target.now))) }
+        ensures { OnOk result (Adds self.old self.new
+            (option_to_list (option_map number_of target.now))) }
     {
         match target {
             Some(target) => self.mark(target.number),

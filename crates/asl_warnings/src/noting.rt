@@ -22,7 +22,8 @@ pub(crate) fn note_unled<'m>(
     led: &Marks,
 ) -> Result<(), OutOfMemory>
     ensures { OnOk result (unled_in notices.new.items
-        ≡ unled_in notices.old.items ++ told_if (is_marked led.now row.now.number) row.now.name.now) }
+        ≡ unled_in notices.old.items
+        ++ told_if (is_marked led.now row.now.number) row.now.name.now) }
 {
     if !led.has(row.number) {
         notices.push(Notice {
