@@ -151,14 +151,6 @@ ends_there given most count stage after end fewer so_far last =
     }
 
 -- all steps were taken
-pub ends_spent : (given : Case) (most count : ℕ) (stage : Stage) → count ≡ most → Plays given.machine given.shapes count (begun given) stage → outcome_of stage.activity ≡ None → IsRun given most (ends.StepsSpent most) stage.told stage.answers
-ends_spent given most count stage same so_far going = record {
-  count = count;
-  activity = stage.activity;
-  answers = stage.answers;
-  within = omega arith;
-  plays = so_far;
-  why = (going, same, refl, λ n. refl);
 }
 
 -- one step more, and it goes on

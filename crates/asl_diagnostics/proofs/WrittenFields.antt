@@ -1,22 +1,18 @@
 -- The tokens of members and elements that may be absent.
 use Rattle.std.proofs.Common.{◌≡◌, ℕ, List, [], ◌∷◌, ◌++◌, Option, Some, None, String, Global, refl}
 use Rattle.json.specs.Token.{Token, end_object}
-use Rattle.json.specs.Tree.{items_tokens, members_tokens}
-use Rattle.serde_json.specs.Written.{items_outline, members_outline}
-use Rattle.asl_model.specs.Json.{items_of, members_for}
+use Rattle.json.specs.Tree.{members_tokens}
+use Rattle.serde_json.specs.Written.{members_outline}
+use Rattle.asl_model.specs.Json.{members_for}
 use Rattle.asl_model.specs.Names.{Bytes}
-use Rattle.asl_model.specs.Tree.{Fields, Trees}
+use Rattle.asl_model.specs.Tree.{Fields}
 use Rattle.asl_tree.specs.declared.Tree.{Tree}
 use Rattle.asl_diagnostics.specs.Listed.{with_example, with_text, example_tokens, text_tokens}
-use Rattle.asl_diagnostics.specs.Sarif.{index_fields, index_tokens, named_tokens, properties_tokens, with_named, with_properties}
+use Rattle.asl_diagnostics.specs.Sarif.{index_fields, index_tokens, properties_tokens, with_properties}
 
 -- the tokens of these fields, with the end of the object
 abbrev pub fields_tokens : Fields → List Token
 fields_tokens members = members_tokens (members_outline (members_for members))
-
--- those of these elements, with the end of the list
-abbrev pub trees_tokens : Trees → List Token
-trees_tokens trees = items_tokens (items_outline (items_of trees))
 
 pub with_text-tokens : (name : Bytes) (text : Option (String Global)) (members : Fields) → fields_tokens (with_text name text members) ≡ text_tokens name text ++ fields_tokens members
 with_text-tokens name None members = refl
@@ -25,10 +21,6 @@ with_text-tokens name (Some text) members = refl
 pub with_example-tokens : (example : Option Tree) (members : Fields) → fields_tokens (with_example example members) ≡ example_tokens example ++ fields_tokens members
 with_example-tokens None members = refl
 with_example-tokens (Some tree) members = refl
-
-pub with_named-tokens : (kind : Bytes) (name : Option (String Global)) (others : Trees) → trees_tokens (with_named kind name others) ≡ named_tokens kind name ++ trees_tokens others
-with_named-tokens kind None others = refl
-with_named-tokens kind (Some name) others = refl
 
 pub with_properties-tokens : (example : Option Tree) (members : Fields) → fields_tokens (with_properties example members) ≡ properties_tokens example ++ fields_tokens members
 with_properties-tokens None members = refl

@@ -1,17 +1,9 @@
 -- Arrays or objects that a shape takes alone are all of its kind.
 use Rattle.std.proofs.Common.{◌≡◌, ℕ, Bool, true, false, ◌||◌, Some, refl}
 use Rattle.std.specs.Prelude.{if◌then◌else◌}
-use Rattle.asl_model.specs.Shape.{Shape, Any, OfKinds, Shapes, FieldShapes, WithoutArrays, ArraysOf, WithoutObjects, ObjectsOf, some_simple, some_array, some_object}
+use Rattle.asl_model.specs.Shape.{Shape, Any, OfKinds, FieldShapes, WithoutArrays, WithoutObjects, ObjectsOf, some_simple, some_array, some_object}
 use Rattle.asl_model.specs.ShapeFlow.{arrays_alone, objects_alone, place_in}
 use Rattle.asl_numbered.specs.TakenApart.{arrays_of, objects_of}
-
-pub alone_arrays : (s : Shape) (first : Shapes) (rest : Shape) → arrays_alone s ≡ ArraysOf first rest → arrays_of s ≡ ArraysOf first rest
-alone_arrays Any first rest e = absurd (cc)
-alone_arrays (OfKinds simple arrays objects) first rest e = go (some_simple simple || some_object objects) e
-  where
-    go : (more : Bool) → (if more then WithoutArrays else arrays) ≡ ArraysOf first rest → arrays ≡ ArraysOf first rest
-    go true e' = absurd (cc)
-    go false e' = e'
 
 pub alone_objects : (s : Shape) (shapes : FieldShapes) (extra : Bool) → objects_alone s ≡ ObjectsOf shapes extra → objects_of s ≡ ObjectsOf shapes extra
 alone_objects Any shapes extra e = absurd (cc)

@@ -1,6 +1,6 @@
 -- What templates are filled to: the numbers of the shapes of the values of elements and fields that are gone through, with
 -- all their doubts.
-use Rattle.std.proofs.Common.{◌≡◌, ℕ, ◌<◌, ◌≤◌, List, [], ◌∷◌, ◌++◌, length, map, take, Option, Result, Ok, Err, Vec, String, Global, true, false, string_bytes, string_cmp, refl, sym, ap, subst, ◌∙◌, append_assoc, rules, arith}
+use Rattle.std.proofs.Common.{◌≡◌, ℕ, ◌<◌, ◌≤◌, List, [], ◌∷◌, ◌++◌, length, map, take, Option, Result, Ok, Err, Vec, String, Global, true, string_bytes, string_cmp, refl, sym, ap, subst, ◌∙◌, append_assoc, rules, arith}
 use Rattle.std.proofs.lemmas.List.{append-nil, take_all}
 use Rattle.std.specs.Prelude.{IfOk}
 use Rattle.std.specs.BTreeMap.{BTreeMap}
@@ -120,10 +120,6 @@ module _ (input : model.Shape) (item : Option model.Shape) where
     -- which speak of shapes of the table
     pub doubts_within : 0 < length v.items → IsFlowIn (length nodes) (Err v)
     doubts_within some = record { within = tt; some = some; below = subst (AreDoubtsBelow (length nodes)) (sym put.whole) put.below }
-
--- where no tree has the input's shape, the template's is Never
-pub never_filled : (nodes : List Node) (t : template.Template) (input : model.Shape) (item : Option model.Shape) (field : List ℕ) (n : ℕ) → false ≡ model.inhabited input → Shows nodes model.Never n → IsFilled (expansions nodes) field (template_shape t input item) (Ok n)
-never_filled nodes t input item field n none shows = rw (← none) (sym shows.same)
 
 -- ---- what a template comes to, as a flow
 

@@ -26,26 +26,6 @@ pub found_own : (nodes : List Node) (r : Result ℕ DoubtfulPath) → AreDistinc
 found_own nodes (Ok n) distinct within = own_number nodes n distinct within.within
 found_own nodes (Err d) distinct within = tt
 
--- what is found is what the look-up answers
-pub found_looked : (path : List Segment) (s t : Shape) → found path s ≡ Ok t → look path s ≡ Ok t
-found_looked path s t is = go (look path s) is
-  where
-    go : (r : Result Shape ℕ) → or_doubtful path s r ≡ Ok t → r ≡ Ok t
-    go (Ok part) e = cc
-    go (Err at) e = absurd (cc)
-
--- and what is doubtful is what it refuses
-pub doubtful_looked : (path : List Segment) (s : Shape) (d : model.DoubtfulPath) → found path s ≡ Err d → look path s ≡ Err d.segment
-doubtful_looked path s d is = go (look path s) is
-  where
-    segment : Answer → ℕ
-    segment (Ok part) = 0
-    segment (Err other) = other.segment
-
-    go : (r : Result Shape ℕ) → or_doubtful path s r ≡ Err d → r ≡ Err d.segment
-    go (Ok part) e = absurd (cc)
-    go (Err at) e = ap Err (ap segment e)
-
 -- nothing is refused in a shape that no tree has
 pub never_refused : (path : List Segment) (s : Shape) (at : ℕ) → inhabited s ≡ false → look path s ≡ Err at → ⊥
 never_refused path s at none is =

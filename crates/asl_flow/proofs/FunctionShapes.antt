@@ -1,10 +1,10 @@
 -- The shapes of the functions' values, for the numbers of the shapes of their arguments.
-use Rattle.std.proofs.Common.{◌≡◌, ℕ, suc, List, [], ◌∷◌, length, get_or, true, false, ◌||◌, not, nat_eq, Option, Some, None, option_map, refl, sym, ap, ◌∙◌, arith}
+use Rattle.std.proofs.Common.{◌≡◌, ℕ, suc, List, [], ◌∷◌, length, nat_eq, Option, Some, None, option_map, refl, sym, ap, ◌∙◌}
 use Rattle.asl_model.specs.Intrinsic.{Pieces}
 use Rattle.asl_model.specs.Shape as model
 use Rattle.asl_model.specs.ShapeFlow as flow
 use Rattle.asl_numbered.specs.declared.node.Node.{Node}
-use Rattle.asl_numbered.specs.Expansion.{shape_at, shapes_at}
+use Rattle.asl_numbered.specs.Expansion.{shapes_at}
 use Rattle.asl_flow.specs.CallAnswer.{Answers}
 use Rattle.asl_flow.specs.Numbers.{Shows}
 
@@ -31,15 +31,3 @@ pub one_argument : (table : List model.Shape) (ns : List ℕ) → (length ns ≡
 one_argument table [] h = refl
 one_argument table (n ∷ []) h = absurd (h refl)
 one_argument table (n ∷ m ∷ ns) h = refl
-
--- and gives a number where it is a list, or never comes
-pub length_known : (table : List model.Shape) (ns : List ℕ) (n : ℕ) → length ns ≡ 1 → n ≡ get_or ns 0 n → true ≡ (not (model.inhabited (shape_at table n)) || flow.is_array_shape (shape_at table n)) → flow.array_length_of (Some (shapes_at table ns)) ≡ Some model.IntegerShape
-length_known table [] n one is fits = absurd (omega arith)
-length_known table (m ∷ []) n one is fits = rw (← is, ← fits) refl
-length_known table (m ∷ k ∷ ns) n one is fits = absurd (omega arith)
-
--- and else may fail
-pub length_unknown : (table : List model.Shape) (ns : List ℕ) (n : ℕ) → length ns ≡ 1 → n ≡ get_or ns 0 n → false ≡ (not (model.inhabited (shape_at table n)) || flow.is_array_shape (shape_at table n)) → flow.array_length_of (Some (shapes_at table ns)) ≡ None
-length_unknown table [] n one is fits = absurd (omega arith)
-length_unknown table (m ∷ []) n one is fits = rw (← is, ← fits) refl
-length_unknown table (m ∷ k ∷ ns) n one is fits = absurd (omega arith)

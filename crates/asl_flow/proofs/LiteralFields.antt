@@ -1,7 +1,6 @@
 -- The shapes of the elements and fields of a value that stands for itself.
-use Rattle.std.proofs.Common.{◌≡◌, ℕ, ◌≤◌, List, [], ◌∷◌, ◌++◌, length, take, Vec, String, Global, false, string_bytes, string_cmp, true, refl, sym, ap, ◌∙◌, subst, rules}
+use Rattle.std.proofs.Common.{◌≡◌, ℕ, ◌≤◌, List, [], ◌∷◌, ◌++◌, length, take, Vec, String, Global, string_bytes, string_cmp, true, refl, sym, ap, ◌∙◌, subst, rules}
 use Rattle.std.proofs.lemmas.List.{append-nil, take_all}
-use Rattle.std.specs.BTreeMap.{BTreeMap}
 use Rattle.std.specs.List.Sorted.{IsStrictlySortedBy}
 use Rattle.std.specs.Map.{keys_of}
 use Rattle.asl_model.specs.Shape as model
@@ -42,7 +41,3 @@ fields_end table all done left fs split none sorted are =
 -- the shape of a list
 pub list_shown : (elements : Vec Tree Global) → literal (trees.view (tree.List elements)) ≡ model.ArrayShape (literals (trees.elements_view elements.items)) model.Never
 list_shown elements = search (rules, the_lemmas)
-
--- the shape of an object
-pub object_shown : (fields : BTreeMap (String Global) Tree) → literal (trees.view (tree.Object fields)) ≡ model.ObjectShape (literal_fields (trees.entries_view fields.entries)) false
-object_shown fields = search (rules, the_lemmas)

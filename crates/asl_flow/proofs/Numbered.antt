@@ -4,8 +4,7 @@ use Rattle.asl_model.specs.Shape.{Shape}
 use Rattle.asl_tree.specs.declared.OutOfMemory.{OutOfMemory}
 use Rattle.asl_flow.specs.Numbers.{Shows}
 use Rattle.asl_numbered.specs.declared.node.Node.{Node}
-use Rattle.asl_numbered.specs.declared.node.Node.TheVariants.{Never}
-use Rattle.asl_numbered.specs.Expansion.{expansions, shape_at, AreDistinct, IsNumberOf, Keeps, RefersBelow}
+use Rattle.asl_numbered.specs.Expansion.{expansions, shape_at, AreDistinct, IsNumberOf, Keeps}
 use Rattle.asl_numbered.proofs.Expansions.{as_many, keeps_longer, kept_shape}
 
 -- ---- a table that has grown
@@ -19,10 +18,6 @@ still_within a b n keeps within =
 -- and it has the same shape there
 pub still_shown : (a b : List Node) (n : ℕ) → Keeps (expansions a) (expansions b) → n < length a → shape_at (expansions b) n ≡ shape_at (expansions a) n
 still_shown a b n keeps within = kept_shape (expansions a) (expansions b) n keeps (omega (arith, within, as_many a))
-
--- what it shows there, it shows in the new one
-pub still_shows : (a b : List Node) (s : Shape) (n : ℕ) → Keeps (expansions a) (expansions b) → Shows a s n → Shows b s n
-still_shows a b s n keeps shows = record { within = still_within a b n keeps shows.within; same = still_shown a b n keeps shows.within ∙ shows.same }
 
 -- ---- the number of a shape
 
@@ -53,7 +48,3 @@ pub own_number : (nodes : List Node) (n : ℕ) → AreDistinct (expansions nodes
 own_number nodes n distinct within = its_number nodes (shape_at (expansions nodes) n) n distinct within refl
 
 -- ---- nodes
-
--- no number stands in the node of the shape that no tree has
-pub never_refers : (bound : ℕ) → RefersBelow bound Never
-never_refers bound = record { each = tt }

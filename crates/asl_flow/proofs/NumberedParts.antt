@@ -1,21 +1,17 @@
 -- What one segment, and then the segments behind it, lead to in a shape of a table, by number.
-use Rattle.std.proofs.Common.{◌≡◌, ℕ, zero, suc, ◌<◌, ◌≤◌, List, [], ◌∷◌, Option, Some, None, Result, Err, option_map, is_some, Bor, String, Global, string_bytes, IfSome, length, get_or, drop, drop-cons, refl, ap, sym, ◌∙◌, arith}
+use Rattle.std.proofs.Common.{◌≡◌, ℕ, zero, suc, ◌<◌, ◌≤◌, List, [], ◌∷◌, Option, Some, None, option_map, is_some, Bor, String, Global, string_bytes, IfSome, length, get_or, refl, ap, sym, ◌∙◌, arith}
 use borrow.Author.Tests.{ltb-true, ltb-false}
 use lib.Dec.{ltb}
 use Rattle.std.specs.BTreeMap.{BTreeMap, get_by}
 use Rattle.std.specs.Option.{option_copied}
 use Rattle.std.specs.String.{string_cmp}
 use Rattle.asl_model.specs.Shape as model
-use Rattle.asl_model.specs.ShapeFlow.{part_at, place_at, look_at}
+use Rattle.asl_model.specs.ShapeFlow.{place_at}
 use Rattle.asl_model.specs.ShapeOrder.{mention_of}
-use Rattle.asl_flow.specs.Counting.{counted_on}
 use Rattle.asl_flow.specs.Putting.{mentioned}
-use Rattle.asl_flow.proofs.ShapeParts.{counted_one}
 use Rattle.asl_numbered.specs.declared.node.NodeField.{NodeField}
 use Rattle.asl_numbered.specs.Expansion.{shape_at, shapes_at, fields_at, numbers_in, AreBelow}
 use Rattle.asl_numbered.proofs.Comparisons.{mention_of_number, found-below}
-use Rattle.asl_path.specs.View.{segment_view, segments_view}
-use Rattle.asl_path.specs.declared.Segment as code
 
 -- ---- places
 
@@ -57,19 +53,3 @@ field_below bound k m None got below = tt
 field_below bound k m (Some f) got below = found-below bound _ m.entries f below (sym got)
 
 -- ---- the whole path
-
--- a step that leads somewhere
-pub looks_on : (table : List model.Shape) (whole : Result model.Shape ℕ) (n : ℕ) (items : List code.Segment) (i : ℕ) (s : code.Segment) (r : Option ℕ) (m : ℕ)
-    → whole ≡ counted_on i (look_at (segments_view (drop i items)) (shape_at table n)) → i < length items → s ≡ get_or items i s
-    → option_map (shape_at table) r ≡ part_at (segment_view s) (shape_at table n) → r ≡ Some m → whole ≡ counted_on (suc i) (look_at (segments_view (drop (suc i) items)) (shape_at table m))
-looks_on table whole n items i s r m so_far within is step found =
-    let here : part_at (segment_view (get_or items i s)) (shape_at table n) ≡ Some (shape_at table m) = ap (λ x. part_at (segment_view x) (shape_at table n)) (sym is) ∙ sym step ∙ ap (option_map (shape_at table)) found in
-    so_far ∙ rw (drop-cons items i s within, here) (counted_one i (look_at (segments_view (drop (suc i) items)) (shape_at table m)))
-
--- a step that leads nowhere
-pub looks_nowhere : (table : List model.Shape) (whole : Result model.Shape ℕ) (n : ℕ) (items : List code.Segment) (i : ℕ) (s : code.Segment) (r : Option ℕ)
-    → whole ≡ counted_on i (look_at (segments_view (drop i items)) (shape_at table n)) → i < length items → s ≡ get_or items i s
-    → option_map (shape_at table) r ≡ part_at (segment_view s) (shape_at table n) → r ≡ None → whole ≡ Err i
-looks_nowhere table whole n items i s r so_far within is step found =
-    let here : part_at (segment_view (get_or items i s)) (shape_at table n) ≡ None = ap (λ x. part_at (segment_view x) (shape_at table n)) (sym is) ∙ sym step ∙ ap (option_map (shape_at table)) found in
-    so_far ∙ rw (drop-cons items i s within, here) (ap Err (omega arith))

@@ -1,13 +1,12 @@
 -- Doubts that are put down one after the other, in a table that grows, and what they come to.
-use Rattle.std.proofs.Common.{◌≡◌, ℕ, List, [], ◌∷◌, ◌++◌, length, map, Option, Some, None, Result, Ok, Err, refl, sym, ap, ◌∙◌, append_assoc}
+use Rattle.std.proofs.Common.{◌≡◌, ℕ, List, [], ◌∷◌, ◌++◌, length, map, Option, None, Result, Ok, Err, refl, sym, ap, ◌∙◌, append_assoc}
 use Rattle.std.proofs.lemmas.List.{append-nil, map-append}
 use Rattle.std.specs.List.{AllByRecursion}
-use Rattle.std.specs.Option.{ok_or}
 use Rattle.std.specs.Result.{result_ok}
 use Rattle.std.specs.Prelude.{OnOk}
 use Rattle.asl_model.specs.Shape.{Shape, Never}
 use Rattle.asl_model.specs.ShapeFlow as model
-use Rattle.asl_model.specs.ShapeFlow.{doubts_at, or_none, or_may_fail, unless_doubtful}
+use Rattle.asl_model.specs.ShapeFlow.{doubts_at, or_none, unless_doubtful}
 use Rattle.asl_numbered.specs.declared.node.Node.{Node}
 use Rattle.asl_numbered.specs.Expansion.{expansions, shape_at, Keeps}
 use Rattle.asl_flow.specs.CallAnswer.{Answers}
@@ -132,8 +131,3 @@ part_answers nodes whole (Err cause) value shape own is there = rw (own, there) 
     go : (r : Result Shape model.Doubt) → at_field [] r ≡ Err (cause_at (expansions nodes) [] cause) → unless_doubtful r ≡ None
     go (Ok s) e = absurd (cc)
     go (Err doubt) e = refl
-
--- a call's value is a part
-pub call_part : (nodes : List Node) (shape : Option Shape) (value : Option ℕ) → Answers nodes shape value → IsPart nodes (or_may_fail shape) (ok_or value MayFail)
-call_part nodes shape None is = record { same = λ field. ap (λ s. at_field field (or_may_fail s)) is.same; within = tt; below = tt }
-call_part nodes shape (Some n) is = record { same = λ field. ap (λ s. at_field field (or_may_fail s)) is.same; within = is.within; below = tt }

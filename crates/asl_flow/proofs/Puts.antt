@@ -1,11 +1,11 @@
 -- What is put in the parts of a shape, with refusals counted from the first segment, and the numbers that answer it.
-use Rattle.std.proofs.Common.{◌≡◌, ◌<◌, ℕ, suc, ◌+◌, Bool, true, false, ◌&&◌, List, [], ◌∷◌, Option, Some, None, Result, Ok, Err, option_map, String, Global, string_bytes, length, get_or, drop, refl, ap, sym, ◌∙◌, subst, arith}
+use Rattle.std.proofs.Common.{◌≡◌, ◌<◌, ℕ, suc, ◌+◌, Bool, true, false, ◌&&◌, List, [], ◌∷◌, Option, Some, Result, Ok, Err, option_map, String, Global, string_bytes, length, get_or, drop, refl, ap, sym, ◌∙◌, subst, arith}
 use Rattle.std.specs.BTreeMap.{BTreeMap, get_by}
 use Rattle.std.specs.Prelude.{IfOk}
 use Rattle.std.specs.String.{string_cmp}
 use Rattle.asl_model.specs.Path.{Segment, Name, Index}
-use Rattle.asl_model.specs.Shape.{Shape, Arrays, WithoutArrays, ArraysOf, ObjectsOf, FieldShapes, NoFieldShapes, AndFieldShape, ObjectShape, Never, inhabited}
-use Rattle.asl_model.specs.ShapeFlow.{part_at, place_in, arrays_alone, objects_alone, put, put_under, put_in_arrays, put_mentioned, array_with, object_with, around, join_results}
+use Rattle.asl_model.specs.Shape.{Shape, Arrays, WithoutArrays, ArraysOf, ObjectsOf, FieldShapes, Never, inhabited}
+use Rattle.asl_model.specs.ShapeFlow.{part_at, place_in, arrays_alone, objects_alone, put, put_under, put_in_arrays, put_mentioned, array_with, object_with, join_results}
 use Rattle.asl_model.specs.ShapeOrder.{mention_of, join}
 use Rattle.asl_flow.proofs.AloneParts.{alone_objects, alone_placed}
 use Rattle.asl_flow.specs.Changing.{arrays_with, objects_with, with_field, with_place}
@@ -16,7 +16,6 @@ use Rattle.asl_flow.specs.declared.putting.PutRefusal.{PutRefusal}
 use Rattle.asl_flow.specs.declared.putting.PutRefusal.TheVariants.{MayNotFit, OutOfMemory}
 use Rattle.asl_flow.proofs.Numbered.{still_shown, number_within, own_number}
 use Rattle.asl_flow.proofs.NumberedParts.{mention_got}
-use Rattle.asl_flow.proofs.ShapeParts.{counted_none}
 use Rattle.asl_path.specs.View.{segment_view, segments_view}
 use Rattle.asl_path.specs.declared.Segment as code
 use Rattle.asl_numbered.specs.declared.node.Node.{Node}
@@ -76,22 +75,6 @@ pub put_at_index : (go_on : Shape → Result Shape ℕ) (p : List Segment) (w s 
 put_at_index go_on p w s i part t is found =
     let placed : place_in i (arrays_alone s) ≡ Some t = sym is ∙ found in
     put_in_place_of go_on s i (arrays_alone s) t placed ∙ ap (λ arrays. changed_by (λ u. arrays_with i u arrays s) (go_on t)) (alone_placed s i t placed)
-
--- where there is no such place, nothing can be put
-pub no_index : (nodes : List Node) (at : ℕ) (go_on : Shape → Result Shape ℕ) (p : List Segment) (w s : Shape) (i : ℕ) → None ≡ part_at (Index i) s → Answers nodes (counted_on at (put_under go_on (Index i) p w s)) (Err (MayNotFit at))
-no_index nodes at go_on p w s i none = record { within = tt; shape = tt; refusal = ap (counted_on at) (refused (arrays_alone s) none) ∙ ap Err (omega arith) }
-  where
-    refused : (arrays : Arrays) → None ≡ place_in i arrays → put_in_arrays go_on i arrays ≡ Err 0
-    refused WithoutArrays e = refl
-    refused (ArraysOf first rest) e = rw (sym e) refl
-
-pub refused_in_list : (old new : List Node) (at i : ℕ) (go_on : Shape → Result Shape ℕ) (p : List Segment) (w : Shape) (number : ℕ) (r : Option ℕ) (place : ℕ) (refusal : PutRefusal) (answer : Result ℕ PutRefusal)
-    → option_map (shape_at (expansions old)) r ≡ part_at (Index i) (shape_at (expansions old) number) → r ≡ Some place → Answers new (counted_on (at + 1) (go_on (shape_at (expansions old) place))) (Err refusal) → answer ≡ Err refusal
-    → Answers new (counted_on at (put_under go_on (Index i) p w (shape_at (expansions old) number))) answer
-refused_in_list old new at i go_on p w number r place refusal answer part found h e =
-    let table = expansions old in
-    let whole = put_at_index go_on p w (shape_at table number) i (option_map (shape_at table) r) (shape_at table place) part (ap (option_map (shape_at table)) found) in
-    rw e (refused_below new new at (λ u. with_place i u (shape_at table number)) _ (go_on (shape_at table place)) refusal whole h)
 
 pub answered_in_list : (old mid new : List Node) (at i : ℕ) (go_on : Shape → Result Shape ℕ) (p : List Segment) (w : Shape) (number : ℕ) (r : Option ℕ) (place n m : ℕ)
     → number < length old → Keeps (expansions old) (expansions mid) → option_map (shape_at (expansions old)) r ≡ part_at (Index i) (shape_at (expansions old) number) → r ≡ Some place → Answers mid (counted_on (at + 1) (go_on (shape_at (expansions old) place))) (Ok n)
@@ -168,25 +151,11 @@ both_joined old mid new at first second n m k h g stays shows = record {
 
 -- ---- what is built
 
--- the object round what is built is it changed
-pub built_around : (n : List ℕ) (r : Result Shape ℕ) → around n r ≡ changed_by (λ s. ObjectShape (AndFieldShape n true s NoFieldShapes) false) r
-built_around n (Ok s) = refl
-built_around n (Err at) = refl
-
 -- ---- answers
 
 -- a number at hand is the answer
 pub answered : (nodes : List Node) (at n : ℕ) (s : Shape) (r : Result Shape ℕ) → r ≡ Ok s → Shows nodes s n → Answers nodes (counted_on at r) (Ok n)
 answered nodes at n s r is shows = record { within = shows.within; shape = ap (counted_on at) is ∙ ap Ok (sym shows.same); refusal = tt }
-
--- out of memory answers everything
-pub no_memory : (nodes : List Node) (r : Result Shape ℕ) → Answers nodes r (Err OutOfMemory)
-no_memory nodes r = record { within = tt; shape = tt; refusal = tt }
-
--- the whole path
-pub whole_path : (nodes : List Node) (r : Result Shape ℕ) (answer : Result ℕ PutRefusal) → Answers nodes (counted_on 0 r) answer → IfOk answer (λ n. r ≡ Ok (shape_at (expansions nodes) n))
-whole_path nodes r (Ok n) h = sym (counted_none r) ∙ h.shape
-whole_path nodes r (Err refusal) h = tt
 
 -- its number
 pub own_answer : (nodes : List Node) (r : Result Shape ℕ) (answer : Result ℕ PutRefusal) → AreDistinct (expansions nodes) → Answers nodes r answer → IfOk answer (λ n. IsNumberOf (expansions nodes) (shape_at (expansions nodes) n) n)
@@ -207,6 +176,3 @@ refused_through one two p w s number placed at is keeps also h =
     let own : shape_at (expansions two) number ≡ s = still_shown one two number keeps (number_within one s number is) ∙ is.same in
     let its : shape_at (expansions two) placed ≡ w = also.same in
     ap (λ t. put p t s) (sym its) ∙ ap (put p (shape_at (expansions two) placed)) (sym own) ∙ h
-
-pub whole_refusal : (nodes : List Node) (r : Result Shape ℕ) (answer : Result ℕ PutRefusal) (at : ℕ) → Answers nodes (counted_on 0 r) answer → answer ≡ Err (MayNotFit at) → r ≡ Err at
-whole_refusal nodes r answer at h is = let e = rw is at h in sym (counted_none r) ∙ e.refusal

@@ -1,5 +1,5 @@
 -- What one segment, and then the segments behind it, lead to in a shape.
-use Rattle.std.proofs.Common.{◌≡◌, ℕ, zero, suc, ◌<◌, ◌≤◌, Bool, List, [], ◌∷◌, Option, Some, None, Result, Ok, Err, option_map, Bor, String, string_bytes, is_some, IfSome, length, get_or, drop, drop-cons, refl, ap, sym, ◌∙◌, arith, BTreeMap}
+use Rattle.std.proofs.Common.{◌≡◌, ℕ, zero, suc, ◌<◌, ◌≤◌, Bool, List, [], ◌∷◌, Option, Some, None, option_map, Bor, String, string_bytes, is_some, IfSome, length, get_or, refl, ap, sym, ◌∙◌, arith, BTreeMap}
 use borrow.Author.Tests.{ltb-true, ltb-false}
 use lib.Dec.{ltb}
 use Rattle.std.specs.BTreeMap.{is_at}
@@ -8,10 +8,7 @@ use Rattle.std.specs.String.{string_cmp}
 use Rattle.std.specs.declared.alloc.Global.{Global}
 use Rattle.asl_model.specs.Path as path
 use Rattle.asl_model.specs.Shape as model
-use Rattle.asl_model.specs.ShapeFlow.{part_at, place_at, objects_alone, look_at, if_needed, one_further}
-use Rattle.asl_flow.specs.Counting.{counted_on}
-use Rattle.asl_path.specs.View.{segment_view, segments_view}
-use Rattle.asl_path.specs.declared.Segment as code
+use Rattle.asl_model.specs.ShapeFlow.{part_at, place_at, objects_alone, if_needed}
 use Rattle.asl_shape.specs.declared.shape.Field.{Field}
 use Rattle.asl_shape.specs.declared.shape.Shape.{Shape}
 use Rattle.asl_shape.specs.View.{view, shapes_view, fields_view}
@@ -40,32 +37,3 @@ pub object_part : (s : model.Shape) (m : BTreeMap (String Global) Field) (extra 
     → found ≡ lookup (is_at (string_cmp k)) m.entries
     → if_needed (option_map (λ (f : Field). (f.needed, view f.shape)) found) ≡ part_at (path.Name (string_bytes k)) s
 object_part s m extra k found e l = rw (← e, mention_of_lookup k m.entries, ← l) refl
-
--- counted behind none it is itself
-pub counted_none : (r : Result model.Shape ℕ) → counted_on 0 r ≡ r
-counted_none (Ok s) = refl
-counted_none (Err at) = ap Err (omega arith)
-
-pub counted_one : (passed : ℕ) (r : Result model.Shape ℕ) → counted_on passed (one_further r) ≡ counted_on (suc passed) r
-counted_one passed (Ok s) = refl
-counted_one passed (Err at) = ap Err (omega arith)
-
--- before the first segment
-pub looks_first : (p : List path.Segment) (s : model.Shape) → look_at p s ≡ counted_on 0 (look_at p s)
-looks_first p s = sym (counted_none (look_at p s))
-
--- a step that leads somewhere
-pub looks_on : (whole : Result model.Shape ℕ) (node : model.Shape) (items : List code.Segment) (i : ℕ) (s : code.Segment) (r : Option (Bor Shape)) (n : Bor Shape)
-    → whole ≡ counted_on i (look_at (segments_view (drop i items)) node) → i < length items → s ≡ get_or items i s
-    → option_map (λ t. view t.now) r ≡ part_at (segment_view s) node → r ≡ Some n → whole ≡ counted_on (suc i) (look_at (segments_view (drop (suc i) items)) (view n.now))
-looks_on whole node items i s r n so_far within is step found =
-    let here : part_at (segment_view (get_or items i s)) node ≡ Some (view n.now) = ap (λ x. part_at (segment_view x) node) (sym is) ∙ sym step ∙ ap (option_map (λ t. view t.now)) found in
-    so_far ∙ rw (drop-cons items i s within, here) (counted_one i (look_at (segments_view (drop (suc i) items)) (view n.now)))
-
--- a step that leads nowhere
-pub looks_nowhere : (whole : Result model.Shape ℕ) (node : model.Shape) (items : List code.Segment) (i : ℕ) (s : code.Segment) (r : Option (Bor Shape))
-    → whole ≡ counted_on i (look_at (segments_view (drop i items)) node) → i < length items → s ≡ get_or items i s
-    → option_map (λ t. view t.now) r ≡ part_at (segment_view s) node → r ≡ None → whole ≡ Err i
-looks_nowhere whole node items i s r so_far within is step found =
-    let here : part_at (segment_view (get_or items i s)) node ≡ None = ap (λ x. part_at (segment_view x) node) (sym is) ∙ sym step ∙ ap (option_map (λ t. view t.now)) found in
-    so_far ∙ rw (drop-cons items i s within, here) (ap Err (omega arith))

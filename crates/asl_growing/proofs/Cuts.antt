@@ -1,6 +1,6 @@
 -- Shapes cut to a depth, by number.
 use Rattle.std.proofs.Common.{◌≡◌, ◌<◌, ◌≤◌, ◌+◌, ℕ, zero, suc, List, [], ◌∷◌, ◌++◌, length, map, take, get_or, refl, sym, ap, ◌∙◌, subst, arith}
-use Rattle.std.proofs.lemmas.List.{length-map, map-append, take_all, take_more}
+use Rattle.std.proofs.lemmas.List.{length-map, map-append, take_more}
 use Rattle.asl_model.specs.Shape as model
 use Rattle.asl_model.specs.ShapeOrder.{depth, depth_of_arrays, depth_of_objects, depth_of_elements, depth_of_fields}
 use Rattle.asl_numbered.specs.declared.node.Node.{Node}
@@ -50,10 +50,6 @@ map_shown : (a b : List Node) (ns : List ℕ) → Keeps (expansions a) (expansio
 map_shown a b [] keeps h = refl
 map_shown a b (n ∷ ns) keeps h = rw (shown a b n keeps h.0, map_shown a b ns keeps h.1) refl
 
--- none so far
-pub none_cut : (levels : ℕ) (nodes : List Node) (cuts : List ℕ) → cuts ≡ [] → AreCutTo levels nodes [] nodes cuts
-none_cut levels nodes cuts none = rw none (record { shapes = refl; below = tt })
-
 -- one of them
 pub one_below : (bound : ℕ) (numbers : List ℕ) (i : ℕ) → i < length numbers → AreBelow bound numbers → get_or numbers i 0 < bound
 one_below bound [] i there h = absurd (omega (arith, there))
@@ -75,10 +71,6 @@ one_more_cut levels old now new numbers i cuts more m below there keeps so_far f
           ∙ ap (map cut) (sym (take_more numbers i 0 there));
       below = subst (AreBelow (length new)) (sym last) (below-append (length new) cuts (m ∷ []) (below-wider (length now) (length new) cuts (longer now new further) so_far.below) (among new m is.within, tt));
     }
-
--- all of them
-pub all_cut : (levels : ℕ) (old new : List Node) (numbers : List ℕ) (i : ℕ) (cuts : List ℕ) → length numbers ≤ i → AreCutTo levels old (take i numbers) new cuts → AreCutTo levels old numbers new cuts
-all_cut levels old new numbers i cuts past h = subst (λ ns. AreCutTo levels old ns new cuts) (take_all i numbers past) h
 
 -- ---- a shape with its parts cut
 

@@ -1,6 +1,6 @@
 -- Where steps lead, and what flows there.
 use Rattle.std.proofs.Common.{◌≡◌, ◌<◌, ◌≤◌, ◌+◌, ◌++◌, ◌∷◌, ℕ, zero, suc, List, [], length, get_or, take, Bool, Option, Some, None, Result, IfOk, refl, sym, ap, ◌∙◌, subst, arith}
-use Rattle.std.proofs.lemmas.List.{length-map, length-take-le, map-append, take_all, take_more}
+use Rattle.std.proofs.lemmas.List.{length-map, length-take-le, map-append, take_more}
 use Rattle.std.specs.Prelude.{IfSome}
 use Rattle.asl_model.specs.Edges.{Walked, Breaks}
 use Rattle.asl_model.specs.Finding.{Breach}
@@ -81,6 +81,3 @@ steps-more shapes steps i s within is =
     ap (steps_of shapes) (take_more steps i s within)
     ∙ (map-append (step_view shapes) (take i steps) (get_or steps i s ∷ [])
     ∙ ap (λ (x : Step). first_steps shapes steps i ++ step_view shapes x ∷ []) (sym is))
-
-pub steps-all : (shapes : List Shape) (steps : List Step) (i : ℕ) → length steps ≤ i → first_steps shapes steps i ≡ steps_of shapes steps
-steps-all shapes steps i past = ap (steps_of shapes) (take_all i steps past)

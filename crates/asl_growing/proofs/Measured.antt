@@ -46,10 +46,6 @@ depths_kept a b depths keeps are = record {
   each = λ n d at. are.each n d at ∙ ap told_depth (sym (kept_shape a b n keeps (omega (arith, are.within, slice_get_within depths n d at))));
 }
 
--- none
-pub no_depths : (table : List model.Shape) → AreDepths table []
-no_depths table = record { within = omega arith; each = λ n d at. absurd (cc) }
-
 -- what stands in a list with one more behind
 pub pushed : {X : Type 0} (xs : List X) (x y : X) (n : ℕ) → slice_get (xs ++ x ∷ []) n ≡ Some y → (slice_get xs n ≡ Some y) ⊎ ((n ≡ length xs) × (x ≡ y))
 pushed [] x y zero at = inr (refl, cc)

@@ -8,13 +8,12 @@ use Rattle.std.specs.Prelude.{IfSome}
 use Rattle.asl_model.specs.Shape as model
 use Rattle.asl_shape.specs.View.{shapes_of}
 use Rattle.asl_numbered.specs.declared.node.Node.{Node}
-use Rattle.asl_numbered.specs.declared.node.Node.TheVariants.{List as Elements, Object}
+use Rattle.asl_numbered.specs.declared.node.Node.TheVariants.{Object}
 use Rattle.asl_numbered.specs.declared.kinds.KindNumbers.{KindNumbers}
 use Rattle.asl_numbered.specs.declared.kinds.NodeArrays.{NodeArrays}
 use Rattle.asl_numbered.specs.declared.kinds.NodeKinds.{NodeKinds}
 use Rattle.asl_numbered.specs.declared.kinds.NodeObjects.{NodeObjects}
 use Rattle.asl_numbered.specs.declared.node.NodeField.{NodeField}
-use Rattle.asl_numbered.specs.Joins.{Shows}
 use Rattle.asl_numbered.specs.TakenApart.{arrays_at, arrays_of, arrays_over, kinds_at, kinds_over, objects_of, objects_over, AreArraysIfAny, AreKindsAt, AreObjectsIfAny}
 use Rattle.asl_numbered.specs.Expansion.{expansions, fields_at, shape_at, shapes_at, shape_over, numbers_in, AreBelow, Keeps, RefersBelow}
 use Rattle.asl_numbered.proofs.Appending.{names, appended}
@@ -68,20 +67,6 @@ objects_replaced table objects new numbers are =
     let fields = objects.fields.now.entries in
     ap (λ fs. model.ObjectsOf fs objects.extra) (fields_replaced table fields new.entries are.mentions ∙ ap (λ ns. fields_with (fields_at table fields) (map (shape_at table) ns)) are.parts)
 
-pub objects_can : (bound : ℕ) (fields new : List (String Global × NodeField)) (level : BTreeMap (String Global) NodeField) (extra : Bool) (numbers : List ℕ) → level.entries ≡ new → AreFieldsWith fields numbers new → AreBelow bound numbers → CanBePut bound (Some (Object level extra))
-objects_can bound fields new level extra numbers same are below = record { refers = record { each = rw same (subst (AreBelow bound) (sym are.parts) below) }; proper = λ table. record { proper = tt } }
-
--- the first level of arrays with other numbers
-pub arrays_replaced : (table : List model.Shape) (arrays : NodeArrays) (new : Vec ℕ Global) (n : ℕ) (numbers : List ℕ) → numbers ≡ n ∷ new.items → arrays_in table (Some (Elements new n)) ≡ arrays_with (arrays_over table (Some arrays)) (map (shape_at table) numbers)
-arrays_replaced table arrays new n numbers e = ap (λ ns. arrays_with (arrays_over table (Some arrays)) (map (shape_at table) ns)) (sym e)
-
-pub arrays_can : (bound : ℕ) (new : Vec ℕ Global) (n : ℕ) (numbers : List ℕ) → numbers ≡ n ∷ new.items → AreBelow bound numbers → CanBePut bound (Some (Elements new n))
-arrays_can bound new n numbers e below = record { refers = record { each = subst (AreBelow bound) e below }; proper = λ table. record { proper = tt } }
-
--- no first level
-pub none_can : (bound : ℕ) → CanBePut bound None
-none_can bound = record { refers = tt; proper = λ table. tt }
-
 -- ---- arrays and objects together
 
 fields_front : (fields : model.FieldShapes) (front behind : List model.Shape) → length front ≡ length (shapes_in fields []) → (fields_with fields (front ++ behind) ≡ fields_with fields front) × (behind_fields fields (front ++ behind) ≡ behind)
@@ -124,13 +109,6 @@ arrays_kept : (b c : List model.Shape) (number : Option ℕ) → Keeps b c → I
 arrays_kept b c None keeps within = refl
 arrays_kept b c (Some n) keeps within = ap arrays_of (kept_shape b c n keeps within)
 
--- a level that was put
-pub level_put : (a b : List model.Shape) (node : Node) (n : ℕ) → Shows b (shape_over a node) n → IsPut a (Some node) b (Some n)
-level_put a b node n is = record { within = is.within; arrays = ap arrays_of is.same; objects = ap objects_of is.same }
-
-pub no_level_put : (a b : List model.Shape) → IsPut a None b None
-no_level_put a b = record { within = tt; arrays = refl; objects = refl }
-
 -- both levels
 pub kinds_put : (a b c : List Node) (kinds : NodeKinds) (built : Rebuilt) (put : KindNumbers) → Keeps (expansions a) (expansions b) → Keeps (expansions b) (expansions c) → CanBePut (length a) built.objects → IsPut (expansions a) built.arrays (expansions b) put.arrays → IsPut (expansions b) built.objects (expansions c) put.objects → put.null ≡ kinds.null → put.boolean ≡ kinds.boolean → put.integer ≡ kinds.integer → put.text ≡ kinds.text → kinds_at (expansions c) put ≡ rebuilt_over (expansions a) kinds built
 kinds_put a b c kinds built put keeps further can arrays objects null boolean integer text =
@@ -147,10 +125,6 @@ names_mentioned (f ∷ fields) (g ∷ new) e =
     let behind : mentions_of new ≡ mentions_of fields = cc in
     rw (ap (λ (m : List ℕ × Bool). m.0) here, names_mentioned fields new behind) refl
 
--- no field so far
-pub no_fields_with : AreFieldsWith [] [] []
-no_fields_with = record { mentions = refl; parts = refl }
-
 -- one more
 pub field_with : (done left : List (String Global × NodeField)) (m : String Global × NodeField) (numbers : List ℕ) (place : ℕ) (new more : List (String Global × NodeField)) (k : String Global) (f : NodeField) → IsStrictlySortedBy string_cmp (keys_of (done ++ m ∷ left)) → AreFieldsWith done (take place numbers) new → place < length numbers → string_bytes k ≡ string_bytes m.0 → f.needed ≡ m.1.needed → f.shape ≡ get_or numbers place 0 → more ≡ insert_entry string_cmp new k f → AreFieldsWith (done ++ m ∷ []) (take (place + 1) numbers) more
 field_with done left m numbers place new more k f sorted are within named needed shape inserted =
@@ -160,13 +134,6 @@ field_with done left m numbers place new more k f sorted are within named needed
       mentions = map-append mention_of new ((k, f) ∷ []) ∙ ap (λ ms. ms ++ mention_of (k, f) ∷ []) are.mentions ∙ ap (λ x. mentions_of done ++ x ∷ []) mention ∙ sym (map-append mention_of done (m ∷ []));
       parts = map-append (λ (e : String Global × NodeField). e.1.shape) new ((k, f) ∷ []) ∙ ap (λ ns. ns ++ f.shape ∷ []) are.parts ∙ ap (λ n. take place numbers ++ n ∷ []) shape ∙ sym (take_more numbers place 0 within);
     })
-
--- all of them
-pub all_fields_with : (fields done left new : List (String Global × NodeField)) (numbers : List ℕ) (place : ℕ) → fields ≡ done ++ left → left ≡ [] → length numbers ≡ length (numbers_in fields) → place ≡ length done → AreFieldsWith done (take place numbers) new → AreFieldsWith fields numbers new
-all_fields_with fields done left new numbers place split none counted at are =
-    let whole : fields ≡ done = split ∙ ap (λ fs. done ++ fs) none ∙ append-nil done in
-    let all : take place numbers ≡ numbers = take_all place numbers (omega (arith, counted, length-map fields (λ (e : String Global × NodeField). e.1.shape), ap length whole, at)) in
-    subst (λ fs. AreFieldsWith fs numbers new) (sym whole) (subst (λ ns. AreFieldsWith done ns new) all are)
 
 -- a place is one of the numbers while a field is left
 pub place_within : (fields done left : List (String Global × NodeField)) (m : String Global × NodeField) (rest : List (String Global × NodeField)) (numbers : List ℕ) (place : ℕ) → fields ≡ done ++ left → left ≡ m ∷ rest → length numbers ≡ length (numbers_in fields) → place ≡ length done → place < length numbers

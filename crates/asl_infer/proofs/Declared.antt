@@ -53,10 +53,6 @@ task_kept declared n a b task keeps is = record { takes = shows_kept a b (takes_
 pub tasks_kept : (declared : model.Declared) (names : List (List ℕ)) (a b : List Shape) (tasks : List TaskNumbers) → Keeps a b → AreTasks declared names a tasks → AreTasks declared names b tasks
 tasks_kept declared names a b tasks keeps are = record { each = λ i n task named at. task_kept declared n a b task keeps (are.each i n task named at) }
 
--- none so far
-pub no_tasks : (declared : model.Declared) (names : List (List ℕ)) (table : List Shape) (tasks : List TaskNumbers) → tasks ≡ [] → AreTasks declared names table tasks
-no_tasks declared names table tasks none = rw none (record { each = λ i n task named at. absurd (cc) })
-
 -- the name of a state that has one
 name_of : (o : Option (Bor (List ℕ))) (else : Bor (List ℕ)) (names : List (List ℕ)) (i : ℕ) (n : List ℕ) → option_map (λ (b : Bor (List ℕ)). b.now) o ≡ slice_get names i → slice_get names i ≡ Some n → (unwrap_or o else).now ≡ n
 name_of (Some b) else names i n e named = let same : Some b.now ≡ Some n = e ∙ named in cc

@@ -1,16 +1,12 @@
 -- The first rule that is broken along steps whatever is certified elsewhere.
 use Rattle.std.proofs.Common.{◌≡◌, ◌<◌, ◌+◌, ℕ, List, [], ◌∷◌, ◌++◌, length, get_or, drop, slice_get, Option, Some, None, option_map, refl, sym, ap, ◌∙◌, append_assoc}
 use Rattle.std.specs.Prelude.{option_to_list}
-use Rattle.std.proofs.lemmas.List.{append-nil, drop_more}
-use Rattle.asl_model.specs.Edges.{ToTask, Walked, breaches_at, stands_at}
-use Rattle.asl_model.specs.Examples.{outside}
-use Rattle.asl_model.specs.Finding.{breach_shown, breach_unless_sub}
+use Rattle.std.proofs.lemmas.List.{drop_more}
+use Rattle.asl_model.specs.Edges.{Walked, breaches_at}
 use Rattle.asl_model.specs.Shape.{Shape}
 use Rattle.asl_drafts.specs.Drafts.{own_breaches}
 use Rattle.asl_drafts.proofs.SettledClosed.{own_shapes}
-use Rattle.asl_numbered.specs.Expansion.{shape_at}
-use Rattle.asl_edges.specs.View.{destination_view, edge_view, finding_fault_view, step_view, steps_of}
-use Rattle.asl_edges.specs.declared.found.Edge.{Edge}
+use Rattle.asl_edges.specs.View.{step_view, steps_of}
 use Rattle.asl_edges.specs.declared.found.Step.{Step}
 use Rattle.asl_infer.specs.Telling.{IsFirstBroken, breach_view}
 use Rattle.asl_infer.specs.declared.telling.Breach.{Breach}
@@ -24,10 +20,6 @@ first-none (x ∷ xs) h = absurd (cc)
 own-append : (takes : Shape) (xs ys : List Walked) → own_breaches takes (xs ++ ys) ≡ own_breaches takes xs ++ own_breaches takes ys
 own-append takes [] ys = refl
 own-append takes (x ∷ xs) ys = ap (λ bs. breaches_at (own_shapes takes) x ++ bs) (own-append takes xs ys) ∙ sym (append_assoc (breaches_at (own_shapes takes) x) (own_breaches takes xs) (own_breaches takes ys))
-
--- at one step
-own-one : (takes : Shape) (step : Walked) → own_breaches takes (step ∷ []) ≡ breaches_at (own_shapes takes) step
-own-one takes step = append-nil (breaches_at (own_shapes takes) step)
 
 -- ---- along several
 
@@ -66,9 +58,3 @@ module _ (table : List Shape) (takes : Shape) where
   whole-steps steps none = first-none (own_breaches takes (steps_of table steps)) none.first
 
 -- ---- what flows
-
--- the tree that is told of a payload is one outside what the task takes
-pub payload-at : (table : List Shape) (takes : Shape) (edge : Edge) → destination_view edge.destination ≡ ToTask → own_breaches takes (edge_view table edge ∷ []) ≡ breach_shown edge.field.now (finding_fault_view edge.fault) (outside (shape_at table edge.flowing) takes)
-payload-at table takes edge to =
-    own-one takes (edge_view table edge)
-    ∙ ap (λ destination. breach_unless_sub edge.field.now (finding_fault_view edge.fault) (shape_at table edge.flowing) (stands_at (own_shapes takes) destination)) to

@@ -29,9 +29,6 @@ use Rattle.asl_infer.proofs.FirstRooms.{first-room}
 pub unchanged : (before : Draft) → IsChanged before false before
 unchanged before = record { told = refl }
 
-pub made-changed : (make : Draft → Draft) (before : Draft) (changed : Bool) (after : Draft) → Makes room make before changed after → IsChanged before changed after
-made-changed make before changed after makes = record { told = makes.told }
-
 pub more-changed : (before between after : Draft) (changed : Bool) → IsChanged before changed between → IsChanged between true after → IsChanged before true after
 more-changed before between after true one two = record { told = omega (arith, one.told, two.told) }
 more-changed before between after false one two = record { told = subst (λ (d : Draft). room after < room d) one.told two.told }
@@ -47,10 +44,6 @@ input-made table declared placement s before changed after there same makes = re
   told = makes.told;
 }
 
-pub no-input : (table : Table) (declared : model.Declared) (before : Draft) → slice_get table.placements 0 ≡ None → Makes room (input_taken table declared) before false before
-no-input table declared before none = record {
-  made = sym (ap (λ o. taken_at (option_map (λ (p : Placement). Input p.start) o) declared.input before) none);
-  told = refl;
 }
 
 -- ---- the rows in their order

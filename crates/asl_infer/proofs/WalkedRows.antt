@@ -1,5 +1,5 @@
 -- Walks through the states of a table.
-use Rattle.std.proofs.Common.{◌≡◌, ℕ, List, [], ◌∷◌, length, slice_get, Bool, true, false, Option, Some, None, option_map, Ok, Err, refl, sym, ap, ◌∙◌, subst, arith}
+use Rattle.std.proofs.Common.{◌≡◌, ℕ, List, [], ◌∷◌, length, slice_get, Bool, true, false, Some, None, Ok, Err, refl, sym, ap, ◌∙◌, subst, arith}
 use Rattle.std.proofs.lemmas.Option.{slice_get_within}
 use Rattle.asl_model.specs.Certificate as model
 use Rattle.asl_model.specs.Certificate.{takes_of}
@@ -42,10 +42,6 @@ module _ (table : Table) where
         let there = there-within xs number (omega (arith, below, many, same)) in
         none_some (sym none ∙ there.1);
   }
-
--- what is seen of what isn't there
-pub none-seen : {A B : Type 0} (f : A → B) (o : Option A) (p : Option B) → option_map f o ≡ p → o ≡ None → p ≡ None
-none-seen f o p is none = sym is ∙ ap (option_map f) none
 
 -- ---- walks
 

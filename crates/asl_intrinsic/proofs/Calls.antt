@@ -5,7 +5,7 @@ use Rattle.std.proofs.lemmas.Bool.Decides.{nat_tests}
 use Rattle.std.specs.List.{slice_index}
 use Rattle.std.specs.Str.Pattern.{FindsTextPrefix, LacksTextAt, StripsPrefix}
 use Rattle.asl_model.specs.Intrinsic as model
-use Rattle.asl_model.specs.CallSpelling.{Cut, CallFault, Malformed, UnknownFunction, BadPath, WrittenArgument, WrittenArguments, WrittenCall, WrittenAs, WrittenNested, WrittenPath, NoneWritten, AndWritten, after_argument, argument_of, arguments_of, call_of, call_from, call_or_bad_path, call_or_fault, cut_argument, cut_arguments, cut_call, cut_negative, cut_parentheses, cut_word, followed_by, function_named, in_function_name, know_functions, knows_functions, knows_functions_in, path_length, whole_call, without_spaces, literal_argument}
+use Rattle.asl_model.specs.CallSpelling.{Cut, CallFault, Malformed, UnknownFunction, BadPath, WrittenArgument, WrittenArguments, WrittenCall, WrittenAs, WrittenNested, WrittenPath, NoneWritten, AndWritten, after_argument, argument_of, arguments_of, call_from, call_or_bad_path, call_or_fault, cut_argument, cut_arguments, cut_call, cut_negative, cut_parentheses, cut_word, followed_by, function_named, in_function_name, know_functions, knows_functions_in, path_length, whole_call, without_spaces, literal_argument}
 use Rattle.asl_model.specs.PathSpelling.{front_length}
 use Rattle.asl_model.proofs.CallMeaning.{refusal_exactly}
 use Rattle.asl_intrinsic.specs.Cutting.{Cuts}
@@ -13,7 +13,7 @@ use Rattle.asl_intrinsic.specs.declared.cutting.CutRefusal.{CutRefusal}
 use Rattle.asl_intrinsic.specs.declared.cutting.CutRefusal.TheVariants as refused
 use Rattle.asl_intrinsic.specs.declared.cutting.Fault.{Fault}
 use Rattle.asl_intrinsic.specs.declared.cutting.Fault.TheVariants as faults
-use Rattle.asl_intrinsic.specs.Meaning.{IsRefused, fault_view, refusal_of_cut, refusal_of_fault, and_last, and_meaning, argument_meaning, arguments_meaning, call_meaning, call_on, function_meaning, lesser_fault, nested_meaning, or_bad_path}
+use Rattle.asl_intrinsic.specs.Meaning.{IsRefused, fault_view, refusal_of_cut, refusal_of_fault, and_last, and_meaning, argument_meaning, arguments_meaning, call_meaning, call_on, function_meaning, lesser_fault, or_bad_path}
 use Rattle.asl_intrinsic.specs.View.{argument_view, arguments_view}
 use Rattle.asl_intrinsic.specs.declared.call.Arg.{Arg}
 
@@ -120,15 +120,6 @@ call_means item name arguments = go (function_named name) (know_functions argume
     go (Some f) true None = refl
     go (Some f) false y = refl
 
--- what a nested call means as an argument, by what it means as a call
-pub nested_means : (item : Bool) (c : WrittenCall) → argument_meaning item (WrittenNested c) ≡ nested_meaning (call_meaning item c)
-nested_means item c = go (knows_functions c) (call_of item c)
-  where
-    go : (p : Bool) (x : Option model.Call) → cond p (or_bad_path (option_map model.CallArgument x)) (Err UnknownFunction) ≡ nested_meaning (cond p (call_or_bad_path x) (Err UnknownFunction))
-    go true (Some x) = refl
-    go true None = refl
-    go false x = refl
-
 -- ---- arguments, one after the other
 
 -- the same in front of what was cut off
@@ -145,10 +136,6 @@ pub record SoFar (item : Bool) (whole left : Cut WrittenArguments) (meaning : Re
 unchanged : (c : Cut WrittenArguments) → c ≡ option_map (behind_front []) c
 unchanged None = refl
 unchanged (Some c) = refl
-
--- before the first argument nothing was cut off
-pub none_so_far : (item : Bool) (whole left : Cut WrittenArguments) → whole ≡ left → SoFar item whole left (Ok model.NoArguments)
-none_so_far item whole left same = record { front = []; cut = same ∙ unchanged left; means = refl }
 
 module _ (nested : List ℕ → Cut WrittenCall) where
   -- what the arguments are, by the first of them and what follows it

@@ -1,9 +1,8 @@
 -- The numbers that digits spell.
-use Rattle.std.proofs.Common.{◌≡◌, ◌<◌, ◌≤◌, ◌^◌, ◌==◌, ◌&&◌, ℕ, zero, suc, ℤ, pos, ◌-ℤ◌, List, [], ◌∷◌, length, Bool, true, false, cond, nat_lt, nat_le, Option, Some, None, Result, Ok, Err, FitsSigned, w64, lt-ltb, ltb-true, le-leb, leb-true, refl, sym, ap, ◌∙◌, arith}
+use Rattle.std.proofs.Common.{◌≡◌, ◌<◌, ◌≤◌, ◌^◌, ◌==◌, ◌&&◌, ℕ, suc, ℤ, pos, ◌-ℤ◌, List, [], ◌∷◌, length, Bool, true, false, cond, nat_lt, nat_le, Option, Some, None, Result, Ok, Err, FitsSigned, w64, lt-ltb, ltb-true, leb-true, refl, sym, ap, ◌∙◌, arith}
 use Rattle.std.proofs.lemmas.Bool.Decides.{nat_tests}
 use Rattle.std.proofs.lemmas.Int.{fits_signed_from_abs, ints}
 use Rattle.std.specs.Char.{is_ascii_digit}
-use Rattle.std.specs.Option.{SomeIff}
 use Rattle.std.specs.Result.{result_ok}
 use Rattle.std.specs.Str.Parse.{IsNumeral, ParsesSigned, ParsesUnsigned, digits_value, starts_with_minus}
 use Rattle.asl_model.specs.CallSpelling.{is_whole, negated, negative_of, whole_number}
@@ -66,22 +65,9 @@ number_parsed s (Err f) o whole parsed e =
 
 -- ---- numbers behind a minus sign
 
--- a number taken from 0 is its negative
-below_zero : (n : ℕ) → pos 0 -ℤ pos n ≡ negated n
-below_zero zero = refl
-below_zero (suc n) = omega (arith, ints)
-
 -- where the negative of a number fits 64 bits, the number is at most 2 ^ 63
 least : (n : ℕ) → FitsSigned w64 (pos 0 -ℤ pos n) → n ≤ 2 ^ 63
 least n h = omega (arith, ints, h)
-
--- the negative of such a number fits
-negative_fits : (n : ℕ) → n ≤ 2 ^ 63 → FitsSigned w64 (pos 0 -ℤ pos n)
-negative_fits n h = omega (arith, ints)
-
--- a whole number of at most 2 ^ 63 spells its negative behind a minus sign
-negative_here : (s : List ℕ) → is_whole s ≡ true → digits_value 10 s ≤ 2 ^ 63 → negative_of s ≡ Some (negated (digits_value 10 s))
-negative_here s whole small = rw (whole, le-leb (digits_value 10 s) (2 ^ 63) small) refl
 
 -- a larger one spells none
 no_negative : (s : List ℕ) → (digits_value 10 s ≤ 2 ^ 63 → ⊥) → negative_of s ≡ None
@@ -99,17 +85,3 @@ negative_refused s (Err f) o whole parsed e none =
     let number = is_number s whole in
     let refused = rw (no_plus s number.digits) at parsed in
     no_negative s (λ small. refused (numeral s number, omega arith))
-
--- what is left of 0 without the number is the negative that is spelled, or neither is there
-subtracted : (s : List ℕ) (q : Option ℤ) (n : ℕ) → is_whole s ≡ true → n ≡ digits_value 10 s → SomeIff q (FitsSigned w64 (pos 0 -ℤ pos n)) (pos 0 -ℤ pos n) → q ≡ negative_of s
-subtracted s None n whole is h = sym (no_negative s (λ small. h (negative_fits n (rw is small))))
-subtracted s (Some z) n whole is h = ap Some (h.1 ∙ below_zero n ∙ ap negated is) ∙ sym (negative_here s whole (rw (← is) (least n h.0)))
-
--- where it answers one
-pub negative_given : {E : Type 0} (s : List ℕ) (r : Result ℕ E) (o : Option ℕ) (n : ℕ) (q : Option ℤ) → is_whole s ≡ true → ParsesUnsigned 64 10 s r → o ≡ result_ok r → o ≡ Some n → SomeIff q (FitsSigned w64 (pos 0 -ℤ pos n)) (pos 0 -ℤ pos n) → q ≡ negative_of s
-negative_given s (Ok m) o n q whole parsed e is h =
-    let number = is_number s whole in
-    let read = rw (no_plus s number.digits) at parsed in
-    let same : m ≡ n = let some : Some m ≡ Some n = sym e ∙ is in cc in
-    subtracted s q n whole (sym same ∙ read.1) h
-negative_given s (Err f) o n q whole parsed e is h = let some : None ≡ Some n = sym e ∙ is in absurd (cc)

@@ -76,7 +76,3 @@ one_new all before left names more repeated n h e absent added =
     by : (asked : List ℕ) (b : Bool) → is_some (cond b (Some tt) (get_by (λ k. slice_cmp nat_cmp asked k.now) names)) ≡ (b || is_among asked (texts h.further))
     by asked true = refl
     by asked false = h.held asked
-
--- where none is left
-pub all_behind : (all left : List (Bor (List ℕ))) (names : Names) (repeated : List (Bor (List ℕ))) → Behind all left names repeated → left ≡ [] → from_last repeated ≡ duplicate_complaints (texts all)
-all_behind all left names repeated h done = h.told ∙ ap (λ ns. duplicate_complaints (texts ns)) (sym (h.parted ∙ ap (λ ns. ns ++ h.further) done))

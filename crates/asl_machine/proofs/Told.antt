@@ -21,10 +21,6 @@ pub tells_then : {a b c : List (Option Complaint)} {xs ys : List Complaint} → 
 tells_then {a} {b} {c} {xs} {ys} first second =
     record { holds = second.holds ∙ ap (λ told. told ++ map Some ys) first.holds ∙ append_assoc a (map Some xs) (map Some ys) ∙ ap (λ more. a ++ more) (sym (map-append Some xs ys)) }
 
--- one
-pub told_one : (before after : List Objection) (c : Objection) (x : Complaint) → after ≡ before ++ c ∷ [] → complaint_view c ≡ Some x → Told before after (x ∷ [])
-told_one before after c x pushed is = record { holds = ap (map complaint_view) pushed ∙ map-append complaint_view before (c ∷ []) ∙ ap (λ o. map complaint_view before ++ o ∷ []) is }
-
 -- ---- what is left to be told
 
 -- what was told and what is left are all

@@ -176,10 +176,6 @@ pieces_at x y rest closes escapes holes =
       ]
     ]
 
--- how the cut goes on
-pieces_split : (x y : ℕ) (rest : List ℕ) → cut_pieces (x ∷ y ∷ rest) ≡ pieces_at x y rest (x == 39) (x == 92) (x == 123 && y == 125)
-pieces_split x y rest = refl
-
 -- a plain byte stands for itself
 plain_piece : (b y : ℕ) (rest : List ℕ) → b ≢ 39 → b ≢ 92 → (b == 123 && y == 125) ≡ false → cut_pieces (b ∷ y ∷ rest) ≡ option_map (byte_in_front b) (cut_pieces (y ∷ rest))
 plain_piece b y rest n m h =

@@ -1,13 +1,13 @@
 -- What stands in a field of a definition, found by a walk over the fields, is what the look-up of the field gives.
-use Rattle.std.proofs.Common.{◌≡◌, ℕ, List, [], Bool, true, false, Some, option_map, unwrap_or, bytes_eq, codes, refl, sym, ap, ◌∙◌, is_eq, Ordering, Less, Equal, Greater}
+use Rattle.std.proofs.Common.{◌≡◌, ℕ, List, Bool, true, false, Some, option_map, unwrap_or, bytes_eq, refl, sym, ap, ◌∙◌, is_eq, Ordering, Less, Equal, Greater}
 use Rattle.std.specs.Ordering.{nat_cmp, match_ordering}
 use Rattle.std.specs.Cmp.Lexicographic.{slice_cmp}
 use Rattle.std.proofs.lemmas.Map.Text.{is_eq-slice_cmp}
 use Rattle.serde_json.specs.Data as json
 use Rattle.serde_json.specs.Data.{Data, Members}
 use Rattle.serde_json.specs.Find.{get_member}
-use Rattle.asl_model.specs.Machine.{NoStates, NoScopes}
-use Rattle.asl_model.specs.StandsFor.{states_under, states_in, branches_under, scopes_in, states_complaints_under, states_complaints, branches_complaints_under, branches_complaints}
+use Rattle.asl_model.specs.Machine.{NoStates}
+use Rattle.asl_model.specs.StandsFor.{states_under, states_in}
 
 found : {A : Type 0} (o : Ordering) (here further : A) → match_ordering o further here further ≡ (elim (is_eq o) [ true ↦ here | false ↦ further ])
 found Less here further = refl
@@ -29,15 +29,3 @@ step f d field n v ms rest e = by (bytes_eq field n) ∙ ap (λ o. unwrap_or (op
 pub states_under-get_member : (field : List ℕ) (ms : Members) → states_under field ms ≡ unwrap_or (option_map states_in (get_member field ms)) NoStates
 states_under-get_member field json.no_members = refl
 states_under-get_member field (json.member n v ms) = step states_in NoStates field n v ms (states_under field ms) (states_under-get_member field ms)
-
-pub branches_under-get_member : (ms : Members) → branches_under ms ≡ unwrap_or (option_map scopes_in (get_member (codes "Branches") ms)) NoScopes
-branches_under-get_member json.no_members = refl
-branches_under-get_member (json.member n v ms) = step scopes_in NoScopes (codes "Branches") n v ms (branches_under ms) (branches_under-get_member ms)
-
-pub states_complaints_under-get_member : (names : List (List ℕ)) (ms : Members) → states_complaints_under names ms ≡ unwrap_or (option_map (states_complaints names) (get_member (codes "States") ms)) []
-states_complaints_under-get_member names json.no_members = refl
-states_complaints_under-get_member names (json.member n v ms) = step (states_complaints names) [] (codes "States") n v ms (states_complaints_under names ms) (states_complaints_under-get_member names ms)
-
-pub branches_complaints_under-get_member : (state : List ℕ) (ms : Members) → branches_complaints_under state ms ≡ unwrap_or (option_map (branches_complaints state) (get_member (codes "Branches") ms)) []
-branches_complaints_under-get_member state json.no_members = refl
-branches_complaints_under-get_member state (json.member n v ms) = step (branches_complaints state) [] (codes "Branches") n v ms (branches_complaints_under state ms) (branches_complaints_under-get_member state ms)

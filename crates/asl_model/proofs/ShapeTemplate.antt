@@ -1,6 +1,6 @@
 -- Where `template_shape` answers a shape, the template has a value of it for every tree of the input's shape and
 -- every item of the item's.
-use Rattle.std.proofs.Common.{◌≡◌, ℕ, suc, pos, List, [], ◌∷◌, ◌++◌, map, length, Bool, true, false, ◌&&◌, ◌||◌, not, eqb, Option, Some, None, Result, Ok, Err, refl, sym, ◌∙◌, ap, subst, arith}
+use Rattle.std.proofs.Common.{◌≡◌, ℕ, suc, pos, List, [], ◌∷◌, ◌++◌, map, length, Bool, true, false, ◌&&◌, ◌||◌, not, eqb, Option, Some, None, Result, Ok, Err, refl, ap, subst, arith}
 use Rattle.std.specs.Prelude.{IsTrue, unwrap_or, if◌then◌else◌}
 use Rattle.std.specs.Option.{option_map}
 use Rattle.std.proofs.lemmas.Bool.{and_parts, and_from, eqb-true, false≢true}
@@ -153,9 +153,6 @@ both-arguments (Some s) (Some further) all e =
 -- there are values, each with its shape
 abbrev GivesAll : Shapes → Option Trees → Type 0
 GivesAll shapes values = (ts : Trees) × (values ≡ Some ts) × IsTrue (elements_have shapes (has Never) ts)
-
-same_value : (a b : Option Shape) (r : Shape) → a ≡ Some r → a ≡ b → b ≡ Some r
-same_value a b r e is = sym is ∙ e
 
 mutual
   call-gives : (call : Call) (input : Shape) (item : Option Shape) (r : Shape) (v : Tree) (i : Option Item) → call_shape call input item ≡ Some r → Has input v → ItemHas item i → GivesOne r (call_value call v i)

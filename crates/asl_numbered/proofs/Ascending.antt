@@ -297,15 +297,6 @@ ascend_before place kind s now ss split h own ascend = back (subst (AscendFrom p
 pub ascend_end : (place : ℕ) (ss : List Shape) → ss ≡ [] → AscendFrom place ss
 ascend_end place ss e = rw e none_left
 
--- there are no more than six places
-pub kind_within : (kind : ℕ) (s : Shape) → IsOfKind kind s → kind < 6
-kind_within kind s arrays_alone = omega arith
-kind_within kind s booleans_alone = omega arith
-kind_within kind s integers_alone = omega arith
-kind_within kind s null_alone = omega arith
-kind_within kind s objects_alone = omega arith
-kind_within kind s strings_alone = omega arith
-
 -- ---- the kinds of a shape one by one
 
 sooner : (m n : ℕ) (ss : List Shape) → m ≤ n → AscendFrom n ss → AscendFrom m ss

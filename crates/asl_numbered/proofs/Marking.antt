@@ -64,7 +64,3 @@ marks_start extra all table es below = record { within = below; same = refl }
 pub marks_step : (extra : Bool) (all : List (List ℕ)) (first : model.FieldShapes) (now left : List (List ℕ)) (n : List ℕ) (old new : List model.Shape) (es fs : List (String Global × NodeField)) → Marks extra all first now old es → now ≡ n ∷ left → AreFieldsOf new (with_needed extra n (fields_at old es)) fs → Marks extra all first left new fs
 marks_step extra all first now left n old new es fs marks split are =
     record { within = are.within; same = marks.same ∙ ap (λ ns. with_all_needed extra ns (fields_at old es)) split ∙ ap (with_all_needed extra left) (sym are.same) }
-
-pub marks_end : (extra : Bool) (all : List (List ℕ)) (first : model.FieldShapes) (left : List (List ℕ)) (table : List model.Shape) (es : List (String Global × NodeField)) → Marks extra all first left table es → left ≡ [] → AreFieldsOf table (with_all_needed extra all first) es
-marks_end extra all first left table es marks none =
-    record { within = marks.within; same = sym (marks.same ∙ ap (λ ns. with_all_needed extra ns (fields_at table es)) none) }

@@ -299,10 +299,6 @@ no_more : (xs ys : List ShapeFault) → xs ++ ys ≡ [] → xs ≡ []
 no_more [] ys e = refl
 no_more (x ∷ xs) ys e = absurd (cc)
 
-or_nothing : (b : Bool) → (b || false) ≡ b
-or_nothing true = refl
-or_nothing false = refl
-
 contained_map : (f : Tree → Tree) (xs : List Tree) (x : Tree) → Contains xs x → Contains (map f xs) (f x)
 contained_map f [] x (k, h, e) = absurd (omega (arith, h))
 contained_map f (y ∷ ys) x (zero, h, e) = (zero, omega (arith), ap f e)

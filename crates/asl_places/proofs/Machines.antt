@@ -175,10 +175,6 @@ Scope-adds tokens object cursor old new inner none s = record {
 pub Scope-lists : (tokens : List Token) (object : Spot) (cursor : ℕ) (old new : Found) (inner : List Spot) → NoMemberAt tokens cursor → Scope tokens object cursor old new inner → Lists inner (HasMachineUnder tokens object)
 Scope-lists tokens object cursor old new inner none s x = (s.listed x, λ h. (Covers-end tokens object cursor _ none s.covers h.0 h.1 h.2.stands h.2).1 x h.3)
 
--- a value that is no object has no members
-pub no_members_there : (tokens : List Token) (object : Spot) → (slice_get tokens object.token ≡ Some begin_object → ⊥) → (name : List ℕ) (m : Member) → IsMemberOf tokens object name m → ⊥
-no_members_there tokens object closed name m is = closed is.stands.opens
-
 pub Lists-none : (are : Spot → Type 0) → ((s : Spot) → are s → ⊥) → Lists [] are
 Lists-none are never s = (λ h. let none = h.1 in absurd (omega arith), λ h. absurd (never s h))
 

@@ -5,7 +5,7 @@ use Rattle.std.proofs.lemmas.List.{map-append, length-map, length-set, get_or-se
 use Rattle.std.specs.List.{AllByRecursion}
 use Rattle.std.specs.Prelude.{IfSome}
 use Rattle.asl_model.specs.Shape.{Shape, IsProperShape}
-use Rattle.asl_model.specs.WrittenNumbered.{same_shape, place_of, with_last, is_listed, list_after, list_after_all, list_after_state, list_after_states}
+use Rattle.asl_model.specs.WrittenNumbered.{same_shape, place_of, with_last, is_listed, list_after, list_after_all, list_after_states}
 use Rattle.asl_model.proofs.SameShapes.{same_are, same_itself}
 use Rattle.asl_model.proofs.Listing.{AreBehind, goes_last, proper_all}
 use Rattle.asl_numbered.specs.Expansion.{expansions, shape_at, numbers_in, AreBelow, AreDistinct}
@@ -15,13 +15,12 @@ use Rattle.asl_numbered.specs.declared.kinds.NodeKinds.{NodeKinds}
 use Rattle.asl_numbered.specs.declared.kinds.NodeObjects.{NodeObjects}
 use Rattle.asl_numbered.specs.declared.node.Node.{Node}
 use Rattle.asl_numbered.proofs.Expansions.{as_many, below-append, below-front, below-behind, below-wider}
-use Rattle.asl_records.specs.Numbered.{numbers_view, numbered_entries, AreEntriesBelow}
+use Rattle.asl_records.specs.Numbered.{numbered_entries, AreEntriesBelow}
 use Rattle.asl_records.specs.Listing.{IsPlaced, IsListing, Opens, Puts, array_visits, listed_shapes, object_visits, task_if, tasks_at, visits}
 use Rattle.asl_records.specs.declared.listing.Listing.{Listing}
 use Rattle.asl_records.specs.declared.listing.Task.{Task}
 use Rattle.asl_records.specs.declared.listing.Task.TheVariants.{Visit, List as Put}
 use Rattle.asl_records.proofs.Kept.{Entry}
-use Rattle.asl_records.proofs.Numberings.{next_below}
 use Rattle.asl_records.proofs.Walks.{step_of, steps_of, done, all_done, AreEachFed, done-append, fed-append, fed-front, fed-behind, work, work-append, some_cost, tasks_done, tasks_fed, tasks_work, nothing_more}
 
 -- the number of a task
@@ -297,15 +296,3 @@ pub record ListsStates (nodes : List Node) (final : List Shape) (left : List Ent
 pub states_begun : (nodes : List Node) (all left : List Entry) (listing : Listing) (before : List Shape) → left ≡ all → AreEntriesBelow (length nodes) all → IsListing nodes listing → listed_shapes nodes listing ≡ before → ListsStates nodes (list_after_states before (numbered_entries (expansions nodes) all)) left listing
 states_begun nodes all left listing before same below is made =
     rw same (record { is = is; below = below; same = ap (λ l. list_after_states l (numbered_entries (expansions nodes) all)) made })
-
-pub next_state_listed : (nodes : List Node) (final : List Shape) (now left : List Entry) (m : Entry) (old new : Listing) → now ≡ m ∷ left → ListsStates nodes final now old → IsListing nodes new → listed_shapes nodes new ≡ list_after_state (listed_shapes nodes old) (numbers_view (expansions nodes) m.1) → ListsStates nodes final left new
-next_state_listed nodes final now left m old new split h is made =
-    let so_far : ListsStates nodes final (m ∷ left) old = subst (λ es. ListsStates nodes final es old) split h in
-    record {
-      is = is;
-      below = (next_below (length nodes) now left m split h.below).1;
-      same = ap (λ l. list_after_states l (numbered_entries (expansions nodes) left)) made ∙ so_far.same;
-    }
-
-pub states_ended : (nodes : List Node) (final : List Shape) (left : List Entry) (listing : Listing) → left ≡ [] → ListsStates nodes final left listing → listed_shapes nodes listing ≡ final
-states_ended nodes final left listing end h = subst (λ es. list_after_states (listed_shapes nodes listing) (numbered_entries (expansions nodes) es) ≡ final) end h.same

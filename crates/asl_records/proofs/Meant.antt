@@ -1,9 +1,9 @@
 -- Listed trees that are meant in a table are meant in one that has grown from it.
-use Rattle.std.proofs.Common.{◌≡◌, ℕ, List, length, Bool, Option, Some, None, option_map, IfSome, MatchOption, Bor, Vec, Global, vec_len, refl, sym, ap, subst, ◌∙◌}
+use Rattle.std.proofs.Common.{◌≡◌, ℕ, List, length, Bool, Option, Some, None, option_map, MatchOption, Bor, Vec, Global, vec_len, refl, sym, ap, subst, ◌∙◌}
 use Rattle.std.specs.Option.{IsSomeAnd}
 use Rattle.asl_model.specs.Records.{Reading}
 use Rattle.asl_model.specs.Tree.{Tree}
-use Rattle.asl_numbered.specs.Expansion.{expansions, AreBelow, Keeps}
+use Rattle.asl_numbered.specs.Expansion.{expansions, Keeps}
 use Rattle.asl_numbered.specs.References.{numbers_given}
 use Rattle.asl_numbered.specs.declared.node.Node.{Node}
 use Rattle.asl_records.specs.Listed.{AreInTable, Mean, IsReading}
@@ -42,9 +42,3 @@ lent_same (Some v) (Some ns) h = ap Some h.0
 
 pub lent_meant : (several : Bool) (nodes : List Node) (kept : Option (Vec ℕ Global)) (lent : Option (Bor (List ℕ))) (reading : Reading) → IsLent kept lent → IsReading several nodes (kept_items kept) reading → IsReading several nodes (numbers_given lent) reading
 lent_meant several nodes kept lent reading is means = subst (λ ns. IsReading several nodes ns reading) (sym (lent_same kept lent is)) means
-
-pub lent_there : (nodes : List Node) (kept : Option (Vec ℕ Global)) (lent : Option (Bor (List ℕ))) → IsLent kept lent → IfSome kept (λ ns. AreBelow (length nodes) ns.items) → AreInTable nodes lent
-lent_there nodes None None is below = record { below = tt }
-lent_there nodes None (Some ns) is below = absurd (cc)
-lent_there nodes (Some v) None is below = absurd is
-lent_there nodes (Some v) (Some ns) is below = record { below = subst (AreBelow (length nodes)) (sym is.0) below }

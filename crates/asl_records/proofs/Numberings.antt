@@ -1,6 +1,6 @@
 -- The steps of numbering a certificate's shapes, and of making them again.
-use Rattle.std.proofs.Common.{◌≡◌, ◌<◌, ◌≤◌, ℕ, List, [], ◌∷◌, ◌++◌, length, take, map, Some, None, String, Global, string_bytes, string_cmp, refl, sym, ap, ◌∙◌, subst, append_assoc, append-nil, arith}
-use Rattle.std.proofs.lemmas.List.{map-append, take_all}
+use Rattle.std.proofs.Common.{◌≡◌, ◌<◌, ℕ, List, [], ◌∷◌, ◌++◌, length, map, Some, String, Global, string_bytes, string_cmp, refl, sym, ap, ◌∙◌, subst, append_assoc, append-nil, arith}
+use Rattle.std.proofs.lemmas.List.{map-append}
 use Rattle.std.specs.BTreeMap.{insert_entry}
 use Rattle.std.specs.List.{AllByRecursion}
 use Rattle.std.specs.List.Sorted.{IsStrictlySortedBy}
@@ -82,14 +82,8 @@ pub listed_more : (old new : List Node) (before after : List code.Shape) (s : co
 listed_more old new before after s ns ms n keeps are is more also =
     rw (more, also, map-append view before (s ∷ [])) (listed_push old new (map view before) (view s) ns n keeps are is)
 
-pub listed_all : (nodes : List Node) (i : ℕ) (shapes : List code.Shape) (ns : List ℕ) → length shapes ≤ i → AreListOf nodes (map view (take i shapes)) ns → AreListOf nodes (map view shapes) ns
-listed_all nodes i shapes ns past are = subst (λ ss. AreListOf nodes (map view ss) ns) (take_all i shapes past) are
-
 pub item_numbered : (nodes : List Node) (s : Shape) (n : ℕ) → IsNumberOf (expansions nodes) s n → IsItemOf nodes (Some s) (Some n)
 item_numbered nodes s n is = record { below = omega (arith, is.within, as_many nodes); same = ap Some is.same }
-
-pub no_item : (nodes : List Node) → IsItemOf nodes None None
-no_item nodes = record { below = tt; same = refl }
 
 -- the parts of a state, which get their numbers one after another
 pub state_numbered : (one two three four : List Node) (shapes : model.StateShapes) (numbers : StateNumbers) → IsNumberOf (expansions one) shapes.input numbers.input → Keeps (expansions one) (expansions two) → IsNumberOf (expansions two) shapes.output numbers.output

@@ -1,21 +1,19 @@
 -- What is written over a list of shapes, part by part.
-use Rattle.std.proofs.Common.{◌≡◌, ◌<◌, ◌≤◌, ◌^◌, ℕ, suc, pos, codes, not, List, [], ◌∷◌, ◌++◌, length, map, take, get_or, Bool, true, false, if◌then◌else◌, is_some, Option, Some, None, option_map, unwrap_or, String, Global, string_bytes, Vec, refl, sym, ap, ap₂, ◌∙◌, append_assoc, arith}
+use Rattle.std.proofs.Common.{◌≡◌, ◌<◌, ◌≤◌, ◌^◌, ℕ, suc, pos, codes, not, List, [], ◌∷◌, ◌++◌, length, map, take, get_or, Bool, true, false, if◌then◌else◌, is_some, Option, Some, None, option_map, unwrap_or, String, Global, string_bytes, Vec, refl, sym, ap, ◌∙◌, append_assoc, arith}
 use Rattle.std.specs.Prelude.{IfSome}
 use Rattle.std.specs.List.{AllByRecursion}
 use Rattle.std.proofs.lemmas.List.{append-nil, map-append, length-map, get_or_default, take_all}
-use Rattle.asl_model.specs.Shape.{Shape, ObjectsOf, ArraysOf, FieldShapes, NoFieldShapes, AndFieldShape, has_arrays, has_objects, name_if, IsProperShape}
+use Rattle.asl_model.specs.Shape.{Shape, ArraysOf, IsProperShape}
 use Rattle.asl_model.specs.Certificate.{StateShapes, Certificate}
 use Rattle.asl_model.specs.RecordShapes.{HoldsForState, HoldsForCertificate}
 use Rattle.asl_model.specs.ShapeFlow.{how_many_shapes}
 use Rattle.asl_model.specs.ShapeOrder.{is_any_shape}
 use Rattle.asl_model.specs.Tree as json
-use Rattle.asl_model.specs.Written.{written_shape, written_list, written_entries, written_state, certificate_written, version_of, some_shapes, some_fields, some_names, type_field, array_fields, object_fields, written_kinds, needed_names, as_texts}
-use Rattle.asl_model.specs.Written as model
-use Rattle.asl_model.specs.WrittenNumbered.{same_shape, place_of, shapes_listed, reference, referring, places_referring, fields_referring, with_arrays_over, with_objects_over, written_over, written_numbered}
+use Rattle.asl_model.specs.Written.{written_shape, written_list, written_entries, written_state, certificate_written, version_of, some_shapes, array_fields, needed_names, as_texts}
+use Rattle.asl_model.specs.WrittenNumbered.{same_shape, place_of, shapes_listed, reference, referring, places_referring, fields_referring, with_arrays_over, written_over, written_numbered}
 use Rattle.asl_numbered.specs.Expansion.{expansions, shape_at, shapes_at, fields_at, numbers_in}
-use Rattle.asl_numbered.specs.TakenApart.{AreArraysIfAny, AreObjectsIfAny, arrays_over, kinds_over, objects_over}
+use Rattle.asl_numbered.specs.TakenApart.{AreArraysIfAny, AreObjectsIfAny}
 use Rattle.asl_numbered.specs.declared.kinds.NodeArrays.{NodeArrays}
-use Rattle.asl_numbered.specs.declared.kinds.NodeKinds.{NodeKinds}
 use Rattle.asl_numbered.specs.declared.kinds.NodeObjects.{NodeObjects}
 use Rattle.asl_numbered.proofs.Expansions.{below-wider}
 use Rattle.asl_numbered.specs.declared.node.Node.{Node}
@@ -24,9 +22,7 @@ use Rattle.asl_tree.specs.View as trees
 use Rattle.asl_tree.specs.declared.Tree.{Tree}
 use Rattle.asl_tree.specs.declared.Tree as tree
 use Rattle.asl_shape.specs.Adding.{some_listed, with_field}
-use Rattle.asl_shape.specs.WrittenKinds.{are_closed, items_written, names_of, with_arrays, with_objects}
-use Rattle.asl_shape.specs.declared.writing.WrittenArrays.{WrittenArrays}
-use Rattle.asl_shape.specs.declared.writing.WrittenObjects.{WrittenObjects}
+use Rattle.asl_shape.specs.WrittenKinds.{items_written}
 use Rattle.asl_shape.proofs.Views.{view_text}
 use Rattle.asl_records.specs.Listing.{IsPlaced, listed_shapes}
 use Rattle.asl_records.specs.Numbered.{numbered_view, numbered_entries}
@@ -122,38 +118,6 @@ arrays_written listed table first rest ts None e some is others =
     rw (sym some, some_first (referring listed) table ts first e, how_many (referring listed) table ts first e, e, places_referred listed table first) refl
 arrays_written listed table first rest ts (Some t) e some is others =
     rw (sym some, some_first (referring listed) table ts first e, how_many (referring listed) table ts first e, e, places_referred listed table first, is) refl
-
-some_properties : (listed : List Shape) (es : List (String Global × Tree)) (fields : FieldShapes) → trees.entries_view es ≡ fields_referring listed fields → some_listed es ≡ some_fields fields
-some_properties listed [] NoFieldShapes e = refl
-some_properties listed [] (AndFieldShape n needed s fields) e = absurd (cc)
-some_properties listed (x ∷ es) NoFieldShapes e = absurd (cc)
-some_properties listed (x ∷ es) (AndFieldShape n needed s fields) e = refl
-
-some_required : (ts : List Tree) (ns : List (List ℕ)) → trees.elements_view ts ≡ as_texts ns → some_listed ts ≡ some_names ns
-some_required [] [] e = refl
-some_required [] (n ∷ ns) e = absurd (cc)
-some_required (t ∷ ts) [] e = absurd (cc)
-some_required (t ∷ ts) (n ∷ ns) e = refl
-
--- those for objects
-pub objects_written : (listed : List Shape) (fields : FieldShapes) (extra : Bool) (es : List (String Global × Tree)) (ts : List Tree) → trees.entries_view es ≡ fields_referring listed fields → trees.elements_view ts ≡ as_texts (needed_names fields) → (others : json.Fields)
-    → object_fields (some_listed es) (some_listed ts) (json.Object (trees.entries_view es)) (trees.elements_view ts) others ≡ with_objects_over listed (ObjectsOf fields extra) others
-objects_written listed fields extra es ts e f others = rw (some_properties listed es fields e, some_required ts (needed_names fields) f, e, f) refl
-
--- a shape over its parts
-pub kinds_written : (listed table : List Shape) (kinds : NodeKinds) (arrays : Option WrittenArrays) (objects : Option WrittenObjects)
-    → ((others : json.Fields) → with_arrays arrays others ≡ with_arrays_over listed (arrays_over table kinds.arrays) others) → is_some arrays ≡ has_arrays (arrays_over table kinds.arrays)
-    → ((others : json.Fields) → with_objects objects others ≡ with_objects_over listed (objects_over table kinds.objects) others) → is_some objects ≡ has_objects (objects_over table kinds.objects) → are_closed objects ≡ model.are_closed (objects_over table kinds.objects)
-    → (names : List (List ℕ)) → names ≡ names_of (record { null = kinds.null; boolean = kinds.boolean; integer = kinds.integer; text = kinds.text; arrays = arrays; objects = objects })
-    → written_kinds (are_closed objects) names (with_arrays arrays (with_objects objects (type_field names))) ≡ written_over listed (kinds_over table kinds)
-kinds_written listed table kinds arrays objects e some f others closed names named =
-    let lists = arrays_over table kinds.arrays in
-    let maps = objects_over table kinds.objects in
-    let keywords = e (with_objects objects (type_field names)) ∙ ap (with_arrays_over listed lists) (f (type_field names)) in
-    let types = named ∙ ap₂ (λ a o. name_if a (codes "array") (name_if kinds.boolean (codes "boolean") (name_if kinds.integer (codes "integer") (name_if kinds.null (codes "null") (name_if o (codes "object") (name_if kinds.text (codes "string") [])))))) some others in
-    ap (written_kinds (are_closed objects) names) keywords
-    ∙ ap (λ b. written_kinds b names (with_arrays_over listed lists (with_objects_over listed maps (type_field names)))) closed
-    ∙ ap (λ ns. written_kinds (model.are_closed maps) ns (with_arrays_over listed lists (with_objects_over listed maps (type_field ns)))) types
 
 -- ---- needed names
 

@@ -108,6 +108,3 @@ next_told several field now all left rest ns lent v fault same h split told =
 -- at the end
 pub none_wrong : (several : Bool) (now : List Node) (all left : List Value) (ns : List ℕ) → ReadsListed several now all left ns → left ≡ [] → listing_complaints several [] (items_view all) ≡ []
 none_wrong several now all left ns h end = ap (map (complaint_of [] _)) (h.wrong ∙ ap (λ vs. listed_misfits several h.trees (items_view vs)) end)
-
-pub all_meant : (several : Bool) (now : List Node) (all left : List Value) (ns : List ℕ) → ReadsListed several now all left ns → left ≡ [] → AreMeant several (expansions now) ns (listed_after [] (items_view all))
-all_meant several now all left ns h end = subst (AreMeant several (expansions now) ns) (sym (h.listed ∙ ap (λ vs. listed_after h.trees (items_view vs)) end)) h.meant

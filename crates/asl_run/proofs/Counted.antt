@@ -14,7 +14,7 @@ use Rattle.asl_run.specs.declared.entries.Want.{Want}
 use Rattle.asl_run.specs.declared.nodes.Children.{Children}
 use Rattle.asl_run.specs.declared.nodes.Node.{Node}
 use Rattle.asl_run.specs.declared.nodes.Node.TheVariants.{Split}
-use Rattle.asl_run.proofs.Adding.{drop_here, drop_past, own_open}
+use Rattle.asl_run.proofs.Adding.{drop_here, own_open}
 use Rattle.asl_run.proofs.OpenCounts.{split_counted}
 use Rattle.asl_run.proofs.Parts.{in_part}
 use Rattle.asl_run.proofs.Tables.{heads_below, shown_here, some_shown}
@@ -59,9 +59,6 @@ split_node_counted nodes table i node visit range children found own there is ar
 pub record AreCounted (nodes : List Node) (children : Children) (i counted : ℕ) : Type 0 where
   pub left : (names : List (List ℕ)) → counted + open_among (children_of (drop i (in_table (Some children) (shown_from names 0 nodes)))) ≡ open_below_count names nodes children
 
-pub none_counted : (nodes : List Node) (children : Children) → AreCounted nodes children 0 0
-none_counted nodes children = record { left = λ names. omega arith }
-
 next_counted : (names : List (List ℕ)) (nodes : List Node) → IsTable nodes → (children : Children) (i : ℕ) → children.first.0 + children.count ≤ length nodes → i < children.count
     → open_among (children_of (drop i (in_table (Some children) (shown_from names 0 nodes)))) ≡ open_count (shown_at names nodes (children.first.0 + i)) + open_among (children_of (drop (suc i) (in_table (Some children) (shown_from names 0 nodes))))
 next_counted names nodes table children i within less =
@@ -84,8 +81,3 @@ one_counted nodes table children i counted more within less h is = record {
       let next = ap (λ k. open_among (children_of (drop k all))) step in
       omega (arith, next, next_counted names nodes table children i within less, h.left names, is names);
 }
-
-pub all_counted : (nodes : List Node) (children : Children) (i counted : ℕ) → children.count ≤ i → AreCounted nodes children i counted → (names : List (List ℕ)) → counted ≡ open_below_count names nodes children
-all_counted nodes children i counted end h names =
-    let none = ap (λ xs. open_among (children_of xs)) (drop_past i children.count (drop children.first.0 (shown_from names 0 nodes)) end) in
-    omega (arith, none, h.left names)

@@ -24,10 +24,6 @@ raised_within (c ∷ cs) zero n h e =
     ap (λ m. m ∷ cs) higher
 raised_within (c ∷ cs) (suc i) n h e = ap (λ l. c ∷ l) (raised_within cs i n (omega arith) e)
 
--- counts that reach far enough
-pub reaches_already : (cs : List ℕ) (i : ℕ) → i < length cs → Reaches i cs cs
-reaches_already cs i h = record { written = h; same_count = refl; same_raised = refl }
-
 zeros_reach : (d : ℕ) → Reaches d [] (replicate (suc d) 0)
 zeros_reach zero = record { written = omega arith; same_count = refl; same_raised = refl }
 zeros_reach (suc d) =

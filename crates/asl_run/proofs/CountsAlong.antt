@@ -47,12 +47,6 @@ counted_along names j before after changed c d q above here (k ∷ place) i e =
     by_child None f g inner = none_some g
     by_child (Some x) f g inner = through x (child_found before i k x f) (above_above changed.table.parents j q x above (place_above before changed.table place x q g)) (inner x g)
 
--- where the changed node goes on, before and after
-pub counted_going : (names : List (List ℕ)) (j : ℕ) (before after : List Node) (changed : IsChangedAt j before after) → has_ended (shown_at names before j) ≡ false → has_ended (shown_at names after j) ≡ false
-    → (place : List ℕ) (i : ℕ) → number_from before i place ≡ Some j → IsCounted names before after (open_count (shown_at names before j)) (open_count (shown_at names after j)) i
-counted_going names j before after changed went goes place i e =
-    counted_along names j before after changed (open_count (shown_at names before j)) (open_count (shown_at names after j)) j (above_itself changed.table.parents j) (record { same = omega arith; went = went; goes = goes }) place i e
-
 -- whatever it is changed to, at its parent: that one's own place counts, too
 pub counted_at_parent : (names : List (List ℕ)) (j : ℕ) (before after : List Node) (changed : IsChangedAt j before after) (q k : ℕ) (child : IsChild before q k j)
     → let children = children_of (in_table (Some child.children) (shown_from names 0 before)) in

@@ -1,6 +1,5 @@
 -- All that is kept of a run stays so where a node is changed that wants an event.
-use Rattle.std.proofs.Common.{◌≡◌, ◌≢◌, ◌<◌, ◌≤◌, ◌⊎◌, inl, inr, refl, sym, ap, ◌∙◌, subst, arith, ℕ, ◌+◌, ◌-◌, false, List, [], ◌∷◌, ◌++◌, length, take, drop, append-nil, slice_get, Option, Some, None, option_and_then}
-use Rattle.std.proofs.lemmas.List.{drop_all, take_all}
+use Rattle.std.proofs.Common.{◌≡◌, ◌≢◌, ◌<◌, ◌≤◌, ◌⊎◌, inl, inr, refl, sym, ap, ◌∙◌, subst, arith, ℕ, ◌+◌, ◌-◌, false, List, [], ◌∷◌, length, slice_get, Option, Some, None, option_and_then}
 use Rattle.std.proofs.lemmas.Option.{slice_get_within}
 use Rattle.asl_model.specs.Run.{Activity, Ready, Waiting, Split, Done, Failed, joining, set_child}
 use Rattle.asl_model.proofs.RunOptions.{some_inj, none_some}
@@ -27,11 +26,6 @@ use Rattle.asl_run.proofs.OpenCounts.{own_count}
 use Rattle.asl_run.proofs.Parts.{there}
 use Rattle.asl_run.proofs.Tables.{IsChild, child_found, child_within, shown_here}
 use Rattle.asl_run.proofs.WrittenTables.{by_less, by_same}
-
--- what is written back through a slice of all of a list
-pub written_back : {A : Type 0} (n : ℕ) (xs ys : List A) → n ≡ length ys → length xs ≡ length ys → take n (xs ++ drop (length xs) ys) ≡ xs
-written_back n xs ys is same =
-    ap (λ more. take n (xs ++ more)) (drop_all (length xs) ys (omega (arith, same))) ∙ ap (take n) (append-nil xs) ∙ take_all n xs (omega (arith, is, same))
 
 -- a node that wants an event
 record Wants (all : List Node) (j : ℕ) : Type 0 where

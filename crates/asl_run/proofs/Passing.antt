@@ -2,7 +2,7 @@
 use Rattle.std.proofs.Common.{◌≡◌, ◌<◌, ◌≤◌, sym, ap, ◌∙◌, arith, ℕ, ◌+◌, ◌-◌, true, false, List, slice_get, Some}
 use Rattle.asl_model.proofs.RunOptions.{some_inj}
 use Rattle.asl_run.specs.Changing.{node_ended}
-use Rattle.asl_run.specs.Counting.{IsBehindRunning, IsFirstRunning}
+use Rattle.asl_run.specs.Counting.{IsBehindRunning}
 use Rattle.asl_run.specs.declared.nodes.Children.{Children}
 use Rattle.asl_run.specs.declared.nodes.Node.{Node}
 use Rattle.asl_run.proofs.WrittenTables.{by_same}
@@ -10,9 +10,6 @@ use Rattle.asl_run.proofs.WrittenTables.{by_same}
 -- the children from one number on and before another have ended
 pub record AreEnded (nodes : List Node) (children : Children) (from to : ℕ) : Type 0 where
   pub each : (k : ℕ) (node : Node) → from ≤ k → k < to → slice_get nodes (children.first.0 + k) ≡ Some node → node_ended node ≡ true
-
-pub none_between : (nodes : List Node) (children : Children) (k : ℕ) → AreEnded nodes children k k
-none_between nodes children k = record { each = λ i node more less e. absurd (omega (arith, more, less)) }
 
 here_ended : (nodes : List Node) (children : Children) (i k : ℕ) (found node : Node) → i ≡ k → slice_get nodes (children.first.0 + k) ≡ Some found → true ≡ node_ended found → slice_get nodes (children.first.0 + i) ≡ Some node → node_ended node ≡ true
 here_ended nodes children i k found node same there ended e =
@@ -26,16 +23,7 @@ one_behind nodes children from k found there ended h = record {
       (λ other. h.each i node more (omega (arith, less, other)) e);
 }
 
-pub one_before : (nodes : List Node) (children : Children) (k to : ℕ) (found : Node) → 0 < k → slice_get nodes (children.first.0 + (k - 1)) ≡ Some found → true ≡ node_ended found → AreEnded nodes children k to → AreEnded nodes children (k - 1) to
-one_before nodes children k to found some there ended h = record {
-  each = λ i node more less e. by_same i (k - 1)
-      (λ same. here_ended nodes children i (k - 1) found node same there ended e)
-      (λ other. h.each i node (omega (arith, more, other)) less e);
 }
-
--- the first that hasn't ended
-pub first_is : (nodes : List Node) (children : Children) (from to k : ℕ) → from ≤ k → AreEnded nodes children from k → ((node : Node) → k < to → slice_get nodes (children.first.0 + k) ≡ Some node → node_ended node ≡ false) → IsFirstRunning nodes children from to k
-first_is nodes children from to k lower h runs = record { lower = lower; passed = h.each; runs = runs }
 
 -- behind the last that hasn't
 pub behind_is : (nodes : List Node) (children : Children) (from to k : ℕ) → k ≤ to → AreEnded nodes children k to → ((node : Node) → from < k → slice_get nodes (children.first.0 + (k - 1)) ≡ Some node → node_ended node ≡ false) → IsBehindRunning nodes children from to k

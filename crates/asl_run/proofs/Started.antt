@@ -6,7 +6,6 @@ use Rattle.asl_states.specs.declared.machine.Machine.{Machine}
 use Rattle.asl_model.specs.Machine.{Scope, ScopeOf, NoStates, AndState, start_of}
 use Rattle.asl_model.specs.Numbering.{Placement, Table, table_of, own_scope, HasNamed, IsWellNamed}
 use Rattle.asl_model.specs.Run as model
-use Rattle.asl_model.specs.Tree.{Tree}
 use Rattle.asl_model.proofs.RunOptions.{some_inj, none_some}
 use Rattle.asl_run.specs.Enabling.{Adds, AddsPlaces, open_in}
 use Rattle.asl_run.specs.Standing.{name_in, no_name, StandsIn}
@@ -15,7 +14,6 @@ use Rattle.asl_run.specs.declared.activities.Visit.{Visit}
 use Rattle.asl_run.specs.declared.nodes.Node.{Node}
 use Rattle.asl_run.specs.declared.nodes.Node.TheVariants.{Ready}
 use Rattle.asl_tree.specs.View.{view}
-use Rattle.asl_model.proofs.RunStands.{start_stands}
 use Rattle.asl_run.proofs.Leading.{HasNumber, has_number}
 use Rattle.asl_run.proofs.OpenPlaces.{adds_to_none, enabled_is_open}
 
@@ -51,10 +49,6 @@ start_missing {A = A} machine m shown e =
 -- the table of one node that is about to enter the start
 pub is_start : (m : Scope) (names : List (List ℕ)) (visit : Visit) (nodes : List Node) → nodes ≡ Ready visit ∷ [] → name_in names visit.state ≡ start_of m → visit.counts.items ≡ [] → shown_at names nodes 0 ≡ model.start m (view visit.raw.value)
 is_start m names visit nodes is named none = ap (λ (l : List Node). shown_at names l 0) is ∙ ap (λ k. model.Ready k (view visit.raw.value) visit.counts.items) named ∙ ap (model.Ready (start_of m) (view visit.raw.value)) none
-
--- stands in the machine's scope
-pub starts_standing : (machine : Machine) (m : Scope) → Shows machine m → (a : model.Activity) (input : Tree) → a ≡ model.start m input → StandsIn a m
-starts_standing machine m shown a input is = subst (λ b. StandsIn b m) (sym is) (start_stands m shown.well_named.leads input)
 
 -- the places that were added to none are all that want an event
 pub all_open : (nodes all : List Node) (i : ℕ) (place : List ℕ) (before after : List (List ℕ × model.Want)) → nodes ≡ all → i ≡ 0 → place ≡ [] → before ≡ [] → AddsPlaces nodes i place before after → (names : List (List ℕ)) → after ≡ open_in (shown_at names all 0)

@@ -245,8 +245,3 @@ pub planned : {E : Type 0} (happening : Happening) (below : model.Activities) (n
 planned {E = E} happening below node plan made is acts =
     let known : IfOk {E = E} (Ok (Some plan)) (λ p. Acts happening.machine.now happening.at.now below node (action_of happening) p) = subst (λ r. IfOk r (λ p. Acts happening.machine.now happening.at.now below node (action_of happening) p)) is acts in
     known.planned
-
--- none was
-pub unplanned : {E : Type 0} (happening : Happening) (below : model.Activities) (node : Node) (made : Result (Option Plan) E) → made ≡ Ok None → IfOk made (λ p. Acts happening.machine.now happening.at.now below node (action_of happening) p)
-    → Acts happening.machine.now happening.at.now below node (action_of happening) None
-unplanned happening below node made is acts = subst (λ r. IfOk r (λ p. Acts happening.machine.now happening.at.now below node (action_of happening) p)) is acts

@@ -7,7 +7,7 @@ use Rattle.std.specs.declared.rc.Rc.{Rc}
 use Rattle.asl_model.specs.Run as model
 use Rattle.asl_model.proofs.RunOptions.{some_inj, none_some}
 use Rattle.asl_run.specs.Activities.{ready_view}
-use Rattle.asl_run.specs.Changing.{AreAlike, IsAlike, IsApplied, IsRaised, IsSame, IsWritten, changed, children_in, node_ended, visit_in}
+use Rattle.asl_run.specs.Changing.{AreAlike, IsAlike, IsApplied, IsRaised, IsWritten, changed, children_in, node_ended, visit_in}
 use Rattle.asl_run.specs.Nodes.{IsRange, IsTable, in_range, in_table, range_of, shown_at, shown_from, shown_over}
 use Rattle.asl_run.specs.Standing.{children_of, name_in}
 use Rattle.asl_run.specs.declared.activities.Visit.{Visit}
@@ -32,13 +32,6 @@ pub by_same : {C : Type 0} (i j : ℕ) → (i ≡ j → C) → (i ≢ j → C) �
 by_same i j same other = by_levels i j same (λ t e. other (λ f. absurd (omega (arith, e, f)))) (λ t e. other (λ f. absurd (omega (arith, e, f))))
 
 -- ---- nodes that are alike
-
--- nothing was written
-pub alike_itself : (nodes : List Node) → AreAlike nodes nodes
-alike_itself nodes = record { long = refl; each = λ i old new e f. alike (some_inj (sym e ∙ f)) }
-  where
-    alike : {old new : Node} → old ≡ new → IsAlike old new
-    alike e = record { range = ap range_of (sym e); shows = λ names below. ap (shown_over names below) (sym e) }
 
 -- one node was written that is alike
 pub alike_at : (before : List Node) (j : ℕ) (was now : Node) → slice_get before j ≡ Some was → IsAlike was now → AreAlike before (slice_set before j now)
@@ -330,31 +323,10 @@ retry_written j before after was node retrier there written alone retries =
     ∙ ap (model.Ready (name_in names visit.state) (trees.view visit.raw.value)) raised.counts)
 
 -- the same execution shows the same
-pub same_ready : (before after : Visit) → IsSame before after → IsAlike (nodes.Ready before) (nodes.Ready after)
-same_ready before after h = record {
-  range = refl;
-  shows = λ names below.
-      ap (λ i. model.Ready (name_in names i) (trees.view after.raw.value) after.counts.items) h.state
-      ∙ ap (λ (t : Rc Tree Global). model.Ready (name_in names before.state) (trees.view t.value) after.counts.items) h.raw
-      ∙ ap (model.Ready (name_in names before.state) (trees.view before.raw.value)) h.counts;
 }
 
-pub same_waiting : (before after : Visit) (payload : Rc Tree Global) → IsSame before after → IsAlike (nodes.Waiting before payload) (nodes.Waiting after payload)
-same_waiting before after payload h = record {
-  range = refl;
-  shows = λ names below.
-      ap (λ i. model.Waiting (name_in names i) (trees.view after.raw.value) after.counts.items (trees.view payload.value)) h.state
-      ∙ ap (λ (t : Rc Tree Global). model.Waiting (name_in names before.state) (trees.view t.value) after.counts.items (trees.view payload.value)) h.raw
-      ∙ ap (λ cs. model.Waiting (name_in names before.state) (trees.view before.raw.value) cs (trees.view payload.value)) h.counts;
 }
 
-pub same_split : (before after : Visit) (children : Children) → IsSame before after → IsAlike (nodes.Split before children) (nodes.Split after children)
-same_split before after children h = record {
-  range = refl;
-  shows = λ names below.
-      ap (λ i. model.Split (name_in names i) (trees.view after.raw.value) after.counts.items below) h.state
-      ∙ ap (λ (t : Rc Tree Global). model.Split (name_in names before.state) (trees.view t.value) after.counts.items below) h.raw
-      ∙ ap (λ cs. model.Split (name_in names before.state) (trees.view before.raw.value) cs below) h.counts;
 }
 
 -- ---- nodes that are added

@@ -3,7 +3,6 @@ use Rattle.std.proofs.Common.{◌≡◌, ◌<◌, ◌+◌, ℕ, List, [], ◌∷
 use Rattle.std.specs.BTreeMap.{insert_entry}
 use Rattle.std.specs.Ordering.{match_ordering}
 use Rattle.std.specs.Prelude.{IsTrue, is_some, bytes_eq, if◌then◌else◌}
-use Rattle.std.proofs.lemmas.Bool.{false≢true}
 use Rattle.std.proofs.lemmas.Bool.Decides.{eqb_tells}
 use Rattle.std.proofs.lemmas.Slice.Eq.{bytes_eq-Decides}
 use Rattle.asl_model.specs.Certificate.{TaskShapes, under}
@@ -41,10 +40,6 @@ under_inserted f n (e ∷ es) k v = go (string_cmp k e.0) refl (under_inserted f
         by false is below = rw below refl
 
 -- none of no states
-pub tasks-none : (table : Table) → AreTasksOf table 0 []
-tasks-none table = record {
-  each = λ i n below at. absurd (omega (arith, below));
-  others = λ n there. absurd (false≢true there);
 }
 
 -- one state more, which is no Task

@@ -79,10 +79,6 @@ set_value-put n f g (m ∷ ms) h found = go (slice_cmp nat_cmp n (string_bytes m
         let there : lookup (named n) ms ≡ Some g = rw is at found in
         rw is (ap (model.AndFieldShape (string_bytes m.0) m.1.needed (view m.1.shape)) (below there))
 
--- writing through a map's field that is there is the setting of its mention
-pub written_mention : (n : List ℕ) (f g : Field) (ms : List Mention) → IsStrictlySortedBy string_cmp (keys_of ms) → lookup (named n) ms ≡ Some g → fields_view (set_value (named n) ms f) ≡ set_mention n f.needed (view f.shape) (fields_view ms)
-written_mention n f g ms h found = set_value-put n f g ms h found ∙ put-set_mention n f.needed (view f.shape) ms h
-
 -- inserting a field into a map is the setting of its mention
 pub inserted_mention : (name : List ℕ) (k : String Global) (f : Field) (ms new : List Mention) → string_bytes k ≡ name → IsStrictlySortedBy string_cmp (keys_of ms) → new ≡ insert_entry string_cmp ms k f → fields_view new ≡ set_mention name f.needed (view f.shape) (fields_view ms)
 inserted_mention name k f ms new same ordered inserted =

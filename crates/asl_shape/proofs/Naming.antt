@@ -1,5 +1,5 @@
 -- Reading the names in `required`, one after another.
-use Rattle.std.proofs.Common.{◌≡◌, ℕ, List, [], ◌∷◌, ◌++◌, Bool, true, false, not, ◌&&◌, ◌||◌, cond, Vec, String, string_bytes, bytes_eq, refl, sym, ap, ◌∙◌, append_assoc}
+use Rattle.std.proofs.Common.{◌≡◌, ℕ, List, [], ◌∷◌, ◌++◌, Bool, true, false, not, ◌&&◌, ◌||◌, cond, String, string_bytes, bytes_eq, refl, sym, ap, ◌∙◌, append_assoc}
 use Rattle.std.specs.Borrow.{Bor}
 use Rattle.std.specs.List.{list_any}
 use Rattle.std.specs.declared.alloc.Global.{Global}
@@ -7,26 +7,20 @@ use Rattle.std.specs.Cmp.Lexicographic.{slice_cmp}
 use Rattle.std.proofs.lemmas.Cmp.{nat_list_eq_equiv}
 use Rattle.std.specs.Ordering.{is_eq, nat_cmp}
 use Rattle.std.proofs.lemmas.List.{map-append}
-use Rattle.asl_model.specs.ShapeSpelling.{texts_among, is_text_value, is_among, are_texts, are_distinct, unless, NotAShape}
+use Rattle.asl_model.specs.ShapeSpelling.{texts_among, is_among, are_texts, are_distinct, unless, NotAShape}
 use Rattle.asl_model.specs.Tree as json
 use Rattle.asl_shape.specs.LevelView.{texts}
 use Rattle.asl_shape.specs.Refusal.{Tells}
 use Rattle.asl_shape.specs.Spelled as trees
-use Rattle.asl_shape.specs.Spelled.{spelled}
 use Rattle.asl_shape.specs.declared.ShapeRefusal.{ShapeRefusal}
-use Rattle.serde_json.proofs.Views.{view-Array}
 use Rattle.serde_json.specs.declared.value.Value.{Value}
-use Rattle.serde_json.specs.declared.value.Value as value
 use Rattle.asl_shape.proofs.Lookups.{same_name}
 use Rattle.asl_shape.proofs.Requiring.{are_new, new_next}
-use Rattle.asl_shape.proofs.Telling.{told_same, told_first, told_second}
+use Rattle.asl_shape.proofs.Telling.{told_same, told_second}
 
 -- one of the texts has these bytes
 abbrev pub has : List (Bor (List ℕ)) → List ℕ → Bool
 has keys n = list_any (λ k. is_eq (slice_cmp nat_cmp n k.now)) keys
-
-view_items : (names : Vec Value Global) → trees.view (value.Array names) ≡ json.Array (trees.elements_view names.items)
-view_items names = ap spelled (view-Array names)
 
 shown_split : (left rest : List Value) (item : Value) (name : List ℕ) → left ≡ item ∷ rest → trees.view item ≡ json.Text name → trees.elements_view left ≡ json.AndTree (json.Text name) (trees.elements_view rest)
 shown_split left rest item name split is = ap trees.elements_view split ∙ ap (λ t. json.AndTree t (trees.elements_view rest)) is
@@ -70,12 +64,6 @@ listed_step left rest item n names new all split is pushed so_far =
     ∙ ap (λ ts. texts names ++ texts_among ts) (shown_split left rest item (string_bytes n.now) split is)
     ∙ sym (append_assoc (texts names) (string_bytes n.now ∷ []) ns)
     ∙ ap (λ ms. ms ++ ns) (sym (map-append (λ (x : Bor (String Global)). string_bytes x.now) names (n ∷ [])) ∙ ap texts (sym pushed))
-
--- an element that is no text is wrong
-pub unnamed_told : (e : ShapeRefusal) (all left rest : List Value) (item : Value) → are_texts (trees.elements_view all) ≡ are_texts (trees.elements_view left) → left ≡ item ∷ rest → Tells e (unless (is_text_value (trees.view item)) NotAShape) → Tells e (unless (are_texts (trees.elements_view all) && are_distinct (texts_among (trees.elements_view all))) NotAShape)
-unnamed_told e all left rest item so_far split told =
-    let here : are_texts (trees.elements_view all) ≡ (is_text_value (trees.view item) && are_texts (trees.elements_view rest)) = so_far ∙ ap (λ ts. are_texts (trees.elements_view ts)) split in
-    told_first e (are_texts (trees.elements_view all)) (are_distinct (texts_among (trees.elements_view all))) NotAShape (told_same e _ _ (told_first e (is_text_value (trees.view item)) (are_texts (trees.elements_view rest)) NotAShape told) (ap (λ b. unless b NotAShape) (sym here)))
 
 -- so is a name that is taken
 pub repeated_told : (e : ShapeRefusal) (all left rest : List Value) (item : Value) (name : List ℕ) (keys : List (Bor (List ℕ))) → are_distinct (texts_among (trees.elements_view all)) ≡ are_new (texts_among (trees.elements_view left)) (has keys) → left ≡ item ∷ rest → trees.view item ≡ json.Text name → has keys name ≡ true → Tells e (NotAShape ∷ []) → Tells e (unless (are_texts (trees.elements_view all) && are_distinct (texts_among (trees.elements_view all))) NotAShape)

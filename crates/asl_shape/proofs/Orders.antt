@@ -1,6 +1,5 @@
 -- A map's names are in order, and what is known of its fields, or of shapes, one by one is known of all.
 use Rattle.std.proofs.Common.{◌≡◌, List, [], ◌∷◌, map, refl, String}
-use Rattle.std.specs.Prelude.{IsTrue}
 use Rattle.std.specs.declared.alloc.Global.{Global}
 use Rattle.std.specs.List.Sorted.{IsStrictlySortedBy}
 use Rattle.std.specs.Map.{keys_of}
@@ -10,7 +9,7 @@ use Rattle.asl_shape.specs.declared.shape.Shape.{Shape}
 use Rattle.asl_shape.specs.declared.shape.Field.{Field}
 use Rattle.asl_model.specs.Shape as model
 use Rattle.asl_shape.specs.Proper.{Proper, AllProper, FieldsProper}
-use Rattle.asl_shape.specs.Known.{AreInOrder, Orderly, AllOrderly, NeededOrderly}
+use Rattle.asl_shape.specs.Known.{AreInOrder}
 use Rattle.asl_shape.specs.View.{view, shapes_view, fields_view, merged, with_kinds, first_arrays, first_objects}
 use Rattle.asl_shape.proofs.Spellings.{Mention}
 
@@ -19,12 +18,6 @@ unfolding IsStrictlySortedBy
 in_order [] h = tt
 in_order (m ∷ []) h = (IsUtf8-string_bytes m.0, refl, tt)
 in_order (m ∷ (k ∷ ms)) h = (IsUtf8-string_bytes m.0, (rw h.0.0 refl), in_order (k ∷ ms) h.1)
-
-pub and_orderly : (s : Shape) (ss : List Shape) → Orderly (view s) → AllOrderly (shapes_view ss) → AllOrderly (shapes_view (s ∷ ss))
-and_orderly s ss h others = record { orderly = (h.orderly, others.orderly) }
-
-pub and_needed_orderly : (m : String Global × Field) (ms : List (String Global × Field)) → (IsTrue m.1.needed → Orderly (view m.1.shape)) → NeededOrderly (fields_view ms) → NeededOrderly (fields_view (m ∷ ms))
-and_needed_orderly m ms h others = record { orderly = ((λ yes. (h yes).orderly), others.orderly) }
 
 -- ---- proper shapes
 
@@ -38,9 +31,6 @@ and_proper_in_order m ms now split h others =
 
 pub all_proper : (ms left : List Mention) → left ≡ [] → (ProperInOrder (fields_view left) → ProperInOrder (fields_view ms)) → AreInOrder (fields_view ms) → FieldsProper (fields_view ms)
 all_proper ms left none h order = record { proper = (h (rw none (record { proper = (λ o. tt) }))).proper order }
-
-pub and_proper : (s : Shape) (ss : List Shape) → Proper (view s) → AllProper (shapes_view ss) → AllProper (shapes_view (s ∷ ss))
-and_proper s ss h others = record { proper = (h.proper, others.proper) }
 
 first_arrays_proper : (a b : model.Arrays) → model.AreProperArrays a → model.AreProperArrays b → model.AreProperArrays (first_arrays a b)
 first_arrays_proper model.WithoutArrays b h i = i

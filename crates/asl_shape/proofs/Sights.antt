@@ -1,5 +1,5 @@
 -- What is seen of shapes: whether each is proper, and its place among the six kinds.
-use Rattle.std.proofs.Common.{◌≡◌, ℕ, suc, ◌≤◌, List, [], ◌∷◌, ◌++◌, Bool, true, false, ◌&&◌, Option, Some, None, length, map, nat_le, Vec, Box, String, Ordering, Less, Equal, Greater, string_cmp, refl, sym, ap, ◌∙◌, arith}
+use Rattle.std.proofs.Common.{◌≡◌, ℕ, suc, ◌≤◌, List, [], ◌∷◌, ◌++◌, Bool, true, false, ◌&&◌, Option, Some, None, map, nat_le, Vec, Box, String, Ordering, Less, Equal, Greater, string_cmp, refl, sym, ap, ◌∙◌, arith}
 use Rattle.std.proofs.lemmas.Bool.{and_parts, and_from, false≢true}
 use Rattle.std.specs.Prelude.{IsTrue}
 use Rattle.std.specs.BTreeMap.{BTreeMap, insert_entry}
@@ -18,7 +18,7 @@ use Rattle.asl_shape.specs.declared.shape.Shape.TheOpen
 use Rattle.asl_shape.specs.declared.shape.Shape.TheVariants
 use Rattle.asl_shape.specs.declared.shape.Shape.TheViews
 use Rattle.asl_shape.proofs.Spellings.{Mention}
-use Rattle.asl_shape.specs.Properness.{Seen, seen, seen_step, seen_field, all_proper, are_parts, are_proper, fields_proper, is_proper, ascend_from, arrays_proper, objects_proper, kinds_proper}
+use Rattle.asl_shape.specs.Properness.{Seen, seen, seen_step, seen_field, all_proper, are_proper, fields_proper, is_proper, ascend_from, arrays_proper, objects_proper, kinds_proper}
 
 pub seen_list : (first : Vec Shape Global) (rest : Box Shape Global) → seen (TheViews.List first rest) ≡ record { place = Some 0; proper = are_proper first.items && is_proper rest.value }
 seen_list first rest =
@@ -33,17 +33,7 @@ pub seen_object : (fields : BTreeMap (String Global) Field) (extra : Bool) → s
 seen_object fields extra =
     ap seen (sym (TheVariants.rolls-Object fields extra)) ∙ fold-roll-Shape Seen Seen seen_step seen_field (TheOpen.Object fields extra) ∙ ap (λ ss. record { place = Some 4; proper = all_proper ss }) (fields_seen fields.entries)
 
-pub seen_several : (parts : Vec Shape Global) → seen (TheViews.Several parts) ≡ record { place = None; proper = are_parts (map seen parts.items) }
-seen_several parts =
-    ap seen (sym (TheVariants.rolls-Several parts)) ∙ fold-roll-Shape Seen Seen seen_step seen_field (TheOpen.Several parts)
-
 -- ---- a simple shape
-
-pub seen_any : seen shape.Any ≡ record { place = None; proper = true }
-seen_any = ap seen (sym TheVariants.rolls-Any) ∙ fold-roll-Shape Seen Seen seen_step seen_field TheOpen.Any
-
-pub seen_never : seen shape.Never ≡ record { place = None; proper = true }
-seen_never = ap seen (sym TheVariants.rolls-Never) ∙ fold-roll-Shape Seen Seen seen_step seen_field TheOpen.Never
 
 seen_bool : seen shape.Bool ≡ record { place = Some 1; proper = true }
 seen_bool = ap seen (sym TheVariants.rolls-Bool) ∙ fold-roll-Shape Seen Seen seen_step seen_field TheOpen.Bool
@@ -121,16 +111,6 @@ pub parts_proper : (kinds : OwnedKinds) → are_proper (parts_of kinds) ≡ kind
 parts_proper kinds =
     array_then kinds.arrays _
     ∙ ap (λ b. arrays_proper kinds.arrays && b) (simple_first kinds.boolean shape.Bool _ (ap (λ s. s.proper) seen_bool) ∙ simple_first kinds.integer shape.Int _ (ap (λ s. s.proper) seen_int) ∙ simple_first kinds.null shape.Null _ (ap (λ s. s.proper) seen_null) ∙ object_then kinds.objects _ ∙ ap (λ b. objects_proper kinds.objects && b) (text_proper kinds.text) ∙ and_true (objects_proper kinds.objects))
-
--- two parts or more, these in order, and each proper
-pub several_proper : (parts : Vec Shape Global) → 2 ≤ length parts.items → IsTrue (ascend_from 0 (places parts.items)) → IsTrue (are_proper parts.items) → IsTrue (is_proper (TheViews.Several parts))
-several_proper parts enough up each =
-    ap (λ s. s.proper) (seen_several parts) ∙ and_from _ _ (counted parts.items enough) (and_from _ _ up each)
-  where
-    counted : (ss : List Shape) → 2 ≤ length ss → IsTrue (nat_le 2 (length (map seen ss)))
-    counted [] h = absurd (omega arith)
-    counted (s ∷ []) h = absurd (omega arith)
-    counted (s ∷ (t ∷ ss)) h = grind arith
 
 -- ---- one shape more
 

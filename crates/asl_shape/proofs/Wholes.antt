@@ -7,7 +7,7 @@ use Rattle.asl_model.proofs.SpellingLookups.{shape_under-field_named, shapes_und
 use Rattle.asl_model.specs.Shape as model
 use Rattle.asl_model.specs.ShapeSpelling.{ShapeFault, BadType, Keyword, is_among, keywords_of, annotations, foreign_faults, types_in, type_faults, keyword_faults, faults_first, shapes_of, shapes_under, shape_under, properties_of, properties_under, shapes_faults, shapes_faults_under, shape_faults_under, properties_faults, properties_faults_under, required_in, required_faults, extra_in, extra_faults, with_all_needed, min_items_faults, element_count, typed_shape, typed_faults, shape_of, shape_faults, element_shapes, element_faults, field_shapes, field_faults}
 use Rattle.asl_model.specs.Tree.{Tree, Null, Boolean, Integer, Text, Array, Object, NoTrees, AndTree, Fields, field_named, count}
-use Rattle.asl_shape.specs.Level.{Level, Whole, level_of, level_faults, typed_level, kinds_level, only_if, array_level, object_level, array_level_faults, object_level_faults, elements_in, fields_in, list_faults, object_faults, rest_faults, arrays_over, objects_over, shape_over, list_inner_faults, object_inner_faults, inner_faults, SpelledOver}
+use Rattle.asl_shape.specs.Level.{Level, level_of, level_faults, typed_level, kinds_level, only_if, array_level, object_level, array_level_faults, object_level_faults, elements_in, fields_in, list_faults, object_faults, rest_faults, arrays_over, objects_over, shape_over, list_inner_faults, object_inner_faults, inner_faults, SpelledOver}
 use Rattle.asl_shape.specs.Types.{faults_when}
 use Rattle.asl_shape.specs.LevelView.{level_view}
 use Rattle.asl_shape.specs.Refusal.{Tells, fault_named}
@@ -273,11 +273,6 @@ level_told several e t h = record { listed = named_within several (fault_named e
 by_type : (several : Bool) (fs : Fields) (o : Option Tree) → field_named (codes "type") fs ≡ o → level_faults several (Object fs) ≡ typed_faults several o fs (array_level_faults fs) (object_level_faults fs)
 by_type several fs o is = ap (λ p. typed_faults several p fs (array_level_faults fs) (object_level_faults fs)) is
 
-pub untyped_over : (several : Bool) (fs : Fields) (r : Result code.Level ShapeRefusal) → field_named (codes "type") fs ≡ None → IfOk r (λ level. level_view level ≡ Whole model.Any) → IfOk r (λ _. foreign_faults BadType annotations fs ≡ []) → IfOk r (λ level. SpelledOver several (Object fs) (level_view level))
-untyped_over several fs (Ok level) is same right =
-    over several (Object fs) (level_view level) (ap (λ o. typed_level (types_in o) fs) is ∙ sym same) (by_type several fs None is ∙ right)
-untyped_over several fs (Err e) is same right = tt
-
 pub untyped_told : (several : Bool) (fs : Fields) (r : Result code.Level ShapeRefusal) → field_named (codes "type") fs ≡ None → IfErr r (λ e. Tells e (foreign_faults BadType annotations fs)) → IfErr r (λ e. Tells e (level_faults several (Object fs)))
 untyped_told several fs (Ok level) is told = tt
 untyped_told several fs (Err e) is told = rw (by_type several fs None is) told
@@ -286,11 +281,6 @@ pub kinds_over : (several : Bool) (fs : Fields) (t : Tree) (names : List (List �
 kinds_over several fs t names (Ok level) is named right same known =
     over several (Object fs) (level_view level) (ap (λ o. typed_level (types_in o) fs) is ∙ typed_names several t fs right ∙ ap (λ ns. kinds_level ns fs) (sym named) ∙ sym same) (by_type several fs (Some t) is ∙ ap (λ xs. faults_first xs (keyword_faults (types_in (Some t)) fs (array_level_faults fs) (object_level_faults fs))) right ∙ ap (λ ns. keyword_faults ns fs (array_level_faults fs) (object_level_faults fs)) (sym named) ∙ known)
 kinds_over several fs t names (Err e) is named right same known = tt
-
-pub kinds_told : (several : Bool) (fs : Fields) (t : Tree) (names : List (List ℕ)) (r : Result code.Level ShapeRefusal) → field_named (codes "type") fs ≡ Some t → names ≡ types_in (Some t) → type_faults several t ≡ [] → IfErr r (λ e. Tells e (keyword_faults names fs (array_level_faults fs) (object_level_faults fs))) → IfErr r (λ e. Tells e (level_faults several (Object fs)))
-kinds_told several fs t names (Ok level) is named right told = tt
-kinds_told several fs t names (Err e) is named right told =
-    told_same e _ _ told (sym (by_type several fs (Some t) is ∙ ap (λ xs. faults_first xs (keyword_faults (types_in (Some t)) fs (array_level_faults fs) (object_level_faults fs))) right ∙ ap (λ ns. keyword_faults ns fs (array_level_faults fs) (object_level_faults fs)) (sym named)))
 
 first_told : (e : ShapeRefusal) (xs ys : List ShapeFault) → Tells e xs → Tells e (faults_first xs ys)
 first_told e [] ys told = told_left e [] ys told

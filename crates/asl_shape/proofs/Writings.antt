@@ -11,7 +11,7 @@ use Rattle.asl_model.specs.Shape.{name_if}
 use Rattle.asl_model.specs.ShapeFlow.{how_many_shapes}
 use Rattle.asl_model.specs.ShapeOrder.{is_any_shape}
 use Rattle.asl_model.specs.Tree as json
-use Rattle.asl_model.specs.Written.{field_if, some_shapes, some_fields, needed_names, some_names, as_texts, type_written, type_field, array_fields, object_fields, closed_first, written_kinds, written_shape, with_written_arrays, with_written_objects, written_shapes, written_fields}
+use Rattle.asl_model.specs.Written.{field_if, some_shapes, needed_names, as_texts, type_written, type_field, array_fields, closed_first, written_kinds, written_shape, with_written_arrays, written_shapes, written_fields}
 use Rattle.asl_tree.proofs.Texts.{after_first}
 use Rattle.asl_tree.specs.View as trees
 use Rattle.asl_tree.specs.declared.Tree.{Tree}
@@ -127,11 +127,6 @@ pub types_named : (written : Written) → types_listed written ≡ map json.Text
 types_named written =
     name_first (is_some written.arrays) (codes "array") _ _ (name_first written.boolean (codes "boolean") _ _ (name_first written.integer (codes "integer") _ _ (name_first written.null (codes "null") _ _ (name_first (is_some written.objects) (codes "object") _ _ (text_last written.text (codes "string"))))))
 
--- one more, behind the others
-pub text_pushed : (ts new : List Tree) (s : String Global) (n : List ℕ) → new ≡ ts ++ tree.Text s ∷ [] → string_bytes s ≡ n → map trees.view new ≡ map trees.view ts ++ json.Text n ∷ []
-text_pushed ts new s n pushed is =
-    ap (map trees.view) pushed ∙ map-append trees.view ts (tree.Text s ∷ []) ∙ ap (λ t. map trees.view ts ++ t ∷ []) (view_text s ∙ ap json.Text is)
-
 -- names stand as a list, unless there is one alone
 other_types : (ts : List Tree) (ns : List (List ℕ)) → (length ts ≡ 1 → ⊥) → map trees.view ts ≡ map json.Text ns → json.Array (trees.elements_view ts) ≡ type_written ns
 other_types [] [] several e = refl
@@ -198,12 +193,6 @@ names_written ts ms left none e =
     let all : map trees.view ts ≡ needed_texts ms = sym (append-nil (map trees.view ts)) ∙ ap (λ ms. map trees.view ts ++ needed_texts ms) (sym none) ∙ e in
     ap json.trees_of all ∙ texts_shown (needed_names (fields_view ms))
 
-some_needed : (ts : List Tree) (ns : List (List ℕ)) → trees.elements_view ts ≡ as_texts ns → some_listed ts ≡ some_names ns
-some_needed [] [] e = refl
-some_needed [] (n ∷ ns) e = absurd (cc)
-some_needed (t ∷ ts) [] e = absurd (cc)
-some_needed (t ∷ ts) (n ∷ ns) e = refl
-
 -- ---- fields
 
 -- a name that is above those before it goes last
@@ -216,12 +205,3 @@ written_last (first ∷ done) m more h =
 pub field_written : (done : List Mention) (m : Mention) (more : List Mention) (es : List Entry) (k : String Global) (t : Tree) → IsStrictlySortedBy string_cmp (keys_of (done ++ m ∷ more)) → trees.entries_view es ≡ written_fields (fields_view done) → string_bytes k ≡ string_bytes m.0 → trees.view t ≡ written_shape (view m.1.shape) → trees.entries_view (insert_entry string_cmp es k t) ≡ written_fields (fields_view (done ++ m ∷ []))
 field_written done m more es k t sorted so_far named written =
     field_added es k t ∙ rw (named, written, so_far) (written_last done m more sorted)
-
-some_mentioned : (es : List Entry) (ms : List Mention) → trees.entries_view es ≡ written_fields (fields_view ms) → some_listed es ≡ some_fields (fields_view ms)
-some_mentioned [] [] e = refl
-some_mentioned [] (m ∷ ms) e = absurd (cc)
-some_mentioned (x ∷ es) [] e = absurd (cc)
-some_mentioned (x ∷ es) (m ∷ ms) e = refl
-
-pub objects_written : (ms : List Mention) (extra : Bool) (es : List Entry) (ts : List Tree) (others : json.Fields) → trees.entries_view es ≡ written_fields (fields_view ms) → trees.elements_view ts ≡ as_texts (needed_names (fields_view ms)) → object_fields (some_listed es) (some_listed ts) (json.Object (trees.entries_view es)) (trees.elements_view ts) others ≡ with_written_objects (model.ObjectsOf (fields_view ms) extra) others
-objects_written ms extra es ts others e f = rw (some_mentioned es ms e, some_needed ts (needed_names (fields_view ms)) f, e, f) refl

@@ -1,11 +1,10 @@
 -- What a front of a text says of its first line.
-use Rattle.std.proofs.Common.{◌≡◌, ◌+◌, ◌≤◌, ◌<◌, ℕ, List, [], ◌∷◌, ◌++◌, Bool, true, false, Option, None, Some, nat_eq, length, take, drop, arith, sym, ap, ◌∙◌, subst, refl, IsTrue, if◌then◌else◌, inl, inr}
+use Rattle.std.proofs.Common.{◌≡◌, ◌+◌, ◌≤◌, ◌<◌, ℕ, List, [], ◌∷◌, ◌++◌, Bool, true, false, Option, None, Some, nat_eq, length, take, drop, arith, sym, ap, ◌∙◌, subst, refl, if◌then◌else◌}
 use Rattle.std.proofs.lemmas.List.{append_assoc, length-append, take_all, drop_all}
-use Rattle.std.proofs.lemmas.Bool.{lt-ltb, le-ltb}
-use Rattle.std.specs.Prelude.{IsFalse}
+use Rattle.std.proofs.lemmas.Bool.{lt-ltb}
 use Rattle.std.specs.Io.KnownBytes.{Keeps, prepend_known}
-use Rattle.asl_model.specs.Printed.{first_line, further_lines, definition_line, declared_line, certificate_line, is_too_long}
-use Rattle.asl_tool.specs.Lines.{TakesLine, HasLongLine, AreLines, NoLineIsLong, SomeLineIsLong}
+use Rattle.asl_model.specs.Printed.{first_line, further_lines}
+use Rattle.asl_tool.specs.Lines.{TakesLine, HasLongLine}
 
 -- known bytes have lost the beginning of their first line
 abbrev pub LeavesLine : Option (List ℕ) → Option (List ℕ) → List ℕ → Type 0
@@ -114,47 +113,3 @@ longer_by_piece (Some xs) (Some ys) line p n e lt h =
     let whole : length (first_line xs) ≡ length line + length (first_line (p ++ ys)) = ap length h.0 ∙ length-append line (first_line (p ++ ys)) in
     let more = front_length p ys in
     lt-ltb 16777216 (length (first_line xs)) (omega arith)
-
--- no bytes before the known ones
-pub no_bytes_before : (known : Option (List ℕ)) → prepend_known [] known ≡ known
-no_bytes_before None = refl
-no_bytes_before (Some xs) = refl
-
--- three lines taken one after another
-pub three_lines : (a b c d : Option (List ℕ)) (definition declared certificate : List ℕ)
-    → TakesLine a b definition → TakesLine b c declared → TakesLine c d certificate → AreLines a definition declared certificate
-three_lines None b c d x y z p q r = tt
-three_lines (Some xs) None c d x y z p q r = absurd p
-three_lines (Some xs) (Some ys) None d x y z p q r = absurd q
-three_lines (Some xs) (Some ys) (Some zs) None x y z p q r = absurd r
-three_lines (Some xs) (Some ys) (Some zs) (Some ws) x y z p q r =
-    let second : y ≡ declared_line xs = q.0 ∙ ap first_line p.1 in
-    let third : z ≡ certificate_line xs = r.0 ∙ ap first_line (q.1 ∙ ap further_lines p.1) in
-    (p.0, second, third)
-
--- lines within the limit
-pub short_lines : (known : Option (List ℕ)) (definition declared certificate : List ℕ) → AreLines known definition declared certificate
-    → length definition ≤ 16777216 → length declared ≤ 16777216 → length certificate ≤ 16777216 → NoLineIsLong known
-short_lines None x y z e p q r = tt
-short_lines (Some xs) x y z e p q r =
-    let short : (v w : List ℕ) → v ≡ w → length v ≤ 16777216 → IsFalse (is_too_long w) =
-    λ v w same within. let len : length v ≡ length w = ap length same in le-ltb 16777216 (length w) (omega arith) in
-    (short x (definition_line xs) e.0 p, short y (declared_line xs) e.1 q, short z (certificate_line xs) e.2 r)
-
--- a second or third line that is too long
-pub long_second : (a b : Option (List ℕ)) (line : List ℕ) → TakesLine a b line → HasLongLine b → SomeLineIsLong a
-long_second None b line p h = tt
-long_second (Some xs) None line p h = absurd p
-long_second (Some xs) (Some ys) line p h =
-    let P : List ℕ → Type 0 = λ v. IsTrue (is_too_long (first_line v)) in inr (inl (subst P p.1 h))
-
-pub long_third : (a b c : Option (List ℕ)) (line other : List ℕ) → TakesLine a b line → TakesLine b c other → HasLongLine c → SomeLineIsLong a
-long_third None b c line other p q h = tt
-long_third (Some xs) None c line other p q h = absurd p
-long_third (Some xs) (Some ys) None line other p q h = absurd q
-long_third (Some xs) (Some ys) (Some zs) line other p q h =
-    let P : List ℕ → Type 0 = λ v. IsTrue (is_too_long (first_line v)) in inr (inr (subst P (q.1 ∙ ap further_lines p.1) h))
-
-pub long_first : (a : Option (List ℕ)) → HasLongLine a → SomeLineIsLong a
-long_first None h = tt
-long_first (Some xs) h = inl h

@@ -1,10 +1,8 @@
 -- Why the texts of a run aren't read, and what the sink holds then.
 use Rattle.std.proofs.Common.{Bool, sym, subst}
-use Rattle.std.specs.Io.KnownBytes.{Keeps}
 use Rattle.asl_model.specs.Texts.{Which}
-use Rattle.asl_tool.specs.Runs.{GivenTexts, GivesFault, InputReads, IsFirstRefused, RunFaultStands, RunRequest, SourceFault}
+use Rattle.asl_tool.specs.Runs.{GivenTexts, GivesFault, InputReads, IsFirstRefused, SourceFault}
 use Rattle.asl_tool.specs.View.{text_fault_view}
-use Rattle.asl_tool.specs.Writing.{Streams}
 use Rattle.asl_tool.specs.declared.refusals.RunFault.{RunFault}
 use Rattle.asl_tool.specs.declared.refusals.RunFault.TheVariants as run
 
@@ -16,11 +14,3 @@ answers_unread texts failed run.TooLong before h = (before, h)
 answers_unread texts failed run.Read before h = (before, h)
 answers_unread texts failed run.Write before h = h
 answers_unread texts failed run.OutOfMemory before h = h
-
--- nothing was written
-pub nothing_written : (request : RunRequest) (streams : Streams) (fault : RunFault) → GivesFault request.texts streams.read_failed fault → Keeps streams.before streams.after → RunFaultStands request streams fault
-nothing_written request streams (run.Text refusal) h kept = (h, kept)
-nothing_written request streams run.TooLong h kept = (h.0, h.1, kept)
-nothing_written request streams run.Read h kept = (h.0, h.1, kept)
-nothing_written request streams run.Write h kept = absurd h
-nothing_written request streams run.OutOfMemory h kept = kept

@@ -99,12 +99,4 @@ goes_on {other = other} {wider = wider} {machine = machine} {before = before} {c
     (subst (λ n. Written wider machine (count + n) before longer c left) why.1 (written_more so_far last.drives first second added), why.0)
 
 -- all steps were taken
-pub all_taken : {policy wider : Policy} {machine : Scope} {before : Stage} {b : Activity} {count : ℕ} {left : List Action} {text : List ℕ} (most : ℕ)
-    → count ≡ most → outcome_of b ≡ None → Written policy machine count before text b left → IsWithin policy wider
-    → Traces wider machine most before stops.StepsSpent text left
-all_taken {b = b} {count = count} most same going so_far within = record {
-  told = so_far.told;
-  after = b;
-  stops = record { count = count; within = omega arith; drives = drives_for so_far.drives within; why = (going, same) };
-  traced = so_far.traced;
 }

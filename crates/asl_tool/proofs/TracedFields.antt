@@ -1,7 +1,7 @@
 -- The tokens of a line, written one after another.
-use Rattle.std.proofs.Common.{◌≡◌, ◌<◌, ◌≤◌, ◌+◌, ℕ, List, [], ◌∷◌, ◌++◌, length, drop, get_or, decimal, Bor, sym, ap, ◌∙◌, append_assoc}
+use Rattle.std.proofs.Common.{◌≡◌, ◌<◌, ◌≤◌, ◌+◌, ℕ, List, [], ◌∷◌, ◌++◌, length, drop, get_or, Bor, sym, ap, ◌∙◌, append_assoc}
 use Rattle.std.proofs.lemmas.List.{drop_all, drop_more}
-use Rattle.json.specs.Token.{Token, key, number, end_array, end_object}
+use Rattle.json.specs.Token.{Token, key, end_array, end_object}
 use Rattle.json.specs.Tree.{items_tokens, members_tokens}
 use Rattle.serde_json.specs.Written.{items_outline, members_outline}
 use Rattle.asl_model.specs.Json.{items_of, members_for}
@@ -23,12 +23,6 @@ written so_far longer more rest whole to_come is = ap (λ s. s ++ rest) is ∙ a
 -- the tokens of these numbers, with the end of the list
 abbrev pub number_tokens : List ℕ → List Token
 number_tokens ns = items_tokens (items_outline (items_of (numbers ns)))
-
-pub number_written : (place : List ℕ) (i n : ℕ) (so_far longer whole : List Token) → i < length place → n ≡ get_or place i n → so_far ++ number_tokens (drop i place) ≡ whole → longer ≡ so_far ++ number (decimal n) ∷ []
-    → longer ++ number_tokens (drop (i + 1) place) ≡ whole
-number_written place i n so_far longer whole within is to_come grown =
-    written so_far longer (number (decimal n) ∷ []) (number_tokens (drop (i + 1) place)) whole
-    (ap (λ ns. so_far ++ number_tokens ns) (left_at place i n within is) ∙ to_come) grown
 
 pub numbers_written : (place : List ℕ) (i : ℕ) (so_far whole : List Token) → length place ≤ i → so_far ++ number_tokens (drop i place) ≡ whole → so_far ++ end_array ∷ [] ≡ whole
 numbers_written place i so_far whole end to_come = ap (λ ns. so_far ++ number_tokens ns) (sym (drop_all i place end)) ∙ to_come

@@ -81,13 +81,6 @@ none-there (suc place) n is = false≢true (ap is_some is)
 
 -- ---- numbers added to marks
 
-pub adds-none : (a : Marks) → Adds a a []
-adds-none a = record {
-  many = refl;
-  keeps = λ n is. is;
-  begins = λ place n is. is;
-  marks = λ n has within. absurd (no-element n has);
-  only = λ n is. inl is;
 }
 
 pub adds-both : (a b c : Marks) (ms ns : List ℕ) → Adds a b ms → Adds b c ns → Adds a c (ms ++ ns)

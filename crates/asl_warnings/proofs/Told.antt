@@ -1,34 +1,21 @@
 -- Notices, and what they tell of states to which no way leads.
-use Rattle.std.proofs.Common.{◌≡◌, ◌<◌, ◌≤◌, ◌+◌, ◌⊎◌, inl, inr, ℕ, zero, suc, List, [], ◌∷◌, ◌++◌, length, slice_get, Bool, true, false, Some, None, Option, refl, sym, ap, ◌∙◌, subst, arith, Contains, map, cond, get_or, is_some}
-use Rattle.std.specs.List.{filter}
+use Rattle.std.proofs.Common.{◌≡◌, ◌<◌, ◌≤◌, ◌+◌, ◌⊎◌, inl, inr, ℕ, zero, suc, List, [], ◌∷◌, ◌++◌, length, slice_get, Bool, true, false, Some, None, Option, refl, sym, ap, ◌∙◌, subst, arith, Contains, get_or, is_some}
 use Rattle.std.proofs.lemmas.Bool.{false≢true}
 use Rattle.std.proofs.lemmas.Option.{slice_get_within, slice_get_cases}
-use Rattle.std.proofs.lemmas.List.{append-nil, map-append}
-use Rattle.std.proofs.lemmas.List.Elements.{Contains-append_left, Contains-append_right, Contains-append_cases, Contains-push, filter-append}
+use Rattle.std.proofs.lemmas.List.Elements.{Contains-append_left, Contains-append_right, Contains-append_cases, Contains-push}
 use Rattle.asl_model.specs.Names.{StateName}
 use Rattle.asl_states.specs.Table.{states_in, table_view}
 use Rattle.asl_states.specs.declared.machine.Machine.{Machine}
 use Rattle.asl_states.specs.declared.states.State.{State}
 use Rattle.asl_warnings.specs.Adding.{is_marked}
 use Rattle.asl_warnings.specs.LedNames.{IsExact, told_at, told_by}
-use Rattle.asl_warnings.specs.Notices.{KeepsUnled, tells_unled, unled_in}
+use Rattle.asl_warnings.specs.Notices.{KeepsUnled}
 use Rattle.asl_warnings.specs.Unled.{IsUnled, TellsUnled}
 use Rattle.asl_warnings.specs.declared.marks.Marks.{Marks}
 use Rattle.asl_warnings.specs.declared.notice.Notice.{Notice}
 use Rattle.asl_warnings.proofs.Added.{Same, same, other, compared}
 
 -- ---- a notice more
-
-told-more : (old new : List Notice) (notice : Notice) → new ≡ old ++ notice ∷ [] → unled_in new ≡ unled_in old ++ unled_in (notice ∷ [])
-told-more old new notice pushed =
-    ap unled_in pushed ∙ (ap (map (λ n. n.state.now)) (filter-append tells_unled old (notice ∷ [])) ∙ map-append (λ (n : Notice). n.state.now) (filter tells_unled old) (filter tells_unled (notice ∷ [])))
-
--- of another warning
-pub keeps-pushed : (old new : List Notice) (notice : Notice) → tells_unled notice ≡ false → new ≡ old ++ notice ∷ [] → KeepsUnled old new
-keeps-pushed old new notice isnt pushed = record { same = told-more old new notice pushed ∙ (ap (λ ns. unled_in old ++ ns) (none notice isnt) ∙ append-nil (unled_in old)) }
-  where
-    none : (notice : Notice) → tells_unled notice ≡ false → unled_in (notice ∷ []) ≡ []
-    none notice isnt = ap (λ b. map (λ (n : Notice). n.state.now) (cond b (notice ∷ []) [])) isnt
 
 pub keeps-same : (old : List Notice) → KeepsUnled old old
 keeps-same old = record { same = refl }
@@ -47,10 +34,6 @@ no-name : (name : StateName) → Contains [] name → ⊥
 no-name name has = let within = has.1 in omega (arith, within)
 
 -- none of them is below 0
-pub tells-none : (m : Machine) → TellsBelow m 0 []
-tells-none m = record {
-  right = λ name has. absurd (no-name name has);
-  all = λ number name sooner is. absurd (omega (arith, sooner));
 }
 
 -- that of one more state
