@@ -1,3 +1,5 @@
+pub mod Integers
+pub mod Parsed
 pub mod Texts
 pub mod Tokens
 pub mod Values

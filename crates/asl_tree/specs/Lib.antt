@@ -1,3 +1,4 @@
+pub mod Parsed
 pub mod Values
 pub mod View
 pub mod Whole

@@ -13,6 +13,7 @@ use std::collections::BTreeMap;
 
 mod comparing;
 mod copying;
+mod parsing;
 mod quoting;
 mod reading;
 mod wholeness;

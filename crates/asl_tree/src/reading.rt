@@ -6,6 +6,7 @@ ghost use Rattle.asl_model.specs.Json.{ReadsAsValue, ReadsAsTree, tree_of, eleme
 ghost use Rattle.asl_tree.specs.View.{view, elements_view, entries_view};
 ghost use Rattle.asl_tree.specs.declared.TreeRefusal.TheVariants.{NotJson, NotWhole};
 
+use crate::parsing::parse;
 use crate::{Tree, TreeRefusal};
 use serde_json::{Map, Number, Value};
 use std::alloc::Global;
@@ -149,13 +150,23 @@ fn into_fields(
     Ok(fields)
 }
 
-/// The tree that the bytes of `text` are: [`read_value`], then [`into_tree`].
+/// The tree that the bytes of `text` are: [`read_value`], then [`into_tree`], in one pass where it is a tree.
 pub fn read(alloc: Global, text: &[u8]) -> Result<Tree, TreeRefusal>
     ensures tree { IfOk result (λ t. ReadsAsTree text.now (view t)) }
     ensures no_value { result ≡ Err NotJson → (v : Data) → ¬ ReadsAsValue text.now v }
     ensures no_tree { result ≡ Err NotWhole
         → (v : Data) × ReadsAsValue text.now v × (tree_of v ≡ None) }
 {
-    let value = read_value(alloc, text)?;
-    into_tree(alloc, value)
+    let Ok(characters) = str::from_utf8(text) else {
+        return Err(TreeRefusal::NotJson);
+    };
+    match parse(alloc, characters) {
+        Ok(tree) => Ok(tree),
+        Err(TreeRefusal::OutOfMemory) => Err(TreeRefusal::OutOfMemory),
+        // What is wrong, and whether anything is, the JSON value tells.
+        Err(TreeRefusal::NotJson | TreeRefusal::NotWhole) => {
+            let value = read_value(alloc, text)?;
+            into_tree(alloc, value)
+        }
+    }
 }
