@@ -1,50 +1,69 @@
-//! Results of test runs.
-use asl_results::{CaseResult, SuiteResult};
+//! Reports of results that are given as data, compared with what is wanted of them.
+use asl_results::{CaseResult, Format, SuiteResult, report};
 use std::alloc::Global;
-use std::test::Fail;
+use std::process::Abort;
 
-/// What became of a case, as texts: its name, and the difference where there is one.
-pub(crate) type Case<'a> = (&'a str, Option<&'a str>);
+/// What became of a case: its name, and the difference where there is one.
+pub(crate) type Case = (&'static str, Option<&'static str>);
 
-/// The result of a suite of that name, with the lines of what isn't covered where there are such.
-pub(crate) fn suite(
+/// What became of a suite: its name, its cases, and the lines of what isn't covered where that was asked for.
+pub(crate) type Suite = (
+    &'static str,
+    &'static [Case],
+    Option<&'static [&'static str]>,
+);
+
+/// Compares the report of these suites in that format with what is wanted.
+pub(crate) fn compare(
+    rt: &impl Abort,
     alloc: Global,
-    name: &str,
-    cases: &[Case<'_>],
-    lacking: Option<&[&str]>,
-) -> Result<SuiteResult, Fail> {
-    let lacking = match lacking {
-        Some(lines) => Some(owned(alloc, lines)?),
-        None => None,
-    };
-    let mut results = Vec::new(alloc);
-    for (name, difference) in cases {
-        results.push(case(alloc, name, *difference)?)?;
-    }
-    Ok(SuiteResult {
-        name: String::from_str(alloc, name)?,
-        cases: results,
-        lacking,
-    })
+    suites: &[Suite],
+    format: Format,
+    wanted: &str,
+) {
+    let suites = results(rt, alloc, suites);
+    let told = report(alloc, &suites, format).expect(rt, "a report");
+    assert_eq!(rt; told.as_str(), wanted);
 }
 
-/// The result of a case.
-fn case(alloc: Global, name: &str, difference: Option<&str>) -> Result<CaseResult, Fail> {
-    let difference = match difference {
-        Some(difference) => Some(String::from_str(alloc, difference)?),
-        None => None,
-    };
-    Ok(CaseResult {
-        name: String::from_str(alloc, name)?,
-        difference,
-    })
+/// The results of the suites.
+fn results(rt: &impl Abort, alloc: Global, suites: &[Suite]) -> Vec<SuiteResult> {
+    let mut results = Vec::new(alloc);
+    for (name, cases, lacking) in suites {
+        let lacking = lacking.map(|lines| texts(rt, alloc, lines));
+        let suite = SuiteResult {
+            name: text(rt, alloc, name),
+            cases: of_cases(rt, alloc, cases),
+            lacking,
+        };
+        results.push(suite).ok().expect(rt, "memory");
+    }
+    results
+}
+
+/// The results of the cases.
+fn of_cases(rt: &impl Abort, alloc: Global, cases: &[Case]) -> Vec<CaseResult> {
+    let mut results = Vec::new(alloc);
+    for (name, difference) in cases {
+        let case = CaseResult {
+            name: text(rt, alloc, name),
+            difference: difference.map(|difference| text(rt, alloc, difference)),
+        };
+        results.push(case).ok().expect(rt, "memory");
+    }
+    results
 }
 
 /// The lines, each as a text of its own.
-fn owned(alloc: Global, lines: &[&str]) -> Result<Vec<String>, Fail> {
+fn texts(rt: &impl Abort, alloc: Global, lines: &[&str]) -> Vec<String> {
     let mut texts = Vec::new(alloc);
     for line in lines {
-        texts.push(String::from_str(alloc, line)?)?;
+        texts.push(text(rt, alloc, line)).ok().expect(rt, "memory");
     }
-    Ok(texts)
+    texts
+}
+
+/// A text of its own.
+fn text(rt: &impl Abort, alloc: Global, text: &str) -> String {
+    String::from_str(alloc, text).expect(rt, "memory")
 }
