@@ -151,7 +151,6 @@ ends_there given most count stage after end fewer so_far last =
     }
 
 -- all steps were taken
-}
 
 -- one step more, and it goes on
 pub one_more : {machine : Scope} {shapes : Option Declared} {a b c : Stage} {count : ℕ} → Plays machine shapes count a b → GoesOn machine shapes b c → Plays machine shapes (count + 1) a c

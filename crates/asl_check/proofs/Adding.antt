@@ -9,7 +9,7 @@ use Rattle.asl_model.specs.Shape.{Shape}
 use Rattle.asl_numbered.specs.Expansion.{expansions, shape_at, Keeps}
 use Rattle.asl_numbered.specs.declared.node.Node.{Node}
 use Rattle.asl_numbered.proofs.Expansions.{as_many, kept_shape, keeps_longer}
-use Rattle.asl_edges.specs.View.{finding_fault_view}
+use Rattle.asl_state_edges.specs.View.{finding_fault_view}
 use Rattle.asl_check.specs.Faults.{shown_view, IsShownBelow, IsFaultBelow}
 use Rattle.asl_check.specs.Listing.{listed_view, rules_view, Adds, AreRulesBelow}
 use Rattle.asl_check.specs.declared.faults.Fault.{Fault}

@@ -4,7 +4,7 @@ use Rattle.std.proofs.lemmas.List.{append-nil, drop_all, map-append}
 use Rattle.asl_model.specs.Finding as model
 use Rattle.asl_model.specs.Shape.{Shape}
 use Rattle.asl_tree.specs.View.{view as tree_view}
-use Rattle.asl_edges.specs.View.{finding_fault_view}
+use Rattle.asl_state_edges.specs.View.{finding_fault_view}
 use Rattle.asl_check.specs.Listing.{listed_view, rules_view}
 use Rattle.asl_check.specs.Noting.{noted_breach}
 use Rattle.asl_check.specs.View.{finding_view, findings_of}

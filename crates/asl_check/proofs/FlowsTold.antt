@@ -15,8 +15,8 @@ use Rattle.asl_tree.specs.declared.OutOfMemory.{OutOfMemory}
 use Rattle.asl_records.specs.Numbered.{AreNumbersBelow, numbers_view}
 use Rattle.asl_records.specs.declared.records.StateNumbers.{StateNumbers}
 use Rattle.asl_records.proofs.Kept.{numbers_within, shown, within}
-use Rattle.asl_edges.specs.Entry.{IsEntryBelow, entry_view}
-use Rattle.asl_edges.specs.declared.found.Entry.{Entry}
+use Rattle.asl_state_edges.specs.Entry.{IsEntryBelow, entry_view}
+use Rattle.asl_state_edges.specs.declared.found.Entry.{Entry}
 use Rattle.asl_check.specs.Faults.{fault_view}
 use Rattle.asl_check.specs.declared.faults.Fault.{Fault}
 use Rattle.asl_check.specs.Listing.{Adds}

@@ -11,7 +11,7 @@ use Rattle.asl_shape.specs.declared.shape.Shape.TheVariants
 use Rattle.asl_records.proofs.Kept.{entries_shown, entries_within, shown, within}
 use Rattle.asl_records.specs.Numbered.{AreWithin}
 use Rattle.asl_records.specs.declared.records.NumberedCertificate.{NumberedCertificate}
-use Rattle.asl_edges.proofs.Kept.{among}
+use Rattle.asl_state_edges.proofs.Kept.{among}
 use Rattle.asl_check.specs.Numbers.{IsWithin, certificate_of}
 use Rattle.asl_check.specs.declared.checker.Checker.{Checker}
 

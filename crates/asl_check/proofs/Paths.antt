@@ -10,7 +10,7 @@ use Rattle.asl_model.specs.Path.{Segment}
 use Rattle.asl_model.specs.Shape.{Shape}
 use Rattle.asl_model.specs.Tree.{Tree}
 use Rattle.asl_tree.specs.View.{view as tree_view}
-use Rattle.asl_edges.specs.View.{finding_fault_view}
+use Rattle.asl_state_edges.specs.View.{finding_fault_view}
 use Rattle.asl_check.specs.Faults.{shown_view, IsFaultBelow, IsPathOf, IsShownApart, IsShownBy, IsTextOf, NamesNothing}
 use Rattle.asl_check.specs.View.{finding_view, findings_of, IsLocated, TellsMissing}
 use Rattle.asl_check.specs.declared.faults.Fault.{Fault}

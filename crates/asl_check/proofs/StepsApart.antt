@@ -7,9 +7,9 @@ use Rattle.asl_model.specs.Edges.{Walked, Flows, Breaks, walk}
 use Rattle.asl_model.specs.Finding.{PathMayBeMissing}
 use Rattle.asl_model.specs.Machine.{Kind, Settings}
 use Rattle.asl_model.specs.Shape.{Shape}
-use Rattle.asl_edges.specs.View.{steps_of}
-use Rattle.asl_edges.specs.declared.found.Step.{Step}
-use Rattle.asl_edges.specs.declared.found.Step.TheVariants as step
+use Rattle.asl_state_edges.specs.View.{steps_of}
+use Rattle.asl_state_edges.specs.declared.found.Step.{Step}
+use Rattle.asl_state_edges.specs.declared.found.Step.TheVariants as step
 use Rattle.asl_check.specs.Standing.{AreStepsApart, IsStepApart}
 use Rattle.asl_check.proofs.WalkSteps.{IsOfWalk, edge_to_output, edge_to_next, edge_to_end, edge_to_child, edge_to_caught, edge_to_task, path_breaks, plain_breaks, AreOfWalk, walk_steps}
 

@@ -7,7 +7,7 @@ use Rattle.asl_records.proofs.Kept.{shown, within}
 use Rattle.asl_shape.proofs.Views.{view_any}
 use Rattle.asl_shape.specs.View.{view}
 use Rattle.asl_shape.specs.declared.shape.Shape as shape
-use Rattle.asl_edges.proofs.Kept.{among}
+use Rattle.asl_state_edges.proofs.Kept.{among}
 use Rattle.asl_check.specs.Tasks.{AreOfTask}
 
 -- a function keeps whether there is something

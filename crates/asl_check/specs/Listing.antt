@@ -3,7 +3,7 @@ use Rattle.std.specs.Prelude.{◌≡◌, ℕ, List, ◌++◌, length, map}
 use Rattle.std.specs.List.{AllByRecursion}
 use Rattle.asl_model.specs.Finding as finding
 use Rattle.asl_model.specs.Shape.{Shape}
-use Rattle.asl_edges.specs.View.{finding_fault_view}
+use Rattle.asl_state_edges.specs.View.{finding_fault_view}
 use Rattle.asl_check.specs.declared.listed.Listed.{Listed}
 use Rattle.asl_check.specs.Faults.{shown_view, IsFaultBelow}
 

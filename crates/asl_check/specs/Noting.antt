@@ -3,7 +3,7 @@ use Rattle.std.specs.Prelude.{◌≡◌, ℕ, List, map, String, string_bytes, o
 use Rattle.std.specs.declared.alloc.Global.{Global}
 use Rattle.asl_model.specs.Finding as finding
 use Rattle.asl_tree.specs.View.{view as tree_view}
-use Rattle.asl_edges.specs.View.{finding_fault_view}
+use Rattle.asl_state_edges.specs.View.{finding_fault_view}
 use Rattle.asl_check.specs.Told.{first_of}
 use Rattle.asl_check.specs.declared.noting.Noted.{Noted}
 

@@ -7,10 +7,10 @@ use Rattle.asl_model.specs.Shape.{Shape}
 use Rattle.asl_numbered.specs.Expansion.{shape_at}
 use Rattle.asl_numbered.specs.declared.node.Node.{Node}
 use Rattle.asl_states.specs.Table.{table_view}
-use Rattle.asl_edges.specs.View.{finding_fault_view}
-use Rattle.asl_edges.specs.declared.found.Edge.{Edge}
-use Rattle.asl_edges.specs.declared.found.Step.{Step}
-use Rattle.asl_edges.specs.declared.found.Step.TheVariants.{Flows, Breaks}
+use Rattle.asl_state_edges.specs.View.{finding_fault_view}
+use Rattle.asl_state_edges.specs.declared.found.Edge.{Edge}
+use Rattle.asl_state_edges.specs.declared.found.Step.{Step}
+use Rattle.asl_state_edges.specs.declared.found.Step.TheVariants.{Flows, Breaks}
 use Rattle.asl_check.specs.Numbers.{IsWithin, certificate_of}
 use Rattle.asl_check.specs.Rules.{inputs_in}
 use Rattle.asl_check.specs.declared.standing.Standing.{Standing}

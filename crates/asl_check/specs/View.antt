@@ -6,7 +6,7 @@ use Rattle.asl_model.specs.PathSpelling.{Spells, printed_path}
 use Rattle.asl_model.specs.Tree.{Tree}
 use Rattle.asl_model.specs.Verdict as verdicts
 use Rattle.asl_tree.specs.View.{view as tree_view}
-pub use Rattle.asl_edges.specs.View.{finding_fault_view}
+pub use Rattle.asl_state_edges.specs.View.{finding_fault_view}
 use Rattle.asl_check.specs.declared.verdicts.Finding.{Finding}
 use Rattle.asl_check.specs.declared.verdicts.Located.{Located}
 use Rattle.asl_check.specs.declared.verdicts.Verdict.{Verdict}

@@ -4,12 +4,12 @@ ghost use Rattle.std.specs.Prelude.{◌≡◌, ◌≢◌, ◌<◌, length, IfOk,
 ghost use Rattle.asl_model.specs.Finding.{PathMayBeMissing, breach_unless_sub};
 ghost use Rattle.asl_model.specs.ShapeOrder as order;
 ghost use Rattle.asl_numbered.specs.Expansion.{expansions, shape_at};
-ghost use Rattle.asl_edges.specs.View.{finding_fault_view};
+ghost use Rattle.asl_state_edges.specs.View.{finding_fault_view};
 ghost use Rattle.asl_check.specs.Faults.{fault_view, IsFaultBelow};
 
 use crate::faults::{Fault, Shown};
-use asl_edges::FindingFault;
 use asl_numbered::Shapes;
+use asl_state_edges::FindingFault;
 use asl_tree::OutOfMemory;
 
 /// The broken rule where the shape of a number isn't inside that of what is expected, if anything is: a tree outside

@@ -1,7 +1,7 @@
 // Rules that are broken in what flows, and what shows them, by the numbers of a table of shapes.
 
 ghost use Rattle.std.specs.Prelude.{◌≡◌, ℕ, IfOk, IfSome, length, List, option_map, option_to_list};
-ghost use Rattle.asl_edges.specs.View.{broken_view, finding_fault_view, IsBrokenBelow};
+ghost use Rattle.asl_state_edges.specs.View.{broken_view, finding_fault_view, IsBrokenBelow};
 ghost use Rattle.asl_model.specs.Finding as model;
 ghost use Rattle.asl_model.specs.Shape.{Shape};
 ghost use Rattle.asl_numbered.specs.Expansion.{expansions, Keeps};
@@ -10,9 +10,9 @@ ghost use Rattle.asl_check.specs.Faults.{fault_view, shown_view, IsFaultBelow, I
 ghost use Rattle.asl_check.specs.Noting.{noted_breach};
 
 use crate::noting::Noted;
-use asl_edges::{Broken, FindingFault};
 use asl_flow::{DoubtfulPath, missing_at};
 use asl_numbered::Shapes;
+use asl_state_edges::{Broken, FindingFault};
 use asl_tree::{OutOfMemory, Tree};
 use std::alloc::Global;
 

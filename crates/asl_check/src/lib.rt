@@ -1,6 +1,6 @@
 //! Checking a certificate of shapes against a machine and its declared shapes.
 //!
-//! [`check_numbered`] goes over the steps of the walk through each state ([`asl_edges::edges_of`]) and compares what flows
+//! [`check_numbered`] goes over the steps of the walk through each state ([`asl_state_edges::edges_of`]) and compares what flows
 //! at each edge with what stands there, by the numbers of the certificate's table; [`check`] does so for a certificate with
 //! shapes of its own. Of each name that has a broken rule the first is told, as a [`Finding`]; [`find_all`] tells all of
 //! them, and of a path that may name nothing that path. A comparison that fails has an example there, a tree that flows and
@@ -23,12 +23,12 @@ mod tasks;
 mod telling;
 mod verdicts;
 
-pub use asl_edges::{Broken, FindingFault};
 pub use asl_records::{
     Certificate, Declared, NumberedCertificate, ReadFault, RecordFault, RecordRefusal,
     StateNumbers, StateShapes, TaskShapes, expand_certificate, number_certificate,
     read_certificate, read_declared, read_numbered, write_certificate, write_declared,
     write_numbered,
 };
+pub use asl_state_edges::{Broken, FindingFault};
 pub use checker::{check, check_numbered, find_all};
 pub use verdicts::{Finding, Located, MissingPath, Verdict};

@@ -19,8 +19,8 @@ use crate::comparing::broken_unless_sub;
 use crate::faults::{Fault, breach_unless};
 use crate::listed::{Listed, list};
 use crate::lookups::row_of;
-use asl_edges::FindingFault;
 use asl_numbered::Shapes;
+use asl_state_edges::FindingFault;
 use asl_tree::OutOfMemory;
 
 impl<'c> Checker<'c> {

@@ -5,7 +5,7 @@ ghost use Rattle.asl_model.specs.Edges.{breaches_along, breaches_at, stands_at};
 ghost use Rattle.asl_model.specs.Finding.{found_at};
 ghost use Rattle.asl_numbered.specs.Expansion.{expansions, shape_at};
 ghost use Rattle.asl_numbered.specs.declared.node.Node.{Node};
-ghost use Rattle.asl_edges.specs.View.{destination_view, edge_view, step_view, steps_of, AreStepsBelow, IsStepBelow};
+ghost use Rattle.asl_state_edges.specs.View.{destination_view, edge_view, step_view, steps_of, AreStepsBelow, IsStepBelow};
 ghost use Rattle.asl_check.specs.Faults.{fault_view, IsFaultBelow};
 ghost use Rattle.asl_check.specs.Listing.{Adds};
 ghost use Rattle.asl_check.specs.Standing.{AreStanding, AreStepsApart, IsEdgeApart, IsStepApart, standing_view};
@@ -14,8 +14,8 @@ use crate::checker::Checker;
 use crate::comparing::broken_unless_sub;
 use crate::faults::{Fault, fault_of};
 use crate::listed::{Listed, list};
-use asl_edges::{Destination, Edge, Step};
 use asl_numbered::Shapes;
+use asl_state_edges::{Destination, Edge, Step};
 use asl_tree::OutOfMemory;
 
 /// What stands at the destinations of a state's edges: the certified inputs of states, the state's own output, the end

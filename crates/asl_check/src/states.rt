@@ -20,10 +20,10 @@ use crate::listed::{Listed, list};
 use crate::lookups::Row;
 use crate::standing::Standing;
 use crate::tasks::number_task;
-use asl_edges::{Entry, FindingFault, edges_of};
 use asl_model::shape_laws::walk_breaks_what_flow_breaks;
 use asl_numbered::Shapes;
 use asl_records::StateNumbers;
+use asl_state_edges::{Entry, FindingFault, edges_of};
 use asl_states::Kind;
 use asl_tree::OutOfMemory;
 

@@ -10,9 +10,9 @@ ghost use Rattle.asl_check.specs.View.{finding_view, findings_of, IsLocated};
 use crate::faults::{Fault, Shown, with_example};
 use crate::listed::Listed;
 use crate::verdicts::{Finding, Located, MissingPath};
-use asl_edges::FindingFault;
 use asl_numbered::Shapes;
 use asl_path::print;
+use asl_state_edges::FindingFault;
 use asl_tree::OutOfMemory;
 use std::alloc::Global;
 

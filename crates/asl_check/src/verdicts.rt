@@ -1,6 +1,6 @@
 // What the checker answers.
 
-use asl_edges::FindingFault;
+use asl_state_edges::FindingFault;
 use asl_tree::Tree;
 
 /// A broken rule: the state's name, the field in which it is broken, what is wrong, and a tree that shows it.

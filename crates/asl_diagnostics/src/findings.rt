@@ -1,12 +1,12 @@
 //! Rules of findings.
 ghost use Rattle.std.specs.Prelude.{◌≡◌};
-ghost use Rattle.asl_edges.specs.View.{finding_fault_view};
+ghost use Rattle.asl_state_edges.specs.View.{finding_fault_view};
 ghost use Rattle.asl_model.specs.Printed.{finding_name};
 ghost use Rattle.asl_diagnostics.specs.Rules.{not_settled_name};
 
 use crate::shared_rules::WRONG_KIND;
 use crate::{Rule, Severity};
-use asl_edges::FindingFault;
+use asl_state_edges::FindingFault;
 
 const NOT_CERTIFIED: Rule = Rule {
     id: "NotCertified",

@@ -4,11 +4,11 @@ use crate::{
     rule_of_finding, rule_of_record, rule_of_text, rule_of_unsettled, rule_of_warning, sarif_text,
     sort, text_lines,
 };
-use asl_edges::FindingFault;
 use asl_machine::DefFault;
 use asl_places::Place;
 use asl_records::RecordFault;
 use asl_shape::ShapeRefusal;
+use asl_state_edges::FindingFault;
 use asl_tree::{Tree, TreeRefusal, read};
 use std::alloc::{AllocError, Global};
 use std::test::Fail;

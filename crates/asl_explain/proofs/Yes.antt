@@ -10,7 +10,7 @@ use Rattle.asl_model.specs.Texts.{ReadsAsDeclared, ReadsAsMachine}
 use Rattle.asl_model.specs.Verdict as verdict
 use Rattle.asl_model.specs.Verdict.{Accepted, Rejected, IsTelling}
 use Rattle.asl_model.proofs.ReadingLaws.{none_listed, text_has_one_declared, text_has_one_machine}
-use Rattle.asl_drafts.specs.Drafts.{IsInferred}
+use Rattle.asl_draft_laws.specs.Drafts.{IsInferred}
 use Rattle.asl_check.specs.View.{verdict_view}
 use Rattle.asl_check.specs.declared.verdicts.Verdict.TheVariants as checked
 use Rattle.asl_tool.specs.Inferred.{AreFewRounds, IsFindingOn}
@@ -19,7 +19,7 @@ use Rattle.asl_tool.specs.declared.inferring.Verified.{Verified}
 use Rattle.asl_tool.specs.declared.inferring.Verified.TheVariants as verified
 use Rattle.asl_explain.specs.declared.explaining.Explained.{Explained}
 use Rattle.asl_explain.specs.declared.explaining.Explained.TheVariants.{Nothing}
-use Rattle.asl_drafts.proofs.OneAnswer.{inferred_once, nothing_told, settles}
+use Rattle.asl_draft_laws.proofs.OneAnswer.{inferred_once, nothing_told, settles}
 
 -- the first one is contained
 first : {A : Type 0} (x : A) (xs : List A) → Contains (x ∷ xs) x

@@ -3,8 +3,8 @@
 use crate::flows::Explainer;
 use crate::walking::Walks;
 use asl_check::{FindingFault, Located};
-use asl_edges::Step;
 use asl_numbered::Shapes;
+use asl_state_edges::Step;
 use asl_tree::OutOfMemory;
 
 /// How many visits of a state, and how many arrivals at it, are looked at for one finding.

@@ -7,8 +7,8 @@ use crate::stops::{Stop, stop_of};
 use crate::there::ITEM;
 use asl_check::{FindingFault, Located};
 use asl_diagnostics::rule_of_finding;
-use asl_edges::{Broken, Step};
 use asl_numbered::Shapes;
+use asl_state_edges::{Broken, Step};
 use asl_states::Kind;
 use asl_tree::{OutOfMemory, quoted};
 

@@ -7,10 +7,10 @@ use crate::stops::{Stop, stop_of};
 use crate::words::{noted, push_line};
 use asl_check::{FindingFault, Located};
 use asl_choice::holds;
-use asl_edges::{Broken, Edge, Step};
 use asl_flow::{DoubtfulPath, effective_at, find_at, missing_at};
 use asl_numbered::Shapes;
 use asl_path::{RefPath, print};
+use asl_state_edges::{Broken, Edge, Step};
 use asl_states::{ChoiceRule, Delay, Kind, State};
 use asl_tree::{OutOfMemory, Tree};
 

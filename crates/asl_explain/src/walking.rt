@@ -1,15 +1,15 @@
 //! Walks through a state with a given input, and the rules that are broken on them.
 
 ghost use Rattle.std.specs.Prelude.{◌↔◌, IfSome, IsTrue, length};
-ghost use Rattle.asl_edges.specs.Entry.{IsEntryBelow};
+ghost use Rattle.asl_state_edges.specs.Entry.{IsEntryBelow};
 ghost use Rattle.asl_numbered.specs.Expansion.{AreBelow};
 
 use crate::flows::Explainer;
 use asl_check::Located;
-use asl_edges::{Broken, Destination, Edge, Entry, Step, edges_of};
 use asl_numbered::Shapes;
 use asl_path::print;
 use asl_records::StateNumbers;
+use asl_state_edges::{Broken, Destination, Edge, Entry, Step, edges_of};
 use asl_tree::OutOfMemory;
 use std::alloc::Global;
 

@@ -7,10 +7,10 @@ use Rattle.asl_model.specs.Numbering.{Table}
 use Rattle.asl_model.specs.Shape.{Shape}
 use Rattle.asl_model.specs.WrittenNumbered.{same_shape}
 use Rattle.asl_model.proofs.SameShapes.{same_are, same_itself}
-use Rattle.asl_drafts.specs.Drafts as model
-use Rattle.asl_drafts.specs.Drafts.{Row, taken_at}
-use Rattle.asl_drafts.specs.Resting.{IsPassedBy, IsTakenIn, Memory, Rests}
-use Rattle.asl_drafts.proofs.PassedOver.{rests-kept, rests-known}
+use Rattle.asl_draft_laws.specs.Drafts as model
+use Rattle.asl_draft_laws.specs.Drafts.{Row, taken_at}
+use Rattle.asl_draft_laws.specs.Resting.{IsPassedBy, IsTakenIn, Memory, Rests}
+use Rattle.asl_draft_laws.proofs.PassedOver.{rests-kept, rests-known}
 use Rattle.asl_numbered.specs.declared.node.Node.{Node}
 use Rattle.asl_numbered.specs.Expansion.{expansions, shape_at, Keeps}
 use Rattle.asl_numbered.proofs.Expansions.{as_many, kept_shape, keeps_longer}

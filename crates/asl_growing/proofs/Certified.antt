@@ -13,11 +13,11 @@ use Rattle.asl_model.specs.RecordShapes.{HoldsForCertificate, HoldsForState}
 use Rattle.asl_model.specs.Shape.{Shape, Never}
 use Rattle.asl_model.specs.ShapeSpelling.{are_distinct}
 use Rattle.asl_model.proofs.RunOptions.{none_some, some_inj}
-use Rattle.asl_drafts.specs.Drafts.{DraftEntry, Growth, certificate_of, entry_of, entry_with, first_entry}
+use Rattle.asl_draft_laws.specs.Drafts.{DraftEntry, Growth, certificate_of, entry_of, entry_with, first_entry}
 use Rattle.asl_numbered.specs.declared.node.Node.{Node}
 use Rattle.asl_numbered.specs.Expansion.{expansions, shape_at}
-use Rattle.asl_edges.specs.Entry.{entry_view as shapes_view, IsEntryBelow}
-use Rattle.asl_edges.specs.declared.found.Entry.{Entry}
+use Rattle.asl_state_edges.specs.Entry.{entry_view as shapes_view, IsEntryBelow}
+use Rattle.asl_state_edges.specs.declared.found.Entry.{Entry}
 use Rattle.asl_records.specs.Numbered.{numbered_entries, numbered_view, numbers_view, AreNumbersBelow, AreWithin}
 use Rattle.asl_records.specs.declared.records.NumberedCertificate.{NumberedCertificate}
 use Rattle.asl_records.specs.declared.records.StateNumbers.{StateNumbers}

@@ -7,7 +7,7 @@ use Rattle.asl_numbered.specs.declared.node.Node.{Node}
 use Rattle.asl_numbered.specs.Expansion.{expansions, shape_at, AreBelow, Keeps}
 use Rattle.asl_numbered.specs.Joins.{Shows}
 use Rattle.asl_numbered.proofs.Expansions.{as_many, below-append, below-wider}
-use Rattle.asl_edges.proofs.Kept.{among, longer, shown, within}
+use Rattle.asl_state_edges.proofs.Kept.{among, longer, shown, within}
 use Rattle.asl_growing.specs.Cutting.{cut_to, cut_arrays_to, cut_objects_to, cut_elements_to, cut_fields_to}
 use Rattle.asl_growing.specs.Cuts.{AreCutTo}
 use Rattle.asl_growing.specs.Depths.{told_depth}

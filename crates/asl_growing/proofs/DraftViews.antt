@@ -7,15 +7,15 @@ use Rattle.std.specs.Option.{unwrap_or}
 use Rattle.std.proofs.lemmas.Option.{slice_get-map}
 use Rattle.asl_model.specs.Edges.{walk}
 use Rattle.asl_model.specs.Machine.{Kind, Settings, State, kind_of}
-use Rattle.asl_edges.specs.Entry.{entry_view as shapes_view}
-use Rattle.asl_edges.specs.declared.found.Entry.{Entry}
+use Rattle.asl_state_edges.specs.Entry.{entry_view as shapes_view}
+use Rattle.asl_state_edges.specs.declared.found.Entry.{Entry}
 use Rattle.asl_numbered.specs.Joins.{Shows as ShowsNumber}
 use Rattle.asl_model.specs.Shape.{Shape, Never}
 use Rattle.asl_model.proofs.ReadingSteps.{then_from}
 use Rattle.asl_model.proofs.RunOptions.{none_some, some_inj}
-use Rattle.asl_drafts.specs.Drafts as model
-use Rattle.asl_drafts.specs.Drafts.{DraftEntry, Growth, children_in, first_entry, taken_at, taken_in, ungrown, with_element, with_entry}
-use Rattle.asl_drafts.proofs.DraftShapes.{element-stays}
+use Rattle.asl_draft_laws.specs.Drafts as model
+use Rattle.asl_draft_laws.specs.Drafts.{DraftEntry, Growth, children_in, first_entry, taken_at, taken_in, ungrown, with_element, with_entry}
+use Rattle.asl_draft_laws.proofs.DraftShapes.{element-stays}
 use Rattle.asl_numbered.specs.declared.node.Node.{Node}
 use Rattle.asl_numbered.specs.Expansion.{expansions, shape_at, AreBelow, Keeps}
 use Rattle.asl_growing.specs.Drafted.{draft_view, entry_at, growing_at, growing_of, numbers_at, numbers_or, part_of, room, shapes_of, target_view}
@@ -29,7 +29,7 @@ use Rattle.asl_growing.specs.declared.entries.EntryNumbers.{EntryNumbers}
 use Rattle.asl_growing.specs.declared.entries.Part.{Part}
 use Rattle.asl_growing.specs.declared.entries.Part.TheVariants as part
 use Rattle.asl_growing.specs.declared.growing.Growing.{Growing}
-use Rattle.asl_edges.proofs.Kept.{among, shown}
+use Rattle.asl_state_edges.proofs.Kept.{among, shown}
 use Rattle.asl_growing.proofs.EntryViews.{all-entries-same, growth-kept, parts, parts-same}
 
 -- ---- what is made of a draft

@@ -10,7 +10,7 @@ use Rattle.asl_model.specs.Shape.{Shape}
 use Rattle.asl_model.proofs.RunOptions.{none_some, some_inj}
 use Rattle.asl_states.specs.Machine.{state_view}
 use Rattle.asl_states.specs.declared.states.State as states
-use Rattle.asl_drafts.specs.Drafts.{DraftEntry, Growth, taken_in, with_element}
+use Rattle.asl_draft_laws.specs.Drafts.{DraftEntry, Growth, taken_in, with_element}
 use Rattle.asl_numbered.specs.declared.node.Node.{Node}
 use Rattle.asl_numbered.specs.Expansion.{expansions, Keeps}
 use Rattle.asl_growing.specs.Entries.{Makes, ends_room, ends_view, entries_view, entry_room, entry_view, made_part}
@@ -18,7 +18,7 @@ use Rattle.asl_growing.specs.Growing.{AreEndsGrown, AreGrown, IsEntryGrown, IsGr
 use Rattle.asl_growing.specs.declared.entries.DraftEntry as code
 use Rattle.asl_growing.specs.declared.entries.Part.TheVariants as part
 use Rattle.asl_growing.specs.declared.growing.Growing.{Growing}
-use Rattle.asl_edges.proofs.Kept.{shown}
+use Rattle.asl_state_edges.proofs.Kept.{shown}
 
 -- ---- one element of a list
 

@@ -9,9 +9,9 @@ use Rattle.asl_model.specs.ShapeOrder.{join}
 use Rattle.asl_numbered.specs.declared.node.Node.{Node}
 use Rattle.asl_numbered.specs.Expansion.{expansions, shape_at, AreDistinct, Keeps}
 use Rattle.asl_numbered.specs.Joins.{Shows}
-use Rattle.asl_edges.proofs.Kept.{among, among_shapes, shown, within}
-use Rattle.asl_drafts.specs.Drafts.{Growth}
-use Rattle.asl_drafts.proofs.TakenIn.{changed, joined, taken-none, taken-other, taken-same}
+use Rattle.asl_state_edges.proofs.Kept.{among, among_shapes, shown, within}
+use Rattle.asl_draft_laws.specs.Drafts.{Growth}
+use Rattle.asl_draft_laws.proofs.TakenIn.{changed, joined, taken-none, taken-other, taken-same}
 use Rattle.asl_growing.specs.Cutting.{cut, IsShallow}
 use Rattle.asl_growing.specs.Growing.{Takes, growth_view, AreEndsGrown, AreGrown, IsEntryGrown, IsGrown}
 use Rattle.asl_growing.specs.declared.entries.DraftEntry.{DraftEntry}

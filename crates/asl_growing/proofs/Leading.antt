@@ -7,20 +7,20 @@ use Rattle.asl_model.specs.Finding.{Breach}
 use Rattle.asl_model.specs.Missing.{missing}
 use Rattle.asl_model.specs.Numbering.{Table}
 use Rattle.asl_model.specs.Shape.{Shape}
-use Rattle.asl_drafts.specs.Drafts as model
-use Rattle.asl_drafts.specs.Drafts.{step_taken, taken_at}
-use Rattle.asl_drafts.specs.Resting.{FlowRests, Memory, StepRests}
+use Rattle.asl_draft_laws.specs.Drafts as model
+use Rattle.asl_draft_laws.specs.Drafts.{step_taken, taken_at}
+use Rattle.asl_draft_laws.specs.Resting.{FlowRests, Memory, StepRests}
 use Rattle.asl_numbered.specs.declared.node.Node.{Node}
 use Rattle.asl_numbered.specs.Expansion.{expansions, shape_at, Keeps}
 use Rattle.asl_flow.specs.declared.doubts.DoubtfulPath.{DoubtfulPath}
-use Rattle.asl_edges.specs.View.{broken_view, destination_view, edge_view, example_of, finding_fault_view, step_view, steps_of, AreStepsBelow, IsBrokenBelow, IsStepBelow}
-use Rattle.asl_edges.specs.declared.faults.Broken.{Broken}
-use Rattle.asl_edges.specs.declared.found.Edge.{Edge}
-use Rattle.asl_edges.specs.declared.found.Step.{Step}
-use Rattle.asl_edges.specs.declared.found.Step.TheVariants as step
+use Rattle.asl_state_edges.specs.View.{broken_view, destination_view, edge_view, example_of, finding_fault_view, step_view, steps_of, AreStepsBelow, IsBrokenBelow, IsStepBelow}
+use Rattle.asl_state_edges.specs.declared.faults.Broken.{Broken}
+use Rattle.asl_state_edges.specs.declared.found.Edge.{Edge}
+use Rattle.asl_state_edges.specs.declared.found.Step.{Step}
+use Rattle.asl_state_edges.specs.declared.found.Step.TheVariants as step
 use Rattle.asl_growing.specs.Drafted.{room}
 use Rattle.asl_growing.specs.Entries.{Makes}
-use Rattle.asl_edges.proofs.Kept.{shown}
+use Rattle.asl_state_edges.proofs.Kept.{shown}
 
 module _ (table : Table) (n : ℕ) (shapes : List Shape) (edge : Edge) where
   -- an edge that leads to a shape of the draft

@@ -15,9 +15,9 @@ use Rattle.asl_model.specs.ShapeSpelling.{are_distinct}
 use Rattle.asl_model.specs.Tree.{comes_before}
 use Rattle.asl_model.proofs.NumberedRows.{one_number}
 use Rattle.asl_model.proofs.RunOptions.{none_some, some_inj}
-use Rattle.asl_drafts.specs.Drafts.{Row, in_name_order, rows_from, rows_of, with_named}
-use Rattle.asl_drafts.proofs.CertifiedRows.{Among, IsRowFrom, from-only, name_of, ordered-only}
-use Rattle.asl_drafts.proofs.DraftShapes.{there-within}
+use Rattle.asl_draft_laws.specs.Drafts.{Row, in_name_order, rows_from, rows_of, with_named}
+use Rattle.asl_draft_laws.proofs.CertifiedRows.{Among, IsRowFrom, from-only, name_of, ordered-only}
+use Rattle.asl_draft_laws.proofs.DraftShapes.{there-within}
 use Rattle.asl_growing.specs.Order.{AreOrdered, IsPlaced, entry_seen, row_seen}
 use Rattle.asl_growing.specs.Waiting.{StandOnce}
 

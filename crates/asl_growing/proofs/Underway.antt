@@ -5,10 +5,10 @@ use Rattle.asl_model.specs.Certificate.{Declared, takes_of}
 use Rattle.asl_model.specs.Edges.{Walked}
 use Rattle.asl_model.specs.Numbering.{Table}
 use Rattle.asl_model.specs.Shape.{Shape}
-use Rattle.asl_drafts.specs.Drafts as model
-use Rattle.asl_drafts.specs.Drafts.{Row, own_breaches, step_taken, steps_of, steps_taken, taken_at}
-use Rattle.asl_drafts.specs.Resting.{FlowRests, IsPassedBy, Memory, Rests, StepRests, StepsRest}
-use Rattle.asl_drafts.proofs.PassedOver.{rest-kept, rest-known, rest-push, rests-known, steps-passed}
+use Rattle.asl_draft_laws.specs.Drafts as model
+use Rattle.asl_draft_laws.specs.Drafts.{Row, own_breaches, step_taken, steps_of, steps_taken, taken_at}
+use Rattle.asl_draft_laws.specs.Resting.{FlowRests, IsPassedBy, Memory, Rests, StepRests, StepsRest}
+use Rattle.asl_draft_laws.proofs.PassedOver.{rest-kept, rest-known, rest-push, rests-known, steps-passed}
 use Rattle.asl_numbered.specs.Expansion.{expansions, shape_at, Keeps}
 use Rattle.asl_numbered.proofs.Expansions.{keeps_same, keeps_trans}
 use Rattle.asl_growing.specs.Calm.{IsCalm, memory_of, has_shape, target_meant}
@@ -22,7 +22,7 @@ use Rattle.asl_growing.specs.declared.draft.Target.{Target}
 use Rattle.asl_growing.specs.declared.predecessors.Origin.{Origin}
 use Rattle.asl_growing.specs.declared.walker.Walker.{Walker}
 use Rattle.asl_growing.proofs.Calm.{meant-same, recalls, remembered, taken-again}
-use Rattle.asl_edges.proofs.Kept.{among_shapes, shown, within}
+use Rattle.asl_state_edges.proofs.Kept.{among_shapes, shown, within}
 
 -- what a walker remembers
 abbrev pub known_to : Walker → Memory

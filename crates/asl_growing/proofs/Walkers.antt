@@ -4,21 +4,21 @@ use Rattle.std.proofs.lemmas.Option.{slice_get-get_or}
 use borrow.Author.Tests.{ltb-true, ltb-false}
 use lib.Dec.{ltb}
 use Rattle.asl_model.proofs.RunOptions.{some_inj}
-use Rattle.asl_drafts.specs.Drafts.{taken_at}
+use Rattle.asl_draft_laws.specs.Drafts.{taken_at}
 use Rattle.asl_numbered.specs.Expansion.{expansions, shape_at, Keeps}
 use Rattle.asl_growing.specs.Drafted.{draft_view, target_view}
 use Rattle.asl_growing.specs.Predecessors.{flowed}
 use Rattle.asl_growing.specs.Waiting.{waits_in}
 use Rattle.asl_growing.proofs.Turns.{set-here, set-many}
 use Rattle.asl_growing.specs.Walker.{HaveWoken, PredecessorsWait, ReaderWaits, StaysWaiting, WaitsOrStays}
-use Rattle.asl_drafts.specs.Resting.{IsPassedBy}
+use Rattle.asl_draft_laws.specs.Resting.{IsPassedBy}
 use Rattle.asl_growing.specs.declared.draft.Draft.{Draft}
 use Rattle.asl_growing.specs.declared.draft.Target.{Target}
 use Rattle.asl_growing.specs.declared.predecessors.Inflow.{Inflow}
 use Rattle.asl_growing.specs.declared.predecessors.Origin.{Origin}
 use Rattle.asl_growing.specs.declared.predecessors.Predecessors.{Predecessors}
 use Rattle.asl_growing.specs.declared.waiting.Waiting.{Waiting}
-use Rattle.asl_edges.proofs.Kept.{shown, within}
+use Rattle.asl_state_edges.proofs.Kept.{shown, within}
 
 -- ---- one more waits
 

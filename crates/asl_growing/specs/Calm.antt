@@ -5,9 +5,9 @@ use Rattle.asl_model.specs.Certificate.{Declared}
 use Rattle.asl_model.specs.Numbering.{Table}
 use Rattle.asl_model.specs.Shape.{Shape}
 use Rattle.asl_model.specs.WrittenNumbered.{same_shape}
-use Rattle.asl_drafts.specs.Drafts as model
-use Rattle.asl_drafts.specs.Drafts.{Row}
-use Rattle.asl_drafts.specs.Resting.{Memory, Rests}
+use Rattle.asl_draft_laws.specs.Drafts as model
+use Rattle.asl_draft_laws.specs.Drafts.{Row}
+use Rattle.asl_draft_laws.specs.Resting.{Memory, Rests}
 use Rattle.asl_numbered.specs.Expansion.{expansions, shape_at}
 use Rattle.asl_growing.specs.Drafted.{draft_view}
 use Rattle.asl_growing.specs.Predecessors.{flowed}

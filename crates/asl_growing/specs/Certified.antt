@@ -6,10 +6,10 @@ use Rattle.asl_model.specs.Certificate.{StateShapes}
 use Rattle.asl_model.specs.Machine.{Kind}
 use Rattle.asl_model.specs.Numbering.{Table}
 use Rattle.asl_model.specs.RecordShapes.{HoldsForState}
-use Rattle.asl_drafts.specs.Drafts.{Row, entry_of}
+use Rattle.asl_draft_laws.specs.Drafts.{Row, entry_of}
 use Rattle.asl_numbered.specs.declared.node.Node.{Node}
 use Rattle.asl_numbered.specs.Expansion.{expansions}
-use Rattle.asl_edges.specs.declared.found.Entry.{Entry}
+use Rattle.asl_state_edges.specs.declared.found.Entry.{Entry}
 use Rattle.asl_records.specs.Numbered.{numbers_view, AreNumbersBelow}
 use Rattle.asl_records.specs.declared.records.StateNumbers.{StateNumbers}
 use Rattle.asl_growing.specs.Cutting.{IsShallow}

@@ -5,7 +5,7 @@ use Rattle.asl_model.specs.Certificate.{StateShapes}
 use Rattle.asl_model.specs.RecordShapes.{HoldsForState}
 use Rattle.asl_model.specs.Shape.{Shape}
 use Rattle.asl_model.specs.ShapeOrder.{depth}
-pub use Rattle.asl_drafts.specs.Cutting.{cut, cut_to, cut_arrays_to, cut_objects_to, cut_elements_to, cut_fields_to, deepest}
+pub use Rattle.asl_draft_laws.specs.Cutting.{cut, cut_to, cut_arrays_to, cut_objects_to, cut_elements_to, cut_fields_to, deepest}
 
 -- the shape has at most so many levels, and one more of Any for what is cut
 abbrev pub IsShallow : Shape → Type 0

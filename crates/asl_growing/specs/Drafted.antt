@@ -3,7 +3,7 @@ use Rattle.std.specs.Prelude.{◌+◌, ℕ, List, [], Option, Some, None, slice_
 use Rattle.std.specs.Option.{option_and_then, unwrap_or}
 use Rattle.asl_model.specs.Certificate.{StateShapes}
 use Rattle.asl_model.specs.Machine.{Kind}
-use Rattle.asl_drafts.specs.Drafts as model
+use Rattle.asl_draft_laws.specs.Drafts as model
 use Rattle.asl_numbered.specs.Expansion.{expansions}
 use Rattle.asl_growing.specs.Entries.{entries_room, entries_view, growing_in, numbers_in}
 use Rattle.asl_growing.specs.Growing.{growth_view}

@@ -2,7 +2,7 @@
 use Rattle.std.specs.Prelude.{◌≡◌, ◌<◌, ◌+◌, ℕ, List, map, replicate, slice_get, sum_by, Bool, true, false, Option, Some, Vec}
 use Rattle.std.specs.declared.alloc.Global.{Global}
 use Rattle.asl_model.specs.Shape.{Shape}
-use Rattle.asl_drafts.specs.Drafts.{DraftEntry, Growth, with_element}
+use Rattle.asl_draft_laws.specs.Drafts.{DraftEntry, Growth, with_element}
 use Rattle.asl_numbered.specs.Expansion.{shape_at, AreBelow}
 use Rattle.asl_growing.specs.Growing.{growth_view}
 use Rattle.asl_growing.specs.declared.entries.DraftEntry as code

@@ -3,7 +3,7 @@ use Rattle.std.specs.Prelude.{◌≡◌, ◌<◌, List, length, Bool, true, fals
 use Rattle.std.specs.declared.alloc.Global.{Global}
 use Rattle.std.specs.List.{All}
 use Rattle.asl_model.specs.Shape as model
-use Rattle.asl_drafts.specs.Drafts.{Growth, taken_in}
+use Rattle.asl_draft_laws.specs.Drafts.{Growth, taken_in}
 use Rattle.asl_numbered.specs.declared.node.Node.{Node}
 use Rattle.asl_numbered.specs.Expansion.{expansions, shape_at}
 use Rattle.asl_growing.specs.Cutting.{IsShallow}

@@ -3,7 +3,7 @@ use Rattle.std.specs.Prelude.{◌≡◌, ℕ, List, drop, map, true, zip}
 use Rattle.std.specs.Borrow.{Bor}
 use Rattle.asl_model.specs.ShapeSpelling.{are_distinct}
 use Rattle.asl_model.specs.Numbering.{Table}
-use Rattle.asl_drafts.specs.Drafts.{Row, in_name_order, rows_from, rows_of}
+use Rattle.asl_draft_laws.specs.Drafts.{Row, in_name_order, rows_from, rows_of}
 
 -- the numbers are those of the rows in their order, where no name stands twice
 pub record AreOrdered (table : Table) (numbers : List ℕ) : Type 0 where

@@ -5,8 +5,8 @@ use mathlib.Core.Logic.{◌⊎◌}
 use Rattle.asl_model.specs.Certificate.{Declared, takes_of}
 use Rattle.asl_model.specs.Edges.{Walked}
 use Rattle.asl_model.specs.Numbering.{Table}
-use Rattle.asl_drafts.specs.Drafts.{Row, own_breaches, steps_of}
-use Rattle.asl_drafts.specs.Resting.{StepsRest}
+use Rattle.asl_draft_laws.specs.Drafts.{Row, own_breaches, steps_of}
+use Rattle.asl_draft_laws.specs.Resting.{StepsRest}
 use Rattle.asl_numbered.specs.Expansion.{expansions}
 use Rattle.asl_growing.specs.Calm.{IsCalm, memory_of}
 use Rattle.asl_growing.specs.Drafted.{draft_view}

@@ -1,9 +1,9 @@
 -- What is known of the states that wait while a draft changes. No public clause cites this module.
 use Rattle.std.specs.Prelude.{◌≡◌, ◌<◌, ℕ, List, length, Bool, true, Some}
 use mathlib.Core.Logic.{◌⊎◌}
-use Rattle.asl_drafts.specs.Drafts as model
-use Rattle.asl_drafts.specs.Drafts.{taken_at}
-use Rattle.asl_drafts.specs.Resting.{IsPassedBy}
+use Rattle.asl_draft_laws.specs.Drafts as model
+use Rattle.asl_draft_laws.specs.Drafts.{taken_at}
+use Rattle.asl_draft_laws.specs.Resting.{IsPassedBy}
 use Rattle.asl_numbered.specs.Expansion.{expansions, shape_at}
 use Rattle.asl_growing.specs.Drafted.{draft_view, target_view}
 use Rattle.asl_growing.specs.Predecessors.{flowed}

@@ -10,8 +10,8 @@ ghost use Rattle.asl_growing.specs.Certified.{AreCertified, AreNumbersOf, IsCert
 
 use crate::draft::Draft;
 use crate::entries::entry_in;
-use asl_edges::Entry;
 use asl_records::StateNumbers;
+use asl_state_edges::Entry;
 use asl_states::{Kind, Machine};
 use asl_tree::OutOfMemory;
 use std::alloc::Global;

@@ -1,10 +1,10 @@
 // The entries of a draft: the shapes of the states of a machine.
 
 ghost use Rattle.std.specs.Prelude.{◌≡◌, ◌<◌, ℕ, List, length, map, IfOk, replicate};
-ghost use Rattle.asl_drafts.specs.Drafts as drafts;
-ghost use Rattle.asl_drafts.specs.Drafts.{entry_with, taken_in, with_element};
+ghost use Rattle.asl_draft_laws.specs.Drafts as drafts;
+ghost use Rattle.asl_draft_laws.specs.Drafts.{entry_with, taken_in, with_element};
 ghost use Rattle.asl_model.specs.Shape.{Shape};
-ghost use Rattle.asl_edges.specs.Entry.{entry_view as shapes_view, IsEntryBelow};
+ghost use Rattle.asl_state_edges.specs.Entry.{entry_view as shapes_view, IsEntryBelow};
 ghost use Rattle.asl_model.specs.Machine.{kind_of};
 ghost use Rattle.asl_states.specs.Machine.{kind_view};
 ghost use Rattle.asl_states.specs.Table.{table_view};
@@ -16,7 +16,7 @@ ghost use Rattle.asl_growing.specs.Growing.{AreGrown, AreEndsGrown, IsEntryGrown
 
 use crate::growing::Growing;
 use crate::store::Store;
-use asl_edges::Entry;
+use asl_state_edges::Entry;
 use asl_states::{Kind, Machine};
 use asl_tree::OutOfMemory;
 use std::alloc::Global;

@@ -2,7 +2,7 @@
 
 ghost use Rattle.std.specs.Prelude.{◌≡◌, IfOk, map};
 ghost use Rattle.asl_model.specs.ShapeSpelling.{are_distinct};
-ghost use Rattle.asl_drafts.specs.Drafts.{rows_of};
+ghost use Rattle.asl_draft_laws.specs.Drafts.{rows_of};
 ghost use Rattle.asl_states.specs.Table.{table_view};
 ghost use Rattle.asl_growing.specs.Order.{AreOrdered, IsPlaced};
 

@@ -9,8 +9,8 @@ ghost use Rattle.asl_tree.specs.View.{view as tree_view};
 ghost use Rattle.asl_shape.specs.View.{view};
 ghost use Rattle.asl_states.specs.Machine.{kind_view, settings_view};
 ghost use Rattle.asl_flow.specs.Doubts.{doubtful_view};
-ghost use Rattle.asl_edges.specs.Entry.{entry_view, IsEntryBelow};
-ghost use Rattle.asl_edges.specs.View.{steps_of, AreStepsBelow};
+ghost use Rattle.asl_state_edges.specs.Entry.{entry_view, IsEntryBelow};
+ghost use Rattle.asl_state_edges.specs.View.{steps_of, AreStepsBelow};
 ghost use Rattle.asl_numbered.specs.Expansion.{expansions, shape_at, shape_over, AreBelow, AreDistinct, Keeps, RefersBelow};
 ghost use Rattle.asl_numbered.specs.Joins.{Shows};
 ghost use Rattle.asl_numbered.specs.Kinds.{IsProperNode};
@@ -21,10 +21,10 @@ ghost use Rattle.asl_growing.specs.Parts.{parts_of, with_parts, CanBePut, IsPut}
 
 use crate::depths::depth_of;
 use crate::rebuilding::{parts_in, rebuild_kinds};
-use asl_edges::{Entry, Step, edges_of};
 use asl_flow::{DoubtfulPath, missing_at};
 use asl_numbered::{KindNumbers, Node, Shapes};
 use asl_shape::Shape;
+use asl_state_edges::{Entry, Step, edges_of};
 use asl_states::State;
 use asl_tree::{OutOfMemory, Tree};
 use indexmap::IndexMap;

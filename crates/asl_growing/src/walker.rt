@@ -6,7 +6,7 @@ use crate::draft::{Draft, Target};
 use crate::predecessors::{Origin, Predecessors};
 use crate::targets::target_of;
 use crate::waiting::Waiting;
-use asl_edges::{Edge, Step};
+use asl_state_edges::{Edge, Step};
 use asl_states::Machine;
 use asl_tree::OutOfMemory;
 
@@ -22,8 +22,8 @@ impl Walker {
     ghost use Rattle.std.specs.Prelude.{◌≡◌, ◌<◌, length, true, IfOk, OnOk, Some};
     ghost use Rattle.asl_model.specs.Certificate.{Declared};
     ghost use Rattle.asl_model.specs.Numbering.{Table};
-    ghost use Rattle.asl_drafts.specs.Drafts.{step_taken, steps_taken, taken_at, Row};
-    ghost use Rattle.asl_edges.specs.View.{edge_view, step_view, steps_of, AreStepsBelow, IsStepBelow};
+    ghost use Rattle.asl_draft_laws.specs.Drafts.{step_taken, steps_taken, taken_at, Row};
+    ghost use Rattle.asl_state_edges.specs.View.{edge_view, step_view, steps_of, AreStepsBelow, IsStepBelow};
     ghost use Rattle.asl_states.specs.Table.{table_view};
     ghost use Rattle.asl_growing.specs.Calm.{IsCalm};
     ghost use Rattle.asl_growing.specs.Underway.{IsCalmAfter, OthersStayCalm, StepsOn};

@@ -5,9 +5,9 @@ use Rattle.std.proofs.lemmas.Bool.Decides.{eqb_tells}
 use Rattle.std.proofs.lemmas.Option.{slice_get_within}
 use Rattle.asl_model.specs.Certificate.{Declared}
 use Rattle.asl_model.specs.Numbering.{Table}
-use Rattle.asl_drafts.specs.Drafts.{Draft, Row, walked}
-use Rattle.asl_drafts.specs.Resting.{Rests}
-use Rattle.asl_drafts.proofs.PassedOver.{rests-known, rests-walked}
+use Rattle.asl_draft_laws.specs.Drafts.{Draft, Row, walked}
+use Rattle.asl_draft_laws.specs.Resting.{Rests}
+use Rattle.asl_draft_laws.proofs.PassedOver.{rests-known, rests-walked}
 use Rattle.asl_numbered.specs.Expansion.{expansions, Keeps}
 use Rattle.asl_growing.specs.Calm.{IsCalm, memory_of}
 use Rattle.asl_growing.specs.Drafted.{draft_view}

@@ -11,9 +11,9 @@ use Rattle.asl_model.specs.Numbering.{Table}
 use Rattle.asl_model.specs.ShapeSpelling.{is_among, are_distinct}
 use Rattle.asl_model.specs.Tree.{comes_before}
 use Rattle.asl_model.proofs.ShapeWitness.{comes_before-trans}
-use Rattle.asl_drafts.specs.Drafts.{Row, in_name_order, rows_from, rows_of, with_named}
-use Rattle.asl_drafts.proofs.CertifiedRows.{name_of}
-use Rattle.asl_drafts.proofs.SettledClosed.{have_task}
+use Rattle.asl_draft_laws.specs.Drafts.{Row, in_name_order, rows_from, rows_of, with_named}
+use Rattle.asl_draft_laws.proofs.CertifiedRows.{name_of}
+use Rattle.asl_draft_laws.proofs.SettledClosed.{have_task}
 use Rattle.asl_check.proofs.TableNames.{equal-swapped, first-position, not-first, or-false, second}
 use Rattle.asl_check.specs.Rules.{is_task_at, names_task_in}
 use Rattle.asl_infer.specs.Declarations.{earlier, first_by_name, first_of}

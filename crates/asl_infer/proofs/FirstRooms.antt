@@ -4,7 +4,7 @@ use Rattle.std.specs.Prelude.{sum_by}
 use Rattle.std.proofs.lemmas.List.Sums.{sum_by-cons}
 use Rattle.asl_model.specs.Machine.{State, kind_of}
 use Rattle.asl_model.specs.Numbering.{Table}
-use Rattle.asl_drafts.specs.Drafts.{DraftEntry, Growth, children_in, first_draft, first_entry, ungrown}
+use Rattle.asl_draft_laws.specs.Drafts.{DraftEntry, Growth, children_in, first_draft, first_entry, ungrown}
 use Rattle.asl_growing.specs.Drafted.{room}
 use Rattle.asl_growing.specs.Entries.{ends_room, entries_room, entry_room}
 use Rattle.asl_infer.specs.Inferring.{certified_shapes}

@@ -7,8 +7,8 @@ use Rattle.asl_model.specs.Machine.{Scope}
 use Rattle.asl_model.specs.Numbering.{IsWellNamed, Table, standing, table_of}
 use Rattle.asl_model.specs.ShapeSpelling.{are_distinct}
 use Rattle.asl_model.proofs.Numbering.{names_of_standing, outlined_names}
-use Rattle.asl_drafts.specs.Drafts.{Draft, IsInferred, IsTold, Settles, certificate_of, misnamed}
-use Rattle.asl_drafts.proofs.CertifiedRows.{Among}
+use Rattle.asl_draft_laws.specs.Drafts.{Draft, IsInferred, IsTold, Settles, certificate_of, misnamed}
+use Rattle.asl_draft_laws.proofs.CertifiedRows.{Among}
 use Rattle.asl_model.specs.Shape.{Shape}
 use Rattle.asl_records.specs.View.{declared_view}
 use Rattle.asl_records.specs.declared.records.Declared as code

@@ -10,7 +10,7 @@ use Rattle.asl_model.specs.RecordShapes.{HoldsForCertificate}
 use Rattle.asl_model.specs.Shape.{Shape}
 use Rattle.asl_model.specs.Written.{written_certificate}
 use Rattle.asl_model.specs.ShapeSpelling.{are_distinct}
-use Rattle.asl_drafts.specs.Drafts.{Draft, IsInferred, certificate_of}
+use Rattle.asl_draft_laws.specs.Drafts.{Draft, IsInferred, certificate_of}
 use Rattle.asl_records.specs.Numbered.{numbered_view}
 use Rattle.asl_records.specs.View.{declared_view}
 use Rattle.asl_records.specs.declared.records.Declared as code

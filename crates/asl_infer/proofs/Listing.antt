@@ -9,8 +9,8 @@ use Rattle.asl_model.specs.Inference.{is_of_machine}
 use Rattle.asl_model.specs.Shape.{Shape}
 use Rattle.asl_model.specs.Tree.{Tree}
 use Rattle.asl_model.proofs.Listed.{first_in, first_or_later, later_in, none_in}
-use Rattle.asl_drafts.specs.Drafts.{own_breaches}
-use Rattle.asl_drafts.proofs.SettledClosed.{own_shapes}
+use Rattle.asl_draft_laws.specs.Drafts.{own_breaches}
+use Rattle.asl_draft_laws.proofs.SettledClosed.{own_shapes}
 use Rattle.asl_infer.proofs.BrokenRules.{IsOfMachine}
 
 -- what is in two lists is in one of them

@@ -12,9 +12,9 @@ use Rattle.asl_model.specs.Shape.{Never}
 use Rattle.asl_model.specs.Tree.{Tree}
 use Rattle.asl_model.proofs.Listed.{first_in, first_or_later, none_in}
 use Rattle.asl_model.proofs.StandingStates.{IsNamed, is_named, is_shown}
-use Rattle.asl_drafts.specs.Drafts.{Row, misnamed, rows_of, undeclared, unknown}
-use Rattle.asl_drafts.proofs.CertifiedRows.{Among, ordered-only, row-known}
-use Rattle.asl_drafts.proofs.SettledClosed.{have_task}
+use Rattle.asl_draft_laws.specs.Drafts.{Row, misnamed, rows_of, undeclared, unknown}
+use Rattle.asl_draft_laws.proofs.CertifiedRows.{Among, ordered-only, row-known}
+use Rattle.asl_draft_laws.proofs.SettledClosed.{have_task}
 use Rattle.asl_infer.proofs.FirstNames.{state_in}
 use Rattle.asl_infer.proofs.Listing.{either-in}
 use Rattle.asl_infer.specs.Inferring.{IsOfMachine}

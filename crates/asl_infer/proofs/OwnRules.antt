@@ -4,10 +4,10 @@ use Rattle.std.specs.Prelude.{option_to_list}
 use Rattle.std.proofs.lemmas.List.{drop_more}
 use Rattle.asl_model.specs.Edges.{Walked, breaches_at}
 use Rattle.asl_model.specs.Shape.{Shape}
-use Rattle.asl_drafts.specs.Drafts.{own_breaches}
-use Rattle.asl_drafts.proofs.SettledClosed.{own_shapes}
-use Rattle.asl_edges.specs.View.{step_view, steps_of}
-use Rattle.asl_edges.specs.declared.found.Step.{Step}
+use Rattle.asl_draft_laws.specs.Drafts.{own_breaches}
+use Rattle.asl_draft_laws.proofs.SettledClosed.{own_shapes}
+use Rattle.asl_state_edges.specs.View.{step_view, steps_of}
+use Rattle.asl_state_edges.specs.declared.found.Step.{Step}
 use Rattle.asl_infer.specs.Telling.{IsFirstBroken, breach_view}
 use Rattle.asl_infer.specs.declared.telling.Breach.{Breach}
 

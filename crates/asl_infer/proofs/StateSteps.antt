@@ -5,14 +5,14 @@ use Rattle.asl_model.specs.Certificate.{takes_of}
 use Rattle.asl_model.specs.Edges.{Walked, walk}
 use Rattle.asl_model.specs.Inference.{finding_of}
 use Rattle.asl_model.specs.Shape.{Shape}
-use Rattle.asl_drafts.specs.Drafts as drafts
-use Rattle.asl_drafts.specs.Drafts.{Draft, own_breaches, steps_taken}
+use Rattle.asl_draft_laws.specs.Drafts as drafts
+use Rattle.asl_draft_laws.specs.Drafts.{Draft, own_breaches, steps_taken}
 use Rattle.asl_numbered.specs.Expansion.{expansions, shape_at, Keeps}
 use Rattle.asl_numbered.proofs.Expansions.{kept_shape}
 use Rattle.asl_numbered.specs.declared.node.Node.{Node}
 use Rattle.asl_states.specs.Machine.{kind_view, settings_view}
-use Rattle.asl_edges.specs.View.{AreStepsBelow, steps_of}
-use Rattle.asl_edges.specs.declared.found.Step.{Step}
+use Rattle.asl_state_edges.specs.View.{AreStepsBelow, steps_of}
+use Rattle.asl_state_edges.specs.declared.found.Step.{Step}
 use Rattle.asl_growing.specs.Calm.{IsCalm}
 use Rattle.asl_growing.specs.Drafted.{draft_view, room, shapes_of}
 use Rattle.asl_growing.specs.Entries.{Makes}

@@ -6,7 +6,7 @@ use Rattle.asl_model.specs.Certificate.{Certificate, Declared, takes_of}
 use Rattle.asl_model.specs.Finding.{Finding, found_at}
 use Rattle.asl_model.specs.Numbering.{Table}
 use Rattle.asl_model.proofs.RunOptions.{none_some, some_inj}
-use Rattle.asl_drafts.specs.Drafts.{Draft, IsInferred, NeverSettles, Row, Settles, after_rounds, all_walked, certificate_of, first_draft, input_taken, misnamed, own_breaches, round, rows_of, steps_of, unless_found, unless_told, walked}
+use Rattle.asl_draft_laws.specs.Drafts.{Draft, IsInferred, NeverSettles, Row, Settles, after_rounds, all_walked, certificate_of, first_draft, input_taken, misnamed, own_breaches, round, rows_of, steps_of, unless_found, unless_told, walked}
 use Rattle.asl_check.specs.View.{finding_view}
 use Rattle.asl_infer.specs.Lenient.{NeverSettlesLeniently, SettlesLeniently, after_lenient_rounds, lenient_round, lenient_walk}
 use Rattle.asl_infer.specs.Rounds.{IsEndBy, IsEndOf, IsLenientAnswer, NeverSettlesBy, SettlesBy, after_rounds_by, all_walked_by, round_by}

@@ -8,8 +8,8 @@ use Rattle.asl_model.specs.Numbering.{Placement, Table}
 use Rattle.asl_model.specs.Shape.{Shape}
 use Rattle.asl_model.specs.ShapeSpelling.{are_distinct}
 use Rattle.asl_model.proofs.RunOptions.{none_some, some_inj}
-use Rattle.asl_drafts.specs.Drafts.{Draft, Input, Row, first_draft, input_taken, rows_of, taken_at, unless_told}
-use Rattle.asl_drafts.proofs.CertifiedRows.{Among, row-known}
+use Rattle.asl_draft_laws.specs.Drafts.{Draft, Input, Row, first_draft, input_taken, rows_of, taken_at, unless_told}
+use Rattle.asl_draft_laws.proofs.CertifiedRows.{Among, row-known}
 use Rattle.asl_growing.specs.Drafted.{draft_view, room}
 use Rattle.asl_growing.specs.Entries.{Makes}
 use Rattle.asl_growing.specs.Order.{AreOrdered}
@@ -42,8 +42,6 @@ pub input-made : (table : Table) (declared : model.Declared) (placement : Placem
 input-made table declared placement s before changed after there same makes = record {
   made = makes.made ∙ (ap (λ t. taken_at (Some (Input placement.start)) t before) same ∙ sym (ap (λ o. taken_at (option_map (λ (p : Placement). Input p.start) o) declared.input before) there));
   told = makes.told;
-}
-
 }
 
 -- ---- the rows in their order

@@ -7,7 +7,7 @@ use Rattle.asl_model.specs.Finding.{Finding, TaskUndeclared, TaskUnknown, breach
 use Rattle.asl_model.specs.Machine.{kind_of, is_task}
 use Rattle.asl_model.specs.Numbering.{Table}
 use Rattle.asl_model.specs.ShapeSpelling.{are_distinct}
-use Rattle.asl_drafts.specs.Drafts.{Row, misnamed, rows_of, undeclared, unknown}
+use Rattle.asl_draft_laws.specs.Drafts.{Row, misnamed, rows_of, undeclared, unknown}
 use Rattle.asl_records.specs.View.{task_view}
 use Rattle.asl_records.specs.declared.records.TaskShapes as code
 use Rattle.asl_check.specs.Rules.{names_task_in}
@@ -18,7 +18,7 @@ use Rattle.asl_infer.specs.Rounds.{IsIn, IsNoRow}
 use Rattle.asl_infer.specs.declared.declarations.Misnamed.{Misnamed}
 use Rattle.asl_infer.specs.declared.inferring.InferRefusal.TheVariants as refusal
 use Rattle.asl_check.specs.declared.verdicts.Finding as told
-use Rattle.asl_drafts.proofs.SettledClosed.{have_task}
+use Rattle.asl_draft_laws.proofs.SettledClosed.{have_task}
 use Rattle.asl_infer.proofs.FirstNames.{earlier-first, first-append, first-ordered, have-named}
 use Rattle.asl_infer.proofs.OwnRules.{first-none}
 use Rattle.asl_infer.proofs.TakenRounds.{next-row, no-row}

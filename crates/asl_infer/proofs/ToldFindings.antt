@@ -8,8 +8,8 @@ use Rattle.asl_model.specs.Machine.{Kind, Scope, Settings, State, kind_of, setti
 use Rattle.asl_model.specs.Numbering.{Table, table_of}
 use Rattle.asl_model.specs.Shape.{Shape}
 use Rattle.asl_model.proofs.Listed.{first_in}
-use Rattle.asl_drafts.specs.Drafts.{Draft, Row, after_rounds, all_walked, entry_of, input_taken, own_breaches, round, rows_of, steps_of, steps_taken, first_draft, misnamed, unless_found, unless_told, walked}
-use Rattle.asl_drafts.proofs.CertifiedRows.{Among, row-known}
+use Rattle.asl_draft_laws.specs.Drafts.{Draft, Row, after_rounds, all_walked, entry_of, input_taken, own_breaches, round, rows_of, steps_of, steps_taken, first_draft, misnamed, unless_found, unless_told, walked}
+use Rattle.asl_draft_laws.proofs.CertifiedRows.{Among, row-known}
 use Rattle.asl_infer.proofs.Listing.{own-along, own-of-machine}
 use Rattle.asl_infer.proofs.BrokenRules.{walk_of_machine}
 use Rattle.asl_infer.specs.Inferring.{IsOfMachine}

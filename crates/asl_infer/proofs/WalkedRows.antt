@@ -8,8 +8,8 @@ use Rattle.asl_model.specs.Finding.{Breach, found_at}
 use Rattle.asl_model.specs.Inference.{finding_of}
 use Rattle.asl_model.specs.Numbering.{Table}
 use Rattle.asl_model.proofs.RunOptions.{none_some, some_inj}
-use Rattle.asl_drafts.specs.Drafts.{Draft, Row, own_breaches, steps_of, steps_taken, unless_found, walked}
-use Rattle.asl_drafts.proofs.DraftShapes.{there-within}
+use Rattle.asl_draft_laws.specs.Drafts.{Draft, Row, own_breaches, steps_of, steps_taken, unless_found, walked}
+use Rattle.asl_draft_laws.proofs.DraftShapes.{there-within}
 use Rattle.asl_infer.specs.Rounds.{IsIn, IsNoRow, Tells, WalkTells, Walks, walked_by}
 use Rattle.asl_infer.specs.declared.inferring.InferRefusal.{InferRefusal}
 use Rattle.asl_infer.specs.declared.inferring.InferRefusal.TheVariants as refusal

@@ -7,9 +7,9 @@ use Rattle.asl_model.specs.Inference.{finding_of}
 use Rattle.asl_model.specs.Numbering.{Table}
 use Rattle.asl_model.specs.ShapeSpelling.{are_distinct}
 use Rattle.asl_model.specs.Tree.{comes_before}
-use Rattle.asl_drafts.specs.Drafts.{Row, misnamed, rows_of, undeclared, unknown}
+use Rattle.asl_draft_laws.specs.Drafts.{Row, misnamed, rows_of, undeclared, unknown}
 use Rattle.asl_check.specs.View.{finding_view}
-use Rattle.asl_edges.specs.View.{finding_fault_view}
+use Rattle.asl_state_edges.specs.View.{finding_fault_view}
 use Rattle.asl_infer.specs.Rounds.{IsIn}
 use Rattle.asl_infer.specs.declared.declarations.Misnamed.{Misnamed}
 use Rattle.asl_infer.specs.declared.inferring.InferRefusal.{InferRefusal}

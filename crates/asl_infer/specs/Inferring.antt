@@ -5,7 +5,7 @@ use Rattle.asl_model.specs.Finding as finding
 use Rattle.asl_model.specs.Inference.{StandsForSome, is_of_machine}
 use Rattle.asl_model.specs.Machine.{Scope, kind_of}
 use Rattle.asl_model.specs.Numbering.{Table, table_of}
-use Rattle.asl_drafts.specs.Drafts.{IsTold, NeverSettles, children_in}
+use Rattle.asl_draft_laws.specs.Drafts.{IsTold, NeverSettles, children_in}
 use Rattle.asl_check.specs.View.{finding_view}
 use Rattle.asl_infer.specs.declared.inferring.InferRefusal.{InferRefusal}
 use Rattle.asl_infer.specs.declared.inferring.InferRefusal.TheVariants.{Finding, NotSettled, OutOfMemory}

@@ -5,7 +5,7 @@ use Rattle.std.specs.Prelude.{◌≡◌, ◌≢◌, ◌<◌, ℕ, zero, suc}
 use Rattle.std.specs.List.{fold}
 use Rattle.asl_model.specs.Certificate.{Certificate, Declared}
 use Rattle.asl_model.specs.Numbering.{Table}
-use Rattle.asl_drafts.specs.Drafts.{Draft, Row, certificate_of, first_draft, input_taken, rows_of, steps_of, steps_taken}
+use Rattle.asl_draft_laws.specs.Drafts.{Draft, Row, certificate_of, first_draft, input_taken, rows_of, steps_of, steps_taken}
 
 -- the draft after the walk through a state, whatever rules are broken there
 abbrev pub lenient_walk : Table → Declared → Draft → Row → Draft

@@ -7,17 +7,17 @@ use Rattle.asl_model.specs.Finding as finding
 use Rattle.asl_model.specs.Numbering.{Table}
 use Rattle.asl_model.specs.Shape.{Shape}
 use Rattle.asl_model.specs.ShapeSpelling.{are_distinct}
-use Rattle.asl_drafts.specs.Drafts as drafts
-use Rattle.asl_drafts.specs.Drafts.{Draft, IsInferred, IsTold, NeverSettles}
-use Rattle.asl_drafts.specs.Drafts.{first_draft, input_taken, own_breaches, rows_of, unless_told, walked}
+use Rattle.asl_draft_laws.specs.Drafts as drafts
+use Rattle.asl_draft_laws.specs.Drafts.{Draft, IsInferred, IsTold, NeverSettles}
+use Rattle.asl_draft_laws.specs.Drafts.{first_draft, input_taken, own_breaches, rows_of, unless_told, walked}
 use Rattle.asl_numbered.specs.Joins.{Shows}
 use Rattle.asl_records.specs.View.{declared_view}
 use Rattle.asl_records.specs.declared.records.Declared.{Declared}
 use Rattle.asl_states.specs.Machine.{state_view}
 use Rattle.asl_states.specs.Table.{table_view}
 use Rattle.asl_states.specs.declared.machine.Machine.{Machine}
-use Rattle.asl_edges.specs.View.{steps_of}
-use Rattle.asl_edges.specs.declared.found.Step.{Step}
+use Rattle.asl_state_edges.specs.View.{steps_of}
+use Rattle.asl_state_edges.specs.declared.found.Step.{Step}
 use Rattle.asl_growing.specs.Calm.{IsCalm}
 use Rattle.asl_growing.specs.Drafted.{room}
 use Rattle.asl_growing.specs.Entries.{IsToldOf}

@@ -2,10 +2,10 @@
 use Rattle.std.specs.Prelude.{◌≡◌, List, Option, option_map, slice_get}
 use Rattle.asl_model.specs.Finding as finding
 use Rattle.asl_model.specs.Shape.{Shape}
-use Rattle.asl_drafts.specs.Drafts.{own_breaches}
+use Rattle.asl_draft_laws.specs.Drafts.{own_breaches}
 use Rattle.asl_tree.specs.View.{view as tree_view}
-use Rattle.asl_edges.specs.View.{finding_fault_view, steps_of}
-use Rattle.asl_edges.specs.declared.found.Step.{Step}
+use Rattle.asl_state_edges.specs.View.{finding_fault_view, steps_of}
+use Rattle.asl_state_edges.specs.declared.found.Step.{Step}
 use Rattle.asl_infer.specs.declared.telling.Breach.{Breach}
 
 -- a broken rule

@@ -1,7 +1,7 @@
 // Tasks that aren't declared, and declared tasks that no state is.
 
 ghost use Rattle.std.specs.Prelude.{◌≡◌, option_map, IfErr, OnOk};
-ghost use Rattle.asl_drafts.specs.Drafts.{rows_of, undeclared, unknown};
+ghost use Rattle.asl_draft_laws.specs.Drafts.{rows_of, undeclared, unknown};
 ghost use Rattle.asl_records.specs.View.{declared_view};
 ghost use Rattle.asl_states.specs.Table.{table_view};
 ghost use Rattle.asl_check.specs.Rules.{names_task_in};
@@ -11,8 +11,8 @@ ghost use Rattle.asl_infer.specs.Declarations.{first_of, misnamed_view};
 
 use crate::inferring::InferRefusal;
 use crate::telling::{Breach, finding};
-use asl_edges::FindingFault;
 use asl_records::Declared;
+use asl_state_edges::FindingFault;
 use asl_states::Machine;
 use std::alloc::Global;
 

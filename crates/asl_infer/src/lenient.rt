@@ -9,7 +9,7 @@ ghost use Rattle.asl_model.specs.Machine as machines;
 ghost use Rattle.asl_model.specs.Numbering.{table_of};
 ghost use Rattle.asl_model.specs.RecordShapes.{HoldsForCertificate};
 ghost use Rattle.asl_model.specs.Written.{written_certificate};
-ghost use Rattle.asl_drafts.specs.Drafts.{IsInferred};
+ghost use Rattle.asl_draft_laws.specs.Drafts.{IsInferred};
 ghost use Rattle.asl_states.specs.Table.{Shows, table_view};
 ghost use Rattle.asl_records.specs.Numbered.{numbered_view, AreWithin};
 ghost use Rattle.asl_records.specs.View.{declared_view};

@@ -1,9 +1,9 @@
 // The rounds of an inference: the states are walked, and what flows out of them is taken in.
 
 ghost use Rattle.std.specs.Prelude.{◌≡◌, length, IfErr, IfNone, IfOk, IfSome, OnOk};
-ghost use Rattle.asl_drafts.specs.Drafts.{first_draft, input_taken};
+ghost use Rattle.asl_draft_laws.specs.Drafts.{first_draft, input_taken};
 ghost use Rattle.asl_numbered.specs.Expansion.{expansions, Keeps};
-ghost use Rattle.asl_edges.specs.View.{AreStepsBelow};
+ghost use Rattle.asl_state_edges.specs.View.{AreStepsBelow};
 ghost use Rattle.asl_growing.specs.Drafted.{draft_view, room};
 ghost use Rattle.asl_growing.specs.Entries.{Makes};
 ghost use Rattle.asl_infer.specs.Rounds.{AreCalm, AreStepsOf, EndsWhereDistinct, IsChanged};
@@ -14,9 +14,9 @@ ghost use Rattle.asl_infer.specs.Rounds.{declared_in, row_view, table_in};
 use crate::inferring::InferRefusal;
 use crate::tasks::{TaskNumbers, task_numbers};
 use crate::telling::{finding, first_broken};
-use asl_edges::Step;
 use asl_growing::{Draft, Store, Target, Walker};
 use asl_records::Declared;
+use asl_state_edges::Step;
 use asl_states::{Machine, State};
 use asl_tree::OutOfMemory;
 use std::alloc::Global;

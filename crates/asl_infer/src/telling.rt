@@ -1,20 +1,20 @@
 // The first rule that a walk breaks whatever is certified elsewhere, and the finding that is told of it.
 
 ghost use Rattle.std.specs.Prelude.{◌≡◌, ◌<◌, [], ◌∷◌, length, None, option_map, option_to_list, IfOk};
-ghost use Rattle.asl_drafts.specs.Drafts.{own_breaches};
+ghost use Rattle.asl_draft_laws.specs.Drafts.{own_breaches};
 ghost use Rattle.asl_model.specs.Finding.{breach_shown};
 ghost use Rattle.asl_model.specs.Inference.{finding_of};
 ghost use Rattle.asl_tree.specs.View.{view as tree_view};
 ghost use Rattle.asl_numbered.specs.Expansion.{expansions, shape_at, Keeps};
-ghost use Rattle.asl_edges.specs.View.{broken_view, edge_view, finding_fault_view, step_view};
-ghost use Rattle.asl_edges.specs.View.{AreStepsBelow, IsBrokenBelow, IsStepBelow};
+ghost use Rattle.asl_state_edges.specs.View.{broken_view, edge_view, finding_fault_view, step_view};
+ghost use Rattle.asl_state_edges.specs.View.{AreStepsBelow, IsBrokenBelow, IsStepBelow};
 ghost use Rattle.asl_growing.specs.Drafted.{draft_view};
 ghost use Rattle.asl_check.specs.View.{finding_view};
 ghost use Rattle.asl_infer.specs.Telling.{breach_view, IsFirstBroken};
 
 use asl_check::Finding;
-use asl_edges::{Broken, Destination, Edge, FindingFault, Step};
 use asl_growing::Draft;
+use asl_state_edges::{Broken, Destination, Edge, FindingFault, Step};
 use asl_tree::{OutOfMemory, Tree};
 use std::alloc::Global;
 

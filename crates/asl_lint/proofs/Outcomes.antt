@@ -12,7 +12,7 @@ use Rattle.asl_model.specs.StandsFor.{Complaint, complaints}
 use Rattle.asl_model.specs.Texts.{TextFault, NotJson, NotWhole, BadDefinition, BadRecord, IsDeclaredFault, IsDefinitionFault, ReadsAsDeclared, ReadsAsMachine, definition_no_json, definition_complaint, declared_no_json, declared_not_whole, declared_complaint}
 use Rattle.asl_model.specs.Verdict.{Accepted, IsTelling}
 use Rattle.asl_model.proofs.ReadingLaws.{declared_text_has_no_fault, definition_has_no_fault, none_listed, text_has_one_declared, text_has_one_machine}
-use Rattle.asl_drafts.specs.Drafts.{IsInferred}
+use Rattle.asl_draft_laws.specs.Drafts.{IsInferred}
 use Rattle.asl_tool.specs.VerifiedInference.{IsVerdictOnInferred}
 use Rattle.asl_tool.specs.Verifying.{MachineReads}
 use Rattle.asl_lint.specs.Linted as faulty
@@ -20,7 +20,7 @@ use Rattle.asl_lint.specs.Linted.{IsFaulty}
 use Rattle.asl_lint.specs.Tells as tells
 use Rattle.asl_lint.specs.Tells.{AreBroken, TellsOfBoth, TellsOfDeclared, TellsOfDefinition, TellsOfMachine, TellsOfOne, TellsOfCertificate, TellsInstead, accepted, rejected, leniently, unsettled_leniently, unbroken, inferred, stopped, unsettled, both_read, definition_reads, declared_reads, neither_reads, alone_reads, alone_refused}
 use Rattle.asl_lint.specs.Told.{Told, of_complaint, of_finding}
-use Rattle.asl_drafts.proofs.OneAnswer.{inferred_once, nothing_told, settles}
+use Rattle.asl_draft_laws.proofs.OneAnswer.{inferred_once, nothing_told, settles}
 
 -- the first one is contained
 first : {A : Type 0} (x : A) (xs : List A) → Contains (x ∷ xs) x

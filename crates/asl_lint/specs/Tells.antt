@@ -11,7 +11,7 @@ use Rattle.asl_model.specs.Records.{RecordComplaint, HasDeclaredFault}
 use Rattle.asl_model.specs.StandsFor.{complaints}
 use Rattle.asl_model.specs.Texts.{IsNoJson, ReadsAsDeclared, ReadsAsMachine}
 use Rattle.asl_model.specs.Verdict.{Accepted, IsRight, Rejected}
-use Rattle.asl_drafts.specs.Drafts.{IsInferred, IsTold, NeverSettles}
+use Rattle.asl_draft_laws.specs.Drafts.{IsInferred, IsTold, NeverSettles}
 use Rattle.asl_check.specs.Told.{listed}
 use Rattle.asl_infer.specs.Inferring.{IsOfMachine, certified_shapes}
 use Rattle.asl_infer.specs.Lenient.{IsInferredLeniently, NeverSettlesLeniently}

@@ -23,8 +23,6 @@ one_behind nodes children from k found there ended h = record {
       (λ other. h.each i node more (omega (arith, less, other)) e);
 }
 
-}
-
 -- behind the last that hasn't
 pub behind_is : (nodes : List Node) (children : Children) (from to k : ℕ) → k ≤ to → AreEnded nodes children k to → ((node : Node) → from < k → slice_get nodes (children.first.0 + (k - 1)) ≡ Some node → node_ended node ≡ false) → IsBehindRunning nodes children from to k
 behind_is nodes children from to k upper h runs = record {

@@ -323,11 +323,6 @@ retry_written j before after was node retrier there written alone retries =
     ∙ ap (model.Ready (name_in names visit.state) (trees.view visit.raw.value)) raised.counts)
 
 -- the same execution shows the same
-}
-
-}
-
-}
 
 -- ---- nodes that are added
 

@@ -40,7 +40,6 @@ under_inserted f n (e ∷ es) k v = go (string_cmp k e.0) refl (under_inserted f
         by false is below = rw below refl
 
 -- none of no states
-}
 
 -- one state more, which is no Task
 pub tasks-passed : (table : Table) (many : ℕ) (tasks : List (List ℕ × TaskShapes)) → AreTasksOf table many tasks → task_at table many ≡ None → AreTasksOf table (many + 1) tasks

@@ -6,8 +6,8 @@ use Rattle.asl_model.specs.Machine.{Scope}
 use Rattle.asl_model.specs.Numbering.{table_of}
 use Rattle.asl_model.specs.Texts.{ReadsAsDeclared, ReadsAsMachine}
 use Rattle.asl_model.specs.Verdict.{IsRight, Verdict}
-use Rattle.asl_drafts.specs.Drafts.{IsInferred}
-use Rattle.asl_drafts.proofs.OneAnswer.{inferred_once}
+use Rattle.asl_draft_laws.specs.Drafts.{IsInferred}
+use Rattle.asl_draft_laws.proofs.OneAnswer.{inferred_once}
 use Rattle.asl_check.specs.Told.{listed, TellsFirst}
 use Rattle.asl_tool.specs.FirstTold.{TellsFirstOnWritten}
 use Rattle.asl_tool.specs.Inferred.{IsWrittenFor}

@@ -99,4 +99,3 @@ goes_on {other = other} {wider = wider} {machine = machine} {before = before} {c
     (subst (λ n. Written wider machine (count + n) before longer c left) why.1 (written_more so_far last.drives first second added), why.0)
 
 -- all steps were taken
-}

@@ -19,8 +19,6 @@ after_write old now new bs rest n h w = record {
   appended = Appends-trans old now new h.front (take n rest) h.appended w;
 }
 
-}
-
 -- nothing is left to write
 pub all_written : (old now : Option (List ℕ)) (bs rest : List ℕ) → LeavesRest old now bs rest → rest ≡ [] → Appends old now bs
 all_written old now bs rest h e =

@@ -6,7 +6,7 @@ use Rattle.asl_model.specs.Machine.{Scope}
 use Rattle.asl_model.specs.Numbering.{table_of}
 use Rattle.asl_model.specs.Texts.{ReadsAsMachine, ReadsAsDeclared}
 use Rattle.asl_model.specs.Verdict.{Verdict}
-use Rattle.asl_drafts.specs.Drafts.{IsInferred}
+use Rattle.asl_draft_laws.specs.Drafts.{IsInferred}
 use Rattle.asl_check.specs.Told.{listed, TellsFirst}
 use Rattle.asl_tool.specs.Inferred.{IsWrittenFor}
 

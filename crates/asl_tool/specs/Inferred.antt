@@ -11,7 +11,7 @@ use Rattle.asl_model.specs.Tree.{Tree}
 use Rattle.asl_model.specs.Texts.{Which, DefinitionText, DeclaredText, CertificateText, InputText, AnswersText, TextFault, ReadsAsMachine, ReadsAsDeclared}
 use Rattle.asl_model.specs.Written.{written_certificate}
 use Rattle.asl_model.specs.WrittenNumbered.{written_numbered}
-use Rattle.asl_drafts.specs.Drafts.{IsInferred, IsTold, NeverSettles}
+use Rattle.asl_draft_laws.specs.Drafts.{IsInferred, IsTold, NeverSettles}
 use Rattle.asl_check.specs.View.{finding_view}
 use Rattle.asl_infer.specs.Inferring.{IsOfMachine, certified_shapes}
 use Rattle.asl_tool.specs.Verifying.{MachineReads, RefusesDefinition, RefusesDeclared}

@@ -10,7 +10,7 @@ use Rattle.asl_model.specs.Texts.{ReadsAsMachine, ReadsAsDeclared}
 use Rattle.asl_model.specs.Tree.{Tree}
 use Rattle.asl_model.specs.Verdict as verdict
 use Rattle.asl_model.specs.Verdict.{IsRight, TellsOf}
-use Rattle.asl_drafts.specs.Drafts.{IsInferred}
+use Rattle.asl_draft_laws.specs.Drafts.{IsInferred}
 use Rattle.asl_check.specs.View.{finding_view, verdict_view}
 use Rattle.asl_tool.specs.Inferred.{IsWrittenFor}
 use Rattle.asl_tool.specs.declared.inferring.Verified.{Verified}

@@ -81,8 +81,6 @@ none-there (suc place) n is = false≢true (ap is_some is)
 
 -- ---- numbers added to marks
 
-}
-
 pub adds-both : (a b c : Marks) (ms ns : List ℕ) → Adds a b ms → Adds b c ns → Adds a c (ms ++ ns)
 adds-both a b c ms ns first second = record {
   many = second.many ∙ first.many;

@@ -34,7 +34,6 @@ no-name : (name : StateName) → Contains [] name → ⊥
 no-name name has = let within = has.1 in omega (arith, within)
 
 -- none of them is below 0
-}
 
 -- that of one more state
 pub tells-more : (m : Machine) (led : Marks) (number : ℕ) (before after : List StateName) → IsExact m led → TellsBelow m number before → after ≡ before ++ told_at m led number → TellsBelow m (number + 1) after

@@ -12,8 +12,8 @@ use Rattle.asl_numbered.specs.declared.node.Node.{Node}
 use Rattle.asl_records.specs.Numbered.{numbers_view, AreNumbersBelow}
 use Rattle.asl_records.specs.declared.records.StateNumbers.{StateNumbers}
 use Rattle.asl_records.proofs.Kept.{numbers_shown, numbers_within, shown, within}
-use Rattle.asl_edges.specs.Entry.{entry_view, IsEntryBelow}
-use Rattle.asl_edges.specs.declared.found.Entry.{Entry}
+use Rattle.asl_state_edges.specs.Entry.{entry_view, IsEntryBelow}
+use Rattle.asl_state_edges.specs.declared.found.Entry.{Entry}
 
 -- ---- what its task gives
 

@@ -2,10 +2,10 @@
 
 ghost use Rattle.std.specs.Prelude.{◌≡◌, ◌<◌, ◌+◌, List, if◌then◌else◌};
 ghost use Rattle.asl_model.specs.Shape.{Shape};
-ghost use Rattle.asl_edges.specs.View.{step_view};
+ghost use Rattle.asl_state_edges.specs.View.{step_view};
 ghost use Rattle.asl_ways.specs.Exits.{exit_at, none_passed, passed_on, turned};
 
-use asl_edges::{Destination, Step};
+use asl_state_edges::{Destination, Step};
 
 /// How data leaves a state for another one.
 #[derive(Clone, Copy, PartialEq, Drop)]

@@ -1,5 +1,5 @@
 use Rattle.std.proofs.Common.{sym, ◌∙◌}
-use Rattle.asl_edges.specs.View.{finding_fault_view}
+use Rattle.asl_state_edges.specs.View.{finding_fault_view}
 use Rattle.asl_numbered.specs.Expansion.{expansions, shape_at}
 use Rattle.asl_check.proofs.Compared.{inside_told, outside_told}
 use Rattle.asl_check.proofs.comparing.broken_unless_sub.Goals as goal

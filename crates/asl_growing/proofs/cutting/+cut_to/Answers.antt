@@ -2,7 +2,7 @@ use Rattle.std.proofs.Common.{◌≡◌, ◌<◌, ◌∙◌, suc, length, map, a
 use Rattle.asl_numbered.specs.Expansion.{expansions, shape_at}
 use Rattle.asl_numbered.specs.Joins.{Shows}
 use Rattle.asl_numbered.proofs.Expansions.{keeps_trans}
-use Rattle.asl_edges.proofs.Kept.{within}
+use Rattle.asl_state_edges.proofs.Kept.{within}
 use Rattle.asl_growing.specs.Cuts.{AreCutTo}
 use Rattle.asl_growing.specs.Parts.{with_parts}
 use Rattle.asl_growing.proofs.Cuts.{left_as_it_is, one_below, one_more_cut, there_cut, cuts_counted, made_of_start, made_of_own}

@@ -1,4 +1,4 @@
-use Rattle.asl_edges.proofs.Kept.{among}
+use Rattle.asl_state_edges.proofs.Kept.{among}
 use Rattle.asl_growing.proofs.cutting.join_cut.Goals as goal
 
 pub cut_to-requires-clause-within : goal.cut_to-requires-clause-within

@@ -1,5 +1,5 @@
 use Rattle.std.proofs.Common.{◌≡◌, sym, ◌∙◌, subst, arith}
-use Rattle.asl_drafts.specs.Drafts.{children_in}
+use Rattle.asl_draft_laws.specs.Drafts.{children_in}
 use Rattle.asl_states.specs.Machine.{kind_view}
 use Rattle.asl_states.proofs.Branches.{one_each}
 use Rattle.asl_growing.proofs.entries.children_in.Goals as goal

@@ -1,5 +1,5 @@
 use Rattle.asl_model.specs.Machine.{State, kind_of}
-use Rattle.asl_drafts.specs.Drafts.{children_in}
+use Rattle.asl_draft_laws.specs.Drafts.{children_in}
 use Rattle.asl_states.specs.Machine.{state_view}
 use Rattle.asl_states.specs.Table.{table_view}
 use Rattle.asl_growing.specs.Entries.{filled_with, growths_in}

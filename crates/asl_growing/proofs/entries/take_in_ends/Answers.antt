@@ -1,7 +1,7 @@
 use Rattle.std.proofs.Common.{length, sym}
 use borrow.Author.Tests.{ltb-false}
 use Rattle.std.proofs.lemmas.List.{length-map}
-use Rattle.asl_drafts.specs.Drafts.{taken_in}
+use Rattle.asl_draft_laws.specs.Drafts.{taken_in}
 use Rattle.asl_numbered.specs.Expansion.{expansions, shape_at}
 use Rattle.asl_growing.specs.Growing.{growth_view}
 use Rattle.asl_growing.proofs.EntryViews.{growths-kept, makes-at, makes-past, takes-made}

@@ -1,5 +1,5 @@
 use Rattle.std.proofs.lemmas.Result.{IfOk-weaker}
-use Rattle.asl_edges.proofs.Kept.{among}
+use Rattle.asl_state_edges.proofs.Kept.{among}
 use Rattle.asl_records.specs.View.{declared_view, task_view}
 use Rattle.asl_ways.proofs.Walking.{any_gives, task_gives}
 use Rattle.asl_ways.proofs.leaving.number_given.Goals as goal

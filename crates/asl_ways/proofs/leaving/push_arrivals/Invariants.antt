@@ -1,5 +1,5 @@
 use Rattle.std.proofs.Common.{List, length}
-use Rattle.asl_edges.specs.View.{AreStepsBelow}
+use Rattle.asl_state_edges.specs.View.{AreStepsBelow}
 use Rattle.asl_model.specs.Shape.{Shape}
 use Rattle.asl_states.specs.Table.{table_view}
 use Rattle.asl_ways.proofs.Along.{GoesAlong}

@@ -3,7 +3,7 @@ use Rattle.asl_model.specs.Certificate.{Certificate}
 use Rattle.asl_model.specs.Finding.{StartInput, breach_unless_sub}
 use Rattle.asl_numbered.specs.Expansion.{expansions, shape_at}
 use Rattle.asl_states.specs.Table.{table_view}
-use Rattle.asl_edges.proofs.Kept.{among}
+use Rattle.asl_state_edges.proofs.Kept.{among}
 use Rattle.asl_shape.specs.View.{view}
 use Rattle.asl_check.specs.Rules.{inputs_in}
 use Rattle.asl_check.proofs.FlowsTold.{same_listed}

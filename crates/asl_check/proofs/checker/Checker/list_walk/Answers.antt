@@ -2,9 +2,9 @@ use Rattle.std.proofs.Common.{◌≡◌, refl, ap, ◌∙◌}
 use Rattle.asl_model.specs.Edges.{destination_shapes}
 use Rattle.asl_model.specs.Finding.{surrounded_by}
 use Rattle.asl_numbered.specs.Expansion.{expansions, shape_at}
-use Rattle.asl_edges.specs.Entry.{entry_view}
-use Rattle.asl_edges.specs.declared.found.Entry.{Entry}
-use Rattle.asl_edges.specs.View.{steps_of}
+use Rattle.asl_state_edges.specs.Entry.{entry_view}
+use Rattle.asl_state_edges.specs.declared.found.Entry.{Entry}
+use Rattle.asl_state_edges.specs.View.{steps_of}
 use Rattle.asl_states.specs.Machine.{kind_view, scope_view, settings_view}
 use Rattle.asl_states.specs.Table.{table_view}
 use Rattle.asl_records.specs.Numbered.{numbers_view}

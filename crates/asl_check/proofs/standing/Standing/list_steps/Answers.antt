@@ -4,7 +4,7 @@ use Rattle.asl_model.specs.Edges.{breaches_at}
 use Rattle.asl_numbered.specs.Expansion.{expansions}
 use Rattle.asl_numbered.specs.declared.node.Node.{Node}
 use Rattle.asl_numbered.proofs.Expansions.{as_many}
-use Rattle.asl_edges.specs.View.{step_view, AreStepsBelow}
+use Rattle.asl_state_edges.specs.View.{step_view, AreStepsBelow}
 use Rattle.asl_check.specs.Faults.{fault_view, IsFaultBelow}
 use Rattle.asl_check.specs.Standing.{standing_view}
 use Rattle.asl_check.proofs.Passes.{all_left}

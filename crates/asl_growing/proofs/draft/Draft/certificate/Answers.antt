@@ -1,5 +1,5 @@
 use Rattle.std.proofs.Common.{ap, ◌∙◌, sym, subst}
-use Rattle.asl_drafts.specs.Drafts.{certificate_of}
+use Rattle.asl_draft_laws.specs.Drafts.{certificate_of}
 use Rattle.asl_states.specs.Table.{table_view}
 use Rattle.asl_growing.specs.Certified.{AreCertified}
 use Rattle.asl_records.specs.declared.records.NumberedCertificate.{NumberedCertificate}

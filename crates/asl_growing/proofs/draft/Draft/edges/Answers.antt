@@ -1,12 +1,12 @@
 use Rattle.std.proofs.Common.{◌∙◌, subst}
 use Rattle.std.specs.Prelude.{◌≡◌, IfOk}
-use Rattle.asl_edges.specs.View.{steps_of}
+use Rattle.asl_state_edges.specs.View.{steps_of}
 use Rattle.asl_numbered.specs.Expansion.{expansions}
 use Rattle.asl_states.specs.Machine.{kind_view, settings_view}
 use Rattle.asl_growing.specs.Drafted.{draft_view, entry_at}
 use Rattle.asl_growing.proofs.DraftViews.{draft-same, state-below, state-shown, walk-same}
 use Rattle.asl_growing.proofs.Grown.{entries_kept, grown_kept}
-use Rattle.asl_edges.proofs.Kept.{within}
+use Rattle.asl_state_edges.proofs.Kept.{within}
 use Rattle.asl_growing.proofs.draft.Draft.edges.Goals as goal
 
 pub edges-requires-clause-entry : goal.edges-requires-clause-entry

@@ -4,7 +4,7 @@ use Rattle.asl_numbered.specs.declared.kinds.KindNumbers.{KindNumbers}
 use Rattle.asl_numbered.specs.Joins.{Shows}
 use Rattle.asl_numbered.specs.TakenApart.{kinds_over}
 use Rattle.asl_numbered.proofs.Expansions.{below-wider}
-use Rattle.asl_edges.proofs.Kept.{longer}
+use Rattle.asl_state_edges.proofs.Kept.{longer}
 use Rattle.asl_growing.specs.Parts.{with_parts}
 use Rattle.asl_growing.proofs.Rebuilt.{kinds_put, parts_as_many}
 use Rattle.asl_growing.proofs.store.Store.rebuild.Goals as goal

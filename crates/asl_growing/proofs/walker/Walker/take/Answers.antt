@@ -1,6 +1,6 @@
 use Rattle.std.proofs.Common.{◌≤◌, Some, length, refl, sym, ap, ◌∙◌, subst}
 use Rattle.std.proofs.lemmas.Bool.{false≢true}
-use Rattle.asl_drafts.specs.Drafts.{taken_at}
+use Rattle.asl_draft_laws.specs.Drafts.{taken_at}
 use Rattle.asl_numbered.specs.Expansion.{expansions, shape_at, Keeps}
 use Rattle.asl_numbered.proofs.Expansions.{keeps_trans}
 use Rattle.asl_growing.specs.Drafted.{draft_view, room, target_view}
@@ -9,7 +9,7 @@ use Rattle.asl_growing.specs.Walker.{StaysWaiting}
 use Rattle.asl_growing.specs.declared.walker.Walker.{Walker}
 use Rattle.asl_growing.proofs.Calm.{calm-by}
 use Rattle.asl_growing.specs.declared.draft.Draft.{Draft}
-use Rattle.asl_edges.proofs.Kept.{longer}
+use Rattle.asl_state_edges.proofs.Kept.{longer}
 use Rattle.asl_growing.proofs.Walkers.{woken}
 use Rattle.asl_growing.proofs.walker.Walker.take.Goals as goal
 

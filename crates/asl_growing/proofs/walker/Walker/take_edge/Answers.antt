@@ -1,6 +1,6 @@
 use Rattle.std.proofs.Common.{◌≡◌, Some, None, option_map, refl, sym, ap, ◌∙◌}
-use Rattle.asl_drafts.specs.Drafts as model
-use Rattle.asl_edges.specs.View.{destination_view, edge_view}
+use Rattle.asl_draft_laws.specs.Drafts as model
+use Rattle.asl_state_edges.specs.View.{destination_view, edge_view}
 use Rattle.asl_states.specs.Table.{table_view}
 use Rattle.asl_numbered.specs.Expansion.{expansions}
 use Rattle.asl_growing.specs.Drafted.{target_view}

@@ -1,4 +1,4 @@
-use Rattle.asl_edges.specs.View.{step_view}
+use Rattle.asl_state_edges.specs.View.{step_view}
 use Rattle.asl_states.specs.Table.{table_view}
 use Rattle.asl_numbered.specs.Expansion.{expansions}
 use Rattle.asl_growing.proofs.Underway.{nothing-taken}

@@ -1,14 +1,14 @@
 use Rattle.std.proofs.Common.{◌≡◌, ◌+◌, ◌||◌, Bool, true, length, refl, sym, subst, arith}
-use Rattle.asl_drafts.specs.Drafts.{step_taken}
-use Rattle.asl_edges.specs.View.{step_view, steps_of}
-use Rattle.asl_edges.specs.declared.found.Step.{Step}
+use Rattle.asl_draft_laws.specs.Drafts.{step_taken}
+use Rattle.asl_state_edges.specs.View.{step_view, steps_of}
+use Rattle.asl_state_edges.specs.declared.found.Step.{Step}
 use Rattle.asl_states.specs.Table.{table_view}
 use Rattle.asl_numbered.specs.Expansion.{expansions}
 use Rattle.asl_growing.specs.Drafted.{draft_view, room}
 use Rattle.asl_growing.specs.Entries.{Makes}
 use Rattle.asl_growing.specs.Underway.{StepsOn}
 use Rattle.asl_growing.specs.declared.predecessors.Origin.{Origin}
-use Rattle.asl_edges.proofs.Kept.{longer}
+use Rattle.asl_state_edges.proofs.Kept.{longer}
 use Rattle.asl_growing.proofs.Leading.{first_steps, step-below, step-kept, step-wider, steps-many, steps-more}
 use Rattle.asl_growing.proofs.Underway.{HasWalked, changed-now, unchanged-now, walked-more}
 use Rattle.asl_growing.proofs.walker.Walker.take_steps.Goals as goal

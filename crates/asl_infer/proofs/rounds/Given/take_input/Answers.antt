@@ -1,5 +1,5 @@
 use Rattle.std.proofs.lemmas.Result.{IfOk-weaker}
-use Rattle.asl_edges.proofs.Kept.{among}
+use Rattle.asl_state_edges.proofs.Kept.{among}
 use Rattle.asl_infer.specs.Rounds.{declared_in, table_in}
 use Rattle.asl_infer.proofs.CalmStates.{taken-calm}
 use Rattle.asl_infer.proofs.rounds.Given.take_input.Goals as goal

@@ -1,8 +1,8 @@
 use Rattle.std.proofs.Common.{refl, sym, subst, ◌∙◌}
 use Rattle.asl_numbered.specs.Expansion.{expansions}
 use Rattle.asl_numbered.proofs.Expansions.{keeps_same}
-use Rattle.asl_edges.specs.View.{steps_of}
-use Rattle.asl_drafts.specs.Drafts.{steps_taken}
+use Rattle.asl_state_edges.specs.View.{steps_of}
+use Rattle.asl_draft_laws.specs.Drafts.{steps_taken}
 use Rattle.asl_growing.specs.Drafted.{draft_view, room}
 use Rattle.asl_growing.specs.Entries.{Makes}
 use Rattle.asl_growing.specs.Underway.{IsCalmAfter}

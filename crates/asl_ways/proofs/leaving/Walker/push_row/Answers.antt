@@ -1,6 +1,6 @@
 use Rattle.std.proofs.Common.{◌≡◌, length, sym, ap, ◌∙◌, subst}
 use Rattle.std.proofs.lemmas.Result.{on_ok_weaker}
-use Rattle.asl_edges.specs.View.{steps_of, AreStepsBelow}
+use Rattle.asl_state_edges.specs.View.{steps_of, AreStepsBelow}
 use Rattle.asl_numbered.specs.Expansion.{expansions, shape_at}
 use Rattle.asl_numbered.proofs.Expansions.{as_many, keeps_trans}
 use Rattle.asl_states.specs.Machine.{kind_view, settings_view}

@@ -1,4 +1,4 @@
-use Rattle.asl_edges.proofs.Kept.{among}
+use Rattle.asl_state_edges.proofs.Kept.{among}
 use Rattle.asl_ways.proofs.leaving.Walker.start.Goals as goal
 
 pub returns-in-Some-clause-below : goal.returns-in-Some-clause-below

@@ -1,8 +1,0 @@
-use Rattle.asl_drafts.proofs.PassedOver.{rests-kept, rests-walked}
-use Rattle.asl_drafts.proofs.states_at_rest_may_be_passed_over.Goals as goal
-
-pub returns : goal.returns
-returns c = record {
-  passed = rests-walked;
-  kept = rests-kept;
-}

@@ -1,7 +1,0 @@
-use Rattle.std.proofs.Common.{refl}
-use Rattle.asl_edges.specs.Walks.{payload_step}
-use Rattle.asl_edges.proofs.PushedSteps.{edge_pushed}
-use Rattle.asl_edges.proofs.pushing.push_payload.Goals as goal
-
-pub returns : goal.returns
-returns c = edge_pushed _ _ _ c.args.payload payload_step c.in_ok-push.ensures.items refl (λ table. refl)
