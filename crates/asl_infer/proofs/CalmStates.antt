@@ -9,15 +9,15 @@ use Rattle.asl_draft_laws.specs.Drafts.{Draft, Row, walked}
 use Rattle.asl_draft_laws.specs.Resting.{Rests}
 use Rattle.asl_draft_laws.proofs.PassedOver.{rests-known, rests-walked}
 use Rattle.asl_numbered.specs.Expansion.{expansions, Keeps}
-use Rattle.asl_growing.specs.Calm.{IsCalm, memory_of}
-use Rattle.asl_growing.specs.Drafted.{draft_view}
-use Rattle.asl_growing.specs.Order.{AreOrdered}
-use Rattle.asl_growing.specs.Underway.{OthersStayCalm}
-use Rattle.asl_growing.specs.Waiting.{waits_in}
-use Rattle.asl_growing.specs.Walker.{StaysWaiting}
-use Rattle.asl_growing.specs.declared.waiting.Waiting.{Waiting}
-use Rattle.asl_growing.specs.declared.walker.Walker.{Walker}
-use Rattle.asl_growing.proofs.Calm.{remembered}
+use Rattle.asl_drafts.specs.Calm.{IsCalm, memory_of}
+use Rattle.asl_drafts.specs.Drafted.{draft_view}
+use Rattle.asl_drafts.specs.Order.{AreOrdered}
+use Rattle.asl_drafts.specs.Underway.{OthersStayCalm}
+use Rattle.asl_drafts.specs.Waiting.{waits_in}
+use Rattle.asl_drafts.specs.Walker.{StaysWaiting}
+use Rattle.asl_drafts.specs.declared.waiting.Waiting.{Waiting}
+use Rattle.asl_drafts.specs.declared.walker.Walker.{Walker}
+use Rattle.asl_drafts.proofs.Calm.{remembered}
 use Rattle.asl_infer.specs.Rounds.{AreCalm, AreOthersCalm, IsIn, IsNoRow, Walks, walked_by}
 use Rattle.asl_infer.specs.declared.rounds.Strictness.{Strictness}
 use Rattle.asl_infer.specs.declared.rounds.Strictness.TheVariants.{Strict, Lenient}

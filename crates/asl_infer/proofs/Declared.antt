@@ -17,8 +17,8 @@ use Rattle.asl_infer.specs.declared.rounds.Given.{Given}
 use Rattle.asl_infer.specs.declared.rounds.Row.{Row}
 use Rattle.asl_infer.specs.declared.rounds.Strictness.{Strictness}
 use Rattle.asl_infer.specs.declared.tasks.TaskNumbers.{TaskNumbers}
-use Rattle.asl_growing.proofs.Known.{shows_kept}
-use Rattle.asl_growing.proofs.Measured.{pushed}
+use Rattle.asl_drafts.proofs.Known.{shows_kept}
+use Rattle.asl_drafts.proofs.Measured.{pushed}
 
 -- ---- one task
 

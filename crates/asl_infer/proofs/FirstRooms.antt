@@ -5,8 +5,8 @@ use Rattle.std.proofs.lemmas.List.Sums.{sum_by-cons}
 use Rattle.asl_model.specs.Machine.{State, kind_of}
 use Rattle.asl_model.specs.Numbering.{Table}
 use Rattle.asl_draft_laws.specs.Drafts.{DraftEntry, Growth, children_in, first_draft, first_entry, ungrown}
-use Rattle.asl_growing.specs.Drafted.{room}
-use Rattle.asl_growing.specs.Entries.{ends_room, entries_room, entry_room}
+use Rattle.asl_drafts.specs.Drafted.{room}
+use Rattle.asl_drafts.specs.Entries.{ends_room, entries_room, entry_room}
 use Rattle.asl_infer.specs.Inferring.{certified_shapes}
 
 replicated : (n : ℕ) → ends_room (replicate n ungrown) ≡ 33 * n

@@ -17,7 +17,7 @@ use Rattle.asl_records.specs.declared.records.Declared as code
 use Rattle.asl_records.specs.declared.records.NumberedCertificate.{NumberedCertificate}
 use Rattle.asl_states.specs.Table.{Shows, table_view}
 use Rattle.asl_states.specs.declared.machine.Machine.{Machine}
-use Rattle.asl_growing.specs.Cutting.{IsShallow}
+use Rattle.asl_drafts.specs.Cutting.{IsShallow}
 use Rattle.asl_infer.specs.Inferring.{certified_shapes}
 use Rattle.asl_infer.specs.Lenient.{IsInferredLeniently, NeverSettlesLeniently}
 use Rattle.asl_infer.specs.Rounds.{AnswersLeniently, EndsWhereDistinct, IsGivenOf, IsLenientAnswer, SettlesWhereDistinct, declared_in, table_in}

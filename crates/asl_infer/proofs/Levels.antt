@@ -6,7 +6,7 @@ use Rattle.asl_model.specs.Certificate as model
 use Rattle.asl_model.specs.Json.{value_of}
 use Rattle.asl_model.specs.RecordShapes.{HoldsForCertificate}
 use Rattle.asl_model.specs.Written.{written_certificate}
-use Rattle.asl_growing.specs.Cutting.{IsShallow, deepest}
+use Rattle.asl_drafts.specs.Cutting.{IsShallow, deepest}
 use Rattle.asl_model.proofs.WrittenNesting.{certificate_nests}
 
 pub written_shallow : (certificate : model.Certificate) → HoldsForCertificate IsShallow certificate → json.depth (value_of (written_certificate certificate)) ≤ max_depth

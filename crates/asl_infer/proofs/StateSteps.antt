@@ -13,12 +13,12 @@ use Rattle.asl_numbered.specs.declared.node.Node.{Node}
 use Rattle.asl_states.specs.Machine.{kind_view, settings_view}
 use Rattle.asl_state_edges.specs.View.{AreStepsBelow, steps_of}
 use Rattle.asl_state_edges.specs.declared.found.Step.{Step}
-use Rattle.asl_growing.specs.Calm.{IsCalm}
-use Rattle.asl_growing.specs.Drafted.{draft_view, room, shapes_of}
-use Rattle.asl_growing.specs.Entries.{Makes}
-use Rattle.asl_growing.specs.Underway.{IsCalmAfter}
-use Rattle.asl_growing.specs.declared.walker.Walker.{Walker}
-use Rattle.asl_growing.proofs.Leading.{step-kept, step-wider}
+use Rattle.asl_drafts.specs.Calm.{IsCalm}
+use Rattle.asl_drafts.specs.Drafted.{draft_view, room, shapes_of}
+use Rattle.asl_drafts.specs.Entries.{Makes}
+use Rattle.asl_drafts.specs.Underway.{IsCalmAfter}
+use Rattle.asl_drafts.specs.declared.walker.Walker.{Walker}
+use Rattle.asl_drafts.proofs.Leading.{step-kept, step-wider}
 use Rattle.asl_check.specs.View.{finding_view}
 use Rattle.asl_check.specs.declared.verdicts.Finding.{Finding}
 use Rattle.asl_infer.specs.Rounds.{AreStepsOf, IsIn, IsRowOf, WalkTells, Walks, declared_in, row_view, table_in, walked_by}

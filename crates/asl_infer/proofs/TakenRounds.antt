@@ -10,12 +10,12 @@ use Rattle.asl_model.specs.ShapeSpelling.{are_distinct}
 use Rattle.asl_model.proofs.RunOptions.{none_some, some_inj}
 use Rattle.asl_draft_laws.specs.Drafts.{Draft, Input, Row, first_draft, input_taken, rows_of, taken_at, unless_told}
 use Rattle.asl_draft_laws.proofs.CertifiedRows.{Among, row-known}
-use Rattle.asl_growing.specs.Drafted.{draft_view, room}
-use Rattle.asl_growing.specs.Entries.{Makes}
-use Rattle.asl_growing.specs.Order.{AreOrdered}
-use Rattle.asl_growing.specs.Waiting.{NoneWaits}
-use Rattle.asl_growing.specs.declared.walker.Walker.{Walker}
-use Rattle.asl_growing.proofs.Ordered.{stand-once}
+use Rattle.asl_drafts.specs.Drafted.{draft_view, room}
+use Rattle.asl_drafts.specs.Entries.{Makes}
+use Rattle.asl_drafts.specs.Order.{AreOrdered}
+use Rattle.asl_drafts.specs.Waiting.{NoneWaits}
+use Rattle.asl_drafts.specs.declared.walker.Walker.{Walker}
+use Rattle.asl_drafts.proofs.Ordered.{stand-once}
 use Rattle.asl_check.specs.View.{finding_view}
 use Rattle.asl_infer.specs.Rounds.{AreCalm, EndsWhereDistinct, IsChanged, IsEndBy, IsIn, RoundTells, SettlesWhereDistinct, TakesRound, Tells, WalkTells, Walks, after_rounds_by, all_walked_by, round_by}
 use Rattle.asl_infer.specs.declared.inferring.InferRefusal.{InferRefusal}

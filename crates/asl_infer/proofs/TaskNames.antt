@@ -12,7 +12,7 @@ use Rattle.asl_records.specs.View.{task_view}
 use Rattle.asl_records.specs.declared.records.TaskShapes as code
 use Rattle.asl_check.specs.Rules.{names_task_in}
 use Rattle.asl_check.specs.View.{finding_view}
-use Rattle.asl_growing.specs.Order.{AreOrdered}
+use Rattle.asl_drafts.specs.Order.{AreOrdered}
 use Rattle.asl_infer.specs.Declarations.{AreNamed, IsFirst, IsFirstAt, IsFirstOf, NamesTell, first_by_name, first_of, misnamed_view}
 use Rattle.asl_infer.specs.Rounds.{IsIn, IsNoRow}
 use Rattle.asl_infer.specs.declared.declarations.Misnamed.{Misnamed}

@@ -18,11 +18,11 @@ use Rattle.asl_states.specs.Table.{table_view}
 use Rattle.asl_states.specs.declared.machine.Machine.{Machine}
 use Rattle.asl_state_edges.specs.View.{steps_of}
 use Rattle.asl_state_edges.specs.declared.found.Step.{Step}
-use Rattle.asl_growing.specs.Calm.{IsCalm}
-use Rattle.asl_growing.specs.Drafted.{room}
-use Rattle.asl_growing.specs.Entries.{IsToldOf}
-use Rattle.asl_growing.specs.Order.{AreOrdered}
-use Rattle.asl_growing.specs.declared.walker.Walker.{Walker}
+use Rattle.asl_drafts.specs.Calm.{IsCalm}
+use Rattle.asl_drafts.specs.Drafted.{room}
+use Rattle.asl_drafts.specs.Entries.{IsToldOf}
+use Rattle.asl_drafts.specs.Order.{AreOrdered}
+use Rattle.asl_drafts.specs.declared.walker.Walker.{Walker}
 use Rattle.asl_check.specs.View.{finding_view}
 use Rattle.asl_infer.specs.Inferring.{certified_shapes}
 use Rattle.asl_infer.specs.Lenient.{IsInferredLeniently, NeverSettlesLeniently, lenient_walk}

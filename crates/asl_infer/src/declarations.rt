@@ -5,7 +5,7 @@ ghost use Rattle.asl_draft_laws.specs.Drafts.{rows_of, undeclared, unknown};
 ghost use Rattle.asl_records.specs.View.{declared_view};
 ghost use Rattle.asl_states.specs.Table.{table_view};
 ghost use Rattle.asl_check.specs.Rules.{names_task_in};
-ghost use Rattle.asl_growing.specs.Order.{AreOrdered};
+ghost use Rattle.asl_drafts.specs.Order.{AreOrdered};
 ghost use Rattle.asl_infer.specs.Declarations.{AreNamed, IsFirst, IsFirstAt, IsFirstOf, NamesTell};
 ghost use Rattle.asl_infer.specs.Declarations.{first_of, misnamed_view};
 

@@ -13,14 +13,14 @@ ghost use Rattle.asl_draft_laws.specs.Drafts.{IsInferred};
 ghost use Rattle.asl_states.specs.Table.{Shows, table_view};
 ghost use Rattle.asl_records.specs.Numbered.{numbered_view, AreWithin};
 ghost use Rattle.asl_records.specs.View.{declared_view};
-ghost use Rattle.asl_growing.specs.Cutting.{IsShallow};
+ghost use Rattle.asl_drafts.specs.Cutting.{IsShallow};
 ghost use Rattle.asl_infer.specs.Inferring.{certified_shapes};
 ghost use Rattle.asl_infer.specs.Lenient.{IsInferredLeniently, NeverSettlesLeniently};
 ghost use Rattle.asl_infer.specs.Rounds.{AnswersLeniently, IsSettledOrNot};
 
 use crate::inferring::{InferRefusal, begin};
 use crate::rounds::Strictness;
-use asl_growing::order_of;
+use asl_drafts::order_of;
 use asl_records::{Declared, NumberedCertificate};
 use asl_states::Machine;
 use asl_tree::OutOfMemory;

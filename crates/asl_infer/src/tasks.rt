@@ -6,7 +6,7 @@ ghost use Rattle.asl_records.specs.View.{declared_view};
 ghost use Rattle.asl_states.specs.Table.{table_view};
 ghost use Rattle.asl_infer.specs.Tasks.{AreTasks, IsTaskOf};
 
-use asl_growing::Store;
+use asl_drafts::Store;
 use asl_numbered::Node;
 use asl_records::Declared;
 use asl_states::Machine;

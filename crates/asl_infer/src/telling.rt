@@ -8,12 +8,12 @@ ghost use Rattle.asl_tree.specs.View.{view as tree_view};
 ghost use Rattle.asl_numbered.specs.Expansion.{expansions, shape_at, Keeps};
 ghost use Rattle.asl_state_edges.specs.View.{broken_view, edge_view, finding_fault_view, step_view};
 ghost use Rattle.asl_state_edges.specs.View.{AreStepsBelow, IsBrokenBelow, IsStepBelow};
-ghost use Rattle.asl_growing.specs.Drafted.{draft_view};
+ghost use Rattle.asl_drafts.specs.Drafted.{draft_view};
 ghost use Rattle.asl_check.specs.View.{finding_view};
 ghost use Rattle.asl_infer.specs.Telling.{breach_view, IsFirstBroken};
 
 use asl_check::Finding;
-use asl_growing::Draft;
+use asl_drafts::Draft;
 use asl_state_edges::{Broken, Destination, Edge, FindingFault, Step};
 use asl_tree::{OutOfMemory, Tree};
 use std::alloc::Global;

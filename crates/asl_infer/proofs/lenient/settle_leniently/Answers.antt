@@ -1,5 +1,5 @@
 use Rattle.asl_records.specs.Numbered.{numbered_view}
-use Rattle.asl_growing.specs.Drafted.{draft_view}
+use Rattle.asl_drafts.specs.Drafted.{draft_view}
 use Rattle.asl_infer.proofs.LenientAnswers.{none-answers, settled-answers}
 use Rattle.asl_infer.proofs.lenient.settle_leniently.Goals as goal
 

@@ -1,6 +1,6 @@
 use Rattle.std.proofs.Common.{◌≡◌}
 use Rattle.asl_numbered.specs.Expansion.{expansions, shape_at}
-use Rattle.asl_growing.specs.Drafted.{draft_view}
+use Rattle.asl_drafts.specs.Drafted.{draft_view}
 use Rattle.asl_infer.proofs.OwnRules.{ArePassed}
 use Rattle.asl_infer.proofs.telling.first_broken.Given as goal
 

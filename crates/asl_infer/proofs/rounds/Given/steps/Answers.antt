@@ -1,6 +1,6 @@
 use Rattle.std.proofs.Common.{length, subst}
 use Rattle.asl_numbered.specs.Expansion.{expansions, shape_at}
-use Rattle.asl_growing.specs.Drafted.{draft_view}
+use Rattle.asl_drafts.specs.Drafted.{draft_view}
 use Rattle.asl_state_edges.proofs.Kept.{among, longer, within}
 use Rattle.asl_infer.specs.Telling.{IsFirstBroken}
 use Rattle.asl_infer.proofs.Declared.{task_of_row}

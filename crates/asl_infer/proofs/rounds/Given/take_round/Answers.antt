@@ -3,7 +3,7 @@ use Rattle.std.proofs.lemmas.Option.{slice_get_within}
 use Rattle.std.proofs.lemmas.Result.{err_from_is_err_and}
 use Rattle.asl_numbered.specs.Expansion.{expansions}
 use Rattle.asl_numbered.proofs.Expansions.{keeps_trans}
-use Rattle.asl_growing.specs.Drafted.{draft_view}
+use Rattle.asl_drafts.specs.Drafted.{draft_view}
 use Rattle.asl_infer.specs.Rounds.{IsChanged, declared_in, table_in}
 use Rattle.asl_infer.proofs.Declared.{given_kept}
 use Rattle.asl_infer.proofs.TakenRounds.{IsInRound, end-round, pass-round, walk-changed, walk-told, walk-unchanged}

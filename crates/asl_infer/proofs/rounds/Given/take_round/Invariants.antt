@@ -1,6 +1,6 @@
 use Rattle.std.proofs.Common.{◌≤◌, ◌-◌, length}
 use Rattle.asl_numbered.specs.Expansion.{expansions, Keeps}
-use Rattle.asl_growing.specs.Drafted.{draft_view}
+use Rattle.asl_drafts.specs.Drafted.{draft_view}
 use Rattle.asl_infer.specs.Rounds.{AreCalm, declared_in, table_in}
 use Rattle.asl_infer.proofs.TakenRounds.{IsInRound}
 use Rattle.asl_infer.proofs.rounds.Given.take_round.Given as goal

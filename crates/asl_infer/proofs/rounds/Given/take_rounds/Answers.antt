@@ -2,7 +2,7 @@ use Rattle.std.proofs.Common.{subst}
 use Rattle.std.proofs.lemmas.Result.{err_from_is_err_and}
 use Rattle.asl_numbered.specs.Expansion.{expansions}
 use Rattle.asl_numbered.proofs.Expansions.{keeps_trans}
-use Rattle.asl_growing.specs.Drafted.{draft_view}
+use Rattle.asl_drafts.specs.Drafted.{draft_view}
 use Rattle.asl_infer.specs.Rounds.{IsChanged, declared_in, table_in}
 use Rattle.asl_infer.proofs.Declared.{given_kept}
 use Rattle.asl_infer.proofs.TakenRounds.{never-settled, one-taken, told}

@@ -1,5 +1,5 @@
 use Rattle.asl_numbered.specs.Expansion.{expansions, Keeps}
-use Rattle.asl_growing.specs.Drafted.{draft_view}
+use Rattle.asl_drafts.specs.Drafted.{draft_view}
 use Rattle.asl_infer.specs.Rounds.{AreCalm, declared_in, table_in}
 use Rattle.asl_infer.proofs.TakenRounds.{AreTaken}
 use Rattle.asl_infer.proofs.rounds.Given.take_rounds.Given as goal

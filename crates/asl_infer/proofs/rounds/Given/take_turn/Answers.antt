@@ -3,10 +3,10 @@ use Rattle.asl_numbered.specs.Expansion.{expansions}
 use Rattle.asl_numbered.proofs.Expansions.{keeps_same}
 use Rattle.asl_state_edges.specs.View.{steps_of}
 use Rattle.asl_draft_laws.specs.Drafts.{steps_taken}
-use Rattle.asl_growing.specs.Drafted.{draft_view, room}
-use Rattle.asl_growing.specs.Entries.{Makes}
-use Rattle.asl_growing.specs.Underway.{IsCalmAfter}
-use Rattle.asl_growing.specs.declared.walker.Walker.{Walker}
+use Rattle.asl_drafts.specs.Drafted.{draft_view, room}
+use Rattle.asl_drafts.specs.Entries.{Makes}
+use Rattle.asl_drafts.specs.Underway.{IsCalmAfter}
+use Rattle.asl_drafts.specs.declared.walker.Walker.{Walker}
 use Rattle.asl_infer.specs.Rounds.{declared_in, table_in}
 use Rattle.asl_infer.proofs.CalmStates.{all-calm, none-calm, pass-calm, pass-walks, stop-calm, walked-calm, woken-calm}
 use Rattle.asl_infer.proofs.StateSteps.{state-calm, state-walks}

@@ -1,7 +1,0 @@
-use Rattle.std.proofs.Common.{◌-◌}
-use Rattle.asl_states.specs.Table.{table_view}
-use Rattle.asl_growing.specs.Certified.{AreCertified}
-use Rattle.asl_growing.proofs.certificate.certified_states.Given as goal
-
-abbrev pub invariant-loop-passed : goal.invariant-loop-passed
-invariant-loop-passed l = AreCertified (table_view l.machine) l.draft (l.count - l.passed) l.states.entries

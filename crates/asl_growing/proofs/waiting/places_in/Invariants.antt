@@ -1,9 +1,0 @@
-use Rattle.std.proofs.Common.{◌≡◌, length}
-use Rattle.asl_growing.proofs.Turns.{ArePlacedBefore}
-use Rattle.asl_growing.proofs.waiting.places_in.Given as goal
-
-abbrev pub invariant-loop-place : goal.invariant-loop-place
-invariant-loop-place l = record {
-  many : length l.places.items ≡ l.count;
-  placed : ArePlacedBefore l.order l.places.items l.place;
-}
