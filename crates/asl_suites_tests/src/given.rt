@@ -1,6 +1,6 @@
 //! The answers of cases, one after the other.
 use crate::suites::suite;
-use crate::telling::next_answers;
+use crate::telling::compare;
 use asl_suites::CaseAnswers;
 use std::alloc::Global;
 use std::test::Fail;
@@ -24,35 +24,20 @@ const BY_ATTEMPT: &str = r#"{
 fn answers_come_in_order(rt: HostRuntime) -> Result<(), Fail> {
     let alloc = rt.alloc();
     let mut answers = answers(alloc, BY_ATTEMPT)?;
-    assert_eq!(rt;
-        next_answers(alloc, &mut answers, "A", None, 2)?.as_str(),
-        r#" Busy(later) {"n":5}"#
-    );
-    assert_eq!(rt;
-        next_answers(alloc, &mut answers, "B", Some(3), 2)?.as_str(),
-        " 1 2"
-    );
-    assert_eq!(rt;
-        next_answers(alloc, &mut answers, "A", Some(0), 5)?.as_str(),
-        r#" {"n":5} {"n":5} E() E() -"#
-    );
-    assert_eq!(rt;
-        next_answers(alloc, &mut answers, "B", None, 4)?.as_str(),
-        " 2 2 2 2"
-    );
-    assert_eq!(rt;
-        next_answers(alloc, &mut answers, "C", None, 2)?.as_str(),
-        " E(c) E(c)"
-    );
-    assert_eq!(rt;
-        next_answers(alloc, &mut answers, "D", None, 1)?.as_str(),
-        " -"
-    );
-    assert_eq!(rt;
-        next_answers(alloc, &mut answers, "Z", None, 1)?.as_str(),
-        " -"
-    );
-    Ok(())
+    compare(
+        &rt,
+        alloc,
+        &mut answers,
+        &[
+            ("A", None, 2, r#" Busy(later) {"n":5}"#),
+            ("B", Some(3), 2, " 1 2"),
+            ("A", Some(0), 5, r#" {"n":5} {"n":5} E() E() -"#),
+            ("B", None, 4, " 2 2 2 2"),
+            ("C", None, 2, " E(c) E(c)"),
+            ("D", None, 1, " -"),
+            ("Z", None, 1, " -"),
+        ],
+    )
 }
 
 const BY_ITEM: &str =
@@ -62,35 +47,20 @@ const BY_ITEM: &str =
 fn items_have_answers_of_their_own(rt: HostRuntime) -> Result<(), Fail> {
     let alloc = rt.alloc();
     let mut answers = answers(alloc, BY_ITEM)?;
-    assert_eq!(rt;
-        next_answers(alloc, &mut answers, "A", Some(1), 1)?.as_str(),
-        " E()"
-    );
-    assert_eq!(rt;
-        next_answers(alloc, &mut answers, "A", Some(0), 2)?.as_str(),
-        " 1 -"
-    );
-    assert_eq!(rt;
-        next_answers(alloc, &mut answers, "A", Some(1), 2)?.as_str(),
-        " 2 -"
-    );
-    assert_eq!(rt;
-        next_answers(alloc, &mut answers, "A", Some(2), 1)?.as_str(),
-        " -"
-    );
-    assert_eq!(rt;
-        next_answers(alloc, &mut answers, "A", Some(3), 2)?.as_str(),
-        " 3 3"
-    );
-    assert_eq!(rt;
-        next_answers(alloc, &mut answers, "A", Some(4), 1)?.as_str(),
-        " -"
-    );
-    assert_eq!(rt;
-        next_answers(alloc, &mut answers, "A", None, 1)?.as_str(),
-        " -"
-    );
-    Ok(())
+    compare(
+        &rt,
+        alloc,
+        &mut answers,
+        &[
+            ("A", Some(1), 1, " E()"),
+            ("A", Some(0), 2, " 1 -"),
+            ("A", Some(1), 2, " 2 -"),
+            ("A", Some(2), 1, " -"),
+            ("A", Some(3), 2, " 3 3"),
+            ("A", Some(4), 1, " -"),
+            ("A", None, 1, " -"),
+        ],
+    )
 }
 
 #[test]
@@ -105,22 +75,17 @@ fn own_answers_come_before_mocked_ones(rt: HostRuntime) -> Result<(), Fail> {
         r#"{"A": [{"Return": 3}, {"Return": 4}], "B": [{"Return": 5}], "C": [{"Return": 6}]}"#,
     )?;
     let mut both = own.or_mocked(mocked)?;
-    assert_eq!(rt;
-        next_answers(alloc, &mut both, "A", None, 2)?.as_str(),
-        " 1 -"
-    );
-    assert_eq!(rt;
-        next_answers(alloc, &mut both, "B", None, 1)?.as_str(),
-        " -"
-    );
-    assert_eq!(rt;
-        next_answers(alloc, &mut both, "C", None, 2)?.as_str(),
-        " 6 -"
-    );
-    assert_eq!(rt;
-        next_answers(alloc, &mut both, "D", Some(0), 2)?.as_str(),
-        " 2 -"
-    );
+    compare(
+        &rt,
+        alloc,
+        &mut both,
+        &[
+            ("A", None, 2, " 1 -"),
+            ("B", None, 1, " -"),
+            ("C", None, 2, " 6 -"),
+            ("D", Some(0), 2, " 2 -"),
+        ],
+    )?;
     let mut states = both.states();
     assert_eq!(rt; states.next(), Some(("A", false)));
     Ok(())

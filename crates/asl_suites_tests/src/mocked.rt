@@ -1,5 +1,5 @@
 //! Mock files.
-use crate::telling::{next_answers, refusal_text};
+use crate::telling::{compare, refusal_text};
 use asl_suites::{CaseAnswers, Mocks, SuiteRefusal, read_mocks};
 use asl_tree::read;
 use std::alloc::Global;
@@ -50,30 +50,40 @@ fn answers(alloc: Global, test_case: &str) -> Result<CaseAnswers, Fail> {
 #[test]
 fn attempts_are_answered(rt: HostRuntime) -> Result<(), Fail> {
     let alloc = rt.alloc();
-    let mut happy = answers(alloc, "HappyPath")?;
-    assert_eq!(rt;
-        next_answers(alloc, &mut happy, "Look up", None, 5)?.as_str(),
-        r#" Busy(.) {"amount":5} {"amount":5} null -"#
-    );
-    assert_eq!(rt;
-        next_answers(alloc, &mut happy, "Refund", Some(2), 2)?.as_str(),
-        r#" "r1" -"#
-    );
-    let mut long = answers(alloc, "Long")?;
-    assert_eq!(rt;
-        next_answers(alloc, &mut long, "Look up", None, 3)?.as_str(),
-        r#" "first" "first" "then""#
-    );
-    assert_eq!(rt;
-        next_answers(alloc, &mut long, "Look up", None, 9)?.as_str(),
-        r#" "then" "then" "then" "then" "then" "then" "then" "ten" -"#
-    );
-    let mut none = answers(alloc, "None")?;
-    assert_eq!(rt;
-        next_answers(alloc, &mut none, "Look up", None, 1)?.as_str(),
-        " -"
-    );
-    Ok(())
+    compare(
+        &rt,
+        alloc,
+        &mut answers(alloc, "HappyPath")?,
+        &[
+            (
+                "Look up",
+                None,
+                5,
+                r#" Busy(.) {"amount":5} {"amount":5} null -"#,
+            ),
+            ("Refund", Some(2), 2, r#" "r1" -"#),
+        ],
+    )?;
+    compare(
+        &rt,
+        alloc,
+        &mut answers(alloc, "Long")?,
+        &[
+            ("Look up", None, 3, r#" "first" "first" "then""#),
+            (
+                "Look up",
+                None,
+                9,
+                r#" "then" "then" "then" "then" "then" "then" "then" "ten" -"#,
+            ),
+        ],
+    )?;
+    compare(
+        &rt,
+        alloc,
+        &mut answers(alloc, "None")?,
+        &[("Look up", None, 1, " -")],
+    )
 }
 
 /// Test cases, each with why it is refused.

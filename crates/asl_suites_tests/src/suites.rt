@@ -1,6 +1,6 @@
 //! A suite with everything in it.
-use asl_suites::{Expected, ExpectedEnd, Input, Suite, read_suite};
-use asl_tree::{read, to_text};
+use asl_suites::{Case, Expected, ExpectedEnd, ExpectedPayloads, Input, Suite, read_suite};
+use asl_tree::{Tree, read, to_text};
 use std::alloc::Global;
 use std::test::Fail;
 
@@ -29,27 +29,53 @@ pub fn suite(alloc: Global, text: &str) -> Result<Suite, Fail> {
 
 /// What is expected, as a text.
 fn expected_text(alloc: Global, expected: &Expected) -> Result<String, Fail> {
-    let mut text = match &expected.end {
-        Some(ExpectedEnd::Output(tree)) => to_text(alloc, tree)?,
+    let end = end_text(alloc, &expected.end)?;
+    let path = path_text(alloc, &expected.path)?;
+    let payloads = payloads_text(alloc, &expected.payloads)?;
+    Ok(format!(in alloc; "{end}{path}{payloads}")?)
+}
+
+/// The end that is expected, as a text.
+fn end_text(alloc: Global, end: &Option<ExpectedEnd>) -> Result<String, Fail> {
+    match end {
+        Some(ExpectedEnd::Output(tree)) => Ok(to_text(alloc, tree)?),
         Some(ExpectedEnd::Error { error, cause }) => {
             let cause = cause.as_ref().map_or("any", |cause| cause.as_str());
-            format!(in alloc; "{error}({cause})")?
+            Ok(format!(in alloc; "{error}({cause})")?)
         }
-        None => String::from_str(alloc, "any end")?,
-    };
-    if let Some(path) = &expected.path {
-        text.push_str(" along")?;
-        for state in path {
-            text.push_str(&format!(in alloc; " {state}")?)?;
-        }
+        None => Ok(String::from_str(alloc, "any end")?),
     }
-    for asked in &expected.payloads {
+}
+
+/// The path that is expected, as a text; nothing where none is.
+fn path_text(alloc: Global, path: &Option<Vec<String>>) -> Result<String, Fail> {
+    let Some(path) = path else {
+        return Ok(String::new(alloc));
+    };
+    let mut text = String::from_str(alloc, " along")?;
+    for state in path {
+        text.push_str(&format!(in alloc; " {state}")?)?;
+    }
+    Ok(text)
+}
+
+/// The payloads that are expected, as a text.
+fn payloads_text(alloc: Global, payloads: &[ExpectedPayloads]) -> Result<String, Fail> {
+    let mut text = String::new(alloc);
+    for asked in payloads {
         let state = asked.state.as_str();
-        text.push_str(&format!(in alloc; "; {state}:")?)?;
-        for payload in &asked.payloads {
-            let payload = to_text(alloc, payload)?;
-            text.push_str(&format!(in alloc; " {payload}")?)?;
-        }
+        let all = trees_text(alloc, &asked.payloads)?;
+        text.push_str(&format!(in alloc; "; {state}:{all}")?)?;
+    }
+    Ok(text)
+}
+
+/// The trees, each behind a blank.
+fn trees_text(alloc: Global, trees: &[Tree]) -> Result<String, Fail> {
+    let mut text = String::new(alloc);
+    for tree in trees {
+        let tree = to_text(alloc, tree)?;
+        text.push_str(&format!(in alloc; " {tree}")?)?;
     }
     Ok(text)
 }
@@ -62,31 +88,40 @@ fn input_text(alloc: Global, input: &Input) -> Result<String, Fail> {
     }
 }
 
-#[test]
-fn a_suite_is_read(rt: HostRuntime) -> Result<(), Fail> {
-    let alloc = rt.alloc();
-    let suite = suite(alloc, SUITE)?;
-    assert_eq!(rt; suite.definition.as_str(), "refunds.asl.json");
-    assert_eq!(rt;
-        suite.declared.as_ref().ok_or("declared")?.as_str(),
-        "refunds.declared.json"
-    );
-    let mocks = suite.mocks.as_ref().ok_or("mocks")?;
-    assert_eq!(rt; mocks.file.as_str(), "MockConfigFile.json");
-    assert_eq!(rt; mocks.state_machine.as_str(), "Refunds");
+/// The cases, each as a line, and behind it lines of the states that it has answers for.
+fn cases_text(alloc: Global, cases: &[Case]) -> Result<String, Fail> {
     let mut told = String::new(alloc);
-    for case in &suite.cases {
-        let name = case.name.as_str();
-        let input = input_text(alloc, &case.input)?;
-        let mocked = case.test_case.as_ref().map_or("none", |name| name.as_str());
-        let expected = expected_text(alloc, &case.expected)?;
-        told.push_str(&format!(in alloc; "{name}: {input}, {mocked}: {expected}\n")?)?;
+    for case in cases {
+        told.push_str(&case_text(alloc, case)?)?;
         for (state, by_item) in case.answers.states() {
             told.push_str(&format!(in alloc; "  {state} {by_item}\n")?)?;
         }
     }
+    Ok(told)
+}
+
+/// A case, as a line.
+fn case_text(alloc: Global, case: &Case) -> Result<String, Fail> {
+    let name = case.name.as_str();
+    let input = input_text(alloc, &case.input)?;
+    let mocked = case.test_case.as_ref().map_or("none", |name| name.as_str());
+    let expected = expected_text(alloc, &case.expected)?;
+    Ok(format!(in alloc; "{name}: {input}, {mocked}: {expected}\n")?)
+}
+
+#[test]
+fn a_suite_is_read(rt: HostRuntime) -> Result<(), Fail> {
+    let suite = suite(rt.alloc(), SUITE)?;
+    assert_eq!(rt; suite.definition.as_str(), "refunds.asl.json");
+    let declared = suite.declared.as_ref().map(|name| name.as_str());
+    assert_eq!(rt; declared, Some("refunds.declared.json"));
+    let mocks = suite.mocks.as_ref().map(|mocks| (
+        mocks.file.as_str(),
+        mocks.state_machine.as_str(),
+    ));
+    assert_eq!(rt; mocks, Some(("MockConfigFile.json", "Refunds")));
     assert_eq!(rt;
-        told.as_str(),
+        cases_text(rt.alloc(), &suite.cases)?.as_str(),
         r#"small refund: {"payment":"p1"}, none: {"receipt":"r1"} along Look up payment Refund; Ask:; Refund: {"amount":5} null
   Look up payment false
   Refund false
