@@ -17,8 +17,6 @@ mod sarif;
 mod sarif_results;
 mod shared_rules;
 mod statement;
-#[cfg(test)]
-mod tests;
 mod text;
 mod uris;
 mod warnings;

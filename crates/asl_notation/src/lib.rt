@@ -20,8 +20,6 @@ mod limits;
 mod names;
 mod noting;
 mod parts;
-#[cfg(test)]
-mod tests;
 
 pub use limits::Limits;
 pub use noting::note;

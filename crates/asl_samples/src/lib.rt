@@ -8,8 +8,6 @@
 mod declaring;
 mod opening;
 mod sampling;
-#[cfg(test)]
-mod tests;
 mod texts;
 
 pub use declaring::declare;

@@ -1,5 +1,5 @@
-//! Tests: texts written by hand.
-use crate::{
+//! Texts written by hand.
+use asl_diagnostics::{
     Diagnostic, Rule, Severity, Warning, github_lines, json_text, rule_of_definition,
     rule_of_finding, rule_of_record, rule_of_text, rule_of_unsettled, rule_of_warning, sarif_text,
     sort, text_lines,

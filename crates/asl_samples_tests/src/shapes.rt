@@ -1,6 +1,6 @@
-//! Tests: shapes and texts written by hand.
-use crate::{declared_text, opened, shape_of, shape_text};
+//! Shapes and texts written by hand.
 use asl_records::read_declared;
+use asl_samples::{declared_text, opened, shape_of, shape_text};
 use asl_shape::{Shape, has, same, write};
 use asl_tree::{Tree, read, read_value, to_text};
 use std::alloc::Global;

@@ -1,5 +1,5 @@
-//! Tests: notations written by hand, of shapes that JSON texts spell.
-use crate::{Limits, note};
+//! Notations written by hand, of shapes that JSON texts spell.
+use asl_notation::{Limits, note};
 use asl_numbered::{Node, Shapes};
 use asl_shape::Shape;
 use asl_tree::read;
