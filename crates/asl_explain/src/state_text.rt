@@ -2,12 +2,13 @@
 
 use crate::flows::Explainer;
 use crate::heads::{is_repeated, told_in_short};
-use crate::words::{counted, noted};
+use crate::words::{counted, noted, push_all};
 use asl_check::Located;
 use asl_numbered::Shapes;
 use asl_records::StateNumbers;
 use asl_states::{Kind, State};
 use asl_tree::OutOfMemory;
+use asl_ways::Arrival;
 use std::alloc::Global;
 
 /// How many arrivals at a state are told.
@@ -21,28 +22,33 @@ impl Explainer<'_> {
         findings: &[Located],
         number: usize,
     ) -> Result<String, OutOfMemory> {
-        let mut text = self.state_text(number)?;
         let (Some(name), Some(state)) = (self.machine.name(number), self.machine.state(number))
         else {
-            return Ok(text);
+            return self.state_text(number);
         };
-        text.push_str(&format!(in self.alloc; ", a {}", state.kind.name())?)?;
-        text.push_str(&self.place_of(number)?)?;
-        text.push_str("\n")?;
-        self.push_arrivals(shapes, &mut text, number)?;
-        if let Some(entry) = self.states.get(name) {
-            self.push_shapes(shapes, &mut text, number, entry)?;
-        }
-        self.push_findings(&mut text, findings, name)?;
+        let mut text = self.head_line(number, state)?;
+        self.push_known(shapes, &mut text, findings, number, name)?;
         Ok(text)
+    }
+
+    /// The state's name, its type, and where it stands.
+    fn head_line(&self, number: usize, state: &State) -> Result<String, OutOfMemory> {
+        let name = self.state_text(number)?;
+        let kind = state.kind.name();
+        let place = self.place_of(number)?;
+        Ok(format!(in self.alloc; "{name}, a {kind}{place}\n")?)
     }
 
     /// The branch or the Map in which the state stands, if it stands in one.
     fn place_of(&self, number: usize) -> Result<String, OutOfMemory> {
-        let owner = self.machine.scope_of(number).and_then(|scope| scope.owner);
-        let Some((owner, child)) = owner else {
-            return Ok(String::new(self.alloc));
-        };
+        match self.machine.scope_of(number).and_then(|scope| scope.owner) {
+            Some((owner, child)) => self.place_within(owner, child),
+            None => Ok(String::new(self.alloc)),
+        }
+    }
+
+    /// The branch of that number of a Parallel, counted from 0, or the Map.
+    fn place_within(&self, owner: usize, child: usize) -> Result<String, OutOfMemory> {
         let name = self.state_text(owner)?;
         match self.machine.state(owner) {
             Some(state) if matches!(state.kind, Kind::Parallel { .. }) => {
@@ -51,6 +57,22 @@ impl Explainer<'_> {
             }
             _ => Ok(format!(in self.alloc; ", for each item of {name}")?),
         }
+    }
+
+    /// Puts down what comes to the state of that name, its shapes, and its findings.
+    fn push_known(
+        &self,
+        shapes: &mut Shapes,
+        text: &mut String,
+        findings: &[Located],
+        number: usize,
+        name: &str,
+    ) -> Result<(), OutOfMemory> {
+        self.push_arrivals(shapes, text, number)?;
+        if let Some(entry) = self.states.get(name) {
+            self.push_shapes(shapes, text, number, entry)?;
+        }
+        self.push_findings(text, findings, name)
     }
 
     /// Puts down from where data comes to the state, each with its shape.
@@ -67,16 +89,31 @@ impl Explainer<'_> {
         for (place, arrival) in arrivals.iter().take(MOST_ARRIVALS).enumerate() {
             if let Some(arrival) = self.flows.arrivals.get(*arrival) {
                 let label = if place == 0 { "comes from" } else { "" };
-                let origin = self.arrival_text(arrival)?;
-                let is = noted(self.alloc, shapes, arrival.shape)?;
-                push_row(text, label, &format!(in self.alloc; "{origin}  {is}")?)?;
+                self.push_arrival(shapes, text, label, arrival)?;
             }
         }
-        let others = arrivals.len().saturating_sub(MOST_ARRIVALS);
-        if others > 0 {
-            push_row(text, "", &format!(in self.alloc; "and {others} others")?)?;
+        self.push_untold(text, arrivals.len().saturating_sub(MOST_ARRIVALS))
+    }
+
+    /// Puts down an arrival with its shape.
+    fn push_arrival(
+        &self,
+        shapes: &Shapes,
+        text: &mut String,
+        label: &str,
+        arrival: &Arrival,
+    ) -> Result<(), OutOfMemory> {
+        let origin = self.arrival_text(arrival)?;
+        let is = noted(self.alloc, shapes, arrival.shape)?;
+        push_row(text, label, &format!(in self.alloc; "{origin}  {is}")?)
+    }
+
+    /// Puts down how many arrivals aren't told, if there are some.
+    fn push_untold(&self, text: &mut String, others: usize) -> Result<(), OutOfMemory> {
+        if others == 0 {
+            return Ok(());
         }
-        Ok(())
+        push_row(text, "", &format!(in self.alloc; "and {others} others")?)
     }
 
     /// Puts down the state's shapes.
@@ -88,9 +125,7 @@ impl Explainer<'_> {
         entry: &StateNumbers,
     ) -> Result<(), OutOfMemory> {
         self.push_shape(shapes, text, "input", entry.input)?;
-        if let Some(effective) = self.effective_of(shapes, number, entry.input)? {
-            self.push_effective_row(shapes, text, number, entry.input, effective)?;
-        }
+        self.push_effective_row(shapes, text, number, entry.input)?;
         self.push_task(shapes, text, number)?;
         self.push_ends(shapes, text, entry)?;
         match self.machine.state(number) {
@@ -115,20 +150,21 @@ impl Explainer<'_> {
     /// Puts down the effective input, which is a Task's payload, unless it is the input itself.
     fn push_effective_row(
         &self,
-        shapes: &Shapes,
+        shapes: &mut Shapes,
         text: &mut String,
         number: usize,
         input: usize,
-        effective: usize,
     ) -> Result<(), OutOfMemory> {
-        if effective == input {
-            return Ok(());
-        }
         let label = match self.machine.state(number) {
             Some(state) if state.kind.is_task() => "payload",
             _ => "effective",
         };
-        self.push_shape(shapes, text, label, effective)
+        match self.effective_of(shapes, number, input)? {
+            Some(effective) if effective != input => {
+                self.push_shape(shapes, text, label, effective)
+            }
+            Some(_) | None => Ok(()),
+        }
     }
 
     /// Puts down what a Task takes and gives.
@@ -138,13 +174,21 @@ impl Explainer<'_> {
         text: &mut String,
         number: usize,
     ) -> Result<(), OutOfMemory> {
-        let (Some(name), Some(state)) = (self.machine.name(number), self.machine.state(number))
-        else {
-            return Ok(());
-        };
-        if !state.kind.is_task() {
-            return Ok(());
+        match (self.machine.name(number), self.machine.state(number)) {
+            (Some(name), Some(state)) if state.kind.is_task() => {
+                self.push_declared(shapes, text, name)
+            }
+            _ => Ok(()),
         }
+    }
+
+    /// Puts down what the task of that name is declared to take and to give.
+    fn push_declared(
+        &self,
+        shapes: &mut Shapes,
+        text: &mut String,
+        name: &str,
+    ) -> Result<(), OutOfMemory> {
         if self.declared.task(name).is_none() {
             return push_row(text, "takes", "not declared");
         }
@@ -195,14 +239,11 @@ fn has_output(state: &State) -> bool {
 
 /// Puts a label and what it tells in two columns behind the text.
 fn push_row(text: &mut String, label: &str, told: &str) -> Result<(), OutOfMemory> {
-    text.push_str("  ")?;
-    text.push_str(label)?;
+    push_all(text, &["  ", label])?;
     for _ in label.len()..LABEL_COLUMN {
         text.push_str(" ")?;
     }
-    text.push_str(told)?;
-    text.push_str("\n")?;
-    Ok(())
+    push_all(text, &[told, "\n"])
 }
 
 /// How wide the column of labels is.

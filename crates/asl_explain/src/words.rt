@@ -42,9 +42,13 @@ pub(crate) fn cut(alloc: Global, text: &str) -> Result<String, OutOfMemory> {
 
 /// Puts a line behind the text: two blanks, a label, and what it tells.
 pub(crate) fn push_line(text: &mut String, label: &str, told: &str) -> Result<(), OutOfMemory> {
-    text.push_str("  ")?;
-    text.push_str(label)?;
-    text.push_str(told)?;
-    text.push_str("\n")?;
+    push_all(text, &["  ", label, told, "\n"])
+}
+
+/// Puts the pieces behind the text.
+pub(crate) fn push_all(text: &mut String, pieces: &[&str]) -> Result<(), OutOfMemory> {
+    for piece in pieces {
+        text.push_str(piece)?;
+    }
     Ok(())
 }
