@@ -3,13 +3,14 @@
 use crate::causes::Cause;
 use crate::flows::Explainer;
 use crate::heads::head_of;
+use crate::there::told_of_named;
 use crate::walking::Walks;
-use crate::words::{example_text, noted, push_line};
+use crate::words::{example_text, noted, push_all, push_line};
 use asl_check::{FindingFault, Located};
 use asl_diagnostics::rule_of_finding;
 use asl_numbered::Shapes;
-use asl_path::{RefPath, print};
-use asl_state_edges::Step;
+use asl_path::RefPath;
+use asl_state_edges::{Broken, Step};
 use asl_tree::{OutOfMemory, Tree};
 use asl_ways::Arrival;
 use std::alloc::Global;
@@ -29,8 +30,7 @@ impl<'m> Explainer<'m> {
         text: &mut String,
         located: &Located,
     ) -> Result<(), OutOfMemory> {
-        text.push_str(&head_of(self.alloc, located)?)?;
-        text.push_str("\n")?;
+        push_head(self.alloc, text, located)?;
         let cause = self.cause_of(shapes, walks, located)?;
         let others = match &cause {
             Some(cause) => self.push_cause(shapes, walks, text, located, cause)?,
@@ -52,14 +52,25 @@ impl<'m> Explainer<'m> {
     ) -> Result<usize, OutOfMemory> {
         self.push_there(shapes, text, cause)?;
         let others = self.push_origins(shapes, walks, text, located, cause)?;
+        self.push_shown(shapes, text, located, cause)?;
+        Ok(others)
+    }
+
+    /// Puts down an example of the data with which the rule is broken, if there is one.
+    fn push_shown(
+        &self,
+        shapes: &mut Shapes,
+        text: &mut String,
+        located: &Located,
+        cause: &Cause<'m>,
+    ) -> Result<(), OutOfMemory> {
         if let FindingFault::NoDefault = located.finding.fault {
             let tree = self.unchosen(shapes, cause)?;
-            push_example(self.alloc, text, "For example, no rule is true of: ", &tree)?;
+            push_example(self.alloc, text, "For example, no rule is true of: ", &tree)
         } else {
             let tree = self.example_of(shapes, cause)?;
-            push_example(self.alloc, text, "For example: ", &tree)?;
+            push_example(self.alloc, text, "For example: ", &tree)
         }
-        Ok(others)
     }
 
     /// Puts down where the data comes from with which the rule is broken, and other origins, where there are some. Answers how
@@ -141,19 +152,34 @@ impl<'m> Explainer<'m> {
         arrival: &Arrival,
         step: &Step<'m>,
     ) -> Result<String, OutOfMemory> {
-        let Step::Breaks(broken) = step else {
-            let is = noted(self.alloc, shapes, arrival.shape)?;
-            return Ok(format!(in self.alloc; "it fits: the input is {is}")?);
-        };
-        if let Some(path) = broken.path {
-            if let Some(named) = self.named_at_arrival(shapes, arrival, broken.field, path.path)? {
-                let path = print(self.alloc, path.path)?;
-                let is = noted(self.alloc, shapes, named)?;
-                return Ok(format!(in self.alloc; "it is there: {path} is {is}")?);
-            }
+        match step {
+            Step::Breaks(
+                Broken {
+                    field,
+                    path: Some(path),
+                    ..
+                },
+            ) => self.told_of_path(shapes, arrival, field, path.path),
+            Step::Breaks(_) => told_of_input(self.alloc, shapes, arrival, "it doesn't arise"),
+            Step::Flows(_) => told_of_input(self.alloc, shapes, arrival, "it fits"),
         }
-        let is = noted(self.alloc, shapes, arrival.shape)?;
-        Ok(format!(in self.alloc; "it doesn't arise: the input is {is}")?)
+    }
+
+    /// What a path of that field names in what comes to the state, where that is easily told, or the input.
+    fn told_of_path(
+        &self,
+        shapes: &mut Shapes,
+        arrival: &Arrival,
+        field: &str,
+        path: &RefPath,
+    ) -> Result<String, OutOfMemory> {
+        match self.named_at_arrival(shapes, arrival, field, path)? {
+            Some(named) => {
+                let value = told_of_named(self.alloc, shapes, path, named)?;
+                Ok(format!(in self.alloc; "it is there: {value}")?)
+            }
+            None => told_of_input(self.alloc, shapes, arrival, "it doesn't arise"),
+        }
     }
 
     /// The number of the shape of what a path of that field names in what comes to the state; none where that isn't looked up
@@ -172,14 +198,22 @@ impl<'m> Explainer<'m> {
                 None => Ok(None),
             },
             "Choices" | "ItemsPath" | "SecondsPath" | "TimestampPath" => {
-                match self.effective_of(shapes, arrival.state, arrival.shape)? {
-                    Some(effective) => self.named_in(shapes, effective, path),
-                    None => Ok(None),
-                }
+                self.named_in_effective(shapes, arrival.state, arrival.shape, path)
             }
             _ => Ok(None),
         }
     }
+}
+
+/// That the rule isn't broken with what arrives, and its shape.
+fn told_of_input(
+    alloc: Global,
+    shapes: &Shapes,
+    arrival: &Arrival,
+    how: &str,
+) -> Result<String, OutOfMemory> {
+    let is = noted(alloc, shapes, arrival.shape)?;
+    Ok(format!(in alloc; "{how}: the input is {is}")?)
 }
 
 /// Puts down a finding of which nothing else is known, with what generally helps.
@@ -188,14 +222,19 @@ pub(crate) fn push_alone(
     text: &mut String,
     located: &Located,
 ) -> Result<(), OutOfMemory> {
-    text.push_str(&head_of(alloc, located)?)?;
-    text.push_str("\n")?;
+    push_head(alloc, text, located)?;
     push_example(alloc, text, "For example: ", &located.finding.example)?;
     push_line(
         text,
         "What helps: ",
         rule_of_finding(located.finding.fault).help,
     )
+}
+
+/// Puts down the line that says what is wrong.
+fn push_head(alloc: Global, text: &mut String, located: &Located) -> Result<(), OutOfMemory> {
+    let head = head_of(alloc, located)?;
+    push_all(text, &[head.as_str(), "\n"])
 }
 
 /// Puts down an example, if there is one.

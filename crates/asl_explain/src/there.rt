@@ -13,6 +13,7 @@ use asl_path::{RefPath, print};
 use asl_state_edges::{Broken, Edge, Step};
 use asl_states::{ChoiceRule, Delay, Kind, State};
 use asl_tree::{OutOfMemory, Tree};
+use std::alloc::Global;
 
 /// What stands in front of what is known.
 const THERE: &str = "What is there: ";
@@ -70,18 +71,39 @@ impl Explainer<'_> {
         field: &str,
         path: &DoubtfulPath,
     ) -> Result<(), OutOfMemory> {
-        let Some(stop) = stop_of(self.alloc, shapes, path)? else {
-            return Ok(());
-        };
-        let is = noted(self.alloc, shapes, stop.shape)?;
         let whole = self.whole_at(shapes, cause, field, path.shape)?;
-        if path.segment == 0 {
-            let told = format!(in self.alloc; "{whole} is {is}{}", stop.why)?;
-            return push_line(text, THERE, &told);
+        match stop_of(self.alloc, shapes, path)? {
+            Some(stop) if path.segment == 0 => self.push_stopping(shapes, text, whole, &stop),
+            Some(stop) => {
+                self.push_stopping(shapes, text, &stop.front, &stop)?;
+                self.push_looked_up(shapes, text, whole, path.shape)
+            }
+            None => Ok(()),
         }
-        let told = format!(in self.alloc; "{} is {is}{}", stop.front, stop.why)?;
-        push_line(text, THERE, &told)?;
-        let is = noted(self.alloc, shapes, path.shape)?;
+    }
+
+    /// Puts down a value beyond which a path may name nothing, and why; `value` is what it is called.
+    fn push_stopping(
+        &self,
+        shapes: &Shapes,
+        text: &mut String,
+        value: &str,
+        stop: &Stop,
+    ) -> Result<(), OutOfMemory> {
+        let is = noted(self.alloc, shapes, stop.shape)?;
+        let told = format!(in self.alloc; "{value} is {is}{}", stop.why)?;
+        push_line(text, THERE, &told)
+    }
+
+    /// Puts down the whole that a path is looked up in.
+    fn push_looked_up(
+        &self,
+        shapes: &Shapes,
+        text: &mut String,
+        whole: &str,
+        number: usize,
+    ) -> Result<(), OutOfMemory> {
+        let is = noted(self.alloc, shapes, number)?;
         let told = format!(in self.alloc; "{whole}, {is}")?;
         push_line(text, "It is looked up in: ", &told)
     }
@@ -207,16 +229,29 @@ impl Explainer<'_> {
         let Some(path) = self.machine.state(cause.state).and_then(path_in) else {
             return Ok(());
         };
-        let Some(effective) = self.effective_of(shapes, cause.state, cause.input)? else {
-            return Ok(());
-        };
-        if let Some(named) = self.named_in(shapes, effective, path)? {
-            let path = print(self.alloc, path)?;
-            let is = noted(self.alloc, shapes, named)?;
-            let told = format!(in self.alloc; "{path} is {is}, and {field} {}", wanted_at(field))?;
-            push_line(text, THERE, &told)?;
+        match self.named_in_effective(shapes, cause.state, cause.input, path)? {
+            Some(named) => {
+                let value = told_of_named(self.alloc, shapes, path, named)?;
+                let told = format!(in self.alloc; "{value}, and {field} {}", wanted_at(field))?;
+                push_line(text, THERE, &told)
+            }
+            None => Ok(()),
         }
-        Ok(())
+    }
+
+    /// The number of the shape of what a path names in the state's effective input for an input of that number; none where it
+    /// may name nothing, or where it isn't sure that there is an effective input.
+    pub(crate) fn named_in_effective(
+        &self,
+        shapes: &mut Shapes,
+        state: usize,
+        input: usize,
+        path: &RefPath,
+    ) -> Result<Option<usize>, OutOfMemory> {
+        match self.effective_of(shapes, state, input)? {
+            Some(effective) => self.named_in(shapes, effective, path),
+            None => Ok(None),
+        }
     }
 
     /// The number of the shape of what a path names in each value of a shape; none where it may name nothing.
@@ -241,13 +276,24 @@ impl Explainer<'_> {
         edge: &Edge,
     ) -> Result<(), OutOfMemory> {
         self.push_whole(shapes, text, "the payload", edge.flowing)?;
-        let Some(name) = self.machine.name(cause.state) else {
-            return Ok(());
-        };
+        match self.machine.name(cause.state) {
+            Some(name) => self.push_wanted(shapes, text, name, edge.flowing),
+            None => Ok(()),
+        }
+    }
+
+    /// Puts down what the task of that name takes, and where a payload of that number isn't within it.
+    fn push_wanted(
+        &self,
+        shapes: &mut Shapes,
+        text: &mut String,
+        name: &str,
+        payload: usize,
+    ) -> Result<(), OutOfMemory> {
         let takes = self.taken_by(shapes, name)?;
         let wanted = noted(self.alloc, shapes, takes)?;
         push_line(text, "What the task takes: ", &wanted)?;
-        let apart = difference(self.alloc, shapes, edge.flowing, takes, "the task")?;
+        let apart = difference(self.alloc, shapes, payload, takes, "the task")?;
         push_line(text, "Where it doesn't fit: ", &apart.text)
     }
 
@@ -310,6 +356,18 @@ impl Explainer<'_> {
     fn kind_of(&self, state: usize) -> Option<&Kind> {
         Some(&self.machine.state(state)?.kind)
     }
+}
+
+/// A path, and the shape of that number of what it names.
+pub(crate) fn told_of_named(
+    alloc: Global,
+    shapes: &Shapes,
+    path: &RefPath,
+    number: usize,
+) -> Result<String, OutOfMemory> {
+    let path = print(alloc, path)?;
+    let is = noted(alloc, shapes, number)?;
+    Ok(format!(in alloc; "{path} is {is}")?)
 }
 
 /// Whether the rule is false of the tree.
