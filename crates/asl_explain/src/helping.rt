@@ -180,18 +180,25 @@ impl Explainer<'_> {
         cause: &Cause,
         on_some_way: bool,
     ) -> Result<String, OutOfMemory> {
-        let mut text = self.help_to_have(field, whole, &stop.absent, cause, on_some_way)?;
-        if stop.is_narrowed {
-            text.push_str(self.words_on_test(field, whole, cause))?;
+        let test = if stop.is_narrowed {
+            self.words_on_test(field, whole, cause)
+        } else {
+            ""
+        };
+        let have = self.help_to_have(field, whole, &stop.absent, cause, on_some_way)?;
+        let limit = self.limit_of_test(stop)?;
+        Ok(format!(in self.alloc; "{have}{test}.{limit}")?)
+    }
+
+    /// That a test for a field doesn't do where a value may be anything; empty where it may not.
+    fn limit_of_test(&self, stop: &Stop) -> Result<String, OutOfMemory> {
+        if !stop.is_anything {
+            return Ok(String::new(self.alloc));
         }
-        text.push_str(".")?;
-        if stop.is_anything {
-            text.push_str(&format!(in self.alloc;
-                " As long as {} may be anything, IsPresent doesn't make sure of its fields.",
-                stop.front
-            )?)?;
-        }
-        Ok(text)
+        Ok(format!(in self.alloc;
+            " As long as {} may be anything, IsPresent doesn't make sure of its fields.",
+            stop.front
+        )?)
     }
 
     /// To have a field on every way.
@@ -204,32 +211,52 @@ impl Explainer<'_> {
         on_some_way: bool,
     ) -> Result<String, OutOfMemory> {
         if self.own_result(cause.state, field).is_some() {
-            return self.help_with_result(absent, cause);
+            self.help_with_result(absent, cause)
+        } else if on_some_way {
+            self.help_on_one_way(whole, absent, self.goes_into_input(cause.state, field))
+        } else {
+            self.help_on_all_ways(whole, absent, cause)
         }
-        let is_direct = self.goes_into_input(cause.state, field);
-        if on_some_way && is_direct {
-            return Ok(format!(in self.alloc;
+    }
+
+    /// To have a field also on the way on which it may be absent; `is_direct` says that it is looked up in the input itself.
+    fn help_on_one_way(
+        &self,
+        whole: &str,
+        absent: &str,
+        is_direct: bool,
+    ) -> Result<String, OutOfMemory> {
+        if is_direct {
+            Ok(format!(in self.alloc;
                 "Set {absent} on that way, too, for example by a Pass with Result and ResultPath"
-            )?);
+            )?)
+        } else {
+            Ok(format!(in self.alloc; "See that {whole} has {absent} on that way, too")?)
         }
-        if on_some_way {
-            return Ok(format!(in self.alloc; "See that {whole} has {absent} on that way, too")?);
-        }
+    }
+
+    /// To have a field that may be absent on all ways.
+    fn help_on_all_ways(
+        &self,
+        whole: &str,
+        absent: &str,
+        cause: &Cause,
+    ) -> Result<String, OutOfMemory> {
         if whole == ITEM {
-            return Ok(format!(in self.alloc;
+            Ok(format!(in self.alloc;
                 "See that each item has {absent}; where the list comes from the machine's input or from a task, and each item always \
                 has it, say so in what is declared of its \"items\""
-            )?);
-        }
-        if self.is_at_start(cause) {
-            return Ok(format!(in self.alloc;
+            )?)
+        } else if self.is_at_start(cause) {
+            Ok(format!(in self.alloc;
                 "See that {whole} has {absent}; if the machine's input always has it, say so in the declared \"input\""
-            )?);
+            )?)
+        } else {
+            Ok(format!(in self.alloc;
+                "See that {whole} has {absent}: set it in a state in front, keep it where a state in front drops it, or declare it \
+                as required where it comes from the machine's input or from a task that always gives it"
+            )?)
         }
-        Ok(format!(in self.alloc;
-            "See that {whole} has {absent}: set it in a state in front, keep it where a state in front drops it, or declare it \
-            as required where it comes from the machine's input or from a task that always gives it"
-        )?)
     }
 
     /// How to test for a field.
