@@ -32,17 +32,27 @@ impl<'m> Explainer<'m> {
         let Some(state) = self.machine.state(cause.state) else {
             return Ok(None);
         };
-        let any = shapes.add(&Shape::Any)?;
-        if shapes.inhabited(cause.input) != Some(true) {
-            return Ok(None);
-        }
-        let misfit = match field {
-            "Catch" => self.caught_misfit(shapes, &state.settings, cause.input, any)?,
-            _ => self.misfit_at(shapes, &state.settings.result_path, cause.input, any)?,
-        };
-        match misfit {
+        match self.misfit_of(shapes, &state.settings, cause.input, field)? {
             Some(misfit) => Ok(Some(misfit_words(self.alloc, shapes, cause.input, &misfit)?)),
             None => Ok(None),
+        }
+    }
+
+    /// Where any value may not fit at the path of that field in an input of that number.
+    fn misfit_of(
+        &self,
+        shapes: &mut Shapes,
+        settings: &'m Settings,
+        input: usize,
+        field: &str,
+    ) -> Result<Option<Misfit<'m>>, OutOfMemory> {
+        let any = shapes.add(&Shape::Any)?;
+        if shapes.inhabited(input) != Some(true) {
+            return Ok(None);
+        }
+        match field {
+            "Catch" => self.caught_misfit(shapes, settings, input, any),
+            _ => self.misfit_at(shapes, &settings.result_path, input, any),
         }
     }
 
@@ -99,38 +109,67 @@ fn misfit_words(
     input: usize,
     misfit: &Misfit,
 ) -> Result<String, OutOfMemory> {
-    let value = match misfit.segment {
-        0 => String::from_str(alloc, "the input")?,
-        many => front_of(alloc, misfit.path, many)?,
-    };
-    let is = match part_at(shapes, input, misfit.path, misfit.segment) {
-        Some(part) => noted(alloc, shapes, part)?,
-        None => String::from_str(alloc, "any")?,
-    };
-    let why = match misfit.path.segments().get(misfit.segment) {
-        Some(segment) => why_misfit(alloc, segment)?,
-        None => String::new(alloc),
-    };
-    let owner = match misfit.catcher {
-        Some(catcher) => format!(in alloc;
-            "the ResultPath of catcher {}",
-            counted(alloc, catcher)?
-        )?,
-        None => String::from_str(alloc, "ResultPath")?,
-    };
-    let path = front_of(alloc, misfit.path, misfit.path.segments().len())?;
-    Ok(format!(in alloc; "{value} is {is}{why}; {owner} is {path}")?)
+    let value = words_on_value(alloc, shapes, input, misfit)?;
+    let path = words_on_path(alloc, misfit)?;
+    Ok(format!(in alloc; "{value}; {path}")?)
 }
 
-/// What a segment needs to fit.
-fn why_misfit(alloc: Global, segment: &Segment) -> Result<String, OutOfMemory> {
+/// The value into which what is placed may not fit, and why.
+fn words_on_value(
+    alloc: Global,
+    shapes: &Shapes,
+    input: usize,
+    misfit: &Misfit,
+) -> Result<String, OutOfMemory> {
+    let (path, segment) = (misfit.path, misfit.segment);
+    let value = named_value(alloc, path, segment)?;
+    let is = noted_part(alloc, shapes, part_at(shapes, input, path, segment))?;
+    let why = why_misfit(alloc, path.segments().get(segment))?;
+    Ok(format!(in alloc; "{value} is {is}{why}")?)
+}
+
+/// What the first segments of a path name in the input.
+fn named_value(alloc: Global, path: &RefPath, many: usize) -> Result<String, OutOfMemory> {
+    match many {
+        0 => Ok(String::from_str(alloc, "the input")?),
+        many => front_of(alloc, path, many),
+    }
+}
+
+/// The shape of that number in short notation; of a part that isn't mentioned, that it may be anything.
+fn noted_part(
+    alloc: Global,
+    shapes: &Shapes,
+    number: Option<usize>,
+) -> Result<String, OutOfMemory> {
+    match number {
+        Some(number) => noted(alloc, shapes, number),
+        None => Ok(String::from_str(alloc, "any")?),
+    }
+}
+
+/// What a segment needs to fit; nothing where there is none.
+fn why_misfit(alloc: Global, segment: Option<&Segment>) -> Result<String, OutOfMemory> {
     match segment {
-        Segment::Name(name) => {
+        Some(Segment::Name(name)) => {
             let name = quoted(alloc, name)?;
             Ok(format!(in alloc; ", and only an object takes a field {name}")?)
         }
-        Segment::Index(index) => Ok(format!(in alloc;
+        Some(Segment::Index(index)) => Ok(format!(in alloc;
             ", and only a list that is long enough takes an element [{index}]"
         )?),
+        None => Ok(String::new(alloc)),
+    }
+}
+
+/// The path at which something is placed, and whose it is.
+fn words_on_path(alloc: Global, misfit: &Misfit) -> Result<String, OutOfMemory> {
+    let path = front_of(alloc, misfit.path, misfit.path.segments().len())?;
+    match misfit.catcher {
+        Some(catcher) => {
+            let catcher = counted(alloc, catcher)?;
+            Ok(format!(in alloc; "the ResultPath of catcher {catcher} is {path}")?)
+        }
+        None => Ok(format!(in alloc; "ResultPath is {path}")?),
     }
 }
